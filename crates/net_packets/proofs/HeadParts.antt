@@ -55,7 +55,8 @@ module _ {T : Type 0} where
   -- an element is set after the queue of a ring
   push_set : (st : List T) (r n p : ℕ) (x : T) → IsWellFormed (ring st r n) → n < length st
       → p ≡ index_after (length st) r n →
-      (queue (ring (set st p x) r (n + 1)) ≡ queue (ring st r n) ++ (x ∷ [])) × IsWellFormed (ring (set st p x) r (n + 1))
+      (queue (ring (set st p x) r (n + 1)) ≡ queue (ring st r n) ++ (x ∷ []))
+      × IsWellFormed (ring (set st p x) r (n + 1))
   push_set st r n p x wf lt e =
       let g = ring st r n in
       let some : window g ≢ 0 = λ z. omega arith in
@@ -78,7 +79,8 @@ module _ {T : Type 0} where
       let is : ring_at (set ms p.read_at x) p ≡ with_elements m (storage_index m 0) (x ∷ []) =
       ap (λ l. ring_at l p) (set_is ms p.read_at x ∙ ap (λ (j : ℕ). overwrite ms j (x ∷ [])) (sym at)) in
       let long = length-queue m wf in
-      let write = queue_law m wf 0 (storage_index m 0) (x ∷ []) (omega arith) (omega (arith, within)) (storage_index_is m 0) in
+      let write = queue_law m wf 0 (storage_index m 0) (x ∷ []) (omega arith) (omega (arith, within))
+      (storage_index_is m 0) in
       ap queue is ∙ write.0 ∙ head_written (queue m) x (omega arith)
 
 -- ---- a place
@@ -118,7 +120,8 @@ module _ {H : Type 0} where
   slots_pushed : (c : ℕ) (h : PacketsHead) (ms : List (PacketMetadata H)) (s gap : ℕ) (hd : H)
       → IsWellFormed (ring_at ms h.slots) →
       h.slots.length + slots_for gap ≤ length ms →
-      let m2 = ring_at (slots_with (place_after_gap (length ms) c h gap) s hd ms) (enqueued_place (slots_for gap) h.slots) in
+      let m2 = ring_at (slots_with (place_after_gap (length ms) c h gap) s hd ms)
+      (enqueued_place (slots_for gap) h.slots) in
       (queue m2 ≡ queue (ring_at ms h.slots) ++ (gap_slot gap ++ (slot s (Some hd) ∷ []))) × IsWellFormed m2
   slots_pushed c h ms s zero hd wf fit =
       let r = h.slots.read_at in
@@ -142,7 +145,8 @@ module _ {H : Type 0} where
       let is = ap (λ z. set (if z then ms else ms1) p.slot y) not_zero in
       let sum : n + 2 ≡ n + 1 + 1 = omega arith in
       let same = ap₂ (λ (l : List (PacketMetadata H)) (k : ℕ). ring l r k) is sum in (
-        ap queue same ∙ two.0 ∙ ap (λ l. l ++ (y ∷ [])) one.0 ∙ append_assoc (queue (ring_at ms h.slots)) (x ∷ []) (y ∷ []),
+        ap queue same ∙ two.0 ∙ ap (λ l. l ++ (y ∷ [])) one.0 ∙ append_assoc (queue (ring_at ms h.slots)) (x ∷ [])
+            (y ∷ []),
         subst IsWellFormed (sym same) two.1,
       )
 
@@ -151,7 +155,8 @@ module _ {H : Type 0} where
   slots_long p s hd ms = grind (arith, length-set)
 
 -- ---- a queue
-module _ {H : Type 0} {h : PacketsHead} {ms : List (PacketMetadata H)} {xs : List ℕ} {v : PacketsState H} (k : IsQueue h ms xs v) where
+module _ {H : Type 0} {h : PacketsHead} {ms : List (PacketMetadata H)} {xs : List ℕ} {v : PacketsState H}
+    (k : IsQueue h ms xs v) where
   abbrev m : RingState (PacketMetadata H)
   m = ring_at ms h.slots
 
@@ -195,7 +200,8 @@ module _ {H : Type 0} {h : PacketsHead} {ms : List (PacketMetadata H)} {xs : Lis
   -- with the numbers n and c that were counted
   pub placement_is : (n c : ℕ) → n ≡ length ms → c ≡ length xs → (s : ℕ) → placement_in n c h s ≡ placement v s
   placement_is n c en ec s =
-      placed_alike v n c h.slots h.bytes s (en ∙ slots_of) slots_count (ec ∙ ap length stored) (ap₂ place read_here bytes_count)
+      placed_alike v n c h.slots h.bytes s (en ∙ slots_of) slots_count (ec ∙ ap length stored)
+      (ap₂ place read_here bytes_count)
 
   -- bytes that are lent are those of its storage, and it has those that are left there
   module _ (from s : ℕ) (now : List ℕ) (is : now ≡ take (from + s - from) (drop from xs)) where
@@ -207,7 +213,8 @@ module _ {H : Type 0} {h : PacketsHead} {ms : List (PacketMetadata H)} {xs : Lis
 
   pub written : (from : ℕ) (w xs2 : List ℕ) → xs2 ≡ overwrite xs from w → IsQueue h ms xs2 (with_bytes v from w)
   written from w xs2 is =
-      left_at h ms xs2 (subst (λ l. Holds m (ring_at l h.bytes) (with_bytes v from w)) (sym is) (written_holds holds from w))
+      left_at h ms xs2 (subst (λ l. Holds m (ring_at l h.bytes) (with_bytes v from w)) (sym is)
+      (written_holds holds from w))
 
   -- a packet of j bytes is written where one of s bytes was placed
   pushed : (gap s : ℕ) → placement v s ≡ Some gap → (j : ℕ) → j ≤ s → (hd : H) (h2 : PacketsHead)
@@ -216,15 +223,18 @@ module _ {H : Type 0} {h : PacketsHead} {ms : List (PacketMetadata H)} {xs : Lis
       → IsQueue h2 ms2 xs (with_packet v gap j hd)
   pushed gap s e j le hd h2 es eb ms2 wrote =
       let r = rewound h.bytes in
-      let fits = slots_some (length ms - h.slots.length) (gap_for s (contiguous_free (length xs) r) (length xs - r.length)) gap
+      let fits = slots_some (length ms - h.slots.length) (gap_for s (contiguous_free (length xs) r)
+      (length xs - r.length)) gap
       (placement_is (length ms) (length xs) refl refl s ∙ e) in
       let some = slots_for_pos gap in
       let p = place_after_gap (length ms) (length xs) h gap in
       let set_there = slots_pushed (length xs) h ms j gap hd k.sound.0 (omega (arith, fits.1, k.sound.0)) in
       let same : ring_at ms2 h2.slots ≡ ring_at (slots_with p j hd ms) (enqueued_place (slots_for gap) h.slots) =
       λ i. ring_at (wrote i) (es i) in
-      left_at h2 ms2 xs (push_left v well gap s e holds (ring_at xs r) (rewound_ring xs h.bytes) hd j le (ring_at ms2 h2.slots)
-      (ap length wrote ∙ slots_long p j hd ms ∙ slots_of) (ap queue same ∙ set_there.0) (subst IsWellFormed (sym same) set_there.1)
+      left_at h2 ms2 xs (push_left v well gap s e holds (ring_at xs r) (rewound_ring xs h.bytes) hd j le
+      (ring_at ms2 h2.slots)
+      (ap length wrote ∙ slots_long p j hd ms ∙ slots_of) (ap queue same ∙ set_there.0)
+      (subst IsWellFormed (sym same) set_there.1)
       (ring_at xs h2.bytes) (ap (ring_at xs) eb))
 
   -- the gap before the first packet is taken off
@@ -232,7 +242,8 @@ module _ {H : Type 0} {h : PacketsHead} {ms : List (PacketMetadata H)} {xs : Lis
       → h2 ≡ with_slot_taken (length ms) (length xs) s h
       → IsQueue h2 ms xs (without_gap v)
   skipped s size some h2 is =
-      left_at h2 ms xs (skip_left holds s (sym size) some (ring_at ms h2.slots) (ap (λ (o : PacketsHead). ring_at ms o.slots) is)
+      left_at h2 ms xs (skip_left holds s (sym size) some (ring_at ms h2.slots)
+      (ap (λ (o : PacketsHead). ring_at ms o.slots) is)
       (ring_at xs h2.bytes) (ap (λ (o : PacketsHead). ring_at xs o.bytes) is))
 
   -- ---- the first slot in use
@@ -247,7 +258,8 @@ module _ {H : Type 0} {h : PacketsHead} {ms : List (PacketMetadata H)} {xs : Lis
     pub packet_first : (s : ℕ) (hd : H) → slice_get ms h.slots.read_at ≡ Some (slot s (Some hd))
         → first_gap v.packets ≡ 0
     packet_first s hd at =
-        ap (λ o. first_gap o.packets) (sym k.seen) ∙ ap (λ l. first_gap (packets_in 0 l)) (first_is (slot s (Some hd)) at)
+        ap (λ o. first_gap o.packets) (sym k.seen) ∙ ap (λ l. first_gap (packets_in 0 l))
+        (first_is (slot s (Some hd)) at)
 
     -- it has a header after no gap
     pub has_header : first_gap v.packets ≡ 0
@@ -288,9 +300,15 @@ module _ {H : Type 0} {h : PacketsHead} {ms : List (PacketMetadata H)} {xs : Lis
 
     others_long : length others ≡ h.slots.length - 1
     others_long =
-        omega (arith, ap length slots_end, length-queue m k.sound.0, length-append others (slot ends.1.size (Some ends.1.header) ∷ []))
+        omega (
+          arith,
+          ap length slots_end,
+          length-queue m k.sound.0,
+          length-append others (slot ends.1.size (Some ends.1.header) ∷ []),
+        )
 
-    module _ (x : PacketMetadata H) (at : slice_get ms (index_after (length ms) h.slots.read_at (h.slots.length - 1)) ≡ Some x) where
+    module _ (x : PacketMetadata H) (at : slice_get ms (index_after (length ms) h.slots.read_at (h.slots.length - 1))
+        ≡ Some x) where
       last_slot_is : x ≡ slot ends.1.size (Some ends.1.header)
       last_slot_is =
           let y : PacketMetadata H = slot ends.1.size (Some ends.1.header) in
@@ -307,7 +325,8 @@ module _ {H : Type 0} {h : PacketsHead} {ms : List (PacketMetadata H)} {xs : Lis
       pub shortened : (n : ℕ) → n ≤ x.size → (h2 : PacketsHead) → h2.slots ≡ h.slots
           → h2.bytes ≡ place h.bytes.read_at (h.bytes.length - n) →
           (ms2 : List (PacketMetadata H)) →
-          ms2 ≡ set ms (index_after (length ms) h.slots.read_at (h.slots.length - 1)) (slot (x.size - n) (Some ends.1.header)) →
+          ms2 ≡ set ms (index_after (length ms) h.slots.read_at (h.slots.length - 1))
+          (slot (x.size - n) (Some ends.1.header)) →
           IsQueue h2 ms2 xs (with_last_size (x.size - n) v)
       shortened n few h2 slots bytes ms2 wrote =
           let end = h.slots.length - 1 in
@@ -318,18 +337,22 @@ module _ {H : Type 0} {h : PacketsHead} {ms : List (PacketMetadata H)} {xs : Lis
           let z : PacketMetadata H = slot p.size (Some p.header) in
           let size : x.size ≡ p.size = ap (λ o. o.size) last_slot_is in
           let le : j ≤ p.size = omega (arith, size) in
-          let set_there : ring_at ms2 h2.slots ≡ with_elements m i (y ∷ []) = ap₂ (λ (l : List (PacketMetadata H)) (o : RingHead). ring_at l o)
+          let set_there : ring_at ms2 h2.slots ≡ with_elements m i (y ∷ []) = ap₂
+          (λ (l : List (PacketMetadata H)) (o : RingHead). ring_at l o)
           (wrote ∙ set_is ms i y) slots in
-          let write = queue_law m k.sound.0 end i (y ∷ []) (omega arith) (omega (arith, slice_get_within ms i x at)) (storage_index_is m end) in
+          let write = queue_law m k.sound.0 end i (y ∷ []) (omega arith) (omega (arith, slice_get_within ms i x at))
+          (storage_index_is m end) in
           let over : overwrite (others ++ ((z ∷ []) ++ [])) end (y ∷ []) ≡ others ++ ((y ∷ []) ++ []) =
           overwrite_at others (z ∷ []) [] (y ∷ []) end others_long refl in
           let queued = ap queue set_there ∙ write.0 ∙ ap (λ l. overwrite l end (y ∷ [])) slots_end ∙ over
-          ∙ append_assoc (packet_slots ends.0) (gap_slot p.gap) (y ∷ []) ∙ sym (slots_append ends.0 (packet p.header j p.gap)) in
+          ∙ append_assoc (packet_slots ends.0) (gap_slot p.gap) (y ∷ [])
+          ∙ sym (slots_append ends.0 (packet p.header j p.gap)) in
           let is = shorter_is v well ends.0 p ends.2 j le in
           let count : h.bytes.length - n ≡ bytes_used (ends.0 ++ (packet p.header j p.gap ∷ [])) =
           omega (arith, shorter_bytes v well ends.0 p ends.2 j le, size, bytes_count) in
           left_at h2 ms2 xs (held (with_last_size j v) (shorter_well v well ends.0 p ends.2 j le) (ring_at ms2 h2.slots)
-          (subst IsWellFormed (sym set_there) (written_wf m k.sound.0 i (y ∷ []))) (ap length wrote ∙ length-set ms i y ∙ slots_of)
+          (subst IsWellFormed (sym set_there) (written_wf m k.sound.0 i (y ∷ []))) (ap length wrote ∙ length-set ms i y
+          ∙ slots_of)
           (queued ∙ ap (λ o. packet_slots o.packets) (sym is)) (ring_at xs h2.bytes)
           (ap (ring_at xs) bytes ∙ (λ t. ring (stored t) (read_here t) (count t)) ∙ ap byte_ring (sym is)))
 
@@ -357,7 +380,8 @@ module _ {H : Type 0} {h : PacketsHead} {ms : List (PacketMetadata H)} {xs : Lis
 
 -- ---- a packet that is placed, as clauses say it
 -- the place p of a packet of s bytes in the queue v, of whose slots and bytes n and c were counted
-pub record IsPlaceIn {H : Type 0} (h : PacketsHead) (ms : List (PacketMetadata H)) (xs : List ℕ) (v : PacketsState H) (n c s : ℕ)
+pub record IsPlaceIn {H : Type 0} (h : PacketsHead) (ms : List (PacketMetadata H)) (xs : List ℕ) (v : PacketsState H)
+    (n c s : ℕ)
     (p : PacketPlace) : Type 0 where
   pub queue : IsQueue h ms xs v
   pub slot_count : n ≡ length ms
@@ -366,7 +390,22 @@ pub record IsPlaceIn {H : Type 0} (h : PacketsHead) (ms : List (PacketMetadata H
   pub slots : HasSlots n h p
   pub from : BeginsAt c h p
 
-module _ {H : Type 0} {h : PacketsHead} {ms : List (PacketMetadata H)} {xs : List ℕ} {v : PacketsState H} {n c s : ℕ} {p : PacketPlace}
+module _ {H : Type 0} {h : PacketsHead} {ms : List (PacketMetadata H)} {xs : List ℕ} {v : PacketsState H} {n c s : ℕ}
+    {p : PacketPlace} where
+  pub place_in : IsQueue h ms xs v → n ≡ length ms → c ≡ length xs → placement_in n c h s ≡ Some p.gap → HasSlots n h p
+      → BeginsAt c h p → IsPlaceIn h ms xs v n c s p
+  place_in k en ec gap slots from = record {
+    queue = k;
+    slot_count = en;
+    capacity = ec;
+    gap = gap;
+    slots = slots;
+    from
+        = from;
+  }
+
+module _ {H : Type 0} {h : PacketsHead} {ms : List (PacketMetadata H)} {xs : List ℕ} {v : PacketsState H} {n c s : ℕ}
+    {p : PacketPlace}
     (at : IsPlaceIn h ms xs v n c s p) where
   pub gap_is : placement v s ≡ Some p.gap
   gap_is = sym (placement_is at.queue n c at.slot_count at.capacity s) ∙ at.gap
@@ -383,7 +422,8 @@ module _ {H : Type 0} {h : PacketsHead} {ms : List (PacketMetadata H)} {xs : Lis
       → ms2 ≡ slots_with p j hd ms
       → IsQueue h2 ms2 xs (with_packet v p.gap j hd)
   placed j le hd h2 es eb ms2 wrote =
-      let there = place_is n c h p at.slots at.from ∙ ap₂ (λ (i l : ℕ). place_after_gap i l h p.gap) at.slot_count at.capacity in
+      let there = place_is n c h p at.slots at.from ∙ ap₂ (λ (i l : ℕ). place_after_gap i l h p.gap) at.slot_count
+      at.capacity in
       pushed at.queue p.gap s gap_is j le hd h2 es eb ms2 (wrote ∙ ap (λ o. slots_with o j hd ms) there)
 
   -- a closure writes its bytes
@@ -403,8 +443,13 @@ module _ {H : Type 0} {h : PacketsHead} {ms : List (PacketMetadata H)} {xs : Lis
     pub room_is : p.from + s ≤ c → (now : List ℕ) → now ≡ take (p.from + s - p.from) (drop p.from xs)
         → IsRoom v s hd now
     room_is fits now is =
-        let shown = lent_is at.queue p.from s now is ∙ ap₂ (λ (l i : ℕ). take l (drop i v.storage)) (sym size_is) room_at in
-        (has_place, shown ∙ ap last_bytes (placed_is hd), lent_size at.queue p.from s now is (omega (arith, at.capacity)))
+        let shown = lent_is at.queue p.from s now is ∙ ap₂ (λ (l i : ℕ). take l (drop i v.storage)) (sym size_is)
+        room_at in (
+          has_place,
+          shown ∙ ap last_bytes (placed_is hd),
+          lent_size at.queue p.from s now is
+              (omega (arith, at.capacity)),
+        )
 
     -- it wrote ws, and the first j of them are the packet
     pub filled : (j : ℕ) → j ≤ s → (ws : List ℕ) (h2 : PacketsHead)
@@ -413,26 +458,30 @@ module _ {H : Type 0} {h : PacketsHead} {ms : List (PacketMetadata H)} {xs : Lis
         → (ms2 : List (PacketMetadata H)) → ms2 ≡ slots_with p j hd ms → (xs2 : List ℕ) → xs2 ≡ overwrite xs p.from ws
         → IsQueue h2 ms2 xs2 (with_last_size j (with_last_bytes (with_packet_if_room v s hd) ws))
     filled j le ws h2 es eb ms2 wrote xs2 left =
-        let n : (rewound h.bytes).length + (p.gap + s) - (s - j) ≡ (rewound h.bytes).length + (p.gap + j) = omega arith in
+        let n : (rewound h.bytes).length + (p.gap + s) - (s - j) ≡ (rewound h.bytes).length + (p.gap + j) = omega arith
+        in
         let k = placed j le hd h2 es (eb ∙ ap (place (rewound h.bytes).read_at) n) ms2 wrote in
         subst (IsQueue h2 ms2 xs2) (ap (λ i. with_bytes (with_packet v p.gap j hd) i ws) room_at
         ∙ cut_is v (well at.queue) p.gap s gap_is hd j ws) (written k p.from ws xs2 left)
 
 -- ---- the first packet, which has no gap
 -- its slot is the first one in use, and has s bytes and the header hd
-pub record IsFirstIn {H : Type 0} (h : PacketsHead) (ms : List (PacketMetadata H)) (xs : List ℕ) (v : PacketsState H) (s : ℕ) (hd : H) : Type 0 where
+pub record IsFirstIn {H : Type 0} (h : PacketsHead) (ms : List (PacketMetadata H)) (xs : List ℕ) (v : PacketsState H)
+    (s : ℕ) (hd : H) : Type 0 where
   pub queue : IsQueue h ms xs v
   pub no_gap : first_gap v.packets ≡ 0
   pub some : 1 ≤ h.slots.length
   pub at : slice_get ms h.slots.read_at ≡ Some (slot s (Some hd))
 
-module _ {H : Type 0} {h : PacketsHead} {ms : List (PacketMetadata H)} {xs : List ℕ} {v : PacketsState H} {s : ℕ} {hd : H} where
+module _ {H : Type 0} {h : PacketsHead} {ms : List (PacketMetadata H)} {xs : List ℕ} {v : PacketsState H} {s : ℕ}
+    {hd : H} where
   pub first_at : IsQueue h ms xs v → first_gap v.packets ≡ 0 → 1 ≤ h.slots.length
       → slice_get ms h.slots.read_at ≡ Some (slot s (Some hd))
       → IsFirstIn h ms xs v s hd
   first_at k z some at = record { queue = k; no_gap = z; some = some; at = at }
 
-module _ {H : Type 0} {h : PacketsHead} {ms : List (PacketMetadata H)} {xs : List ℕ} {v : PacketsState H} {s : ℕ} {hd : H}
+module _ {H : Type 0} {h : PacketsHead} {ms : List (PacketMetadata H)} {xs : List ℕ} {v : PacketsState H} {s : ℕ}
+    {hd : H}
     (first : IsFirstIn h ms xs v s hd) where
   abbrev k : IsQueue h ms xs v
   k = first.queue
@@ -457,10 +506,12 @@ module _ {H : Type 0} {h : PacketsHead} {ms : List (PacketMetadata H)} {xs : Lis
     first_sized = subst (IsFirstSized v.packets hd) (sym (lent_size k h.bytes.read_at s now is first_fits)) sized
 
     pub first_shown : now ≡ first_bytes v
-    first_shown = lent_is k h.bytes.read_at s now is ∙ ap₂ (λ n p. take n (drop p v.storage)) (sym (ap first_size sized)) (read_here k)
+    first_shown = lent_is k h.bytes.read_at s now is ∙ ap₂ (λ n p. take n (drop p v.storage))
+        (sym (ap first_size sized)) (read_here k)
 
   -- it is taken off, and the other slots in use are as they were
-  module _ (ms2 : List (PacketMetadata H)) (long : length ms2 ≡ length ms) (rest : drop 1 (queue (ring_at ms2 h.slots)) ≡ drop 1 (queue (m k)))
+  module _ (ms2 : List (PacketMetadata H)) (long : length ms2 ≡ length ms)
+      (rest : drop 1 (queue (ring_at ms2 h.slots)) ≡ drop 1 (queue (m k)))
       (h2 : PacketsHead) (is : h2 ≡ with_slot_taken (length ms) (length xs) s h) where
     sound_slots : IsWellFormed (ring_at ms2 h.slots)
     sound_slots = subst (λ n. IsSound n h.slots) (sym long) k.sound.0
@@ -484,8 +535,10 @@ module _ {H : Type 0} {h : PacketsHead} {ms : List (PacketMetadata H)} {xs : Lis
     pub off_written : (ws xs2 : List ℕ) → xs2 ≡ overwrite xs h.bytes.read_at ws → (new : H)
         → IsQueue h2 ms2 xs2 (without_first (with_first_bytes v new ws))
     off_written ws xs2 wrote new =
-        let left : ring_at xs2 h2.bytes ≡ with_dequeued s (ring_at xs2 h.bytes) = ap (λ (o : PacketsHead). ring_at xs2 o.bytes) is
-        ∙ ap (λ n. ring_at xs2 (dequeued_place n s h.bytes)) (sym (ap length wrote ∙ length-overwrite xs h.bytes.read_at ws)) in
+        let left : ring_at xs2 h2.bytes ≡ with_dequeued s (ring_at xs2 h.bytes) = ap
+        (λ (o : PacketsHead). ring_at xs2 o.bytes) is
+        ∙ ap (λ n. ring_at xs2 (dequeued_place n s h.bytes))
+        (sym (ap length wrote ∙ length-overwrite xs h.bytes.read_at ws)) in
         left_at h2 ms2 xs2 (off_left (holds k) first.no_gap s hd slots_are_first (ring_at ms2 h2.slots) sound_left
         (long ∙ slots_of k) (ring_at xs2 h2.bytes) ws new slots_left
         (left ∙ ap (λ l. with_dequeued s (ring_at l h.bytes)) wrote))

@@ -35,14 +35,22 @@ ends_in (x ∷ (o ∷ xs)) some =
     (x ∷ rest.0, rest.1, ap (λ l. x ∷ l) rest.2)
 
 -- ---- places of a ring of c elements that is read from r on
-pub place_cases : (c r i : ℕ) → ((i < c - r) × (index_after c r i ≡ r + i)) ⊎ ((c - r ≤ i) × (index_after c r i ≡ i - (c - r)))
+pub place_cases : (c r i : ℕ) → ((i < c - r) × (index_after c r i ≡ r + i))
+    ⊎ ((c - r ≤ i) × (index_after c r i ≡ i - (c - r)))
 place_cases c r i = elim (cases_lt i (c - r)) [
   | inl h ↦ inl (h, ap (λ (t : Bool). if t then r + i else i - (c - r)) (lt-ltb i (c - r) h))
   | inr h ↦ inr (h, ap (λ (t : Bool). if t then r + i else i - (c - r)) (le-ltb i (c - r) h))
 ]
 
-pub place_place : (c r k j : ℕ) → (r ≡ 0) ⊎ (r < c) → k + j ≤ c → index_after c (index_after c r k) j ≡ index_after c r (k + j)
-place_place c r k j wf le = omega (arith, place_cases c r k, place_cases c r (k + j), place_cases c (index_after c r k) j)
+pub place_place : (c r k j : ℕ) → (r ≡ 0) ⊎ (r < c) → k + j ≤ c → index_after c (index_after c r k) j ≡ index_after c r
+    (k + j)
+place_place c r k j wf le = omega (
+  arith,
+  place_cases c r k,
+  place_cases c r (k + j),
+  place_cases c (index_after c r k)
+      j,
+)
 
 pub place_le_in : (c r i : ℕ) → (r ≡ 0) ⊎ (r < c) → i ≤ c → index_after c r i ≤ c
 place_le_in c r i wf le = omega (arith, place_cases c r i)
@@ -61,7 +69,8 @@ slots_for_pos zero = (omega arith, omega arith)
 slots_for_pos (suc g) = (omega arith, omega arith)
 
 -- ---- placement
-pub slots_some : (free : ℕ) (o : Option ℕ) (gap : ℕ) → if_slots free o ≡ Some gap → (o ≡ Some gap) × (slots_for gap ≤ free)
+pub slots_some : (free : ℕ) (o : Option ℕ) (gap : ℕ) → if_slots free o ≡ Some gap → (o ≡ Some gap)
+    × (slots_for gap ≤ free)
 slots_some free None gap e = absurd (none-some _ e)
 slots_some free (Some g) gap e = elim (cases_Bool (nat_le (slots_for g) free)) [
   | inl t ↦
@@ -74,7 +83,8 @@ pub gap_some : (s c w gap : ℕ) → gap_for s c w ≡ Some gap → ((gap ≡ 0)
 gap_some s c w gap e = grind (arith, nat_tests)
 
 -- where a packet of s bytes comes, in a ring of c elements that is read from r on and holds n
-pub placed_here : (c r n s gap : ℕ) → (r ≡ 0) ⊎ (r < c) → n ≤ c → gap_for s (min (c - n) (c - index_after c r n)) (c - n) ≡ Some gap
+pub placed_here : (c r n s gap : ℕ) → (r ≡ 0) ⊎ (r < c) → n ≤ c → gap_for s (min (c - n) (c - index_after c r n))
+    (c - n) ≡ Some gap
     → (index_after c r (n + gap) + s ≤ c) × (gap ≢ 0 → index_after c r n + gap ≡ c) × (n + gap + s ≤ c)
 placed_here c r n s gap wf le e =
     let at = place_le_in c r n wf le in
@@ -90,7 +100,8 @@ placed_here c r n s gap wf le e =
 
 module _ {H : Type 0} where
   -- ---- slots
-  gap_in : (g s : ℕ) (h : H) (ms : List (PacketMetadata H)) → packets_in 0 (gap_slot g ++ (slot s (Some h) ∷ ms)) ≡ packet h s g ∷ packets_in 0 ms
+  gap_in : (g s : ℕ) (h : H) (ms : List (PacketMetadata H)) → packets_in 0 (gap_slot g ++ (slot s (Some h) ∷ ms))
+      ≡ packet h s g ∷ packets_in 0 ms
   gap_in zero s h ms = refl
   gap_in (suc g) s h ms = let e : 0 + suc g ≡ suc g = omega arith in ap (λ (n : ℕ). packet h s n ∷ packets_in 0 ms) e
 
@@ -98,17 +109,22 @@ module _ {H : Type 0} where
   round [] = refl
   round (p ∷ ps) = gap_in p.gap p.size p.header (packet_slots ps) ∙ ap (λ (l : List (Packet H)). p ∷ l) (round ps)
 
-  pub length-gap : (g : ℕ) (m : PacketMetadata H) (ms : List (PacketMetadata H)) → length (gap_slot g ++ (m ∷ ms)) ≡ slots_for g + length ms
+  pub length-gap : (g : ℕ) (m : PacketMetadata H) (ms : List (PacketMetadata H))
+      → length (gap_slot g ++ (m ∷ ms)) ≡ slots_for g + length ms
   length-gap zero m ms = omega arith
   length-gap (suc g) m ms = omega arith
 
   pub length-slots : (ps : List (Packet H)) → length (packet_slots ps) ≡ slots_used ps
   length-slots [] = refl
-  length-slots (p ∷ ps) = length-gap p.gap (slot p.size (Some p.header)) (packet_slots ps) ∙ ap (λ (n : ℕ). slots_for p.gap + n) (length-slots ps)
+  length-slots (p ∷ ps) = length-gap p.gap (slot p.size (Some p.header)) (packet_slots ps)
+      ∙ ap (λ (n : ℕ). slots_for p.gap + n) (length-slots ps)
 
   pub slots_pos : (ps : List (Packet H)) → (length ps ≤ slots_used ps) × (slots_used ps ≤ length ps + length ps)
   slots_pos [] = (omega arith, omega arith)
-  slots_pos (p ∷ ps) = (omega (arith, slots_pos ps, slots_for_pos p.gap), omega (arith, slots_pos ps, slots_for_pos p.gap))
+  slots_pos (p ∷ ps) = (
+    omega (arith, slots_pos ps, slots_for_pos p.gap),
+    omega (arith, slots_pos ps, slots_for_pos p.gap),
+  )
 
   -- ---- a packet more
   pub slots_append : (ps : List (Packet H)) (p : Packet H)
@@ -119,15 +135,18 @@ module _ {H : Type 0} where
       ap (λ (l : List (PacketMetadata H)). gap_slot q.gap ++ (m ∷ l)) (slots_append ps p)
       ∙ sym (append_assoc (gap_slot q.gap) (m ∷ packet_slots ps) (gap_slot p.gap ++ (slot p.size (Some p.header) ∷ [])))
 
-  pub bytes_append : (ps : List (Packet H)) (p : Packet H) → bytes_used (ps ++ (p ∷ [])) ≡ bytes_used ps + p.gap + p.size
+  pub bytes_append : (ps : List (Packet H)) (p : Packet H) → bytes_used (ps ++ (p ∷ [])) ≡ bytes_used
+      ps + p.gap + p.size
   bytes_append [] p = omega arith
   bytes_append (q ∷ ps) p = omega (arith, bytes_append ps p)
 
-  pub slots_of_append : (ps : List (Packet H)) (p : Packet H) → slots_used (ps ++ (p ∷ [])) ≡ slots_used ps + slots_for p.gap
+  pub slots_of_append : (ps : List (Packet H)) (p : Packet H) → slots_used (ps ++ (p ∷ [])) ≡ slots_used ps + slots_for
+      p.gap
   slots_of_append [] p = omega arith
   slots_of_append (q ∷ ps) p = omega (arith, slots_of_append ps p)
 
-  pub placed_append : (c r o : ℕ) (ps : List (Packet H)) (p : Packet H) → ArePlaced c r o ps → IsPlaced c r (o + bytes_used ps) p
+  pub placed_append : (c r o : ℕ) (ps : List (Packet H)) (p : Packet H) → ArePlaced c r o ps
+      → IsPlaced c r (o + bytes_used ps) p
       → ArePlaced c r o (ps ++ (p ∷ []))
   placed_append c r o [] p a i = let e : o + 0 ≡ o = omega arith in (subst (λ (n : ℕ). IsPlaced c r n p) e i, tt)
   placed_append c r o (q ∷ ps) p a i =
@@ -165,11 +184,15 @@ module _ {H : Type 0} where
   placed_skip c r p ps wf le a =
       let at : 0 + p.gap ≡ p.gap + 0 + 0 = omega arith in
       let n : 0 + p.gap + p.size ≡ p.gap + 0 + 0 + p.size = omega arith in
-      placed_from c r p.gap 0 (packet p.header p.size 0 ∷ ps) wf (omega arith)
-      ((omega (arith, ap (index_after c r) at, a.0.0), λ k. absurd (k refl)), subst (λ (j : ℕ). ArePlaced c r j ps) n a.1)
+      placed_from c r p.gap 0 (packet p.header p.size 0 ∷ ps) wf (omega arith) (
+        (omega (arith, ap (index_after c r) at, a.0.0), λ k. absurd (k refl)),
+        subst (λ (j : ℕ). ArePlaced c r j ps) n
+            a.1,
+      )
 
   -- and once the first one, which has no gap, is gone
-  pub placed_pop : (c r : ℕ) (p : Packet H) (ps : List (Packet H)) → (r ≡ 0) ⊎ (r < c) → bytes_used (p ∷ ps) ≤ c → p.gap ≡ 0
+  pub placed_pop : (c r : ℕ) (p : Packet H) (ps : List (Packet H)) → (r ≡ 0) ⊎ (r < c) → bytes_used (p ∷ ps) ≤ c
+      → p.gap ≡ 0
       → ArePlaced c r 0 (p ∷ ps) → ArePlaced c (index_after c r p.size) 0 ps
   placed_pop c r p ps wf le z a =
       let k : 0 + p.gap + p.size ≡ p.size + 0 = omega arith in
@@ -199,12 +222,15 @@ off_wf g wf some = (place_wf (capacity g) g.read_at 1 wf.0 (omega (arith, wf.1))
 
 -- ---- where a packet is placed
 -- the head of the queue q places a packet where q does
-pub placed_alike : {H : Type 0} (q : PacketsState H) (n c : ℕ) (m b : RingHead) (s : ℕ) → n ≡ q.slot_count → m.length ≡ slots_used q.packets
-    → c ≡ length q.storage → b ≡ place q.read_at (bytes_used q.packets) → placement_in n c (packets_head m b) s ≡ placement q s
+pub placed_alike : {H : Type 0} (q : PacketsState H) (n c : ℕ) (m b : RingHead) (s : ℕ) → n ≡ q.slot_count
+    → m.length ≡ slots_used q.packets
+    → c ≡ length q.storage → b ≡ place q.read_at (bytes_used q.packets) → placement_in n c (packets_head m b)
+    s ≡ placement q s
 placed_alike q n c m b s en em ec eb =
     ap₂ if_slots (ap₂ (λ x y. x - y) en em)
     (ap₂ (λ (k : ℕ) (p : RingHead). gap_for s (contiguous_free k (rewound p)) (k - (rewound p).length)) ec eb
-    ∙ ap (λ o. gap_for s (contiguous_window o) (window o)) (rewound_ring q.storage (place q.read_at (bytes_used q.packets))))
+    ∙ ap (λ o. gap_for s (contiguous_window o) (window o))
+    (rewound_ring q.storage (place q.read_at (bytes_used q.packets))))
 
 -- ---- how many packets slots have
 module _ {H : Type 0} where
@@ -230,7 +256,6 @@ module _ {H : Type 0} where
       ∙ ap (λ l. length (filter (λ m. is_some m.header) l)) e
       ∙ sym (length-packets_in 0 ms)
 
--- ---- what a queue of packets is after a step on its two rings
 -- the first element of a list
 module _ {X : Type 0} where
   abbrev pub head_or : X → List X → X
@@ -287,15 +312,18 @@ module _ {H : Type 0} where
 
   pub with_bytes_well : (q : PacketsState H) → IsWellPlaced q → (p : ℕ) (ws : List ℕ) → IsWellPlaced (with_bytes q p ws)
   with_bytes_well q ok p ws =
-      subst (λ (n : ℕ). (((q.read_at ≡ 0) ⊎ (q.read_at < n)) × (bytes_used q.packets ≤ n)) × ArePlaced n q.read_at 0 q.packets
+      subst (λ (n : ℕ). (((q.read_at ≡ 0) ⊎ (q.read_at < n)) × (bytes_used q.packets ≤ n)) × ArePlaced n q.read_at 0
+      q.packets
       × (slots_used q.packets ≤ q.slot_count)) (sym (length-overwrite q.storage p ws)) ok
 
   -- ---- a packet at the end of a list
   pub last_append : (ps : List (Packet H)) (p : Packet H) → only_last (ps ++ (p ∷ [])) ≡ p ∷ []
-  last_append ps p = let n = length-append ps (p ∷ []) in drop_at ps (p ∷ []) (length (ps ++ (p ∷ [])) - 1) (omega arith)
+  last_append ps p = let n = length-append ps (p ∷ []) in drop_at ps (p ∷ []) (length (ps ++ (p ∷ [])) - 1)
+      (omega arith)
 
   pub before_append : (ps : List (Packet H)) (p : Packet H) → before_last (ps ++ (p ∷ [])) ≡ ps
-  before_append ps p = let n = length-append ps (p ∷ []) in take_at ps (p ∷ []) (length (ps ++ (p ∷ [])) - 1) (omega arith)
+  before_append ps p = let n = length-append ps (p ∷ []) in take_at ps (p ∷ []) (length (ps ++ (p ∷ [])) - 1)
+      (omega arith)
 
   -- ---- a packet comes last
   module _ (q : PacketsState H) (ok : IsWellPlaced q) (gap s : ℕ) (e : placement q s ≡ Some gap) where
@@ -303,7 +331,8 @@ module _ {H : Type 0} where
     abbrev g : RingState ℕ
     g = rewind_if_empty (byte_ring q)
 
-    parts : (gap_for s (contiguous_window g) (window g) ≡ Some gap) × (slots_for gap ≤ q.slot_count - slots_used q.packets)
+    parts : (gap_for s (contiguous_window g) (window g) ≡ Some gap)
+        × (slots_for gap ≤ q.slot_count - slots_used q.packets)
     parts = slots_some (q.slot_count - slots_used q.packets) (gap_for s (contiguous_window g) (window g)) gap e
 
     pub wfg : IsWellFormed g
@@ -321,7 +350,8 @@ module _ {H : Type 0} where
 
     placed_g : ArePlaced (capacity g) g.read_at 0 q.packets
     placed_g = elim (rewind_cases (byte_ring q)) [
-      | inl k ↦ placed_anew (capacity g) g.read_at 0 q.packets k.0 (place_le_in (capacity g) g.read_at 0 wfg.0 (omega arith))
+      | inl k ↦ placed_anew (capacity g) g.read_at 0 q.packets k.0 (place_le_in (capacity g) g.read_at 0 wfg.0
+          (omega arith))
       | inr k ↦ subst (λ (o : RingState ℕ). ArePlaced (capacity o) o.read_at 0 q.packets) (sym k.1) ok.1
     ]
 
@@ -340,7 +370,8 @@ module _ {H : Type 0} where
           let end : g.count ≡ 0 + bytes_used q.packets = omega (arith, count_g) in
           let at : IsPlaced (capacity g) g.read_at (0 + bytes_used q.packets) (packet hd k gap) =
           subst (λ (n : ℕ). IsPlaced (capacity g) g.read_at n (packet hd k gap)) end (omega (arith, here.0), here.1) in
-          subst IsWellPlaced (ap (λ (st : List ℕ). mk q.slot_count st g.read_at (q.packets ++ (packet hd k gap ∷ []))) (rewound_is (byte_ring q)).2) (
+          subst IsWellPlaced (ap (λ (st : List ℕ). mk q.slot_count st g.read_at (q.packets ++ (packet hd k gap ∷ [])))
+          (rewound_is (byte_ring q)).2) (
             (wfg.0, omega (arith, here.2, count_g)),
             placed_append (capacity g) g.read_at 0 q.packets (packet hd k gap) placed_g at,
             omega (arith, parts.1),
@@ -355,20 +386,24 @@ module _ {H : Type 0} where
       pub push_place : index_after (capacity g) g.read_at (g.count + gap) ≡ last_index (with_packet q gap s hd)
       push_place =
           let sum = bytes_append q.packets (packet hd s gap) in
-          ap₂ (λ (st : List ℕ) (n : ℕ). index_after (length st) g.read_at n) (rewound_is (byte_ring q)).2 (omega (arith, end_size, count_g))
+          ap₂ (λ (st : List ℕ) (n : ℕ). index_after (length st) g.read_at n) (rewound_is (byte_ring q)).2
+          (omega (arith, end_size, count_g))
 
       -- bytes are written to it, and the first k of them stay
       pub cut_is : (k : ℕ) (ws : List ℕ) → with_bytes (with_packet q gap k hd) (last_index (with_packet q gap s hd)) ws
           ≡ with_last_size k (with_last_bytes (with_packet_if_room q s hd) ws)
       cut_is k ws =
           let all = with_packet q gap s hd in
-          ap₂ (λ (before back : List (Packet H)). mk q.slot_count (overwrite q.storage (last_index all) ws) all.read_at (before ++ back))
-          (sym (before_append q.packets (packet hd s gap))) (sym (ap (with_first_size k) (last_append q.packets (packet hd s gap))))
+          ap₂ (λ (before back : List (Packet H)). mk q.slot_count (overwrite q.storage (last_index all) ws) all.read_at
+          (before ++ back))
+          (sym (before_append q.packets (packet hd s gap)))
+          (sym (ap (with_first_size k) (last_append q.packets (packet hd s gap))))
           ∙ ap (λ o. with_last_size k (with_last_bytes o ws)) (sym pushed_is)
 
     -- what two rings of q hold after it
     pub push_left : {m : RingState (PacketMetadata H)} {b : RingState ℕ} → Holds m b q → (b1 : RingState ℕ)
-        → b1 ≡ rewind_if_empty b → (hd : H) (k : ℕ) → k ≤ s → (m2 : RingState (PacketMetadata H)) → capacity m2 ≡ q.slot_count
+        → b1 ≡ rewind_if_empty b → (hd : H) (k : ℕ) → k ≤ s → (m2 : RingState (PacketMetadata H))
+        → capacity m2 ≡ q.slot_count
         → queue m2 ≡ queue m ++ (gap_slot gap ++ (slot k (Some hd) ∷ [])) → IsWellFormed m2
         → (b2 : RingState ℕ) → b2 ≡ with_enqueued (gap + k) b1 → Holds m2 b2 (with_packet q gap k hd)
     push_left h b1 anew hd k le m2 long em wfm b2 after =
@@ -389,7 +424,8 @@ module _ {H : Type 0} where
 
   -- where the last packet is
   pub last_fits : (c r o : ℕ) (ps : List (Packet H)) → (r ≡ 0) ⊎ (r < c) → o + bytes_used ps ≤ c → ArePlaced c r o ps
-      → (first_size (only_last ps) ≤ bytes_used ps) × (index_after c r (o + bytes_used ps - first_size (only_last ps)) + first_size (only_last ps) ≤ c)
+      → (first_size (only_last ps) ≤ bytes_used ps)
+      × (index_after c r (o + bytes_used ps - first_size (only_last ps)) + first_size (only_last ps) ≤ c)
   last_fits c r o [] wf le a =
       let at = place_le_in c r o wf (omega arith) in
       let z : o + 0 - 0 ≡ o = omega arith in
@@ -426,12 +462,14 @@ module _ {H : Type 0} where
   shrunk c r o j [] p le a = ((omega (arith, a.0.0), a.0.1), tt)
   shrunk c r o j (q ∷ ps) p le a = (a.0, shrunk c r (o + q.gap + q.size) j ps p le a.1)
 
-  module _ (q : PacketsState H) (ok : IsWellPlaced q) (ps : List (Packet H)) (p : Packet H) (is : q.packets ≡ ps ++ (p ∷ []))
+  module _ (q : PacketsState H) (ok : IsWellPlaced q) (ps : List (Packet H)) (p : Packet H) (is : q.packets ≡ ps
+      ++ (p ∷ []))
       (j : ℕ) (le : j ≤ p.size) where
     pub shorter_is : with_last_size j q ≡ mk q.slot_count q.storage q.read_at (ps ++ (packet p.header j p.gap ∷ []))
     shorter_is =
         ap (λ l. mk q.slot_count q.storage q.read_at (before_last l ++ with_first_size j (only_last l))) is
-        ∙ ap₂ (λ (before back : List (Packet H)). mk q.slot_count q.storage q.read_at (before ++ with_first_size j back))
+        ∙ ap₂ (λ (before back : List (Packet H)). mk q.slot_count q.storage q.read_at
+        (before ++ with_first_size j back))
         (before_append ps p) (last_append ps p)
 
     pub shorter_bytes : bytes_used (ps ++ (packet p.header j p.gap ∷ [])) + (p.size - j) ≡ bytes_used q.packets
@@ -443,29 +481,36 @@ module _ {H : Type 0} where
         let one = slots_of_append ps p in
         let two = slots_of_append ps (packet p.header j p.gap) in
         let all = ap slots_used is in
-        let placed = shrunk (length q.storage) q.read_at 0 j ps p le (subst (ArePlaced (length q.storage) q.read_at 0) is ok.1) in
+        let placed = shrunk (length q.storage) q.read_at 0 j ps p le (subst (ArePlaced (length q.storage) q.read_at 0)
+        is ok.1) in
         subst IsWellPlaced (sym shorter_is) ((ok.0.0, omega (arith, ok.0.1)), placed, omega (arith, ok.2))
 
   -- ---- the gap before the first packet goes
   pub skipped_well : (q : PacketsState H) → IsWellPlaced q → IsWellPlaced (without_gap q)
   skipped_well q ok = go q.packets ok
     where
-      go : (ps : List (Packet H)) → let o = mk q.slot_count q.storage q.read_at ps in IsWellPlaced o → IsWellPlaced (without_gap o)
+      go : (ps : List (Packet H)) → let o = mk q.slot_count q.storage q.read_at ps in IsWellPlaced o
+          → IsWellPlaced (without_gap o)
       go [] ok = ((place_wf (length q.storage) q.read_at 0 ok.0.0 (omega arith), ok.0.1), tt, ok.2)
       go (p ∷ ps) ok =
           let some = slots_for_pos p.gap in
-          let at = place_wf (length q.storage) q.read_at p.gap ok.0.0 (omega (arith, ok.0.1)) in
-          ((at, omega (arith, ok.0.1)), placed_skip (length q.storage) q.read_at p ps ok.0.0 ok.0.1 ok.1, omega (arith, ok.2))
+          let at = place_wf (length q.storage) q.read_at p.gap ok.0.0 (omega (arith, ok.0.1)) in (
+            (at, omega (arith, ok.0.1)),
+            placed_skip (length q.storage) q.read_at p ps ok.0.0 ok.0.1 ok.1,
+            omega (arith, ok.2),
+          )
 
   pub close_gap : (ps : List (Packet H)) → first_gap (without_first_gap ps) ≡ 0
   close_gap [] = refl
   close_gap (p ∷ ps) = refl
 
-  pub close_first : (ps : List (Packet H)) (x : H) (s : ℕ) → IsFirstSized (without_first_gap ps) x s → IsFirstSized ps x s
+  pub close_first : (ps : List (Packet H)) (x : H) (s : ℕ) → IsFirstSized (without_first_gap ps) x s
+      → IsFirstSized ps x s
   close_first [] x s e = e
   close_first (p ∷ ps) x s e = ap (λ l. packet (head_or p l).header (head_or p l).size p.gap ∷ ps) e
 
-  skipped_slots : (ps : List (Packet H)) → 0 < first_gap ps → packet_slots ps ≡ slot (first_gap ps) None ∷ packet_slots (without_first_gap ps)
+  skipped_slots : (ps : List (Packet H)) → 0 < first_gap ps → packet_slots ps ≡ slot (first_gap ps) None ∷ packet_slots
+      (without_first_gap ps)
   skipped_slots [] pos = absurd (omega arith)
   skipped_slots (p ∷ ps) pos = ap (λ l. l ++ (slot p.size (Some p.header) ∷ packet_slots ps)) (gap_slot_one p.gap pos)
 
@@ -474,7 +519,8 @@ module _ {H : Type 0} where
   skipped_bytes (p ∷ ps) = omega arith
 
   -- the ring of bytes after it
-  pub skipped_ring : (q : PacketsState H) → with_dequeued (first_gap q.packets) (byte_ring q) ≡ byte_ring (without_gap q)
+  pub skipped_ring : (q : PacketsState H) → with_dequeued (first_gap q.packets) (byte_ring q) ≡ byte_ring
+      (without_gap q)
   skipped_ring q = ap (ring q.storage (without_gap q).read_at) (skipped_bytes q.packets)
 
   -- by what the two steps left
@@ -490,22 +536,26 @@ module _ {H : Type 0} where
       (dequeued ∙ ap₂ with_dequeued size (bytes_are h) ∙ skipped_ring q)
 
   -- ---- the first packet, whose gap is gone
-  head_slots : (ps : List (Packet H)) (p : Packet H) → p.gap ≡ 0 → packet_slots (p ∷ ps) ≡ slot p.size (Some p.header) ∷ packet_slots ps
+  head_slots : (ps : List (Packet H)) (p : Packet H) → p.gap ≡ 0 → packet_slots (p ∷ ps) ≡ slot p.size
+      (Some p.header) ∷ packet_slots ps
   head_slots ps p z = ap (λ l. l ++ (slot p.size (Some p.header) ∷ packet_slots ps)) (gap_slot_none p.gap z)
 
   -- the first slot is that of the first packet
-  head_of : (ps : List (Packet H)) (s : ℕ) (hd : H) (ms : List (PacketMetadata H)) → slot s (Some hd) ∷ ms ≡ packet_slots ps → first_gap ps ≡ 0
+  head_of : (ps : List (Packet H)) (s : ℕ) (hd : H) (ms : List (PacketMetadata H))
+      → slot s (Some hd) ∷ ms ≡ packet_slots ps → first_gap ps ≡ 0
       → IsFirstSized ps hd s × (ms ≡ packet_slots (drop 1 ps))
   head_of [] s hd ms e z = absurd (let n = ap length e in omega arith)
   head_of (p ∷ ps) s hd ms e z =
       let all : slot s (Some hd) ∷ ms ≡ slot p.size (Some p.header) ∷ packet_slots ps = e ∙ head_slots ps p z in
       let same = ap (head_or (slot s (Some hd))) all in (
-        ap₂ (λ (y : H) (k : ℕ). packet y k p.gap ∷ ps) (cond_some true p.header hd (sym (ap (λ x. x.header) same))).1 (sym (ap (λ x. x.size) same)),
+        ap₂ (λ (y : H) (k : ℕ). packet y k p.gap ∷ ps) (cond_some true p.header hd (sym (ap (λ x. x.header) same))).1
+            (sym (ap (λ x. x.size) same)),
         ap (drop 1) all,
       )
 
   -- the first slot is that of a gap
-  pub gap_of : (ps : List (Packet H)) (s : ℕ) (ms : List (PacketMetadata H)) → slot s None ∷ ms ≡ packet_slots ps → (first_gap ps ≡ s) × (0 < s)
+  pub gap_of : (ps : List (Packet H)) (s : ℕ) (ms : List (PacketMetadata H)) → slot s None ∷ ms ≡ packet_slots ps
+      → (first_gap ps ≡ s) × (0 < s)
   gap_of [] s ms e = absurd (let n = ap length e in omega arith)
   gap_of (p ∷ ps) s ms e = elim (cases_lt 0 p.gap) [
     | inl pos ↦
@@ -534,18 +584,22 @@ module _ {H : Type 0} where
   gap_fits c r o (p ∷ ps) a some = (omega arith, a.0.1 (λ z. omega arith))
 
   -- its header is written over
-  pub headed : (hd : H) (ps : List (Packet H)) → (first_gap (with_first_header hd ps) ≡ first_gap ps) × (first_size (with_first_header hd ps) ≡ first_size ps)
+  pub headed : (hd : H) (ps : List (Packet H)) → (first_gap (with_first_header hd ps) ≡ first_gap ps)
+      × (first_size (with_first_header hd ps) ≡ first_size ps)
       × (drop 1 (with_first_header hd ps) ≡ drop 1 ps) × (bytes_used (with_first_header hd ps) ≡ bytes_used ps)
   headed hd [] = (refl, refl, refl, refl)
   headed hd (p ∷ ps) = (refl, refl, refl, refl)
 
-  pub headed_ring : (q : PacketsState H) (hd : H) (ws : List ℕ) → with_elements (byte_ring q) q.read_at ws ≡ byte_ring (with_first_bytes q hd ws)
+  pub headed_ring : (q : PacketsState H) (hd : H) (ws : List ℕ) → with_elements (byte_ring q) q.read_at ws ≡ byte_ring
+      (with_first_bytes q hd ws)
   headed_ring q hd ws = ap (ring (overwrite q.storage q.read_at ws) q.read_at) (sym (headed hd q.packets).3)
 
-  pub headed_well : (q : PacketsState H) → IsWellPlaced q → (hd : H) (ws : List ℕ) → IsWellPlaced (with_first_bytes q hd ws)
+  pub headed_well : (q : PacketsState H) → IsWellPlaced q → (hd : H) (ws : List ℕ)
+      → IsWellPlaced (with_first_bytes q hd ws)
   headed_well q ok hd ws = go q.packets (with_bytes_well q ok q.read_at ws)
     where
-      go : (ps : List (Packet H)) → let st = overwrite q.storage q.read_at ws in IsWellPlaced (mk q.slot_count st q.read_at ps)
+      go : (ps : List (Packet H)) → let st = overwrite q.storage q.read_at ws in IsWellPlaced
+          (mk q.slot_count st q.read_at ps)
           → IsWellPlaced (mk q.slot_count st q.read_at (with_first_header hd ps))
       go [] ok = ok
       go (p ∷ ps) ok = ok
@@ -554,27 +608,34 @@ module _ {H : Type 0} where
   pub popped_well : (q : PacketsState H) → first_gap q.packets ≡ 0 → IsWellPlaced q → IsWellPlaced (without_first q)
   popped_well q z ok = go q.packets z ok
     where
-      go : (ps : List (Packet H)) → first_gap ps ≡ 0 → let o = mk q.slot_count q.storage q.read_at ps in IsWellPlaced o → IsWellPlaced (without_first o)
+      go : (ps : List (Packet H)) → first_gap ps ≡ 0 → let o = mk q.slot_count q.storage q.read_at ps in IsWellPlaced o
+          → IsWellPlaced (without_first o)
       go [] z ok = ((place_wf (length q.storage) q.read_at 0 ok.0.0 (omega arith), ok.0.1), tt, ok.2)
       go (p ∷ ps) z ok =
-          let at = place_wf (length q.storage) q.read_at p.size ok.0.0 (omega (arith, ok.0.1)) in
-          ((at, omega (arith, ok.0.1)), placed_pop (length q.storage) q.read_at p ps ok.0.0 ok.0.1 z ok.1, omega (arith, ok.2))
+          let at = place_wf (length q.storage) q.read_at p.size ok.0.0 (omega (arith, ok.0.1)) in (
+            (at, omega (arith, ok.0.1)),
+            placed_pop (length q.storage) q.read_at p ps ok.0.0 ok.0.1 z ok.1,
+            omega (arith, ok.2),
+          )
 
   popped_bytes : (ps : List (Packet H)) → first_gap ps ≡ 0 → bytes_used ps - first_size ps ≡ bytes_used (drop 1 ps)
   popped_bytes [] z = omega arith
   popped_bytes (p ∷ ps) z = omega arith
 
-  pub popped_ring : (q : PacketsState H) → first_gap q.packets ≡ 0 → with_dequeued (first_size q.packets) (byte_ring q) ≡ byte_ring (without_first q)
+  pub popped_ring : (q : PacketsState H) → first_gap q.packets ≡ 0 → with_dequeued (first_size q.packets)
+      (byte_ring q) ≡ byte_ring (without_first q)
   popped_ring q z = ap (ring q.storage (without_first q).read_at) (popped_bytes q.packets z)
 
-  popped : (q : PacketsState H) → IsWellPlaced q → first_gap q.packets ≡ 0 → (m : RingState (PacketMetadata H)) → IsWellFormed m
+  popped : (q : PacketsState H) → IsWellPlaced q → first_gap q.packets ≡ 0 → (m : RingState (PacketMetadata H))
+      → IsWellFormed m
       → capacity m ≡ q.slot_count → queue m ≡ packet_slots (drop 1 q.packets)
       → (b : RingState ℕ) → b ≡ with_dequeued (first_size q.packets) (byte_ring q) → Holds m b (without_first q)
   popped q ok z m wf long slots b bytes =
       held (without_first q) (popped_well q z ok) m wf long slots b (bytes ∙ popped_ring q z)
 
   -- by what the first slot is
-  module _ {m : RingState (PacketMetadata H)} {b : RingState ℕ} {q : PacketsState H} (h : Holds m b q) (z : first_gap q.packets ≡ 0)
+  module _ {m : RingState (PacketMetadata H)} {b : RingState ℕ} {q : PacketsState H} (h : Holds m b q)
+      (z : first_gap q.packets ≡ 0)
       (s : ℕ) (hd : H) (at : queue m ≡ slot s (Some hd) ∷ drop 1 (queue m)) where
     pub is_first : IsFirstSized q.packets hd s × (drop 1 (queue m) ≡ packet_slots (drop 1 q.packets))
     is_first = head_of q.packets s hd (drop 1 (queue m)) (sym at ∙ slots_are h) z
@@ -582,10 +643,12 @@ module _ {H : Type 0} where
     size : first_size q.packets ≡ s
     size = ap first_size is_first.0
 
-    module _ (m2 : RingState (PacketMetadata H)) (wfm : IsWellFormed m2) (long : capacity m2 ≡ q.slot_count) (b2 : RingState ℕ) where
+    module _ (m2 : RingState (PacketMetadata H)) (wfm : IsWellFormed m2) (long : capacity m2 ≡ q.slot_count)
+        (b2 : RingState ℕ) where
       pub take_left : queue m2 ≡ drop 1 (queue m) → b2 ≡ with_dequeued s b → Holds m2 b2 (without_first q)
       take_left em after =
-          popped q (well_placed h) z m2 wfm long (em ∙ is_first.1) b2 (after ∙ ap₂ with_dequeued (sym size) (bytes_are h))
+          popped q (well_placed h) z m2 wfm long (em ∙ is_first.1) b2 (after ∙ ap₂ with_dequeued (sym size)
+          (bytes_are h))
 
       module _ (ws : List ℕ) (new : H) where
         over_is : with_elements b b.read_at ws ≡ byte_ring (with_first_bytes q new ws)
@@ -596,7 +659,8 @@ module _ {H : Type 0} where
         off_left em after =
             let same = headed new q.packets in
             popped (with_first_bytes q new ws) (headed_well q (well_placed h) new ws) (same.0 ∙ z) m2 wfm long
-            (em ∙ is_first.1 ∙ ap packet_slots (sym same.2)) b2 (after ∙ ap₂ with_dequeued (sym (same.1 ∙ size)) over_is)
+            (em ∙ is_first.1 ∙ ap packet_slots (sym same.2)) b2 (after ∙ ap₂ with_dequeued (sym (same.1 ∙ size))
+            over_is)
 
         pub on_left : queue m2 ≡ slot s (Some new) ∷ drop 1 (queue m) → b2 ≡ with_elements b b.read_at ws
             → Holds m2 b2 (with_first_bytes q new ws)

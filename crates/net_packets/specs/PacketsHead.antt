@@ -34,7 +34,6 @@ use Rattle.net_ring.specs.declared.head.RingHead.{RingHead}
 use Rattle.net_packets.specs.declared.head.FirstPacket.{FirstPacket}
 use Rattle.net_packets.specs.declared.packet_slot.PacketSlot.{PacketSlot}
 
--- ---- a queue of packets by the two rings that store it
 module _ {H : Type 0} where
   -- the slot of s bytes with the header h, or with none
   abbrev pub slot : ℕ → Option H → PacketMetadata H

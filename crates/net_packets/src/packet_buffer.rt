@@ -1,18 +1,17 @@
 //! A queue of packets, each with a header, over storage that is lent or owned.
 ghost use Rattle.std.specs.Prelude.{◌≡◌, ◌≢◌, ◌↔◌, ◌<◌, ◌≤◌, ◌==◌, ◌-◌, ◌∷◌, ◌++◌, [], ℕ, List, length, take, drop};
-ghost use Rattle.std.specs.Prelude.{min, set, slice_get, filter, is_some, IsTrue, IsErr, IsNone, IsSome, IfOk};
-ghost use Rattle.std.specs.Prelude.{IfSome, OnErr, OnOk};
+ghost use Rattle.std.specs.Prelude.{min, set, slice_get, filter, is_some, IsTrue, IsErr, IsNone, IsSome, IfOk, IfSome};
+ghost use Rattle.std.specs.Prelude.{OnErr, OnOk};
 ghost use Rattle.std.specs.Borrow.{sem};
 ghost use Rattle.std.specs.Fn.{FnOnceTakesAtMut, FnOnceReturnsAtMut};
 ghost use Rattle.std.specs.declared.option.Option.TheVariants.{Some, None};
-ghost use Rattle.net_packets.specs.{IsRoom, WritesPacket, TakesFirstPacket, HandsPacket, CopiesOut};
-ghost use Rattle.net_packets.specs.{contents, with_bytes_in_last_entry, head_bytes, Makes, Reset, Enqueue, Place};
-ghost use Rattle.net_packets.specs.{WriteLast, Dequeue, Take, WriteLastDequeued, Peek, slot, slots_with};
-ghost use Rattle.net_packets.specs.{IsWellPlaced, bytes_used, slots_used, no_packets, placement, with_packet_if_room};
-ghost use Rattle.net_packets.specs.{with_packet_of, only_last, last_bytes, with_last_bytes, first_size, first_gap};
-ghost use Rattle.net_packets.specs.{first_bytes, IsFirst, IsFirstSized, without_gap, without_first};
-ghost use Rattle.net_packets.specs.{without_first_and_gap, with_bytes, AreLastDequeued};
-ghost use Rattle.net_packets.specs.{last_dequeued_bytes, last_dequeued_bytes_index};
+ghost use Rattle.net_packets.specs.{IsRoom, WritesPacket, TakesFirstPacket, HandsPacket, CopiesOut, contents};
+ghost use Rattle.net_packets.specs.{with_bytes_in_last_entry, head_bytes, Makes, Reset, Enqueue, Place, WriteLast};
+ghost use Rattle.net_packets.specs.{Dequeue, Take, WriteLastDequeued, Peek, slot, slots_with, IsWellPlaced, bytes_used};
+ghost use Rattle.net_packets.specs.{slots_used, no_packets, placement, with_packet_if_room, with_packet_of, only_last};
+ghost use Rattle.net_packets.specs.{last_bytes, with_last_bytes, first_size, first_gap, first_bytes, IsFirst};
+ghost use Rattle.net_packets.specs.{IsFirstSized, without_gap, without_first, without_first_and_gap, with_bytes};
+ghost use Rattle.net_packets.specs.{AreLastDequeued, last_dequeued_bytes, last_dequeued_bytes_index};
 
 use crate::head::{PacketPlace, PacketsHead};
 use crate::packet_metadata::PacketMetadata;

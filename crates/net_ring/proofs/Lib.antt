@@ -1,6 +1,4 @@
 pub mod Rotations
-pub mod Relend
 pub mod RingFacts
 pub mod RingOrder
 pub mod Walks
-pub mod ManagedFields

@@ -1,14 +1,16 @@
 -- What the clauses of a ring's calls say, from its storage.
--- Parts of lists by index; the queue in its two contiguous parts, and its last element.
+-- Parts of lists by index.
 -- Spans of a storage, as parts of the ring of that storage and of the numbers by which they were found.
 -- One more element of a list is reset.
+-- Sets of lemmas on a storage, a read index and a count, which close the goals of heads and of rings.
 use Rattle.std.proofs.Common.{◌≢◌, get_or, ◌≡◌, ℕ, ◌+◌, ◌-◌, ◌<◌, ◌≤◌, ◌⊎◌, List, [], ◌∷◌, ◌++◌, length, take, drop}
 use Rattle.std.proofs.Common.{min, refl, sym, ap, ap₂, ◌∙◌, subst, inl, inr, arith, length-drop, add-zero, nat_lt}
 use Rattle.std.proofs.Common.{if◌then◌else◌, suc, Some, length-take, set, ◌↔◌}
 use Rattle.std.proofs.lemmas.Bool.Decides.{nat_tests}
 use Rattle.std.proofs.lemmas.Bool.{false≢true, cases_lt}
-use Rattle.std.proofs.lemmas.List.{drop-drop, take-take, length-take-le, take-append-drop, take_all, drop_all, nil_from_length}
-use Rattle.std.proofs.lemmas.List.{drop_more, places, same_lists, drop_at, take_more, take_more_set, drop-set-lt}
+use Rattle.std.proofs.lemmas.List.{drop-drop, take-take, length-take-le, take-append-drop, take_all, drop_all}
+use Rattle.std.proofs.lemmas.List.{nil_from_length, drop_more, places, same_lists, drop_at, take_more, take_more_set}
+use Rattle.std.proofs.lemmas.List.{drop-set-lt}
 use Rattle.std.specs.Prelude.{Result, IsOk, IsErr, is_ok, slice_get}
 use Rattle.std.specs.Borrow.{MutBor}
 use Rattle.std.specs.Fn.{Once, FnOnceReturnsAtMut}
@@ -16,28 +18,30 @@ use denote.MutBor.{at_last}
 use Rattle.std.proofs.lemmas.Option.{gets, slice_get_within}
 use Rattle.std.specs.declared.result.Result.TheVariants.{Ok, Err}
 use Rattle.net_ring.specs.{overwrite, RingState, rotation, ring, capacity, window, queue, index_after, spare}
-use Rattle.net_ring.specs.{storage_index, write_at, IsWellFormed, with_elements, with_elements_wrapping}
-use Rattle.net_ring.specs.{with_enqueued, with_dequeued, rewind_if_empty, contiguous_window, contiguous_queued}
-use Rattle.net_ring.specs.{spare_index, contiguous_unallocated, queue_index, contiguous_allocated, Enqueues, Dequeues}
-use Rattle.net_ring.specs.{WritesSpare, WritesQueue, EnqueuesFrom, DequeuesFrom, contiguous_queue, ring_at, rewound}
-use Rattle.net_ring.specs.{IsSound, place, free_index, queued_index, written_span, elements_at}
+use Rattle.net_ring.specs.{storage_index, write_at, IsWellFormed, with_elements, with_elements_wrapping, with_enqueued}
+use Rattle.net_ring.specs.{with_dequeued, rewind_if_empty, contiguous_window, contiguous_queued, spare_index}
+use Rattle.net_ring.specs.{contiguous_unallocated, queue_index, contiguous_allocated, Enqueues, Dequeues, WritesSpare}
+use Rattle.net_ring.specs.{WritesQueue, EnqueuesFrom, DequeuesFrom, ring_at, rewound, IsSound}
+use Rattle.net_ring.specs.{queued_index, elements_at}
 use Rattle.net_ring.specs.declared.head.RingHead.{RingHead}
 use Rattle.net_ring.proofs.Rotations.{IsStorageIndex, length-rotation, length-overwrite, storage_index_is, read_at_le}
-use Rattle.net_ring.proofs.Rotations.{whole, length-queue, length-spare, spare-written}
-use Rattle.net_ring.proofs.Rotations.{with_enqueued_parts, with_dequeued_parts, take_sum}
+use Rattle.net_ring.proofs.Rotations.{whole, length-queue, length-spare, spare-written, with_enqueued_parts}
+use Rattle.net_ring.proofs.Rotations.{with_dequeued_parts, take_sum}
 use Rattle.net_ring.specs.declared.head.Span.{Span}
 use Rattle.std.proofs.lemmas.List.Elements.{AllZip-push}
 use Rattle.std.specs.List.{AllZip}
 
 -- what a closure that was lent x at p left there, and gave
-pub returned : {F T R : Type 0} {g : Once F (MutBor T × Unit {0}) (R × (MutBor T × Unit {0}))} {f : F} {x : T} {r : R} (p : MutBor T) (after : T)
+pub returned : {F T R : Type 0} {g : Once F (MutBor T × Unit {0}) (R × (MutBor T × Unit {0}))} {f : F} {x : T} {r : R}
+    (p : MutBor T) (after : T)
     → p.now ≡ x → g.post f (p, tt) (r, (at_last p after, tt)) → FnOnceReturnsAtMut g f x r after
 returned p after is met = record { shown = p; shows = is; left = at_last p after; leaves = refl; met = met }
 
 module _ {T : Type 0} where
   -- ---- lists
   -- a write over the first elements
-  overwrite_head : (s ws : List T) (k : ℕ) → k ≤ length ws → length ws ≤ length s → (take k (overwrite s 0 ws) ≡ take k ws)
+  overwrite_head : (s ws : List T) (k : ℕ) → k ≤ length ws → length ws ≤ length s
+      → (take k (overwrite s 0 ws) ≡ take k ws)
       × (drop (length ws) (overwrite s 0 ws) ≡ drop (length ws) s)
   overwrite_head s ws k e le = (
     same_lists _ _ (grind (arith, places)) (λ m d h. grind (arith, places)),
@@ -50,7 +54,8 @@ module _ {T : Type 0} where
   pub overwrite_whole : (s ws : List T) → length ws ≡ length s → overwrite s 0 ws ≡ ws
   overwrite_whole s ws e = same_lists _ _ (grind (arith, places)) (λ m d h. grind (arith, places))
 
-  overwrite_twice : (s a b : List T) (i : ℕ) → i + length a + length b ≤ length s → overwrite (overwrite s i a) (i + length a) b ≡ overwrite s i (a ++ b)
+  overwrite_twice : (s a b : List T) (i : ℕ) → i + length a + length b ≤ length s → overwrite (overwrite s i a)
+      (i + length a) b ≡ overwrite s i (a ++ b)
   overwrite_twice s a b i le = same_lists _ _ (grind (arith, places)) (λ m d h. grind (arith, places))
 
   -- a write in two parts, the second at the beginning
@@ -59,7 +64,8 @@ module _ {T : Type 0} where
   wrapping_is s ws i k le e = same_lists _ _ (grind (arith, places)) (λ m d h. grind (arith, places))
 
   -- what a part of the storage is shown as
-  pub part_is : (b : List T) (p m k : ℕ) → m ≡ k → p + k ≤ length b → (now : List T) → now ≡ take m (drop p b) → (length now ≡ k) × (now ≡ take k (drop p b))
+  pub part_is : (b : List T) (p m k : ℕ) → m ≡ k → p + k ≤ length b → (now : List T) → now ≡ take m (drop p b)
+      → (length now ≡ k) × (now ≡ take k (drop p b))
   part_is b p m k em le now e =
       let is : now ≡ take k (drop p b) = e ∙ ap (λ (j : ℕ). take j (drop p b)) em in
       (ap length is ∙ length-take-le k (drop p b) (omega (arith, length-drop p b)), is)
@@ -76,7 +82,8 @@ module _ {T : Type 0} where
 
   module _ (g : RingState T) (wf : IsWellFormed g) where
     pub written_wf : (p : ℕ) (ws : List T) → IsWellFormed (with_elements g p ws)
-    written_wf p ws = subst (λ (n : ℕ). ((g.read_at ≡ 0) ⊎ (g.read_at < n)) × (g.count ≤ n)) (sym (length-overwrite g.storage p ws)) wf
+    written_wf p ws = subst (λ (n : ℕ). ((g.read_at ≡ 0) ⊎ (g.read_at < n)) × (g.count ≤ n))
+        (sym (length-overwrite g.storage p ws)) wf
 
     pub storage_index_le : (j : ℕ) → j ≤ capacity g → storage_index g j ≤ capacity g
     storage_index_le j le = grind (arith, nat_tests)
@@ -92,10 +99,12 @@ module _ {T : Type 0} where
     storage_index-zero = grind (arith, nat_tests)
 
     pub write_index_is : IsStorageIndex (capacity g) g.read_at (g.count + 0) (write_at g)
-    write_index_is = subst (λ (j : ℕ). IsStorageIndex (capacity g) g.read_at j (write_at g)) (sym (add-zero g.count)) (storage_index_is g g.count)
+    write_index_is = subst (λ (j : ℕ). IsStorageIndex (capacity g) g.read_at j (write_at g)) (sym (add-zero g.count))
+        (storage_index_is g g.count)
 
     -- ---- parts of the storage, by queue and spare part
-    pub spare_value : (i k p : ℕ) → i + k ≤ window g → p + k ≤ capacity g → IsStorageIndex (capacity g) g.read_at (g.count + i) p
+    pub spare_value : (i k p : ℕ) → i + k ≤ window g → p + k ≤ capacity g → IsStorageIndex (capacity g) g.read_at
+        (g.count + i) p
         → take k (drop p g.storage) ≡ take k (drop i (spare g))
     spare_value i k p hi hp at = same_lists _ _ (grind (arith, places)) (λ m d h. grind (arith, places))
 
@@ -123,11 +132,13 @@ module _ {T : Type 0} where
         let p = write_at g in
         let fits : p + length ws ≤ capacity g = omega (arith, storage_index_le g.count wf.1) in
         let w = spare_law 0 p ws (omega arith) fits write_index_is in
-        let t = with_enqueued_parts (with_elements g p ws) (written_wf p ws) k (omega (arith, length-overwrite g.storage p ws)) in
+        let t = with_enqueued_parts (with_elements g p ws) (written_wf p ws) k
+        (omega (arith, length-overwrite g.storage p ws)) in
         let f = overwrite_head (spare g) ws k le (omega (arith, length-spare g wf)) in
         (t.0 ∙ ap₂ ◌++◌ w.0 (ap (take k) w.1 ∙ f.0), t.1 ∙ ap (drop k) w.1, refl)
 
-    pub enqueued_law : (k : ℕ) → k ≤ contiguous_window g → (ws : List T) → length ws ≡ k → Enqueues g ws (with_elements (with_enqueued k g) (write_at g) ws)
+    pub enqueued_law : (k : ℕ) → k ≤ contiguous_window g → (ws : List T) → length ws ≡ k
+        → Enqueues g ws (with_elements (with_enqueued k g) (write_at g) ws)
     enqueued_law k le ws e =
         let all = enqueued_from k ws (omega arith) (omega arith) in
         let f = overwrite_head (spare g) ws k (omega arith) (omega (arith, length-spare g wf)) in (
@@ -150,15 +161,22 @@ module _ {T : Type 0} where
         let w = with_elements g g.read_at ws in
         let wwf = written_wf g.read_at ws in
         let same : with_dequeued k w ≡ with_elements (with_dequeued k g) g.read_at ws =
-        ap (λ n. ring (overwrite g.storage g.read_at ws) (if nat_lt k (n - g.read_at) then g.read_at + k else k - (n - g.read_at))
+        ap (λ n. ring (overwrite g.storage g.read_at ws) (if nat_lt k (n - g.read_at) then g.read_at + k
+        else k - (n - g.read_at))
         (g.count - k)) (length-overwrite g.storage g.read_at ws) in
         let q = queue_law 0 g.read_at ws (omega arith) (omega (arith, read_at_le g wf)) read_index_is in
         let f = overwrite_head (queue g) ws k le (omega (arith, length-queue g wf)) in
         let t = with_dequeued_parts w wwf k (omega arith) in
-        let whole : DequeuesFrom g k ws (with_dequeued k w) = (t.0 ∙ ap (drop k) q.0, t.1 ∙ ap₂ ◌++◌ q.1 (ap (take k) q.0 ∙ f.0), ap (λ o. o.read_at) same) in
+        let whole : DequeuesFrom g k ws (with_dequeued k w) = (
+          t.0 ∙ ap (drop k) q.0,
+          t.1
+              ∙ ap₂ ◌++◌ q.1 (ap (take k) q.0 ∙ f.0),
+          ap (λ o. o.read_at) same,
+        ) in
         subst (DequeuesFrom g k ws) same whole
 
-    pub dequeued_law : (k : ℕ) → k ≤ contiguous_queued g → (ws : List T) → length ws ≡ k → Dequeues g k ws (with_elements (with_dequeued k g) g.read_at ws)
+    pub dequeued_law : (k : ℕ) → k ≤ contiguous_queued g → (ws : List T) → length ws ≡ k
+        → Dequeues g k ws (with_elements (with_dequeued k g) g.read_at ws)
     dequeued_law k le ws e =
         let all = dequeued_from k ws (omega arith) (omega arith) in
         let f = overwrite_head (queue g) ws k (omega arith) (omega (arith, length-queue g wf)) in (
@@ -172,25 +190,33 @@ module _ {T : Type 0} where
     with_dequeued_law k le = let t = with_dequeued_parts g wf k le in (t.0, t.1, refl)
 
     -- ---- a write that wraps at the storage's end
-    unwrapped : (p : ℕ) (ws : List T) → length ws ≤ capacity g - p → with_elements_wrapping g p ws ≡ with_elements g p ws
+    unwrapped : (p : ℕ) (ws : List T) → length ws ≤ capacity g - p → with_elements_wrapping g p ws ≡ with_elements g p
+        ws
     unwrapped p ws room = ap (with_elements (with_elements g p ws) 0) (drop_all (length g.storage - p) ws room)
         ∙ ap (λ b. ring b g.read_at g.count) (overwrite_none (overwrite g.storage p ws) 0)
 
     -- after a write that ends at the storage's end comes the storage's beginning
-    wrapped_index : (i p m n : ℕ) → i + m + n ≤ window g → p + m ≡ capacity g → 0 < n → IsStorageIndex (capacity g) g.read_at (g.count + i) p
+    wrapped_index : (i p m n : ℕ) → i + m + n ≤ window g → p + m ≡ capacity g → 0 < n → IsStorageIndex (capacity g)
+        g.read_at (g.count + i) p
         → IsStorageIndex (capacity g) g.read_at (g.count + (i + m)) 0
     wrapped_index i p m n le full some at = grind arith
 
-    wrapping_twice : (i p : ℕ) (a b : List T) → i + length a + length b ≤ window g → p + length a ≡ capacity g → 0 < length b
-        → IsStorageIndex (capacity g) g.read_at (g.count + i) p → WritesSpare g i (a ++ b) (with_elements (with_elements g p a) 0 b)
+    wrapping_twice : (i p : ℕ) (a b : List T) → i + length a + length b ≤ window g → p + length a ≡ capacity g
+        → 0 < length b
+        → IsStorageIndex (capacity g) g.read_at (g.count + i) p → WritesSpare g i (a ++ b)
+        (with_elements (with_elements g p a) 0 b)
     wrapping_twice i p a b le full some at =
         let s = spare_law i p a (omega arith) (omega arith) at in
         let w = with_elements g p a in
         let long = length-overwrite g.storage p a in
         let next = wrapped_index i p (length a) (length b) le full some at in
         let t = spare-written w (written_wf p a) (i + length a) 0 b (omega arith) (omega (arith, wf.1))
-        (subst (λ (n : ℕ). IsStorageIndex n g.read_at (g.count + (i + length a)) 0) (sym long) next) in
-        (t.0 ∙ s.0, t.1 ∙ ap (λ (l : List T). overwrite l (i + length a) b) s.1 ∙ overwrite_twice (spare g) a b i (omega (arith, length-spare g wf)), refl)
+        (subst (λ (n : ℕ). IsStorageIndex n g.read_at (g.count + (i + length a)) 0) (sym long) next) in (
+          t.0 ∙ s.0,
+          t.1 ∙ ap (λ (l : List T). overwrite l (i + length a) b) s.1 ∙ overwrite_twice (spare g) a b i
+              (omega (arith, length-spare g wf)),
+          refl,
+        )
 
     pub wrapping_law : (i p : ℕ) (ws : List T) → i + length ws ≤ window g → p ≤ capacity g
         → IsStorageIndex (capacity g) g.read_at (g.count + i) p → WritesSpare g i ws (with_elements_wrapping g p ws)
@@ -205,19 +231,22 @@ module _ {T : Type 0} where
           let same : with_elements (with_elements g p (take m ws)) 0 (drop m ws) ≡ with_elements_wrapping g p ws =
           ap (λ b. ring b g.read_at g.count) (wrapping_is g.storage ws p m within n) in
           subst (WritesSpare g i ws) same
-          (subst (λ (l : List T). WritesSpare g i l (with_elements (with_elements g p (take m ws)) 0 (drop m ws))) (take-append-drop m ws) two)
+          (subst (λ (l : List T). WritesSpare g i l (with_elements (with_elements g p (take m ws)) 0 (drop m ws)))
+          (take-append-drop m ws) two)
     ]
 
     -- ---- an index that is found within the window, or within the queue
     pub spare_at : (i : ℕ) → i ≤ window g → IsStorageIndex (capacity g) g.read_at (g.count + i) (spare_index g i)
     spare_at i le =
         let same : g.count + min i (window g) ≡ g.count + i = omega arith in
-        subst (λ (j : ℕ). IsStorageIndex (capacity g) g.read_at j (spare_index g i)) same (storage_index_is g (g.count + min i (window g)))
+        subst (λ (j : ℕ). IsStorageIndex (capacity g) g.read_at j (spare_index g i)) same
+        (storage_index_is g (g.count + min i (window g)))
 
     pub queue_at : (i : ℕ) → i ≤ g.count → IsStorageIndex (capacity g) g.read_at i (queue_index g i)
     queue_at i le =
         let same : min i g.count ≡ i = omega arith in
-        subst (λ (j : ℕ). IsStorageIndex (capacity g) g.read_at j (queue_index g i)) same (storage_index_is g (min i g.count))
+        subst (λ (j : ℕ). IsStorageIndex (capacity g) g.read_at j (queue_index g i)) same
+        (storage_index_is g (min i g.count))
 
     spare_index_le : (i : ℕ) → spare_index g i ≤ capacity g
     spare_index_le i = storage_index_le (g.count + min i (window g)) (omega (arith, wf.1))
@@ -226,15 +255,18 @@ module _ {T : Type 0} where
     queue_index_le i = storage_index_le (min i g.count) (omega (arith, wf.1))
 
     pub spare_part_value : (i n : ℕ)
-        → take (contiguous_unallocated g i n) (drop (spare_index g i) g.storage) ≡ take (contiguous_unallocated g i n) (drop i (spare g))
+        → take (contiguous_unallocated g i n) (drop (spare_index g i) g.storage) ≡ take (contiguous_unallocated g i n)
+        (drop i (spare g))
     spare_part_value i n = same_lists _ _ (grind (arith, places, nat_tests)) (λ m d h. grind (arith, places, nat_tests))
 
     pub queue_part_value : (i n : ℕ)
-        → take (contiguous_allocated g i n) (drop (queue_index g i) g.storage) ≡ take (contiguous_allocated g i n) (drop i (queue g))
+        → take (contiguous_allocated g i n) (drop (queue_index g i) g.storage) ≡ take (contiguous_allocated g i n)
+        (drop i (queue g))
     queue_part_value i n = same_lists _ _ (grind (arith, places, nat_tests)) (λ m d h. grind (arith, places, nat_tests))
 
     -- what is read from the index p on, up to the storage's end, and the rest of it at the storage's beginning
-    pub read_around : (i n p k : ℕ) → n ≤ g.count - i → p ≤ capacity g → IsStorageIndex (capacity g) g.read_at (min i g.count) p
+    pub read_around : (i n p k : ℕ) → n ≤ g.count - i → p ≤ capacity g → IsStorageIndex (capacity g) g.read_at
+        (min i g.count) p
         → k ≡ min n (capacity g - p) → take k (drop p g.storage) ++ take (n - k) g.storage ≡ take n (drop i (queue g))
     read_around i n p k le within at ek = same_lists _ _ (grind (arith, places)) (λ m d h. grind (arith, places))
 
@@ -253,37 +285,48 @@ module _ {T : Type 0} where
         let still : with_elements g p [] ≡ g = ap (λ b. ring b g.read_at g.count) (overwrite_none g.storage p) in
         subst (WritesQueue g i []) (sym still) (sym (overwrite_none (queue g) i), refl, refl)
 
-    pub queue_part_law : (i n : ℕ) (ws : List T) → length ws ≡ contiguous_allocated g i n → WritesQueue g i ws (with_elements g (queue_index g i) ws)
+    pub queue_part_law : (i n : ℕ) (ws : List T) → length ws ≡ contiguous_allocated g i n
+        → WritesQueue g i ws (with_elements g (queue_index g i) ws)
     queue_part_law i n ws e = elim (cases_lt g.count i) [
       | inr h ↦ queue_law i (queue_index g i) ws (omega arith) (omega (arith, queue_index_le i)) (queue_at i h)
       | inl h ↦ let none : ws ≡ [] = nil_from_length ws (omega arith) in subst
-          (λ (l : List T). WritesQueue g i l (with_elements g (queue_index g i) l)) (sym none) (nothing_in_queue i (queue_index g i))
+          (λ (l : List T). WritesQueue g i l (with_elements g (queue_index g i) l)) (sym none)
+          (nothing_in_queue i (queue_index g i))
     ]
 
     -- the clause of `write_unallocated`
-    pub wrapping_at : (i : ℕ) (ws : List T) → length ws ≤ window g - i → WritesSpare g i ws (with_elements_wrapping g (spare_index g i) ws)
+    pub wrapping_at : (i : ℕ) (ws : List T) → length ws ≤ window g - i
+        → WritesSpare g i ws (with_elements_wrapping g (spare_index g i) ws)
     wrapping_at i ws le = elim (cases_lt (window g) i) [
       | inr h ↦ wrapping_law i (spare_index g i) ws (omega arith) (spare_index_le i) (spare_at i h)
       | inl h ↦
           let p = spare_index g i in
-          subst (λ (l : List T). WritesSpare g i l (with_elements_wrapping g p l)) (sym (nil_from_length ws (omega arith)))
+          subst (λ (l : List T). WritesSpare g i l (with_elements_wrapping g p l))
+          (sym (nil_from_length ws (omega arith)))
           (subst (WritesSpare g i []) (sym (unwrapped p [] (omega arith))) (nothing_spare i p))
     ]
 
-    pub spare_part_law : (i n : ℕ) (ws : List T) → length ws ≡ contiguous_unallocated g i n → WritesSpare g i ws (with_elements g (spare_index g i) ws)
-    spare_part_law i n ws e = subst (WritesSpare g i ws) (unwrapped (spare_index g i) ws (omega arith)) (wrapping_at i ws (omega arith))
+    pub spare_part_law : (i n : ℕ) (ws : List T) → length ws ≡ contiguous_unallocated g i n
+        → WritesSpare g i ws (with_elements g (spare_index g i) ws)
+    spare_part_law i n ws e = subst (WritesSpare g i ws) (unwrapped (spare_index g i) ws (omega arith))
+        (wrapping_at i ws (omega arith))
 
     -- ---- one element
     pub read_fits : g.count ≢ 0 → g.read_at < capacity g
     read_fits h = elim wf.0 [ inl e ↦ omega (arith, wf.1) | inr l ↦ omega arith ]
 
     pub write_fits : window g ≢ 0 → write_at g < capacity g
-    write_fits h = elim (storage_index_is g g.count) [ inl p ↦ omega (arith, p.0, p.1, wf.1) | inr p ↦ omega (arith, p.0, p.1, wf.1, read_at_le g wf) ]
+    write_fits h = elim (storage_index_is g g.count) [
+      | inl p ↦ omega (arith, p.0, p.1, wf.1)
+      | inr p ↦ omega
+          (arith, p.0, p.1, wf.1, read_at_le g wf)
+    ]
 
     pub queue_head : (x : T) → x ≡ get_or g.storage g.read_at x → g.count ≢ 0 → queue g ≡ x ∷ drop 1 (queue g)
     queue_head x e h =
         let fits = read_fits h in
-        first_of (queue g) x (sym (take_one g.storage g.read_at x fits e) ∙ queue_value 0 1 g.read_at (omega arith) (omega arith) read_index_is)
+        first_of (queue g) x (sym (take_one g.storage g.read_at x fits e) ∙ queue_value 0 1 g.read_at (omega arith)
+        (omega arith) read_index_is)
 
     pub spare_head : (x : T) → x ≡ get_or g.storage (write_at g) x → window g ≢ 0 → spare g ≡ x ∷ drop 1 (spare g)
     spare_head x e h =
@@ -291,10 +334,12 @@ module _ {T : Type 0} where
         first_of (spare g) x (sym (take_one g.storage (write_at g) x fits e)
         ∙ spare_value 0 1 (write_at g) (omega arith) (omega arith) write_index_is)
 
-    pub enqueued_one : (w : T) → window g ≢ 0 → Enqueues g (w ∷ []) (with_elements (with_enqueued 1 g) (write_at g) (w ∷ []))
+    pub enqueued_one : (w : T) → window g ≢ 0 → Enqueues g (w ∷ []) (with_elements (with_enqueued 1 g) (write_at g)
+        (w ∷ []))
     enqueued_one w h = enqueued_law 1 (omega (arith, write_fits h)) (w ∷ []) refl
 
-    pub dequeued_one : (w : T) → g.count ≢ 0 → Dequeues g 1 (w ∷ []) (with_elements (with_dequeued 1 g) g.read_at (w ∷ []))
+    pub dequeued_one : (w : T) → g.count ≢ 0 → Dequeues g 1 (w ∷ []) (with_elements (with_dequeued 1 g) g.read_at
+        (w ∷ []))
     dequeued_one w h = dequeued_law 1 (omega (arith, read_fits h)) (w ∷ []) refl
 
     pub next_written : (w : T) → window g ≢ 0 → WritesSpare g 0 (w ∷ []) (with_elements g (write_at g) (w ∷ []))
@@ -307,15 +352,29 @@ module _ {T : Type 0} where
     pub next_either : {A E : Type 0} (w : T) → window g ≢ 0 → (answer : Result A E) (h : RingState T)
         → h ≡ with_elements (if is_ok answer then with_enqueued 1 g else g) (write_at g) (w ∷ [])
         → (IsOk answer → Enqueues g (w ∷ []) h) × (IsErr answer → WritesSpare g 0 (w ∷ []) h)
-    next_either w some (Ok x) h e = (λ _. subst (Enqueues g (w ∷ [])) (sym e) (enqueued_one w some), λ no. absurd (false≢true no))
-    next_either w some (Err x) h e = (λ no. absurd (false≢true no), λ _. subst (WritesSpare g 0 (w ∷ [])) (sym e) (next_written w some))
+    next_either w some (Ok x) h e = (
+      λ _. subst (Enqueues g (w ∷ [])) (sym e) (enqueued_one w some),
+      λ no. absurd (false≢true no),
+    )
+    next_either w some (Err x) h e = (
+      λ no. absurd (false≢true no),
+      λ _. subst (WritesSpare g 0 (w ∷ [])) (sym e)
+          (next_written w some),
+    )
 
     -- and on the first element of the queue
     pub head_either : {A E : Type 0} (w : T) → g.count ≢ 0 → (answer : Result A E) (h : RingState T)
         → h ≡ with_elements (if is_ok answer then with_dequeued 1 g else g) g.read_at (w ∷ [])
         → (IsOk answer → Dequeues g 1 (w ∷ []) h) × (IsErr answer → WritesQueue g 0 (w ∷ []) h)
-    head_either w some (Ok x) h e = (λ _. subst (Dequeues g 1 (w ∷ [])) (sym e) (dequeued_one w some), λ no. absurd (false≢true no))
-    head_either w some (Err x) h e = (λ no. absurd (false≢true no), λ _. subst (WritesQueue g 0 (w ∷ [])) (sym e) (head_written w some))
+    head_either w some (Ok x) h e = (
+      λ _. subst (Dequeues g 1 (w ∷ [])) (sym e) (dequeued_one w some),
+      λ no. absurd (false≢true no),
+    )
+    head_either w some (Err x) h e = (
+      λ no. absurd (false≢true no),
+      λ _. subst (WritesQueue g 0 (w ∷ [])) (sym e)
+          (head_written w some),
+    )
 
   -- ---- clauses that a call proves of the fields' ring v, said of the caller's ring g
   module _ (v g : RingState T) (is : v ≡ g) (wf' : IsWellFormed v) where
@@ -329,15 +388,19 @@ module _ {T : Type 0} where
     pub found_next : (c p : ℕ) → c ≡ capacity g → p ≡ index_after c v.read_at v.count → p ≡ write_at g
     found_next c p ec ep = ep ∙ ap₂ (λ (n : ℕ) (o : RingState T). index_after n o.read_at o.count) ec is
 
-    pub found_free : (c i p : ℕ) → c ≡ capacity g → p ≡ index_after c v.read_at (v.count + min i (c - v.count)) → p ≡ spare_index g i
-    found_free c i p ec ep = ep ∙ ap₂ (λ (n : ℕ) (o : RingState T). index_after n o.read_at (o.count + min i (n - o.count))) ec is
+    pub found_free : (c i p : ℕ) → c ≡ capacity g → p ≡ index_after c v.read_at (v.count + min i (c - v.count))
+        → p ≡ spare_index g i
+    found_free c i p ec ep = ep ∙ ap₂ (λ (n : ℕ) (o : RingState T). index_after n o.read_at
+        (o.count + min i (n - o.count))) ec is
 
     pub found_queued : (c i p : ℕ) → c ≡ capacity g → p ≡ index_after c v.read_at (min i v.count) → p ≡ queue_index g i
     found_queued c i p ec ep = ep ∙ ap₂ (λ (n : ℕ) (o : RingState T). index_after n o.read_at (min i o.count)) ec is
 
     -- and how many elements are contiguous
-    pub found_window : (c m : ℕ) → c ≡ capacity g → m ≡ min (c - v.count) (c - index_after c v.read_at v.count) → m ≡ contiguous_window g
-    found_window c m ec em = em ∙ ap₂ (λ (n : ℕ) (o : RingState T). min (n - o.count) (n - index_after n o.read_at o.count)) ec is
+    pub found_window : (c m : ℕ) → c ≡ capacity g → m ≡ min (c - v.count) (c - index_after c v.read_at v.count)
+        → m ≡ contiguous_window g
+    found_window c m ec em = em
+        ∙ ap₂ (λ (n : ℕ) (o : RingState T). min (n - o.count) (n - index_after n o.read_at o.count)) ec is
 
     pub found_head : (c m : ℕ) → c ≡ capacity g → m ≡ min v.count (c - v.read_at) → m ≡ contiguous_queued g
     found_head c m ec em = em ∙ ap₂ (λ (n : ℕ) (o : RingState T). min o.count (n - o.read_at)) ec is
@@ -355,7 +418,8 @@ module _ {T : Type 0} where
         (storage_index_is_one g well k p (length st) ep le (long ∙ size), omega (arith, wf'.1))
 
     -- and one after which elements were enqueued
-    pub in_wf : (p n : ℕ) (a st : List T) → n ≤ window g → st ≡ overwrite v.storage p a → IsWellFormed (ring st v.read_at (v.count + n))
+    pub in_wf : (p n : ℕ) (a st : List T) → n ≤ window g → st ≡ overwrite v.storage p a
+        → IsWellFormed (ring st v.read_at (v.count + n))
     in_wf p n a st le e =
         let w = once_wf p a st e in
         let long : length st ≡ length v.storage = ap length e ∙ length-overwrite v.storage p a in
@@ -368,15 +432,19 @@ module _ {T : Type 0} where
     pub ahead_clause : (i n : ℕ) (src : List T) (h : RingState T) → n ≡ min (length src) (window g - i)
         → h ≡ with_elements_wrapping g (spare_index g i) (take n src) → WritesSpare g i (take n src) h
     ahead_clause i n src h en e =
-        subst (WritesSpare g i (take n src)) (sym e) (wrapping_at g well i (take n src) (omega (arith, en, length-take-le n src (omega arith))))
+        subst (WritesSpare g i (take n src)) (sym e) (wrapping_at g well i (take n src)
+        (omega (arith, en, length-take-le n src (omega arith))))
 
     -- ---- what stays once a part that was lent comes back as w
-    pub left_at : (p q : ℕ) → p ≡ q → (st w : List T) → st ≡ overwrite v.storage p w → ring st v.read_at v.count ≡ with_elements g q w
-    left_at p q ep st w e = ap (λ b. ring b v.read_at v.count) e ∙ ap (λ o. with_elements o p w) is ∙ ap (λ j. with_elements g j w) ep
+    pub left_at : (p q : ℕ) → p ≡ q → (st w : List T) → st ≡ overwrite v.storage p w
+        → ring st v.read_at v.count ≡ with_elements g q w
+    left_at p q ep st w e = ap (λ b. ring b v.read_at v.count) e ∙ ap (λ o. with_elements o p w) is
+        ∙ ap (λ j. with_elements g j w) ep
 
     pub left_in : (k m p : ℕ) → k ≡ m → p ≡ write_at g → (st w : List T) → st ≡ overwrite v.storage p w
         → ring st v.read_at (v.count + k) ≡ with_elements (with_enqueued m g) (write_at g) w
-    left_in k m p ek ep st w e = ap (λ b. ring b v.read_at (v.count + k)) e ∙ ap (λ o. with_elements (with_enqueued k o) p w) is
+    left_in k m p ek ep st w e = ap (λ b. ring b v.read_at (v.count + k)) e
+        ∙ ap (λ o. with_elements (with_enqueued k o) p w) is
         ∙ ap₂ (λ i j. with_elements (with_enqueued i g) j w) ek ep
 
     pub left_off : (k m p : ℕ) → k ≡ m → p ≡ storage_index g k → (st w : List T) → st ≡ overwrite v.storage v.read_at w
@@ -387,11 +455,13 @@ module _ {T : Type 0} where
         ∙ ap (λ i. with_elements (with_dequeued i g) g.read_at w) ek
 
     -- ---- what a part that is lent or shown holds, at first: m elements from the index p on
-    shown : (p m k : ℕ) → m ≡ k → p + k ≤ capacity g → (now : List T) → now ≡ take m (drop p v.storage) → (length now ≡ k) × (now ≡ take k (drop p g.storage))
+    shown : (p m k : ℕ) → m ≡ k → p + k ≤ capacity g → (now : List T) → now ≡ take m (drop p v.storage)
+        → (length now ≡ k) × (now ≡ take k (drop p g.storage))
     shown p m k em le now e = part_is g.storage p m k em le now (e ∙ ap (λ l. take m (drop p l)) same_storage)
 
     -- the same, where these k elements of the storage are the first ones of ys
-    shown_as : (p q m k : ℕ) (ys : List T) → p ≡ q → m ≡ k → q + k ≤ capacity g → take k (drop q g.storage) ≡ take k ys → (now : List T)
+    shown_as : (p q m k : ℕ) (ys : List T) → p ≡ q → m ≡ k → q + k ≤ capacity g → take k (drop q g.storage) ≡ take k ys
+        → (now : List T)
         → now ≡ take m (drop p v.storage)
         → (length now ≡ k) × (now ≡ take (length now) ys) × (now ≡ take (length now) (drop q g.storage))
     shown_as p q m k ys ep em le value now e =
@@ -399,68 +469,90 @@ module _ {T : Type 0} where
         let stored : now ≡ take k (drop q g.storage) = r.1 ∙ ap (λ j. take k (drop j g.storage)) ep in
         (r.0, stored ∙ value ∙ ap (λ j. take j ys) (sym r.0), stored ∙ ap (λ j. take j (drop q g.storage)) (sym r.0))
 
-    pub shown_spare : (i n p m : ℕ) → p ≡ spare_index g i → m ≡ contiguous_unallocated g i n → (now : List T) → now ≡ take m (drop p v.storage)
+    pub shown_spare : (i n p m : ℕ) → p ≡ spare_index g i → m ≡ contiguous_unallocated g i n → (now : List T)
+        → now ≡ take m (drop p v.storage)
         → (length now ≡ contiguous_unallocated g i n) × (now ≡ take (length now) (drop i (spare g)))
         × (now ≡ take (length now) (drop (spare_index g i) g.storage))
-    shown_spare i n p m ep em = shown_as p (spare_index g i) m _ (drop i (spare g)) ep em (omega (arith, spare_index_le g well i)) (spare_part_value g well i n)
+    shown_spare i n p m ep em = shown_as p (spare_index g i) m _ (drop i (spare g)) ep em
+        (omega (arith, spare_index_le g well i)) (spare_part_value g well i n)
 
-    pub shown_in_queue : (i n p m : ℕ) → p ≡ queue_index g i → m ≡ contiguous_allocated g i n → (now : List T) → now ≡ take m (drop p v.storage)
+    pub shown_in_queue : (i n p m : ℕ) → p ≡ queue_index g i → m ≡ contiguous_allocated g i n → (now : List T)
+        → now ≡ take m (drop p v.storage)
         → (length now ≡ contiguous_allocated g i n) × (now ≡ take (length now) (drop i (queue g)))
         × (now ≡ take (length now) (drop (queue_index g i) g.storage))
     shown_in_queue i n p m ep em =
-        shown_as p (queue_index g i) m _ (drop i (queue g)) ep em (omega (arith, queue_index_le g well i)) (queue_part_value g well i n)
+        shown_as p (queue_index g i) m _ (drop i (queue g)) ep em (omega (arith, queue_index_le g well i))
+        (queue_part_value g well i n)
 
-    pub shown_next : (p m k : ℕ) → p ≡ write_at g → m ≡ k → k ≤ contiguous_window g → (now : List T) → now ≡ take m (drop p v.storage)
-        → (length now ≡ k) × (now ≡ take (length now) (spare g)) × (now ≡ take (length now) (drop (write_at g) g.storage))
+    pub shown_next : (p m k : ℕ) → p ≡ write_at g → m ≡ k → k ≤ contiguous_window g → (now : List T)
+        → now ≡ take m (drop p v.storage)
+        → (length now ≡ k) × (now ≡ take (length now) (spare g))
+        × (now ≡ take (length now) (drop (write_at g) g.storage))
     shown_next p m k ep em le =
         let fits : write_at g + k ≤ capacity g = omega (arith, le, storage_index_le g well g.count (well).1) in
-        shown_as p (write_at g) m k (spare g) ep em fits (spare_value g well 0 k (write_at g) (omega arith) fits (write_index_is g well))
+        shown_as p (write_at g) m k (spare g) ep em fits (spare_value g well 0 k (write_at g) (omega arith) fits
+        (write_index_is g well))
 
-    pub shown_head : (p m k : ℕ) → p ≡ g.read_at → m ≡ k → k ≤ contiguous_queued g → (now : List T) → now ≡ take m (drop p v.storage)
+    pub shown_head : (p m k : ℕ) → p ≡ g.read_at → m ≡ k → k ≤ contiguous_queued g → (now : List T)
+        → now ≡ take m (drop p v.storage)
         → (length now ≡ k) × (now ≡ take (length now) (queue g)) × (now ≡ take (length now) (drop g.read_at g.storage))
     shown_head p m k ep em le =
         let fits : g.read_at + k ≤ capacity g = omega (arith, read_at_le g well) in
-        shown_as p g.read_at m k (queue g) ep em fits (queue_value g well 0 k g.read_at (omega arith) fits (read_index_is g well))
+        shown_as p g.read_at m k (queue g) ep em fits (queue_value g well 0 k g.read_at (omega arith) fits
+        (read_index_is g well))
 
     -- the contiguous free elements, and the contiguous ones at the head of the queue
     pub lent_next : (c p n m : ℕ) → c ≡ capacity g → p ≡ index_after c v.read_at v.count
-        → n ≡ min (c - v.count) (c - index_after c v.read_at v.count) → m ≡ n → (now : List T) → now ≡ take m (drop p v.storage)
+        → n ≡ min (c - v.count) (c - index_after c v.read_at v.count) → m ≡ n → (now : List T)
+        → now ≡ take m (drop p v.storage)
         → (now ≡ take (contiguous_window g) (spare g)) × (length now ≡ contiguous_window g)
     lent_next c p n m ec ep en em now e =
-        let all = shown_next p m (contiguous_window g) (found_next c p ec ep) (em ∙ found_window c n ec en) (omega arith) now e in
+        let all = shown_next p m (contiguous_window g) (found_next c p ec ep) (em ∙ found_window c n ec en)
+        (omega arith) now e in
         (all.1 ∙ ap (λ j. take j (spare g)) all.0, all.0)
 
-    pub lent_head : (c n m : ℕ) → c ≡ capacity g → n ≡ min v.count (c - v.read_at) → m ≡ n → (now : List T) → now ≡ take m (drop v.read_at v.storage)
+    pub lent_head : (c n m : ℕ) → c ≡ capacity g → n ≡ min v.count (c - v.read_at) → m ≡ n → (now : List T)
+        → now ≡ take m (drop v.read_at v.storage)
         → (now ≡ take (contiguous_queued g) (queue g)) × (length now ≡ contiguous_queued g)
     lent_head c n m ec en em now e =
-        let all = shown_head v.read_at m (contiguous_queued g) (ap (λ o. o.read_at) is) (em ∙ found_head c n ec en) (omega arith) now e in
+        let all = shown_head v.read_at m (contiguous_queued g) (ap (λ o. o.read_at) is) (em ∙ found_head c n ec en)
+        (omega arith) now e in
         (all.1 ∙ ap (λ j. take j (queue g)) all.0, all.0)
 
     -- and what stays of them, n of the elements w being enqueued, or dequeued
     pub left_in_from : (k n p : ℕ) → k ≡ n → p ≡ write_at g → (st w : List T) → st ≡ overwrite v.storage p w
         → length w ≡ contiguous_window g → n ≤ contiguous_window g
-        → (ring st v.read_at (v.count + k) ≡ with_elements (with_enqueued n g) (write_at g) w) × EnqueuesFrom g n w (ring st v.read_at (v.count + k))
+        → (ring st v.read_at (v.count + k) ≡ with_elements (with_enqueued n g) (write_at g) w)
+        × EnqueuesFrom g n w (ring st v.read_at (v.count + k))
     left_in_from k n p ek ep st w e long le =
         let exact = left_in k n p ek ep st w e in
         (exact, subst (EnqueuesFrom g n w) (sym exact) (enqueued_from g well n w (omega arith) (omega arith)))
 
-    pub left_off_from : (k n p : ℕ) → k ≡ n → p ≡ storage_index g n → (st w : List T) → st ≡ overwrite v.storage v.read_at w
+    pub left_off_from : (k n p : ℕ) → k ≡ n → p ≡ storage_index g n → (st w : List T) → st ≡ overwrite v.storage
+        v.read_at w
         → length w ≡ contiguous_queued g → n ≤ contiguous_queued g
-        → (ring st p (v.count - k) ≡ with_elements (with_dequeued n g) g.read_at w) × DequeuesFrom g n w (ring st p (v.count - k))
+        → (ring st p (v.count - k) ≡ with_elements (with_dequeued n g) g.read_at w)
+        × DequeuesFrom g n w (ring st p (v.count - k))
     left_off_from k n p ek ep st w e long le =
         let exact = left_off k n p ek (ep ∙ ap (storage_index g) (sym ek)) st w e in
         (exact, subst (DequeuesFrom g n w) (sym exact) (dequeued_from g well n w (omega arith) (omega arith)))
 
   -- `enqueue_slice`: a write to the beginning of the spare part of r, which is then enqueued
-  pub enqueue_clause : (r g w h : RingState T) (ws : List T) (n : ℕ) → r ≡ g → WritesSpare r 0 ws w → h ≡ with_enqueued n w
+  pub enqueue_clause : (r g w h : RingState T) (ws : List T) (n : ℕ) → r ≡ g → WritesSpare r 0 ws w
+      → h ≡ with_enqueued n w
       → length ws ≡ n → n ≤ window g → Enqueues g ws h
   enqueue_clause r g w h ws n is s e l le =
       let t = subst (λ (o : RingState T). WritesSpare o 0 ws w) is s in
-      let long : length (spare g) ≡ window g = omega (arith, length-drop g.count (rotation g.storage g.read_at), length-rotation g.storage g.read_at) in
+      let long : length (spare g) ≡ window g = omega (
+        arith,
+        length-drop g.count (rotation g.storage g.read_at),
+        length-rotation g.storage g.read_at,
+      ) in
       let f = overwrite_head (spare g) ws n (omega arith) (omega arith) in
       let q : queue (with_enqueued n w) ≡ queue g ++ ws = take_sum w.count n (rotation w.storage w.read_at)
       ∙ ap₂ ◌++◌ t.0 (ap (take n) t.1 ∙ f.0 ∙ take_all n ws (omega arith)) in
-      let p : spare (with_enqueued n w) ≡ drop (length ws) (spare g) = sym (drop-drop n w.count (rotation w.storage w.read_at))
+      let p : spare (with_enqueued n w) ≡ drop (length ws) (spare g) = sym
+      (drop-drop n w.count (rotation w.storage w.read_at))
       ∙ ap (drop n) t.1 ∙ ap (λ i. drop i (overwrite (spare g) 0 ws)) (sym l) ∙ f.1 in
       subst (Enqueues g ws) (sym e) (q, p, t.2)
 
@@ -474,10 +566,12 @@ module _ {T : Type 0} where
 
   back_is : (g : RingState T) → IsWellFormed g → g.storage ≡ back (queue g ++ spare g) g.read_at
   back_is g wf =
-      let turned : back (rotation g.storage g.read_at) g.read_at ≡ g.storage = back_rotation g.storage g.read_at (read_at_le g wf) in
+      let turned : back (rotation g.storage g.read_at) g.read_at ≡ g.storage = back_rotation g.storage g.read_at
+      (read_at_le g wf) in
       sym (ap (λ l. back l g.read_at) (sym (whole g wf)) ∙ turned)
 
-  pub parts_are : (g h : RingState T) → IsWellFormed g → IsWellFormed h → g.read_at ≡ h.read_at → queue g ≡ queue h → spare g ≡ spare h → g ≡ h
+  pub parts_are : (g h : RingState T) → IsWellFormed g → IsWellFormed h → g.read_at ≡ h.read_at → queue g ≡ queue h
+      → spare g ≡ spare h → g ≡ h
   parts_are g h wg wh er eq es =
       let n : g.count ≡ h.count = sym (length-queue g wg) ∙ ap length eq ∙ length-queue h wh in
       let b : g.storage ≡ h.storage = back_is g wg ∙ ap₂ (λ l r. back l r) (ap₂ ◌++◌ eq es) er ∙ sym (back_is h wh) in
@@ -488,15 +582,24 @@ pub rewind_cases : {T : Type 0} (b : RingState T) → ((b.count ≡ 0) × (rewin
     ((b.count ≢ 0) × (rewind_if_empty b ≡ b))
 rewind_cases b = grind (arith, nat_tests)
 
-pub rewound_is : {T : Type 0} (g : RingState T) → (queue (rewind_if_empty g) ≡ queue g) × ((rewind_if_empty g).count ≡ g.count)
+pub rewound_is : {T : Type 0} (g : RingState T) → (queue (rewind_if_empty g) ≡ queue g)
+    × ((rewind_if_empty g).count ≡ g.count)
     × ((rewind_if_empty g).storage ≡ g.storage)
 rewound_is g = elim (rewind_cases g) [
-  | inl h ↦ (ap queue h.1 ∙ sym (ap (λ n. take n (rotation g.storage g.read_at)) h.0), ap (λ o. o.count) h.1 ∙ sym h.0, ap (λ o. o.storage) h.1)
+  | inl h ↦ (
+    ap queue h.1 ∙ sym (ap (λ n. take n (rotation g.storage g.read_at)) h.0),
+    ap (λ o. o.count) h.1 ∙ sym h.0,
+    ap (λ o. o.storage) h.1,
+  )
   | inr h ↦ (ap queue h.1, ap (λ o. o.count) h.1, ap (λ o. o.storage) h.1)
 ]
 
 pub rewind_wf : {T : Type 0} (b : RingState T) → IsWellFormed b → IsWellFormed (rewind_if_empty b)
-rewind_wf b wf = elim (rewind_cases b) [ inl h ↦ subst IsWellFormed (sym h.1) (inl refl, omega arith) | inr h ↦ subst IsWellFormed (sym h.1) wf ]
+rewind_wf b wf = elim (rewind_cases b) [
+  | inl h ↦ subst IsWellFormed (sym h.1) (inl refl, omega arith)
+  | inr h ↦ subst
+      IsWellFormed (sym h.1) wf
+]
 
 -- the same of the numbers of a ring
 pub rewound_ring : {T : Type 0} (xs : List T) (p : RingHead) → ring_at xs (rewound p) ≡ rewind_if_empty (ring_at xs p)
@@ -507,36 +610,44 @@ storage_index_below : (c r j : ℕ) → j < c → (if nat_lt j (c - r) then r + 
 storage_index_below c r j l = grind (arith, nat_tests)
 
 -- if an element is queued, some contiguous ones are
-contiguous_in_queue_some : {T : Type 0} (g : RingState T) (i n : ℕ) → g.count ≤ length g.storage → i < g.count → 0 < n → 0 < contiguous_allocated g i n
-contiguous_in_queue_some g i n room l m = let below = storage_index_below (length g.storage) g.read_at (min i g.count) (omega arith) in omega arith
+contiguous_in_queue_some : {T : Type 0} (g : RingState T) (i n : ℕ) → g.count ≤ length g.storage → i < g.count → 0 < n
+    → 0 < contiguous_allocated g i n
+contiguous_in_queue_some g i n room l m = let below = storage_index_below (length g.storage) g.read_at (min i g.count)
+    (omega arith) in omega arith
 
 -- if an element is free, some contiguous ones are
-pub contiguous_free_some : {T : Type 0} (g : RingState T) (i n : ℕ) → i < window g → 0 < n → 0 < contiguous_unallocated g i n
+pub contiguous_free_some : {T : Type 0} (g : RingState T) (i n : ℕ) → i < window g → 0 < n → 0 < contiguous_unallocated
+    g i n
 contiguous_free_some g i n l m = let below =
     storage_index_below (length g.storage) g.read_at (g.count + min i (window g)) (omega arith) in omega arith
 
 -- the same of what comes next, also after an empty ring was moved to the storage's beginning
 pub contiguous_next_some : {T : Type 0} (g : RingState T) → window g ≢ 0 → 0 < contiguous_window g
-contiguous_next_some g l = let below = storage_index_below (length g.storage) g.read_at g.count (omega arith) in omega arith
+contiguous_next_some g l = let below = storage_index_below (length g.storage) g.read_at g.count (omega arith) in omega
+    arith
 
 pub contiguous_rewound_some : {T : Type 0} (g : RingState T) → window g ≢ 0 → 0 < contiguous_window (rewind_if_empty g)
 contiguous_rewound_some g l =
     let same = rewound_is g in
-    contiguous_next_some (rewind_if_empty g) (λ none. l (ap₂ (λ (s : List _) (n : ℕ). length s - n) (sym same.2) (sym same.1) ∙ none))
+    contiguous_next_some (rewind_if_empty g)
+    (λ none. l (ap₂ (λ (s : List _) (n : ℕ). length s - n) (sym same.2) (sym same.1) ∙ none))
 
 pub contiguous_head_some : {T : Type 0} (g : RingState T) → IsWellFormed g → g.count ≢ 0 → 0 < contiguous_queued g
 contiguous_head_some g wf l = omega (arith, read_fits g wf l)
 
 -- the first of the elements that are shown from an index on, of which some are if there are any
-first_shown : {T : Type 0} (xs now : List T) (i : ℕ) → now ≡ take (length now) (drop i xs) → (i < length xs → 0 < length now) → slice_get now 0 ≡ slice_get xs i
+first_shown : {T : Type 0} (xs now : List T) (i : ℕ) → now ≡ take (length now) (drop i xs)
+    → (i < length xs → 0 < length now) → slice_get now 0 ≡ slice_get xs i
 first_shown xs now i e some = grind (arith, places, gets)
 
--- a part of the queue that is shown from an index on has elements if there are any, and its first one is the one at that index
+-- a part of the queue that is shown from an index on has elements if there are any, and its first one is the one at
+-- that index
 pub first_in_queue : {T : Type 0} (g : RingState T) → IsWellFormed g → (i n : ℕ) (now : List T)
     → length now ≡ contiguous_allocated g i n → now ≡ take (length now) (drop i (queue g))
     → (i < g.count → 0 < n → 0 < length now) × (0 < n → slice_get now 0 ≡ slice_get (queue g) i)
 first_in_queue g wf i n now long is =
-    let some : i < g.count → 0 < n → 0 < length now = λ l m. (let h = contiguous_in_queue_some g i n wf.1 l m in omega arith) in
+    let some : i < g.count → 0 < n → 0 < length now = λ l m. (let h = contiguous_in_queue_some g i n wf.1 l m in omega
+    arith) in
     (some, λ m. first_shown (queue g) now i is (λ l. some (omega (arith, length-queue g wf)) m))
 
 -- ---- parts of lists by index; the queue in its two contiguous parts, and its last element
@@ -551,89 +662,50 @@ module _ {X : Type 0} where
       i ≤ length xs → i + length part ≤ length xs
   end_of xs part i is le = omega (arith, simp (length-take, length-drop) at (ap length is))
 
-  -- the elements of two lists that are one, of the first and of the second
-  pub each_head : (xs a b : List X) → a ++ b ≡ xs → (k : ℕ) (d : X) → k < length a → get_or xs k d ≡ get_or a k d
-  each_head xs a b is k d below = grind (arith, places)
-
-  pub each_behind : (xs a b : List X) → a ++ b ≡ xs →
-      (k : ℕ) (d : X) → length a ≤ k → get_or xs k d ≡ get_or b (k - length a) d
-  each_behind xs a b is k d from = grind (arith, places)
-
-module _ {T : Type 0} where
-  -- what is contiguous at the head of the queue, and what wraps
-  pub record Parts (g : RingState T) (a b : List T) : Type 0 where
-    pub cut : length a ≡ contiguous_queued g
-    pub count : length a + length b ≡ g.count
-    pub some : g.count ≢ 0 → 0 < length a
-    pub first : a ≡ contiguous_queue g
-    pub second : b ≡ drop (length a) (queue g)
-    pub queue : a ++ b ≡ queue g
-    pub stored : (a ≡ take (length a) (drop g.read_at g.storage)) × (b ≡ take (g.count - length a) g.storage)
-
-  module _ (v g : RingState T) (is : v ≡ g) (wf : IsWellFormed v) where
-    -- a is the queue up to the storage's end, and b the rest of it, at the storage's beginning
-    pub two_parts : (k p m n : ℕ) → k ≡ contiguous_queued g → p ≡ g.read_at → m ≡ k → n ≡ g.count - k →
-        (a b : List T) → a ≡ take m (drop p v.storage) → b ≡ take n v.storage → Parts g a b
-    two_parts k p m n ek ep em en a b ea eb =
-        let wg = well v g is wf in
-        let head_is = shown_head v g is wf p m k ep em (omega arith) a ea in
-        let second_is : b ≡ take (g.count - k) g.storage = eb ∙ ap₂ (λ j (o : RingState T). take j o.storage) en is in
-        let from : IsStorageIndex (capacity g) g.read_at (min 0 g.count) g.read_at =
-        subst (λ j. IsStorageIndex (capacity g) g.read_at j g.read_at) (omega arith) (read_index_is g wg) in
-        let whole : a ++ b ≡ queue g = ap₂ ◌++◌ (head_is.2 ∙ ap (λ j. take j (drop g.read_at g.storage)) head_is.0) second_is
-        ∙ read_around g wg 0 g.count g.read_at k (omega arith) (read_at_le g wg) from ek ∙ take_all g.count (queue g) (omega (arith, length-queue g wg)) in
-        let second : b ≡ drop k (queue g) = sym (drop_at a b k head_is.0) ∙ ap (drop k) whole in
-        let first : a ≡ take k (queue g) = head_is.1 ∙ ap (λ (j : ℕ). take j (queue g)) head_is.0 in
-        let long : length b ≡ g.count - k = omega (arith, ap length second, length-drop k (queue g), length-queue g wg) in
-        record {
-          cut = head_is.0 ∙ ek;
-          count = omega (arith, head_is.0);
-          some = λ l. (let h = contiguous_head_some g wg l in omega (arith, head_is.0));
-          first = first ∙ ap (λ (j : ℕ). take j (queue g)) ek;
-          second = second ∙ sym (ap (λ (j : ℕ). drop j (queue g)) head_is.0);
-          queue = whole;
-          stored = (head_is.2, second_is ∙ sym (ap (λ (j : ℕ). take (g.count - j) g.storage) head_is.0));
-        }
-
 -- the element m, after the first m and before those that follow it
 last_off : {X : Type 0} (l : List X) (m : ℕ) (x : X) → m < length l → slice_get (take (suc m) l) m ≡ Some x →
     (take (suc m) l ≡ take m l ++ x ∷ []) × (drop m l ≡ x ∷ drop (suc m) l)
 last_off l m x fits e = (grind (arith, places, gets, take_more), grind (arith, places, gets, drop_more))
 
--- ---- spans of a storage, as parts of the ring of that storage and of the numbers by which they were found
 module _ {T : Type 0} where
   -- elements of the queue
-  pub queued_elements : (xs : List T) (p : RingHead) (i : ℕ) (s : Span) → IsSound (length xs) p → s.from ≡ queued_index (length xs) p i
+  pub queued_elements : (xs : List T) (p : RingHead) (i : ℕ) (s : Span) → IsSound (length xs) p → s.from ≡ queued_index
+      (length xs) p i
       → s.count ≤ p.length - i → s.contiguous ≡ min s.count (length xs - s.from)
       → elements_at xs s ≡ take s.count (drop i (queue (ring_at xs p)))
   queued_elements xs p i s sound at few cut = read_parts (ring_at xs p) sound i s.count s.from s.contiguous few at cut
 
   -- a storage xs of n elements that was lent whole, and came back as ws
-  pub lent_whole : (n : ℕ) (xs lent ws : List T) → n ≡ length xs → lent ≡ take (n - 0) (drop 0 xs) → length ws ≡ length lent
+  pub lent_whole : (n : ℕ) (xs lent ws : List T) → n ≡ length xs → lent ≡ take (n - 0) (drop 0 xs)
+      → length ws ≡ length lent
       → (lent ≡ xs) × (overwrite xs 0 ws ≡ ws)
   lent_whole n xs lent ws en el ew =
       let same : lent ≡ xs = el ∙ take_all (n - 0) xs (omega arith) in
       (same, overwrite_whole xs ws (ew ∙ ap length same))
 
--- ---- one more element of a list is reset
 module _ {T : Type 0} (R : T → T → Type 0) where
-  pub reset_more : (old xs : List T) (i : ℕ) (d y : T) → i < length xs → d ≡ get_or xs i d → AllZip R (take i old) (take i xs)
+  pub reset_more : (old xs : List T) (i : ℕ) (d y : T) → i < length xs → d ≡ get_or xs i d → AllZip R (take i old)
+      (take i xs)
       × (drop i xs ≡ drop i old) → R (get_or xs i d) y
       → AllZip R (take (i + 1) old) (take (i + 1) (set xs i y)) × (drop (i + 1) (set xs i y) ≡ drop (i + 1) old)
   reset_more old xs i d y h is before r =
       let x : T = get_or xs i d in
       let next : take (i + 1) old ≡ take i old ++ (x ∷ []) = take_sum i 1 old
-      ∙ ap (λ (l : List T). take i old ++ take 1 l) (sym before.1) ∙ ap (λ (l : List T). take i old ++ l) (take_one xs i x h (ap (get_or xs i) is)) in
+      ∙ ap (λ (l : List T). take i old ++ take 1 l) (sym before.1) ∙ ap (λ (l : List T). take i old ++ l)
+      (take_one xs i x h (ap (get_or xs i) is)) in
       let set_there : take (i + 1) (set xs i y) ≡ take i xs ++ (y ∷ []) = take_more_set xs i y h in
       let pushed = AllZip-push R (take i old) (take i xs) x y before.0 r in
       let rest : drop (i + 1) (set xs i y) ≡ drop (i + 1) xs = drop-set-lt (i + 1) xs i y (omega arith) in (
-        subst (λ (l : List T). AllZip R l (take (i + 1) (set xs i y))) (sym next) (subst (AllZip R (take i old ++ (x ∷ []))) (sym set_there) pushed),
+        subst (λ (l : List T). AllZip R l (take (i + 1) (set xs i y))) (sym next)
+            (subst (AllZip R (take i old ++ (x ∷ []))) (sym set_there) pushed),
         rest ∙ sym (drop-drop 1 i xs) ∙ ap (drop 1) before.1 ∙ drop-drop 1 i old,
       )
 
-  pub all_reset : (old xs : List T) (i : ℕ) → length old ≤ i → length xs ≡ length old → AllZip R (take i old) (take i xs) → AllZip R old xs
+  pub all_reset : (old xs : List T) (i : ℕ) → length old ≤ i → length xs ≡ length old → AllZip R (take i old)
+      (take i xs) → AllZip R old xs
   all_reset old xs i le long h =
-      subst (λ (l : List T). AllZip R l xs) (take_all i old le) (subst (AllZip R (take i old)) (take_all i xs (omega (arith, long, le))) h)
+      subst (λ (l : List T). AllZip R l xs) (take_all i old le)
+      (subst (AllZip R (take i old)) (take_all i xs (omega (arith, long, le))) h)
 
 -- ---- by which the calls of heads and of rings are proved: of a storage b that is read from r on and holds n elements
 module _ {T : Type 0} where
@@ -642,7 +714,37 @@ module _ {T : Type 0} where
 
   module _ (b : List T) (r n : ℕ) (at : (r ≡ 0) ⊎ (r < length b)) (le : n ≤ length b) where
     pub no_spare : (drop n (drop r b ++ take r b) ≡ []) ↔ (length b ≤ n)
-    no_spare = let long = length-spare (ring b r n) (at, le) in (λ e. omega (arith, ap length e), λ l. nil_from_length _ (omega arith))
+    no_spare = let long = length-spare (ring b r n) (at, le) in (
+      λ e. omega (arith, ap length e),
+      λ l. nil_from_length _ (omega arith),
+    )
+
+    -- k elements of the queue from element i on are contiguous
+    module _ (i k p : ℕ) (few : k ≤ n - i) (ep : p ≡ index_after (length b) r (min i n)) (fits : k ≤ length b - p) where
+      pub queue-shown : take k (drop i (take n (drop r b ++ take r b))) ≡ take k (drop p b)
+      queue-shown = same_lists _ _ (grind (arith, places, nat_tests)) (λ m d h. grind (arith, places, nat_tests))
+
+      pub first-shown : (i < n → 0 < k) → slice_get (take k (drop p b)) 0 ≡ slice_get (take n (drop r b ++ take r b)) i
+      first-shown some =
+          let long : length (take k (drop p b)) ≡ k = length-take-le k (drop p b) (omega (arith, length-drop p b)) in
+          first_shown (take n (rotation b r)) (take k (drop p b)) i
+          (sym queue-shown ∙ ap (λ j. take j (drop i (take n (rotation b r)))) (sym long))
+          (λ l. (let s = some (omega (arith, length-queue (ring b r n) (at, le))) in omega arith))
+
+    -- the queue is k contiguous elements, and the rest at the storage's beginning
+    module _ (k : ℕ) (ek : k ≡ min n (length b - r)) where
+      pub queue-cut : take k (drop r b) ++ take (n - k) b ≡ take n (drop r b ++ take r b)
+      queue-cut = same_lists _ _ (grind (arith, places)) (λ m d h. grind (arith, places))
+
+      pub queue-joined : (a z : List T) → a ≡ take k (drop r b) → z ≡ take (n - k) b → a
+          ++ z ≡ take n (drop r b ++ take r b)
+      queue-joined a z ea ez = ap₂ ◌++◌ ea ez ∙ queue-cut
+
+      pub queue-first : take k (take n (drop r b ++ take r b)) ≡ take k (drop r b)
+      queue-first = same_lists _ _ (grind (arith, places)) (λ m d h. grind (arith, places))
+
+      pub queue-second : drop k (take n (drop r b ++ take r b)) ≡ take (n - k) b
+      queue-second = same_lists _ _ (grind (arith, places)) (λ m d h. grind (arith, places))
 
     -- k elements are dequeued
     module _ (k : ℕ) (few : k ≤ n) where
@@ -657,7 +759,8 @@ module _ {T : Type 0} where
     -- ws is written over the spare elements from i on
     module _ (i : ℕ) (ws : List T) (few : length ws ≤ length b - n - i) where
       abbrev wrote : List T
-      wrote = let p = index_after (length b) r (n + min i (length b - n)) in overwrite (overwrite b p ws) 0 (drop (length b - p) ws)
+      wrote = let p = index_after (length b) r (n + min i (length b - n)) in overwrite (overwrite b p ws) 0
+          (drop (length b - p) ws)
 
       pub queue-wrote : take n (drop r wrote ++ take r wrote) ≡ take n (drop r b ++ take r b)
       queue-wrote = (wrapping_at (ring b r n) (at, le) i ws few).0
@@ -666,8 +769,10 @@ module _ {T : Type 0} where
       spare-wrote = (wrapping_at (ring b r n) (at, le) i ws few).1
 
     -- the last one, x, is taken off
-    module _ (x : T) (last : slice_get (take n (drop r b ++ take r b)) (length (take n (drop r b ++ take r b)) - 1) ≡ Some x) where
-      off_back : (take n (rotation b r) ≡ take (n - 1) (rotation b r) ++ x ∷ []) × (drop (n - 1) (rotation b r) ≡ x ∷ drop n (rotation b r))
+    module _ (x : T) (last : slice_get (take n (drop r b ++ take r b)) (length (take n (drop r b ++ take r b)) - 1)
+        ≡ Some x) where
+      off_back : (take n (rotation b r) ≡ take (n - 1) (rotation b r) ++ x ∷ [])
+          × (drop (n - 1) (rotation b r) ≡ x ∷ drop n (rotation b r))
       off_back =
           let all = rotation b r in
           let m : ℕ = n - 1 in
@@ -675,7 +780,8 @@ module _ {T : Type 0} where
           let within = slice_get_within (take n all) (length (take n all) - 1) x last in
           let one : n ≡ suc m = omega arith in
           let end : length (take n all) - 1 ≡ m = omega arith in
-          let here : slice_get (take (suc m) all) m ≡ Some x = ap₂ (λ k i. slice_get (take k all) i) (sym one) (sym end) ∙ last in
+          let here : slice_get (take (suc m) all) m ≡ Some x = ap₂ (λ k i. slice_get (take k all) i) (sym one)
+          (sym end) ∙ last in
           let parts = last_off all m x (omega (arith, length-rotation b r)) here in
           (ap (λ k. take k all) one ∙ parts.0, parts.1 ∙ ap (λ k. x ∷ drop k all) (sym one))
 
@@ -685,6 +791,32 @@ module _ {T : Type 0} where
       pub spare-off_back : x ∷ drop n (drop r b ++ take r b) ≡ drop (n - 1) (drop r b ++ take r b)
       spare-off_back = sym off_back.1
 
-pub ruleset heads = (queue-read_on, spare-read_on, queue-wrote, spare-wrote, queued_elements, wrapping_is, take_of_drop, take-take, length-take)
+-- what closes the goals of a head's calls, and of a ring's
+pub ruleset heads = (
+  queue-read_on,
+  spare-read_on,
+  queue-wrote,
+  spare-wrote,
+  queued_elements,
+  wrapping_is,
+  take_of_drop,
+  take-take,
+  length-take,
+)
 
-pub ruleset rings = (queue-read_on, spare-read_on, no_spare, take_sum, drop-drop, queue-off_back, spare-off_back, length-take, length-rotation)
+pub ruleset rings = (
+  queue-read_on,
+  spare-read_on,
+  no_spare,
+  take_sum,
+  drop-drop,
+  queue-off_back,
+  spare-off_back,
+  length-take,
+  length-rotation,
+)
+
+-- those of calls that show a part of the queue, or all of it in two parts
+pub ruleset shown_parts = (queue-shown, first-shown, places, nat_tests)
+
+pub ruleset cut_parts = (queue-joined, queue-first, queue-second, places, nat_tests)

@@ -6,8 +6,8 @@ use Rattle.std.proofs.lemmas.List.{take-append-drop, length-take-le, take_at, dr
 use Rattle.std.proofs.lemmas.List.{take-take, drop-take, drop-drop, places, same_lists}
 use Rattle.std.proofs.lemmas.Bool.Decides.{nat_tests}
 use Rattle.net_ring.specs.StorageLaws.{element_set_written}
-use Rattle.net_ring.specs.{overwrite, OverwritesAt, RingState, rotation, capacity, window, queue, spare}
-use Rattle.net_ring.specs.{storage_index, IsWellFormed, with_elements, with_enqueued, with_dequeued}
+use Rattle.net_ring.specs.{overwrite, OverwritesAt, RingState, rotation, capacity, window, queue, spare, storage_index}
+use Rattle.net_ring.specs.{IsWellFormed, with_elements, with_enqueued, with_dequeued}
 use Rattle.std.specs.Prelude.{slice_get, slice_set}
 use Rattle.std.proofs.lemmas.Grind.{common_steps}
 use Rattle.std.proofs.lemmas.Option.{gets}
@@ -18,11 +18,13 @@ IsStorageIndex c r j p = ((j < c - r) × (p ≡ r + j)) ⊎ ((c - r ≤ j) × (p
 
 module _ {T : Type 0} where
   -- ---- lists, element by element
-  pub overwrite_at : (a m z ws : List T) (i : ℕ) → length a ≡ i → length m ≡ length ws → overwrite (a ++ (m ++ z)) i ws ≡ a ++ (ws ++ z)
+  pub overwrite_at : (a m z ws : List T) (i : ℕ) → length a ≡ i → length m ≡ length ws → overwrite (a ++ (m ++ z)) i
+      ws ≡ a ++ (ws ++ z)
   overwrite_at a m z ws i ha hm = same_lists _ _ (grind (arith, places)) (λ m d h. grind (arith, places))
 
   -- a list cut in two
-  pub cut : (n : ℕ) (xs : List T) → n ≤ length xs → (a : List T) × (z : List T) × (xs ≡ a ++ z) × (length a ≡ n) × (length z ≡ length xs - n)
+  pub cut : (n : ℕ) (xs : List T) → n ≤ length xs → (a : List T) × (z : List T) × (xs ≡ a ++ z) × (length a ≡ n)
+      × (length z ≡ length xs - n)
   cut n xs h = (take n xs, drop n xs, sym (take-append-drop n xs), length-take-le n xs h, length-drop n xs)
 
   pub length-rotation : (b : List T) (r : ℕ) → length (rotation b r) ≡ length b
@@ -32,12 +34,14 @@ module _ {T : Type 0} where
   length-overwrite b i ws = grind (arith, places)
 
   -- a write to the index that is j elements on, as the rotated list has it
-  rotation-overwrite : (b : List T) (r j p : ℕ) (ws : List T) → r ≤ length b → j + length ws ≤ length b → p + length ws ≤ length b
+  rotation-overwrite : (b : List T) (r j p : ℕ) (ws : List T) → r ≤ length b → j + length ws ≤ length b
+      → p + length ws ≤ length b
       → IsStorageIndex (length b) r j p → rotation (overwrite b p ws) r ≡ overwrite (rotation b r) j ws
   rotation-overwrite b r j p ws hr hj hp at = same_lists _ _ (grind (arith, places)) (λ m d h. grind (arith, places))
 
   -- ---- a write within one of two joined lists
-  pub overwrite-append_right : (f s ws : List T) (n i : ℕ) → length f ≡ n → i + length ws ≤ length s → overwrite (f ++ s) (n + i) ws ≡ f ++ overwrite s i ws
+  pub overwrite-append_right : (f s ws : List T) (n i : ℕ) → length f ≡ n → i + length ws ≤ length s
+      → overwrite (f ++ s) (n + i) ws ≡ f ++ overwrite s i ws
   overwrite-append_right f s ws n i hf le = same_lists _ _ (grind (arith, places)) (λ m d h. grind (arith, places))
 
   pub storage_index_is : (g : RingState T) (j : ℕ) → IsStorageIndex (capacity g) g.read_at j (storage_index g j)
@@ -49,7 +53,8 @@ module _ {T : Type 0} where
   rotation-storage_index b r k p hr hk at = same_lists _ _ (grind (arith, places)) (λ m d h. grind (arith, places))
 
   pub take_sum : (n k : ℕ) (xs : List T) → take (n + k) xs ≡ take n xs ++ take k (drop n xs)
-  take_sum n k xs = sym (take-append-drop n (take (n + k) xs)) ∙ ap₂ ◌++◌ (take-take n (n + k) xs (omega arith)) (drop-take n k xs)
+  take_sum n k xs = sym (take-append-drop n (take (n + k) xs)) ∙ ap₂ ◌++◌ (take-take n (n + k) xs (omega arith))
+      (drop-take n k xs)
 
   -- ---- the queue and the spare part of a ring
   module _ (g : RingState T) (wf : IsWellFormed g) where
@@ -60,13 +65,20 @@ module _ {T : Type 0} where
     whole = sym (take-append-drop g.count (rotation g.storage g.read_at))
 
     pub length-queue : length (queue g) ≡ g.count
-    length-queue = length-take-le g.count (rotation g.storage g.read_at) (omega (arith, length-rotation g.storage g.read_at, wf.1))
+    length-queue = length-take-le g.count (rotation g.storage g.read_at)
+        (omega (arith, length-rotation g.storage g.read_at, wf.1))
 
     pub length-spare : length (spare g) ≡ window g
-    length-spare = omega (arith, length-drop g.count (rotation g.storage g.read_at), length-rotation g.storage g.read_at)
+    length-spare = omega (
+      arith,
+      length-drop g.count (rotation g.storage g.read_at),
+      length-rotation g.storage
+          g.read_at,
+    )
 
     -- what is written to the spare part
-    pub spare-written : (i p : ℕ) (ws : List T) → i + length ws ≤ window g → p + length ws ≤ capacity g → IsStorageIndex (capacity g) g.read_at (g.count + i) p
+    pub spare-written : (i p : ℕ) (ws : List T) → i + length ws ≤ window g → p + length ws ≤ capacity g
+        → IsStorageIndex (capacity g) g.read_at (g.count + i) p
         → (queue (with_elements g p ws) ≡ queue g) × (spare (with_elements g p ws) ≡ overwrite (spare g) i ws)
     spare-written i p ws hi hp at =
         let turned : rotation (overwrite g.storage p ws) g.read_at ≡ queue g ++ overwrite (spare g) i ws =
@@ -80,22 +92,27 @@ module _ {T : Type 0} where
 
     pub with_enqueued_parts : (k : ℕ) → k ≤ window g → (queue (with_enqueued k g) ≡ queue g ++ take k (spare g))
         × (spare (with_enqueued k g) ≡ drop k (spare g))
-    with_enqueued_parts k h = (take_sum g.count k (rotation g.storage g.read_at), sym (drop-drop k g.count (rotation g.storage g.read_at)))
+    with_enqueued_parts k h = (
+      take_sum g.count k (rotation g.storage g.read_at),
+      sym (drop-drop k g.count (rotation g.storage g.read_at)),
+    )
 
-    pub with_dequeued_parts : (k : ℕ) → k ≤ g.count → (queue (with_dequeued k g) ≡ drop k (queue g)) × (spare (with_dequeued k g) ≡ spare g ++ take k (queue g))
+    pub with_dequeued_parts : (k : ℕ) → k ≤ g.count → (queue (with_dequeued k g) ≡ drop k (queue g))
+        × (spare (with_dequeued k g) ≡ spare g ++ take k (queue g))
     with_dequeued_parts k h =
         let all = rotation g.storage g.read_at in
         let turned : rotation g.storage (storage_index g k) ≡ drop k (queue g) ++ (spare g ++ take k (queue g)) =
-        rotation-storage_index g.storage g.read_at k (storage_index g k) read_at_le (omega (arith, wf.1)) (storage_index_is g k)
+        rotation-storage_index g.storage g.read_at k (storage_index g k) read_at_le (omega (arith, wf.1))
+        (storage_index_is g k)
         ∙ ap (λ (l : List T). drop k l ++ take k l) whole
-        ∙ ap₂ ◌++◌ (drop-append-le k (queue g) (spare g) (omega (arith, length-queue))) (take-append-le k (queue g) (spare g) (omega (arith, length-queue)))
+        ∙ ap₂ ◌++◌ (drop-append-le k (queue g) (spare g) (omega (arith, length-queue)))
+        (take-append-le k (queue g) (spare g) (omega (arith, length-queue)))
         ∙ append_assoc (drop k (queue g)) (spare g) (take k (queue g)) in
         let long : length (drop k (queue g)) ≡ g.count - k = omega (arith, length-drop k (queue g), length-queue) in (
           ap (take (g.count - k)) turned ∙ take_at (drop k (queue g)) (spare g ++ take k (queue g)) (g.count - k) long,
           ap (drop (g.count - k)) turned ∙ drop_at (drop k (queue g)) (spare g ++ take k (queue g)) (g.count - k) long,
         )
 
--- ---- elements of a list that was written over
 module _ {X : Type 0} where
   pub overwritten_at : (xs ws : List X) (i k : ℕ) (x : X) → OverwritesAt xs i ws k x
   overwritten_at xs ws i k x h = grind (arith, places, nat_tests)
@@ -112,3 +129,5 @@ module _ {X : Type 0} where
     where
       after_set : slice_get (slice_set xs i x) k ≡ slice_get xs k
       after_set = grind (arith, common_steps, gets)
+
+pub ruleset one_set = (get_after_set, get_elsewhere)

@@ -10,8 +10,8 @@
 --         with_one_enqueued g x, with_one_dequeued g x, rewind_if_empty g      what calls leave
 --     Enqueues g ws h, Dequeues g k ws h, WritesSpare g i ws h, WritesQueue g i ws h,
 --         EnqueuesFrom g k ws h, DequeuesFrom g k ws h      the same by queue and spare part
-use Rattle.std.specs.Prelude.{◌≡◌, ◌⊎◌, ℕ, ◌+◌, ◌-◌, ◌<◌, ◌≤◌, nat_lt, nat_eq, min, if◌then◌else◌, List, [], ◌∷◌}
-use Rattle.std.specs.Prelude.{◌++◌, length, take, drop}
+use Rattle.std.specs.Prelude.{◌≡◌, ◌⊎◌, ℕ, ◌+◌, ◌-◌, ◌<◌, ◌≤◌, nat_lt, nat_eq, min, if◌then◌else◌, List, [], ◌∷◌, ◌++◌}
+use Rattle.std.specs.Prelude.{length, take, drop}
 use Rattle.net_ring.specs.Overwrite.{overwrite}
 
 -- what a contract sees of a ring: its storage, the index where it is read, and how many elements

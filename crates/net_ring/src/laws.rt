@@ -31,7 +31,7 @@ pub fn element_after_overwrite<T>()
 
 /// States that overwriting a list with one element sets that element and leaves the others
 /// unchanged.
-#[tactic(auto, using(crate::specs::StorageLaws::element_set_written, crate::proofs::Rotations::get_after_set, crate::proofs::Rotations::get_elsewhere))]
+#[tactic(auto, using(crate::specs::StorageLaws::element_set_written, crate::proofs::Rotations::one_set))]
 pub fn element_set<T>()
     ensures set { (xs ys : List T) (i : ℕ) (x : T) → ys ≡ overwrite xs i (x ∷ []) →
         ys ≡ slice_set xs i x }

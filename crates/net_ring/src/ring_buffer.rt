@@ -1,9 +1,9 @@
 //! A ring of elements over storage that is lent or owned.
 #![tactic(auto, using(crate::proofs::RingFacts::rings), unfolding(crate::specs::RingHistory::Makes))]
 
-ghost use Rattle.std.specs.Prelude.{◌≡◌, ◌≢◌, ◌↔◌, ◌≤◌, ◌<◌, ◌==◌, ◌-◌, ◌+◌, ◌^◌, ◌∷◌, ◌++◌, [], ℕ, List, length};
-ghost use Rattle.std.specs.Prelude.{take, drop, min, slice_get, slice_index_or, IsTrue, IsErr, IsNone, IsSome, OnErr};
-ghost use Rattle.std.specs.Prelude.{OnOk, IfOk, IfSome, is_ok, if◌then◌else◌, option_copied};
+ghost use Rattle.std.specs.Prelude.{◌≡◌, ◌≢◌, ◌↔◌, ◌≤◌, ◌<◌, ◌==◌, ◌-◌, ◌+◌, ◌^◌, ◌∷◌, ◌++◌, [], ℕ, List, length, take};
+ghost use Rattle.std.specs.Prelude.{drop, min, slice_get, slice_index_or, IsTrue, IsErr, IsNone, IsSome, OnErr, OnOk};
+ghost use Rattle.std.specs.Prelude.{IfOk, IfSome, is_ok, if◌then◌else◌, option_copied};
 ghost use Rattle.std.specs.Borrow.{sem};
 ghost use Rattle.std.specs.Fn.{FnOnceTakesAtMut, FnOnceReturnsAtMut};
 ghost use Rattle.std.specs.List.{AllZip};
@@ -12,11 +12,11 @@ ghost use Rattle.net_ring.specs.{contiguous_spare, contiguous_unallocated, spare
 ghost use Rattle.net_ring.specs.{contiguous_queue, contiguous_allocated, queue_index, with_elements};
 ghost use Rattle.net_ring.specs.{with_elements_wrapping, with_enqueued, with_dequeued, with_one_enqueued};
 ghost use Rattle.net_ring.specs.{with_one_dequeued, rewind_if_empty, Enqueues, Dequeues, WritesSpare, WritesQueue};
-ghost use Rattle.net_ring.specs.{TakesFirstOf, CalledOnNext, CalledOnFirst, CountsWithin, CalledOnSpare};
-ghost use Rattle.net_ring.specs.{CalledOnQueue, place, IsSound, ring_at, Makes, Clear, Reset, RewindIfEmpty};
-ghost use Rattle.net_ring.specs.{EnqueueOne, EnqueueErr, DequeueOne, DequeueErr, PopBack, EnqueueMany};
-ghost use Rattle.net_ring.specs.{EnqueueManyWith, DequeueMany, DequeueManyWith, EnqueueSlice, Dequeue};
-ghost use Rattle.net_ring.specs.{GetUnallocated, WriteUnallocated, EnqueueUnallocated, GetAllocatedMut};
+ghost use Rattle.net_ring.specs.{TakesFirstOf, CalledOnNext, CalledOnFirst, CountsWithin, CalledOnSpare, CalledOnQueue};
+ghost use Rattle.net_ring.specs.{place, IsSound, ring_at, Makes, Clear, Reset, RewindIfEmpty, EnqueueOne, EnqueueErr};
+ghost use Rattle.net_ring.specs.{DequeueOne, DequeueErr, PopBack, EnqueueMany, EnqueueManyWith, DequeueMany};
+ghost use Rattle.net_ring.specs.{DequeueManyWith, EnqueueSlice, Dequeue, GetUnallocated, WriteUnallocated};
+ghost use Rattle.net_ring.specs.{EnqueueUnallocated, GetAllocatedMut};
 
 use crate::error::{Empty, Full};
 use crate::head::RingHead;
@@ -942,6 +942,7 @@ impl<T, S: Storage<T>> RingOver<T, S> {
     /// assert_eq!((ring.get_allocated(1, 9), ring.get_allocated(4, 9)), (&b"bc"[..], &b""[..]));
     /// ```
     #[must_use]
+    #[tactic(auto, using(crate::proofs::RingFacts::shown_parts))]
     pub fn get_allocated(&self, offset: usize, size: usize) -> &[T]
         ensures count { length result.now ≡ contiguous_allocated self.now offset size }
         // Guarantee.
@@ -1068,6 +1069,7 @@ impl<T, S: Storage<T>> RingOver<T, S> {
     /// assert_eq!(ring.enqueue_slice(b"def"), 3);
     /// assert_eq!(ring.as_slices(), (&b"cd"[..], &b"ef"[..]));
     /// ```
+    #[tactic(auto, using(crate::proofs::RingFacts::cut_parts))]
     pub fn as_slices(&self) -> (&[T], &[T])
         // Guarantee.
         ensures queue { result.0.now ++ result.1.now ≡ queue self.now }

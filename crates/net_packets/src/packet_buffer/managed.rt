@@ -1,7 +1,7 @@
 //! A queue over two [`ManagedSlice`], of which Rust's takes all that converts to them.
 ghost use Rattle.std.specs.Prelude.{◌≡◌, [], length};
 ghost use Rattle.net_packets.specs.PacketHistory.{contents};
-ghost use Rattle.net_packets.specs.Packets.{no_packets};
+ghost use Rattle.net_packets.specs.{no_packets};
 
 use crate::packet_buffer::{PacketBuffer, PacketsOver};
 use crate::packet_metadata::PacketMetadata;

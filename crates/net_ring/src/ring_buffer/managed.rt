@@ -1,6 +1,6 @@
 //! A ring over a [`ManagedSlice`], of which Rust's takes all that converts to one.
 ghost use Rattle.std.specs.Prelude.{◌≡◌, []};
-ghost use Rattle.net_ring.specs.Ring.{ring, queue, spare};
+ghost use Rattle.net_ring.specs.{ring, queue, spare};
 
 use crate::managed::ManagedSlice;
 use crate::ring_buffer::{RingBuffer, RingOver};

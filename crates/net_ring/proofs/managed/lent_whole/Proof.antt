@@ -1,13 +1,12 @@
 -- `lent_whole` lends all of what a `&mut [T]` points at, for every T.
-use Rattle.net_ring.proofs.Walks.{refl, sym, List, [], ◌∷◌, append-nil, length, named, a_type, inst_fn, Val}
-use Rattle.net_ring.proofs.Walks.{full_share, ftrue, fat, flft, ‵, ◌⊛◌, raw, ◌$◌, ◌∵◌, !, qed, move, keep, split}
-use Rattle.net_ring.proofs.Walks.{join, fsplit, fsplit3, fjoin, rewrite, use1, suffices, frame, done, whole, sub}
-use Rattle.net_ring.proofs.Walks.{look_in, agg, stop, fld, hop, addr, of_opd, load, no_more, and_then, returns, enter}
-use Rattle.net_ring.proofs.Walks.{alloc_all, pass_all, free_all, look_at, get, through, sets, no, shows, param}
-use Rattle.net_ring.proofs.Walks.{layouts, RattleType, owns, MutBor, MutRef, mut_vals, mut_Tells, cell_at, plain}
-use Rattle.net_ring.proofs.Walks.{mut_slice_of, MutSlice, slice_val, nothing, opens, closes, peeks, says, Stays}
-use Rattle.net_ring.proofs.Walks.{stay_dropped, walk_of, ends_at, Goes-spent_ref, proved, bare}
-use Rattle.net_ring.proofs.Relend.{words_ty, lends_run}
+use Rattle.net_ring.proofs.Walks.{refl, sym, List, [], ◌∷◌, append-nil, length, named, a_type, inst_fn, Val, full_share}
+use Rattle.net_ring.proofs.Walks.{ftrue, fat, flft, ‵, ◌⊛◌, raw, ◌$◌, ◌∵◌, !, qed, move, keep, split, join, fsplit}
+use Rattle.net_ring.proofs.Walks.{fsplit3, fjoin, rewrite, use1, suffices, frame, done, whole, sub, look_in, agg, stop}
+use Rattle.net_ring.proofs.Walks.{fld, hop, addr, of_opd, load, no_more, and_then, returns, enter, alloc_all, pass_all}
+use Rattle.net_ring.proofs.Walks.{free_all, look_at, get, through, sets, no, shows, param, layouts, RattleType, owns}
+use Rattle.net_ring.proofs.Walks.{MutBor, MutRef, mut_vals, mut_Tells, cell_at, plain, mut_slice_of, MutSlice}
+use Rattle.net_ring.proofs.Walks.{slice_val, nothing, opens, closes, peeks, says, Stays, stay_dropped, walk_of, ends_at}
+use Rattle.net_ring.proofs.Walks.{Goes-spent_ref, proved, bare, words_ty, lends_run}
 use Rattle.net_ring.specs.contracts.managed.lent_whole as f
 use Rattle.net_ring.proofs.managed.lent_whole.Statement.{statement}
 use Rattle.net_ring.proofs.managed.lent_whole.Code as code

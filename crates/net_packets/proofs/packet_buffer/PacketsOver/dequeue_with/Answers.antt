@@ -24,23 +24,16 @@ returns-then-self-eq0-clause-empty g c = none_of c.args.self.now (search rules)
 -- the first slot in use has a header
 headless : (g : given.Over) (c : goal.After-drop-f-in_default g) → ⊥
 headless g c =
-    headed_first (queue_at _ _ _ c.self.invariant (c.self.view_is ∙ c.skip.ensures.skipped)) (omega (arith, c.if-self-eq0.false))
-    c.element_mut-slot.result.now c.element_mut-slot.ensures.value (close_gap c.args.self.now.packets) c.in_default.ensures.value
+    headed_first (queue_at _ _ _ c.self.invariant (c.self.view_is ∙ c.skip.ensures.skipped))
+    (omega (arith, c.if-self-eq0.false))
+    c.element_mut-slot.result.now c.element_mut-slot.ensures.value (close_gap c.args.self.now.packets)
+    c.in_default.ensures.value
 
 pub invariant_of-self : goal.invariant_of-self
 invariant_of-self g c = absurd (headless g c)
 
-pub returns-in_default-clause-empty : goal.returns-in_default-clause-empty
-returns-in_default-clause-empty g c = absurd (headless g c)
-
-pub returns-in_default-clause-no_packet : goal.returns-in_default-clause-no_packet
-returns-in_default-clause-no_packet g c = absurd (headless g c)
-
-pub returns-in_default-clause-unchanged : goal.returns-in_default-clause-unchanged
-returns-in_default-clause-unchanged g c = absurd (headless g c)
-
-pub returns-in_default-clause-capacity : goal.returns-in_default-clause-capacity
-returns-in_default-clause-capacity g c = absurd (headless g c)
+pub returns-in_default : goal.returns-in_default
+returns-in_default g c = absurd (headless g c)
 
 -- the first packet is what it has
 first : (g : given.Over) (c : In-Some g)
@@ -49,7 +42,8 @@ first : (g : given.Over) (c : In-Some g)
 first g c =
     let k = queue_at _ _ _ c.self.invariant (c.self.view_is ∙ c.skip.ensures.skipped) in
     first_at k (close_gap c.args.self.now.packets) (omega (arith, c.if-self-eq0.false))
-    (slot_at k (omega (arith, c.if-self-eq0.false)) c.element_mut-slot.result.now c.element_mut-slot.ensures.value (Some c.in-Some.header.now)
+    (slot_at k (omega (arith, c.if-self-eq0.false)) c.element_mut-slot.result.now c.element_mut-slot.ensures.value
+    (Some c.in-Some.header.now)
     c.in-Some.ensures.value)
 
 pub overflow_add-from : goal.overflow_add-from
@@ -67,7 +61,8 @@ module _ (g : given.Over) (c : After-part_mut g) where
   shown : IsFirst c.args.self.now c.in-Some.header.now c.part_mut.result.now
   shown =
       let f = first g (goal.at.f-answer-requires g c).In-Some in (
-        close_first c.args.self.now.packets c.in-Some.header.now (length c.part_mut.result.now) (first_sized f _ c.part_mut.ensures.value),
+        close_first c.args.self.now.packets c.in-Some.header.now (length c.part_mut.result.now)
+            (first_sized f _ c.part_mut.ensures.value),
         first_shown f _ c.part_mut.ensures.value,
       )
 
@@ -80,7 +75,8 @@ module _ (g : given.Over) (c : After-part_mut g) where
     bytes = g.B.Storage.elements (g.B.Storage.with_part c.self.inside.bytes c.self.inside.head.bytes.read_at ws)
 
     gone : (h : PacketsHead)
-        → h ≡ with_slot_taken c.count-slot_count.result c.count-capacity.result c.element_mut-slot.result.now.size c.self.inside.head
+        → h ≡ with_slot_taken c.count-slot_count.result c.count-capacity.result c.element_mut-slot.result.now.size
+        c.self.inside.head
         → IsQueue h slots bytes (after_hand_out true c.args.self.now new ws)
     gone h is =
         handed_gone (first g (goal.at.f-answer-requires g c).In-Some) _ slots
@@ -110,7 +106,8 @@ take-requires-clause-size g c = first_in (first g (goal.at.take-requires-clause-
 
 pub invariant_of-self-then-is_ok : goal.invariant_of-self-then-is_ok
 invariant_of-self-then-is_ok g c =
-    (gone g (goal.at.invariant_of-self-then-is_ok g c).After-part_mut c.f-answer.new.arg2 c.f-answer.new.arg3 _ c.take.ensures.taken).sound
+    (gone g (goal.at.invariant_of-self-then-is_ok g c).After-part_mut c.f-answer.new.arg2 c.f-answer.new.arg3 _
+    c.take.ensures.taken).sound
 
 pub invariant_of-self-else-is_ok : goal.invariant_of-self-else-is_ok
 invariant_of-self-else-is_ok g c =
@@ -138,8 +135,10 @@ returns-clause-handed g c =
     let before : IsFirst q hd now = shown g at in
     let long : length ws ≡ length now = c.f-answer.auto.arg3 in
     let made : c.if-is_ok.self ≡ after_hand_out (is_ok answer) q new ws = elim c.if-is_ok.branch [
-      | then-is_ok w ↦ w.self-is ∙ (gone g at new ws _ w.take.ensures.taken).seen ∙ ap (λ t. after_hand_out t q new ws) w.if-is_ok.ensures.value
-      | else-is_ok w ↦ w.self-is ∙ (stays g at new ws).seen ∙ ap (λ t. after_hand_out t q new ws) w.if-is_ok.ensures.value
+      | then-is_ok w ↦ w.self-is ∙ (gone g at new ws _ w.take.ensures.taken).seen ∙ ap (λ t. after_hand_out t q new ws)
+          w.if-is_ok.ensures.value
+      | else-is_ok w ↦ w.self-is ∙ (stays g at new ws).seen ∙ ap (λ t. after_hand_out t q new ws)
+          w.if-is_ok.ensures.value
     ] in
     record {
       header = hd;
@@ -147,7 +146,14 @@ returns-clause-handed g c =
       new_header = new;
       new_bytes = ws;
       first = before;
-      gives = record { header = c.in-Some.header; bytes = _; shows = (refl, refl); left = _; met = c.f-answer.ensures; leaves = (refl, refl) };
+      gives = record {
+        header = c.in-Some.header;
+        bytes = _;
+        shows = (refl, refl);
+        left = _;
+        met = c.f-answer.ensures;
+        leaves = (refl, refl);
+      };
       size = long;
       shown = order.shown q c.skip.ensures.well_placed hd now before;
       left = ap contents made ∙ handed_contents q c.skip.ensures.well_placed hd now new ws (is_ok answer) before long;
@@ -161,6 +167,14 @@ returns-clause-capacity g c =
     let k = stays g at c.f-answer.new.arg2 c.f-answer.new.arg3 in
     let bytes_long = ap length (stored k) ∙ length-overwrite _ _ c.f-answer.new.arg3 in
     elim c.if-is_ok.branch [
-      | then-is_ok w ↦ (ap (λ q. q.slot_count) w.self-is ∙ slots_of k, ap (λ q. length q.storage) w.self-is ∙ bytes_long)
-      | else-is_ok w ↦ (ap (λ q. q.slot_count) w.self-is ∙ slots_of k, ap (λ q. length q.storage) w.self-is ∙ bytes_long)
+      | then-is_ok w ↦ (
+        ap (λ q. q.slot_count) w.self-is ∙ slots_of k,
+        ap (λ q. length q.storage) w.self-is
+            ∙ bytes_long,
+      )
+      | else-is_ok w ↦ (
+        ap (λ q. q.slot_count) w.self-is ∙ slots_of k,
+        ap (λ q. length q.storage) w.self-is
+            ∙ bytes_long,
+      )
     ]

@@ -4,7 +4,7 @@ use Rattle.net_packets.proofs.QueueWalks.{◌^◌, length, T, lit<, Ura, Fn, nam
 use Rattle.net_packets.proofs.QueueWalks.{has_ty, WT, SProp, ent, sep, emp, id⊢, GName, Share, Fml, flft, fres, Env}
 use Rattle.net_packets.proofs.QueueWalks.{WpFn, Wp, after_seq, at_return, Model, Logic, sem, ◌⊑◌, ⊑_trans, meet_⊑_right}
 use Rattle.net_packets.proofs.QueueWalks.{Lfts, Shares, AllOutlive, fact, fact_i, Running, MachineTables, tables, mean}
-use Rattle.net_packets.proofs.QueueWalks.{any_q, After, rewrite, frame, ‵, raw, ◌⊛◌, some, later, at_ret, ◌$◌, ◌∵◌, !}
+use Rattle.net_packets.proofs.QueueWalks.{any_q, After, rewrite, frame, ‵, raw, ◌⊛◌, some, later, at_ret, ◌$◌, ◌∵◌, ! }
 use Rattle.net_packets.proofs.QueueWalks.{qed, by, move, keep, drop, split, split3, join, fsplit, fsplit3, fjoin, feq_i}
 use Rattle.net_packets.proofs.QueueWalks.{fpack, pick, suffices, use0, use1, use2, use3, await, done, stop, fld, addr}
 use Rattle.net_packets.proofs.QueueWalks.{lit, of_opd, no_more, and_then, first, switches_on, exec, returns}

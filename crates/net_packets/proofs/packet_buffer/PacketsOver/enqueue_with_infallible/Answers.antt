@@ -5,7 +5,7 @@ use Rattle.net_ring.proofs.Rotations.{length-overwrite}
 use Rattle.net_ring.proofs.RingFacts.{returned}
 use Rattle.net_packets.specs.{IsRoom, contents, with_last_size, with_last_bytes, with_packet_if_room}
 use Rattle.net_packets.specs.declared.head.PacketsHead.{PacketsHead}
-use Rattle.net_packets.proofs.HeadParts.{IsQueue, IsPlaceIn, queue_at, well, placement_is, has_place, room_is, filled}
+use Rattle.net_packets.proofs.HeadParts.{IsQueue, IsPlaceIn, place_in, queue_at, well, placement_is, has_place, room_is, filled}
 use Rattle.net_packets.proofs.HeadParts.{slots_of, slots_long, stored}
 use Rattle.net_packets.proofs.PacketOrder as order
 use Rattle.net_packets.proofs.PacketOrder.{enqueue_with_call}
@@ -15,22 +15,19 @@ use Rattle.net_packets.proofs.packet_buffer.PacketsOver.enqueue_with_infallible.
 
 pub returns-in_default-clause-full : goal.returns-in_default-clause-full
 returns-in_default-clause-full g c =
-    let is = placement_is (queue_at _ _ _ c.self.invariant c.self.view_is) _ _ c.count-slot_count.ensures c.count-capacity.ensures c.args.max_size in
+    let is = placement_is (queue_at _ _ _ c.self.invariant c.self.view_is) _ _ c.count-slot_count.ensures
+    c.count-capacity.ensures c.args.max_size in
     (λ _. sym is ∙ c.in_default.ensures.full.0 refl, λ _. refl)
 
 module _ (g : given.Over) (c : After-part_mut g) where
-  at : IsPlaceIn c.self.inside.head (g.M.Storage.elements c.self.inside.slots) (g.B.Storage.elements c.self.inside.bytes) c.args.self.now
+  at : IsPlaceIn c.self.inside.head (g.M.Storage.elements c.self.inside.slots)
+      (g.B.Storage.elements c.self.inside.bytes) c.args.self.now
       c.count-slot_count.result c.count-capacity.result c.args.max_size c.in-Some.place
   at =
       let met = c.in-Some.ensures in
-      record {
-        queue = queue_at _ _ _ c.self.invariant c.self.view_is;
-        slot_count = c.count-slot_count.ensures;
-        capacity = c.count-capacity.ensures;
-        gap = met.gap;
-        slots = met.slots;
-        from = met.from;
-      }
+      place_in (queue_at _ _ _ c.self.invariant c.self.view_is) c.count-slot_count.ensures c.count-capacity.ensures
+      met.gap
+      met.slots met.from
 
   room : IsRoom c.args.self.now c.args.max_size c.args.header c.part_mut.result.now
   room = room_is at c.args.header c.in-Some.ensures.contiguous c.part_mut.result.now c.part_mut.ensures.value
@@ -41,7 +38,8 @@ f-count-requires g c = c.requires.callable c.part_mut.result.now (room g c) c.pa
 pub prove-unreachable-requires : goal.prove-unreachable-requires
 prove-unreachable-requires g c =
     let after = c.f-count.new.arg2 in
-    let le = c.requires.count c.part_mut.result.now after c.f-count.result (room g (goal.at.prove-unreachable-requires g c).After-part_mut)
+    let le = c.requires.count c.part_mut.result.now after c.f-count.result
+    (room g (goal.at.prove-unreachable-requires g c).After-part_mut)
     (returned c.part_mut.result after refl c.f-count.ensures) in
     omega (arith, c.if-prove.true)
 
@@ -49,10 +47,12 @@ prove-unreachable-requires g c =
 left : (g : given.Over) (c : goal.After-self-2-1 g)
     → IsQueue c.shorten_last.new.self (g.M.Storage.elements c.write_slots.new.slots)
     (g.B.Storage.elements (g.B.Storage.with_part c.self.inside.bytes c.in-Some.place.from c.f-count.new.arg2))
-    (with_last_size c.f-count.result (with_last_bytes (with_packet_if_room c.args.self.now c.args.max_size c.args.header) c.f-count.new.arg2))
+    (with_last_size c.f-count.result (with_last_bytes (with_packet_if_room c.args.self.now c.args.max_size
+    c.args.header) c.f-count.new.arg2))
 left g c =
     let head = c.in-Some.ensures.placed in
-    filled (at g (goal.at.invariant_of-self g c).After-part_mut) c.args.header c.f-count.result c.if-prove.false c.f-count.new.arg2
+    filled (at g (goal.at.invariant_of-self g c).After-part_mut) c.args.header c.f-count.result c.if-prove.false
+    c.f-count.new.arg2
     c.shorten_last.new.self (c.shorten_last.ensures.slots ∙ ap (λ (o : PacketsHead). o.slots) head)
     (c.shorten_last.ensures.bytes
     ∙ ap (λ (o : PacketsHead). place o.bytes.read_at (o.bytes.length - (c.args.max_size - c.f-count.result))) head)
@@ -62,8 +62,11 @@ pub invariant_of-self : goal.invariant_of-self
 invariant_of-self g c = (left g c).sound
 
 pub returns-clause-full : goal.returns-clause-full
-returns-clause-full g c =
-    (λ e. absurd (false≢true e), λ none. absurd (has_place (at g (goal.at.returns-clause-full g c).After-part_mut) none))
+returns-clause-full g c = (
+  λ e. absurd (false≢true e),
+  λ none. absurd (has_place (at g (goal.at.returns-clause-full g c).After-part_mut)
+      none),
+)
 
 pub returns-clause-wrote : goal.returns-clause-wrote
 returns-clause-wrote g c =

@@ -9,7 +9,8 @@ use Rattle.net_packets.proofs.packet_buffer.PacketsOver.first.Goals as goal
 use Rattle.net_packets.proofs.packet_buffer.PacketsOver.first.Goals.{In-Some}
 
 first : (g : given.Over) (c : goal.In-Some g)
-    → IsFirstIn c.self.inside.head (g.M.Storage.elements c.self.inside.slots) (g.B.Storage.elements c.self.inside.bytes) c.args.self.now
+    → IsFirstIn c.self.inside.head (g.M.Storage.elements c.self.inside.slots)
+    (g.B.Storage.elements c.self.inside.bytes) c.args.self.now
     c.element-slot.result.now.size c.in-Some.header
 first g c =
     first_at (queue_at _ _ _ c.self.invariant c.self.view_is) c.requires (omega (arith, c.if-self-eq0.false))

@@ -8,7 +8,8 @@ use Rattle.net_packets.proofs.packet_buffer.PacketsOver.last_dequeued_mut.Goals 
 pub invariant_of-self-lent : goal.invariant_of-self-lent
 invariant_of-self-lent g c = λ w.
     let from = c.last_dequeued_index-from.result in
-    (written (queue_at _ _ _ c.self.invariant c.self.view_is) from w _ (g.met.B.Storage.part_written c.self.inside.bytes from w)).sound
+    (written (queue_at _ _ _ c.self.invariant c.self.view_is) from w _
+    (g.met.B.Storage.part_written c.self.inside.bytes from w)).sound
 
 pub returns : goal.returns
 returns g c =
@@ -18,7 +19,11 @@ returns g c =
     let k = queue_at _ _ _ c.self.invariant c.self.view_is in
     let at = c.last_dequeued_index-from.ensures ∙ dequeued_at k _ c.count-capacity.ensures s in
     let long = ap length (stored k) in (
-      (refl, λ w. (written k from w _ (g.met.B.Storage.part_written c.self.inside.bytes from w)).seen ∙ ap (λ p. with_bytes q p w) at),
+      (
+        refl,
+        λ w. (written k from w _ (g.met.B.Storage.part_written c.self.inside.bytes from w)).seen
+            ∙ ap (λ p. with_bytes q p w) at,
+      ),
       record {
         writes_back = tt;
         unseen = last_dequeued_unseen q (well k) s c.requires;

@@ -12,7 +12,8 @@ returns g c =
       record {
         skips = tt;
         empty = none_of q (search is_empty);
-        shown = if_both c.first.result (λ r sized bytes. order.shown q ok r.0.now r.1.now (sized, bytes)) (search rules) (search rules);
+        shown = if_both c.first.result (λ r sized bytes. order.shown q ok r.0.now r.1.now (sized, bytes))
+            (search rules) (search rules);
         same = order.gap_dropped q ok;
         no_packet = search is_empty;
         unchanged = search rules;

@@ -2,7 +2,7 @@ use Rattle.std.proofs.Common.{refl, sym, ap, ◌∙◌, arith, rules}
 use Rattle.std.proofs.lemmas.Bool.{false≢true}
 use Rattle.net_packets.specs.{with_packet, with_packet_if, first_size, only_last}
 use Rattle.net_packets.specs.declared.head.PacketsHead.{PacketsHead}
-use Rattle.net_packets.proofs.HeadParts.{IsQueue, IsPlaceIn, queue_at, well, placement_is, gap_is, has_place, placed_is}
+use Rattle.net_packets.proofs.HeadParts.{IsQueue, IsPlaceIn, place_in, queue_at, well, placement_is, gap_is, has_place, placed_is}
 use Rattle.net_packets.proofs.HeadParts.{placed, size_is}
 use Rattle.net_packets.proofs.PacketOrder.{accepted_as, stands_as, place_call}
 use Rattle.net_packets.proofs.packet_buffer.PacketsOver.place.Given as given
@@ -10,29 +10,29 @@ use Rattle.net_packets.proofs.packet_buffer.PacketsOver.place.Goals as goal
 
 pub returns-in_default-clause-full : goal.returns-in_default-clause-full
 returns-in_default-clause-full g c =
-    let is = placement_is (queue_at _ _ _ c.self.invariant c.self.view_is) _ _ c.count-slot_count.ensures c.count-capacity.ensures c.args.size in
+    let is = placement_is (queue_at _ _ _ c.self.invariant c.self.view_is) _ _ c.count-slot_count.ensures
+    c.count-capacity.ensures c.args.size in
     (λ _. sym is ∙ c.in_default.ensures.full.0 refl, λ _. refl)
 
 pub returns-in_default-clause-placed : goal.returns-in_default-clause-placed
 returns-in_default-clause-placed g c =
-    let is = placement_is (queue_at _ _ _ c.self.invariant c.self.view_is) _ _ c.count-slot_count.ensures c.count-capacity.ensures c.args.size in
-    sym (ap (λ o. with_packet_if c.args.self.now o c.args.size c.args.header) (sym is ∙ c.in_default.ensures.full.0 refl))
+    let is = placement_is (queue_at _ _ _ c.self.invariant c.self.view_is) _ _ c.count-slot_count.ensures
+    c.count-capacity.ensures c.args.size in
+    sym (ap (λ o. with_packet_if c.args.self.now o c.args.size c.args.header) (sym is ∙ c.in_default.ensures.full.0
+    refl))
 
 module _ (g : given.Over) (c : goal.After-self-1 g) where
-  at : IsPlaceIn c.self.inside.head (g.M.Storage.elements c.self.inside.slots) (g.B.Storage.elements c.self.inside.bytes) c.args.self.now
+  at : IsPlaceIn c.self.inside.head (g.M.Storage.elements c.self.inside.slots)
+      (g.B.Storage.elements c.self.inside.bytes) c.args.self.now
       c.count-slot_count.result c.count-capacity.result c.args.size c.in-Some.place
   at =
       let met = c.in-Some.ensures in
-      record {
-        queue = queue_at _ _ _ c.self.invariant c.self.view_is;
-        slot_count = c.count-slot_count.ensures;
-        capacity = c.count-capacity.ensures;
-        gap = met.gap;
-        slots = met.slots;
-        from = met.from;
-      }
+      place_in (queue_at _ _ _ c.self.invariant c.self.view_is) c.count-slot_count.ensures c.count-capacity.ensures
+      met.gap
+      met.slots met.from
 
-  left : IsQueue c.place.new.self (g.M.Storage.elements c.write_slots.new.slots) (g.B.Storage.elements c.self.inside.bytes)
+  left : IsQueue c.place.new.self (g.M.Storage.elements c.write_slots.new.slots)
+      (g.B.Storage.elements c.self.inside.bytes)
       (with_packet c.args.self.now c.in-Some.place.gap c.args.size c.args.header)
   left =
       let met = c.in-Some.ensures.placed in

@@ -14,26 +14,28 @@ returns-then-self-eq0-clause-none g c =
 -- the first slot in use has a header
 headless : (g : given.Over) (c : goal.In_default g) → ⊥
 headless g c =
-    has_header (queue_at _ _ _ c.self.invariant c.self.view_is) (omega (arith, c.if-self-eq0.false)) c.requires (c.in_default.ensures.none refl)
+    has_header (queue_at _ _ _ c.self.invariant c.self.view_is) (omega (arith, c.if-self-eq0.false)) c.requires
+    (c.in_default.ensures.none refl)
 
 pub invariant_of-self : goal.invariant_of-self
 invariant_of-self g c = absurd (headless g c)
 
-pub returns-in_default-clause-none : goal.returns-in_default-clause-none
-returns-in_default-clause-none g c = absurd (headless g c)
-
-pub returns-in_default-clause-unchanged : goal.returns-in_default-clause-unchanged
-returns-in_default-clause-unchanged g c = absurd (headless g c)
+pub returns-in_default : goal.returns-in_default
+returns-in_default g c = absurd (headless g c)
 
 pub take-requires-clause-size : goal.take-requires-clause-size
 take-requires-clause-size g c =
-    first_in (first_at (queue_at _ _ _ c.self.invariant c.self.view_is) c.requires (omega (arith, c.if-self-eq0.false)) c.in-Some.ensures.some)
+    first_in (first_at (queue_at _ _ _ c.self.invariant c.self.view_is) c.requires (omega (arith, c.if-self-eq0.false))
+    c.in-Some.ensures.some)
 
 left : (g : given.Over) (c : goal.After-take g)
-    → IsQueue c.take.new.self (g.M.Storage.elements c.lift_header.new.slots) (g.B.Storage.elements c.self.inside.bytes) (without_first c.args.self.now)
+    → IsQueue c.take.new.self (g.M.Storage.elements c.lift_header.new.slots) (g.B.Storage.elements c.self.inside.bytes)
+    (without_first c.args.self.now)
 left g c =
-    taken (first_at (queue_at _ _ _ c.self.invariant c.self.view_is) c.requires (omega (arith, c.if-self-eq0.false)) c.in-Some.ensures.some)
-    _ _ c.in-Some.ensures.left _ (c.take.ensures.taken ∙ ap₂ (λ (n k : ℕ). with_slot_taken n k c.in-Some.size c.self.inside.head)
+    taken (first_at (queue_at _ _ _ c.self.invariant c.self.view_is) c.requires (omega (arith, c.if-self-eq0.false))
+    c.in-Some.ensures.some)
+    _ _ c.in-Some.ensures.left _ (c.take.ensures.taken
+    ∙ ap₂ (λ (n k : ℕ). with_slot_taken n k c.in-Some.size c.self.inside.head)
     (c.count-slot_count.ensures ∙ ap length c.in-Some.ensures.left ∙ length-set _ _ _) c.count-capacity.ensures)
 
 pub invariant_of-self-2 : goal.invariant_of-self-2
@@ -48,7 +50,8 @@ returns-clause-none g c = (
 
 pub returns-clause-first : goal.returns-clause-first
 returns-clause-first g c =
-    sized (first_at (queue_at _ _ _ c.self.invariant c.self.view_is) c.requires (omega (arith, c.if-self-eq0.false)) c.in-Some.ensures.some)
+    sized (first_at (queue_at _ _ _ c.self.invariant c.self.view_is) c.requires (omega (arith, c.if-self-eq0.false))
+    c.in-Some.ensures.some)
 
 pub returns-clause-left : goal.returns-clause-left
 returns-clause-left g c = (left g c).seen

@@ -1,15 +1,14 @@
 -- `as_mut_slice` lends all that a `ManagedSlice` holds: a call at the field of each variant.
 use Rattle.net_ring.proofs.Walks.{◌≡◌, refl, sym, ℕ, List, [], ◌∷◌, length, named, erased, a_type, inst_fn, Val, vptr}
 use Rattle.net_ring.proofs.Walks.{ent, GName, ftrue, flft, WpFn, tables, ‵, ◌⊛◌, raw, ◌$◌, ◌∵◌, !, qed, move, keep}
-use Rattle.net_ring.proofs.Walks.{split, split3, join, fsplit, fsplit3, fjoin, use2, suffices, frame, done, whole}
-use Rattle.net_ring.proofs.Walks.{stop, fld, addr, of_opd, load, no_more, and_then, returns, enter, alloc_all}
-use Rattle.net_ring.proofs.Walks.{pass_all, free_all, look_at, get, through, sets, no, Array, shows, param, layouts}
-use Rattle.net_ring.proofs.Walks.{RattleType, owns, MutBor, MutRef, at_last, mut_vals, mut_Tells, plain, MutSlice}
-use Rattle.net_ring.proofs.Walks.{nothing, peeks, triple_of, says, Stays, stay_dropped, walk_of, ends_at}
-use Rattle.net_ring.proofs.Walks.{Goes-spent_ref, ap, suc-ne-zero, Lifetime, id⊢, at_ret, vrt, look_tag, by_variants}
-use Rattle.net_ring.proofs.Walks.{first, exec, lands_last, env, only, calls_at_last, lasts, framed, after, proved}
-use Rattle.net_ring.proofs.ManagedFields.{field_at, opens_field, lends_field, comes_back, slice_typed, Whole, Slice}
-use Rattle.net_ring.proofs.ManagedFields.{Buffer, lent, owned}
+use Rattle.net_ring.proofs.Walks.{split, split3, join, fsplit, fsplit3, fjoin, use2, suffices, frame, done, whole, stop}
+use Rattle.net_ring.proofs.Walks.{fld, addr, of_opd, load, no_more, and_then, returns, enter, alloc_all, pass_all}
+use Rattle.net_ring.proofs.Walks.{free_all, look_at, get, through, sets, no, Array, shows, param, layouts, RattleType}
+use Rattle.net_ring.proofs.Walks.{owns, MutBor, MutRef, at_last, mut_vals, mut_Tells, plain, MutSlice, nothing, peeks}
+use Rattle.net_ring.proofs.Walks.{triple_of, says, Stays, stay_dropped, walk_of, ends_at, Goes-spent_ref, ap}
+use Rattle.net_ring.proofs.Walks.{suc-ne-zero, Lifetime, id⊢, at_ret, vrt, look_tag, by_variants, first, exec}
+use Rattle.net_ring.proofs.Walks.{lands_last, env, only, calls_at_last, lasts, framed, after, proved, field_at}
+use Rattle.net_ring.proofs.Walks.{opens_field, lends_field, comes_back, slice_typed, Whole, Slice, Buffer, lent, owned}
 use Rattle.std.specs.Vec.{with_items_from}
 use Rattle.net_ring.specs.{overwrite}
 use Rattle.net_ring.specs.declared.managed.ManagedSlice.TheVariants.{Borrowed, Owned}

@@ -2,15 +2,14 @@
 use Rattle.net_ring.proofs.Walks.{◌≡◌, refl, sym, ℕ, List, [], ◌∷◌, named, erased, a_type, inst_fn, Val, vptr, ent}
 use Rattle.net_ring.proofs.Walks.{GName, ftrue, flft, WpFn, tables, ‵, ◌⊛◌, raw, ◌$◌, ◌∵◌, !, qed, move, keep, split}
 use Rattle.net_ring.proofs.Walks.{split3, join, fsplit, fsplit3, fjoin, use2, suffices, frame, done, whole, stop, fld}
-use Rattle.net_ring.proofs.Walks.{addr, of_opd, load, no_more, and_then, returns, enter, alloc_all, pass_all}
-use Rattle.net_ring.proofs.Walks.{free_all, look_at, get, through, sets, no, shows, param, layouts, RattleType, owns}
-use Rattle.net_ring.proofs.Walks.{MutBor, MutRef, at_last, mut_vals, mut_Tells, plain, nothing, peeks, triple_of}
-use Rattle.net_ring.proofs.Walks.{says, Stays, stay_dropped, walk_of, ends_at, Goes-spent_ref, ap, suc-ne-zero}
-use Rattle.net_ring.proofs.Walks.{Lifetime, w64, vint, id⊢, at_ret, vrt, look_tag, by_variants, first, exec}
-use Rattle.net_ring.proofs.Walks.{lands_last, env, usize, yes, uint_vals, uint_Tells, only, calls_at_last, lasts}
-use Rattle.net_ring.proofs.Walks.{framed, Goes-dropped, after, get_or, set, proved}
-use Rattle.net_ring.proofs.ManagedFields.{field_at, opens_field, lends_field, comes_back, ref_typed, Whole, Slice}
-use Rattle.net_ring.proofs.ManagedFields.{Buffer, lent, owned}
+use Rattle.net_ring.proofs.Walks.{addr, of_opd, load, no_more, and_then, returns, enter, alloc_all, pass_all, free_all}
+use Rattle.net_ring.proofs.Walks.{look_at, get, through, sets, no, shows, param, layouts, RattleType, owns, MutBor}
+use Rattle.net_ring.proofs.Walks.{MutRef, at_last, mut_vals, mut_Tells, plain, nothing, peeks, triple_of, says, Stays}
+use Rattle.net_ring.proofs.Walks.{stay_dropped, walk_of, ends_at, Goes-spent_ref, ap, suc-ne-zero, Lifetime, w64, vint}
+use Rattle.net_ring.proofs.Walks.{id⊢, at_ret, vrt, look_tag, by_variants, first, exec, lands_last, env, usize, yes}
+use Rattle.net_ring.proofs.Walks.{uint_vals, uint_Tells, only, calls_at_last, lasts, framed, Goes-dropped, after}
+use Rattle.net_ring.proofs.Walks.{get_or, set, proved, field_at, opens_field, lends_field, comes_back, ref_typed, Whole}
+use Rattle.net_ring.proofs.Walks.{Slice, Buffer, lent, owned}
 use Rattle.std.specs.Vec.{with_item}
 use Rattle.net_ring.specs.declared.managed.ManagedSlice.TheVariants.{Borrowed, Owned}
 use Rattle.net_ring.specs.contracts.managed.RefMutSliceStorage.element_mut as S

@@ -7,11 +7,10 @@ use Rattle.net_ring.proofs.Walks.{returns, enter, alloc_all, pass_all, free_all,
 use Rattle.net_ring.proofs.Walks.{follows, follows_then, lends_inner_slice, renamed, Array, shows, param, layouts}
 use Rattle.net_ring.proofs.Walks.{RattleType, owns, MutBor, MutRef, at_last, mut_vals, mut_Tells, cell_at, plain}
 use Rattle.net_ring.proofs.Walks.{mut_slice_of, MutSlice, slice_val, mut_slice_vals, nothing, opens, closes, peeks}
-use Rattle.net_ring.proofs.Walks.{says, Stays, stay_dropped, walk_of, ends_at, Goes-spent_ref, subst, ap, ◌+◌, ◌^◌}
-use Rattle.net_ring.proofs.Walks.{◌<◌, w64, vint, learn, usize, yes, mem, uint_vals, uint_Tells, Goes-dropped, ◌*◌}
-use Rattle.net_ring.proofs.Walks.{arith, size, bin, size_word, is, layout, at_mul, uncapped, set, coded_list, fobs}
-use Rattle.net_ring.proofs.Walks.{fbor, fjoin3, feq_i, Body, heres_id, proved, takes_at, bare}
-use Rattle.net_ring.proofs.Relend.{words_ty, run_fits, element_at}
+use Rattle.net_ring.proofs.Walks.{says, Stays, stay_dropped, walk_of, ends_at, Goes-spent_ref, subst, ap, ◌+◌, ◌^◌, ◌<◌}
+use Rattle.net_ring.proofs.Walks.{w64, vint, learn, usize, yes, mem, uint_vals, uint_Tells, Goes-dropped, ◌*◌, arith}
+use Rattle.net_ring.proofs.Walks.{size, bin, size_word, is, layout, at_mul, uncapped, set, coded_list, fobs, fbor}
+use Rattle.net_ring.proofs.Walks.{fjoin3, feq_i, Body, heres_id, proved, takes_at, bare, words_ty, run_fits, element_at}
 use Rattle.net_ring.specs.contracts.managed.RefMutSliceStorage.element_mut as f
 use Rattle.net_ring.proofs.managed.RefMutSliceStorage.element_mut.Statement.{statement}
 use Rattle.net_ring.proofs.managed.RefMutSliceStorage.element_mut.Code as code

@@ -1,16 +1,15 @@
 -- `part_mut` at a `&mut [T]` lends a run of what the reference points at, for every T.
 use Rattle.net_ring.proofs.Walks.{◌≡◌, refl, sym, ℕ, List, [], ◌∷◌, ◌++◌, length, named, a_type, inst_fn, Val}
-use Rattle.net_ring.proofs.Walks.{full_share, ftrue, fat, flft, ◌⊑◌, ‵, ◌⊛◌, given, ◌$◌, ◌∵◌, !, qed, move, keep}
-use Rattle.net_ring.proofs.Walks.{drop, split, join, fsplit, fsplit3, fjoin, rewrite, use1, suffices, frame, done}
-use Rattle.net_ring.proofs.Walks.{whole, sub, look_in, agg, stop, fld, hop, addr, of_opd, load, no_more, and_then}
-use Rattle.net_ring.proofs.Walks.{returns, enter, alloc_all, pass_all, free_all, look_at, get, through, sets, no}
-use Rattle.net_ring.proofs.Walks.{shows, param, layouts, RattleType, owns, MutBor, MutRef, mut_vals, mut_Tells}
-use Rattle.net_ring.proofs.Walks.{cell_at, plain, mut_slice_of, MutSlice, Room, slice_val, nothing, opens, closes}
-use Rattle.net_ring.proofs.Walks.{peeks, says, Stays, stay_dropped, walk_of, ends_at, Goes-spent_ref, subst, ap, ◌+◌}
-use Rattle.net_ring.proofs.Walks.{◌-◌, ◌^◌, ◌<◌, ◌≤◌, take, w64, vint, learn, usize, yes, uint_vals, uint_Tells}
-use Rattle.net_ring.proofs.Walks.{Goes-dropped, ◌∙◌, ◌*◌, arith, take-append-drop, length-drop, size, bin, size_word}
-use Rattle.net_ring.proofs.Walks.{get_in, is, layout, at_mul, length-take-le, uncapped, proved, drop_list, bare}
-use Rattle.net_ring.proofs.Relend.{words_ty, run_fits, lends_run}
+use Rattle.net_ring.proofs.Walks.{full_share, ftrue, fat, flft, ◌⊑◌, ‵, ◌⊛◌, given, ◌$◌, ◌∵◌, !, qed, move, keep, drop}
+use Rattle.net_ring.proofs.Walks.{split, join, fsplit, fsplit3, fjoin, rewrite, use1, suffices, frame, done, whole, sub}
+use Rattle.net_ring.proofs.Walks.{look_in, agg, stop, fld, hop, addr, of_opd, load, no_more, and_then, returns, enter}
+use Rattle.net_ring.proofs.Walks.{alloc_all, pass_all, free_all, look_at, get, through, sets, no, shows, param, layouts}
+use Rattle.net_ring.proofs.Walks.{RattleType, owns, MutBor, MutRef, mut_vals, mut_Tells, cell_at, plain, mut_slice_of}
+use Rattle.net_ring.proofs.Walks.{MutSlice, Room, slice_val, nothing, opens, closes, peeks, says, Stays, stay_dropped}
+use Rattle.net_ring.proofs.Walks.{walk_of, ends_at, Goes-spent_ref, subst, ap, ◌+◌, ◌-◌, ◌^◌, ◌<◌, ◌≤◌, take, w64, vint}
+use Rattle.net_ring.proofs.Walks.{learn, usize, yes, uint_vals, uint_Tells, Goes-dropped, ◌∙◌, ◌*◌, arith}
+use Rattle.net_ring.proofs.Walks.{take-append-drop, length-drop, size, bin, size_word, get_in, is, layout, at_mul}
+use Rattle.net_ring.proofs.Walks.{length-take-le, uncapped, proved, drop_list, bare, words_ty, run_fits, lends_run}
 use Rattle.net_ring.specs.contracts.managed.RefMutSliceStorage.part_mut as f
 use Rattle.net_ring.proofs.managed.RefMutSliceStorage.part_mut.Statement.{statement}
 use Rattle.net_ring.proofs.managed.RefMutSliceStorage.part_mut.Code as code

@@ -1,6 +1,7 @@
 use Rattle.std.proofs.Common.{rules, Bool, length, true, false, ◌≡◌, ◌≢◌, ◌∷◌, [], refl, ap, sym, ◌∙◌, is_ok}
 use Rattle.std.proofs.Common.{if◌then◌else◌, slice_index_or, drop, arith}
-use Rattle.net_ring.specs.{RingState, IsWellFormed, queue, with_dequeued, with_elements, overwrite, Makes, DequeueOne, DequeueErr}
+use Rattle.net_ring.specs.{RingState, IsWellFormed, queue, with_dequeued, with_elements, overwrite, Makes, DequeueOne}
+use Rattle.net_ring.specs.{DequeueErr}
 use Rattle.net_ring.proofs.Rotations.{length-overwrite}
 use Rattle.net_ring.proofs.RingFacts.{returned, well, found, queue_head, head_either, ring_is}
 use Rattle.net_ring.proofs.ring_buffer.RingOver.dequeue_one_with.Given as given
@@ -18,10 +19,12 @@ module _ (g : given.Over) (c : After-element_mut g) where
   first : queue c.args.self.now ≡ c.element_mut.result.now ∷ drop 1 (queue c.args.self.now)
   first =
       let x = c.element_mut.result.now in
-      queue_head _ wf x (c.element_mut.ensures.value ∙ ap (λ o. slice_index_or o.storage o.read_at x) c.self.view_is) some
+      queue_head _ wf x (c.element_mut.ensures.value ∙ ap (λ o. slice_index_or o.storage o.read_at x) c.self.view_is)
+      some
 
   -- writing over an element keeps the number of elements
-  long : (w : _) → length (g.S.Storage.elements (g.S.Storage.with_element c.self.inside.storage c.self.inside.head.read_at w))
+  long : (w : _) → length (g.S.Storage.elements (g.S.Storage.with_element c.self.inside.storage
+      c.self.inside.head.read_at w))
       ≡ length (g.S.Storage.elements c.self.inside.storage)
   long w = ap length (g.met.S.Storage.element_written c.self.inside.storage c.self.inside.head.read_at w)
       ∙ length-overwrite (g.S.Storage.elements c.self.inside.storage) c.self.inside.head.read_at (w ∷ [])
@@ -37,7 +40,11 @@ invariant_of-self g c =
     grind (arith, long g (goal.at.invariant_of-self g c).After-element_mut c.f-answer.new.arg2, size, read, counts)
 
 pub invariant_of-self-else-is_ok : goal.invariant_of-self-else-is_ok
-invariant_of-self-else-is_ok g c = grind (arith, long g (goal.at.invariant_of-self-else-is_ok g c).After-element_mut c.f-answer.new.arg2)
+invariant_of-self-else-is_ok g c = grind (
+  arith,
+  long g (goal.at.invariant_of-self-else-is_ok g c).After-element_mut
+      c.f-answer.new.arg2,
+)
 
 pub returns-clause-called : goal.returns-clause-called
 returns-clause-called g c =
@@ -59,8 +66,10 @@ returns-clause-called g c =
           (omega (arith, ap (λ o. o.count) w.self-is ∙ ap (λ q. q.length) w.dequeue_contiguous.ensures.place, counts))
           ∙ ap after (sym (sym c.is_ok.ensures.value ∙ w.if-is_ok.true))
       | else-is_ok w ↦
-          ring_is _ (after false) (ap (λ o. o.storage) w.self-is ∙ stored) (omega (arith, ap (λ o. o.read_at) w.self-is, read))
-          (omega (arith, ap (λ o. o.count) w.self-is, counts)) ∙ ap after (sym (sym c.is_ok.ensures.value ∙ w.if-is_ok.false))
+          ring_is _ (after false) (ap (λ o. o.storage) w.self-is ∙ stored)
+          (omega (arith, ap (λ o. o.read_at) w.self-is, read))
+          (omega (arith, ap (λ o. o.count) w.self-is, counts))
+          ∙ ap after (sym (sym c.is_ok.ensures.value ∙ w.if-is_ok.false))
     ] in
     let by_answer = head_either old (wf g at) y (some g at) c.f-answer.result _ left in
     (x, y, returned c.element_mut.result y refl c.f-answer.ensures, first g at, left, by_answer.0, by_answer.1)

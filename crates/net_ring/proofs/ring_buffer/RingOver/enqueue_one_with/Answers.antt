@@ -1,7 +1,7 @@
 use Rattle.std.proofs.Common.{rules, Bool, true, false, ◌≡◌, ◌≢◌, ◌∷◌, [], refl, ap, sym, ◌∙◌, is_ok, if◌then◌else◌}
 use Rattle.std.proofs.Common.{slice_index_or, drop, arith}
-use Rattle.net_ring.specs.{RingState, IsWellFormed, spare, write_at, window, with_enqueued, with_elements, overwrite, Makes, EnqueueOne}
-use Rattle.net_ring.specs.{EnqueueErr}
+use Rattle.net_ring.specs.{RingState, IsWellFormed, spare, write_at, window, with_enqueued, with_elements, overwrite}
+use Rattle.net_ring.specs.{Makes, EnqueueOne, EnqueueErr}
 use Rattle.net_ring.proofs.RingFacts.{returned, well, found_next, spare_head, next_either, ring_is}
 use Rattle.net_ring.proofs.ring_buffer.RingOver.enqueue_one_with.Given as given
 use Rattle.net_ring.proofs.ring_buffer.RingOver.enqueue_one_with.Goals as goal
@@ -21,7 +21,8 @@ module _ (g : given.Over) (c : After-element_mut g) where
   next : spare c.args.self.now ≡ c.element_mut.result.now ∷ drop 1 (spare c.args.self.now)
   next =
       let x = c.element_mut.result.now in
-      spare_head _ wf x (c.element_mut.ensures.value ∙ ap (λ o. slice_index_or o.storage c.index-at.result x) c.self.view_is
+      spare_head _ wf x (c.element_mut.ensures.value ∙ ap (λ o. slice_index_or o.storage c.index-at.result x)
+      c.self.view_is
       ∙ ap (λ i. slice_index_or c.args.self.now.storage i x) at) some
 
 pub f-answer-requires : goal.f-answer-requires
@@ -37,8 +38,10 @@ returns-clause-called g c =
     let read = ap (λ o. o.read_at) is in
     let counts = ap (λ o. o.count) is in
     let stored = g.met.S.Storage.element_written c.self.inside.storage c.index-at.result y
-    ∙ ap (λ o. overwrite o.storage c.index-at.result (y ∷ [])) is ∙ ap (λ p. overwrite old.storage p (y ∷ [])) (at g before) in
-    let after : Bool → RingState _ = λ t. with_elements (if t then with_enqueued 1 old else old) (write_at old) (y ∷ []) in
+    ∙ ap (λ o. overwrite o.storage c.index-at.result (y ∷ [])) is ∙ ap (λ p. overwrite old.storage p (y ∷ []))
+    (at g before) in
+    let after : Bool → RingState _ = λ t. with_elements (if t then with_enqueued 1 old else old) (write_at old)
+    (y ∷ []) in
     let left : c.if-is_ok.self ≡ after (is_ok c.f-answer.result) = elim c.if-is_ok.branch [
       | then-is_ok w ↦
           ring_is _ (after true) (ap (λ o. o.storage) w.self-is ∙ stored)
@@ -46,8 +49,10 @@ returns-clause-called g c =
           (omega (arith, ap (λ o. o.count) w.self-is ∙ ap (λ q. q.length) w.enqueue.ensures.place, counts))
           ∙ ap after (sym (sym c.is_ok.ensures.value ∙ w.if-is_ok.true))
       | else-is_ok w ↦
-          ring_is _ (after false) (ap (λ o. o.storage) w.self-is ∙ stored) (omega (arith, ap (λ o. o.read_at) w.self-is, read))
-          (omega (arith, ap (λ o. o.count) w.self-is, counts)) ∙ ap after (sym (sym c.is_ok.ensures.value ∙ w.if-is_ok.false))
+          ring_is _ (after false) (ap (λ o. o.storage) w.self-is ∙ stored)
+          (omega (arith, ap (λ o. o.read_at) w.self-is, read))
+          (omega (arith, ap (λ o. o.count) w.self-is, counts))
+          ∙ ap after (sym (sym c.is_ok.ensures.value ∙ w.if-is_ok.false))
     ] in
     let by_answer = next_either old (wf g before) y (some g before) c.f-answer.result _ left in
     (x, y, returned c.element_mut.result y refl c.f-answer.ensures, next g before, left, by_answer.0, by_answer.1)

@@ -1,12 +1,12 @@
 use Rattle.std.proofs.Common.{◌≡◌, ◌∙◌, ap, ◌-◌, take, drop, ℕ, List, length, min, length-take, arith}
-use Rattle.net_ring.specs.{RingState, capacity, window, spare_index, with_elements_wrapping, ring_at, overwrite}
-use Rattle.net_ring.specs.{Makes}
+use Rattle.net_ring.specs.{RingState, capacity, window, spare_index, with_elements_wrapping, ring_at, overwrite, Makes}
 use Rattle.net_ring.proofs.Rotations.{length-overwrite}
 use Rattle.net_ring.proofs.RingFacts.{ahead_clause, once_wf, lent_whole}
 use Rattle.net_ring.proofs.ring_buffer.RingOver.write_unallocated.Goals as goal
 
 -- what is written changes neither the count nor the capacity
-same_after : {T : Type 0} (g h : RingState T) (p : ℕ) (ws : List T) → h ≡ with_elements_wrapping g p ws → (h.count ≡ g.count) × (capacity h ≡ capacity g)
+same_after : {T : Type 0} (g h : RingState T) (p : ℕ) (ws : List T) → h ≡ with_elements_wrapping g p ws
+    → (h.count ≡ g.count) × (capacity h ≡ capacity g)
 same_after g h p ws e = (
   ap (λ o. o.count) e,
   ap capacity e ∙ length-overwrite (overwrite g.storage p ws) 0 (drop (length g.storage - p) ws) ∙
@@ -28,7 +28,8 @@ returns g c =
     let met = c.write_unallocated.ensures in
     let n = c.write_unallocated.result in
     let d = take n c.args.«data».now in
-    let all = lent_whole c.count-capacity.result (g.S.Storage.elements c.self.inside.storage) c.part_mut.result.now ws c.count-capacity.ensures
+    let all = lent_whole c.count-capacity.result (g.S.Storage.elements c.self.inside.storage) c.part_mut.result.now ws
+    c.count-capacity.ensures
     c.part_mut.ensures.value met.size in
     let before : ring_at c.part_mut.result.now p ≡ q = ap (λ l. ring_at l p) all.0 ∙ c.self.view_is in
     let count = met.count ∙ ap (λ o. min (length c.args.«data».now) (window o - i)) before in
