@@ -1,11 +1,12 @@
--- Facts of a buffer of fragments: what is lent and written, positions of a set and its runs, and many fragments.
+-- Facts of a buffer of fragments: what is lent and written, positions of a set and its runs, many fragments, and which
+-- slot of a table a loop finds.
 use Rattle.std.proofs.Common.{◌≡◌, ℕ, ◌-◌, ◌∙◌, List, length, take, drop, ap, arith, take_all, ◌↔◌, suc, ◌+◌, ◌<◌}
 use Rattle.std.proofs.Common.{◌≤◌, true, [], ◌∷◌, ◌&&◌, All, max, IsTrue, nat_lt, nat_le, inl, inr, get_or, subst}
 use Rattle.std.proofs.Common.{Some, None, ⊎_elim, ◌≢◌, Bool, false, not, min, nat_eq, sym, length-take, length-drop}
-use Rattle.std.proofs.Common.{refl, if◌then◌else◌, IsFalse, ap₂, ◌||◌, Result, Err, OnOk}
+use Rattle.std.proofs.Common.{refl, if◌then◌else◌, IsFalse, ap₂, ◌||◌, Err, cond, ℤ, ◌<ℤ◌, ◌≤ℤ◌}
 use Rattle.net_ring.specs.Overwrite.{overwrite, OverwritesAt}
 use Rattle.net_ring.proofs.RingFacts.{overwrite_whole}
-use Rattle.std.specs.List.{count_by, slice_get}
+use Rattle.std.specs.List.{count_by, slice_get, position}
 use Rattle.std.proofs.lemmas.Bool.{cases_Bool, cases_lt, both_ways}
 use Rattle.std.proofs.lemmas.Bool.Decides.{nat_tests}
 use Rattle.std.proofs.lemmas.List.Elements.{All-head, All-tail}
@@ -14,21 +15,26 @@ use Rattle.net_assembler.specs.Positions.{Positions, IsMaximalRun, AreMaximalRun
 use Rattle.net_assembler.specs.Positions.{with_range}
 use Rattle.net_assembler.proofs.Sets.{contains-nothing}
 use Rattle.net_base.specs.Fragments.{IsBelow, Meets, meets_one, HasOther, FragmentsState, with_fragment}
-use Rattle.net_base.specs.Fragments.{after_fragments, covers, last_byte, Adds, with_piece}
+use Rattle.net_base.specs.Fragments.{after_fragments, covers, last_byte, Adds, HasSoundParts}
 use Rattle.net_base.specs.declared.storage.fragments.FragmentError.{FragmentError}
 use Rattle.std.specs.Str.{bytes_eq}
-use Rattle.std.proofs.lemmas.List.{get_or-take, get_or-drop, get_or_default}
+use Rattle.std.proofs.lemmas.List.{length-replicate, get_or-take, get_or-drop, get_or_default}
 use Rattle.std.proofs.lemmas.Slice.Eq.{bytes_eq-Decides}
+use Rattle.net_assembler.specs.RunLists.{HasSoundRuns, set_of}
+use Rattle.net_base.specs.declared.storage.fragments.head.FragmentsHead.{FragmentsHead}
 use Rattle.net_assembler.specs.AssemblerLaws.{MembersOfNothing, MembersWithRange}
+use Rattle.std.specs.Ordering.{is_lt, int_cmp}
+use Rattle.std.proofs.lemmas.Int.{ints}
+use Rattle.std.proofs.lemmas.List.Sums.{position_or_len_is}
 
 -- ---- a storage of bytes that is lent whole, and written over whole
 -- a whole storage of n elements, lent as a part
-pub part_is : (xs part : List ℕ) (n : ℕ) → n ≡ length xs → part ≡ take (n - 0) (drop 0 xs) → part ≡ xs
-part_is xs part n size is = is ∙ take_all (n - 0) xs (omega arith)
+pub all_lent : (xs : List ℕ) (n : ℕ) → n ≡ length xs → take (n - 0) (drop 0 xs) ≡ xs
+all_lent xs n size = take_all (n - 0) xs (omega arith)
 
 -- what is written over a whole storage
-pub whole_written : (old new written : List ℕ) → length written ≡ length old → new ≡ overwrite old 0 written → new ≡ written
-whole_written old new written size is = is ∙ overwrite_whole old written size
+pub all_written : (old written : List ℕ) → length written ≡ length old → overwrite old 0 written ≡ written
+all_written old written size = overwrite_whole old written size
 
 -- the first n elements
 pub first_part : (xs part : List ℕ) (n : ℕ) → part ≡ take (n - 0) xs → part ≡ take n xs
@@ -45,8 +51,12 @@ met s (r ∷ rs) o n all h =
     elim (cases_Bool (nat_lt (r.0 - o) n && nat_lt o r.1)) [
       | inl is ↦
           let a : r.0 - o < n = grind (arith, nat_tests) in
-          let b : o < r.1 = grind (arith, nat_tests) in
-          (max r.0 o, omega arith, omega (arith, a, b, some), here.inside (max r.0 o) (omega arith) (omega (arith, b, some)))
+          let b : o < r.1 = grind (arith, nat_tests) in (
+            max r.0 o,
+            omega arith,
+            omega (arith, a, b, some),
+            here.inside (max r.0 o) (omega arith) (omega (arith, b, some)),
+          )
       | inr is ↦ others (grind (arith, nat_tests))
     ]
 
@@ -55,20 +65,35 @@ meeting : (rs : List (ℕ × ℕ)) (o n p : ℕ) → count_by (lies_in p) rs ≡
 meeting [] o n p h low high = absurd (omega arith)
 meeting (r ∷ rs) o n p h low high = let others = meeting rs o n p in grind (arith, nat_tests)
 
-pub meets_is : (s : Positions) (rs : List (ℕ × ℕ)) (o n : ℕ) → AreMaximalRuns s rs → IsTrue (meets_one rs o n) ↔ Meets s o n
+pub meets_is : (s : Positions) (rs : List (ℕ × ℕ)) (o n : ℕ) → AreMaximalRuns s rs →
+    IsTrue (meets_one rs o n) ↔ Meets s o n
 meets_is s rs o n known =
     (met s rs o n known.maximal, λ m. meeting rs o n m.0 (known.complete m.0 m.3) m.1 m.2)
 
-pub below_nothing : (s : Positions) (n : ℕ) → s ≡ nothing → IsBelow s n
+below_nothing : (s : Positions) (n : ℕ) → s ≡ nothing → IsBelow s n
 below_nothing s n empty p is =
-    absurd (both_ways (contains nothing p) (contains-nothing p) (subst (λ (t : Positions). IsTrue (contains t p)) empty is))
+    absurd (both_ways (contains nothing p) (contains-nothing p)
+    (subst (λ (t : Positions). IsTrue (contains t p)) empty is))
+
+-- a head without a run or a size is that of an empty buffer, whatever its bytes
+pub no_parts : (h : FragmentsHead) (bytes : List ℕ) (runs : List (ℕ × ℕ)) → HasSoundRuns h.present runs →
+    set_of h.present runs ≡ nothing →
+    h.has_total ≡ 0 → HasSoundParts h bytes runs
+no_parts h bytes runs sound none unknown = record {
+  runs_sound = sound;
+  room =
+      grind (arith, nat_tests, unknown);
+  below = below_nothing _ _ none;
+}
 
 -- the number of the run that has a position
-run_of : (rs : List (ℕ × ℕ)) (p : ℕ) → count_by (lies_in p) rs ≡ 1 → (k : ℕ) × (k < length rs) × (lies_in p (get_or rs k (0, 0)) ≡ true)
+run_of : (rs : List (ℕ × ℕ)) (p : ℕ) → count_by (lies_in p) rs ≡ 1 →
+    (k : ℕ) × (k < length rs) × (lies_in p (get_or rs k (0, 0)) ≡ true)
 run_of [] p h = absurd (omega (arith, h))
 run_of (r ∷ rs) p h = elim (cases_Bool (lies_in p r)) [
   | inl is ↦ (0, omega arith, is)
-  | inr not_here ↦ let others : count_by (lies_in p) rs ≡ 1 = grind (arith, h, not_here) in let w = run_of rs p others in (suc w.0, omega (arith, w.1), w.2)
+  | inr not_here ↦ let others : count_by (lies_in p) rs ≡ 1 = grind (arith, h, not_here) in let w =
+      run_of rs p others in (suc w.0, omega (arith, w.1), w.2)
 ]
 
 -- no position is from the end of the last run on, which has the one before its end; without a run there is none
@@ -85,7 +110,8 @@ module _ (s : Positions) (rs : List (ℕ × ℕ)) (known : AreMaximalRuns s rs) 
             let below : p < (get_or rs w.0 (0, 0)).1 = grind (arith, nat_tests, w.2) in
             ⊎_elim
             (λ (before : w.0 < length rs - 1).
-            let apart = subst (λ (q : ℕ × ℕ). (get_or rs w.0 (0, 0)).1 < q.0) last (known.rising w.0 (length rs - 1) (0, 0) before within) in
+            let apart = subst (λ (q : ℕ × ℕ). (get_or rs w.0 (0, 0)).1 < q.0) last
+            (known.rising w.0 (length rs - 1) (0, 0) before within) in
             omega (arith, apart, below, some, high))
             (λ (at : length rs - 1 ≤ w.0).
             let same : w.0 ≡ length rs - 1 = omega (arith, at, w.1) in
@@ -105,7 +131,8 @@ module _ (s : Positions) (rs : List (ℕ × ℕ)) (known : AreMaximalRuns s rs) 
 
 -- ---- whether a fragment differs from bytes, by runs of positions
 -- where two lists of one length differ
-differ_at : (xs ys : List ℕ) → length xs ≡ length ys → bytes_eq xs ys ≡ false → (k : ℕ) × (k < length xs) × (get_or xs k 0 ≢ get_or ys k 0)
+differ_at : (xs ys : List ℕ) → length xs ≡ length ys → bytes_eq xs ys ≡ false →
+    (k : ℕ) × (k < length xs) × (get_or xs k 0 ≢ get_or ys k 0)
 differ_at [] [] size h = absurd (cc)
 differ_at [] (y ∷ ys) size h = absurd (omega (arith, size))
 differ_at (x ∷ xs) [] size h = absurd (omega (arith, size))
@@ -117,7 +144,8 @@ differ_at (x ∷ xs) (y ∷ ys) size h = elim (cases_Bool (nat_eq x y)) [
 ]
 
 -- the bytes of a run from start to end and those of a fragment that are there, as slices
-module _ (bytes data' : List ℕ) (o start end first last from : ℕ) (a : first ≡ start - o) (b : last ≡ min (end - o) (length data'))
+module _ (bytes data' : List ℕ) (o start end first last from : ℕ) (a : first ≡ start - o)
+    (b : last ≡ min (end - o) (length data'))
     (c : from ≡ max start o) (within : end ≤ length bytes) (some : first < last) where
   abbrev there : List ℕ
   there = take (o + last - from) (drop from bytes)
@@ -132,7 +160,8 @@ module _ (bytes data' : List ℕ) (o start end first last from : ℕ) (a : first
   new_size = length-take (last - first) (drop first data') ∙ omega (arith, length-drop first data', a, b, some)
 
   byte_there : (k : ℕ) → k < last - first → get_or there k 0 ≡ get_or bytes (from + k) 0
-  byte_there k l = get_or-take (o + last - from) (drop from bytes) k 0 (omega (arith, l, a, b, c, some)) ∙ get_or-drop from bytes k 0
+  byte_there k l = get_or-take (o + last - from) (drop from bytes) k 0 (omega (arith, l, a, b, c, some))
+      ∙ get_or-drop from bytes k 0
 
   byte_new : (k : ℕ) → k < last - first → get_or new k 0 ≡ get_or data' (first + k) 0
   byte_new k l = get_or-take (last - first) (drop first data') k 0 l ∙ get_or-drop first data' k 0
@@ -163,7 +192,8 @@ module _ (bytes data' : List ℕ) (o start end first last from : ℕ) (a : first
         elim (cases_Bool (bytes_eq there new)) [
           | inl same ↦
               let e = (bytes_eq-Decides there new).0 same in
-              absurd (h.other (ap (λ (n : ℕ). get_or bytes n 0) (sym at) ∙ sym (byte_there k l) ∙ ap (λ (xs : List ℕ). get_or xs k 0) e
+              absurd (h.other (ap (λ (n : ℕ). get_or bytes n 0) (sym at) ∙ sym (byte_there k l)
+              ∙ ap (λ (xs : List ℕ). get_or xs k 0) e
               ∙ byte_new k l ∙ ap (λ (n : ℕ). get_or data' n 0) new_at))
           | inr other ↦ is ∙ ap not other
         ],
@@ -171,7 +201,8 @@ module _ (bytes data' : List ℕ) (o start end first last from : ℕ) (a : first
 
 -- no position of the first of some runs is one at which the fragment differs
 pub run_passed : (s : Positions) (D : ℕ → Type 0) (r : ℕ × ℕ) (rs : List (ℕ × ℕ)) → All (IsMaximalRun s) (r ∷ rs) →
-    ((p : ℕ) → IsTrue (contains s p) → D p → count_by (lies_in p) (r ∷ rs) ≡ 1) → ((p : ℕ) → r.0 ≤ p → p < r.1 → D p → ⊥) →
+    ((p : ℕ) → IsTrue (contains s p) → D p → count_by (lies_in p) (r ∷ rs) ≡ 1) →
+    ((p : ℕ) → r.0 ≤ p → p < r.1 → D p → ⊥) →
     All (IsMaximalRun s) rs × ((p : ℕ) → IsTrue (contains s p) → D p → count_by (lies_in p) rs ≡ 1)
 run_passed s D r rs all once passed = (
   All-tail (IsMaximalRun s) r rs all,
@@ -194,7 +225,8 @@ LengthStays = (xs ws : List ℕ) (i : ℕ) → length (overwrite xs i ws) ≡ le
 abbrev ElementsAre : Type 0
 ElementsAre = (xs ws : List ℕ) (i k x : ℕ) → OverwritesAt xs i ws k x
 
-pub byte_after : LengthStays → ElementsAre → (b : FragmentsState) (fs : List (ℕ × List ℕ)) (p d : ℕ) → p < length b.bytes →
+pub byte_after : LengthStays → ElementsAre → (b : FragmentsState) (fs : List (ℕ × List ℕ)) (p d : ℕ) →
+    p < length b.bytes →
     get_or (after_fragments b fs).bytes p d ≡ last_byte p (get_or b.bytes p d) fs
 byte_after long at b [] p d h = refl
 byte_after long at b (f ∷ fs) p d h =
@@ -202,13 +234,15 @@ byte_after long at b (f ∷ fs) p d h =
     byte_after long at (with_fragment b f.0 f.1) fs p d (omega (arith, h, long b.bytes f.1 f.0))
     ∙ ap (λ (x : ℕ). last_byte p x fs)
     (at b.bytes f.1 f.0 p d h
-    ∙ pick_inside f.0 p (length f.1) (get_or f.1 (p - f.0) d) (get_or f.1 (p - f.0) was) was (λ l m. get_or_default f.1 (p - f.0) d was (omega arith)))
+    ∙ pick_inside f.0 p (length f.1) (get_or f.1 (p - f.0) d) (get_or f.1 (p - f.0) was) was
+    (λ l m. get_or_default f.1 (p - f.0) d was (omega arith)))
 
 covered : (p : ℕ) (f : ℕ × List ℕ) → covers p f ≡ true → (f.0 ≤ p) × (p < f.0 + length f.1)
 covered p f e = (grind (arith, nat_tests), grind (arith, nat_tests))
 
--- a position that came with one of the fragments has that fragment's byte, whatever was there
-independent : MembersWithRange → (b : FragmentsState) (fs : List (ℕ × List ℕ)) (p d e : ℕ) → IsFalse (contains b.present p) →
+-- a position that is present after the fragments and wasn't before has a byte of one of them, whatever the byte was
+independent : MembersWithRange → (b : FragmentsState) (fs : List (ℕ × List ℕ)) (p d e : ℕ) →
+    IsFalse (contains b.present p) →
     IsTrue (contains (after_fragments b fs).present p) → last_byte p d fs ≡ last_byte p e fs
 independent members b [] p d e none some = absurd (both_ways (contains b.present p) none some)
 independent members b (f ∷ fs) p d e none some = elim (cases_Bool (covers p f)) [
@@ -216,30 +250,99 @@ independent members b (f ∷ fs) p d e none some = elim (cases_Bool (covers p f)
       let k = covered p f is in
       rw is (ap (λ (x : ℕ). last_byte p x fs) (get_or_default f.1 (p - f.0) d e (omega (arith, k.0, k.1))))
   | inr is ↦
-      let missing : IsFalse (contains (with_range b.present f.0 (length f.1)) p) = members b.present f.0 (length f.1) p ∙ ap₂ ◌||◌ none is in
+      let missing : IsFalse (contains (with_range b.present f.0 (length f.1)) p) =
+      members b.present f.0 (length f.1) p ∙ ap₂ ◌||◌ none is in
       rw is (independent members (with_fragment b f.0 f.1) fs p d e missing some)
 ]
 
-pub present_byte : LengthStays → ElementsAre → MembersOfNothing → MembersWithRange → (b : FragmentsState) (fs : List (ℕ × List ℕ)) (p d : ℕ) →
+pub present_byte : LengthStays → ElementsAre → MembersOfNothing → MembersWithRange →
+    (b : FragmentsState) (fs : List (ℕ × List ℕ)) (p d : ℕ) →
     b.present ≡ nothing → p < length b.bytes → IsTrue (contains (after_fragments b fs).present p) →
     get_or (after_fragments b fs).bytes p 0 ≡ last_byte p d fs
 present_byte long at empty members b fs p d new h some =
     byte_after long at b fs p 0 h ∙ independent members b fs p (get_or b.bytes p 0) d (rw new (empty p)) some
 
--- ---- what adding a fragment returns
 -- a refusal says the same whatever is left
-module _ {T U : Type 0} (n : ℕ) (b : FragmentsState) (o : ℕ) (xs : List ℕ) (last : Bool) (f : FragmentError) (r : Result T FragmentError)
-    (s : Result U FragmentError) (u v : FragmentsState) (r_is : r ≡ Err f) (s_is : s ≡ Err f) where
-  to_first : (k : FragmentError) → s ≡ Err k → r ≡ Err k
-  to_first k q = let p : ◌≡◌ {A = Result U FragmentError} (Err f) (Err k) = sym s_is ∙ q in let e : f ≡ k = cc in cc
+pub refused_adds : {T : Type 0} (n : ℕ) (b : FragmentsState) (o : ℕ) (xs : List ℕ) (last : Bool) (f : FragmentError)
+    (u v : FragmentsState) →
+    Adds {T = T} n b o xs last (Err f) u → Adds {T = T} n b o xs last (Err f) v
+refused_adds n b o xs last f u v a = record {
+  ok = tt;
+  too_long = a.too_long;
+  other_size = a.other_size;
+  too_many =
+      a.too_many;
+}
 
-  to_second : (k : FragmentError) → r ≡ Err k → s ≡ Err k
-  to_second k q = let p : ◌≡◌ {A = Result T FragmentError} (Err f) (Err k) = sym r_is ∙ q in let e : f ≡ k = cc in cc
+-- ---- the first element that passes a test, and the first of the earliest, as loops find them
+module _ {X : Type 0} (p : X → Bool) where
+  -- the element at i passes, and none before it
+  pub first_found : (xs : List X) (i : ℕ) (d : X) → i < length xs → ((k : ℕ) → k < i → p (get_or xs k d) ≡ false) →
+      p (get_or xs i d) ≡ true → Some i ≡ position p xs
+  first_found xs i d within before at =
+      let is = position_or_len_is p xs i d (omega (arith, within)) before (λ _. at) in
+      let below : nat_lt i (length xs) ≡ true = grind (arith, nat_tests) in
+      sym (ap (λ (n : ℕ). cond (nat_lt n (length xs)) (Some n) None) is ∙ ap (λ (b : Bool). cond b (Some i) None) below)
 
-  pub refused_adds : Adds n b o xs last r u → Adds n b o xs last s v
-  refused_adds a = record {
-    ok = subst (λ (t : Result U FragmentError). OnOk t (v ≡ with_piece b o xs last)) (sym s_is) tt;
-    too_long = (λ q. a.too_long.0 (to_first _ q), λ h. to_second _ (a.too_long.1 h));
-    other_size = (λ q. a.other_size.0 (to_first _ q), λ h. to_second _ (a.other_size.1 h));
-    too_many = (λ q. a.too_many.0 (to_first _ q), λ h. to_second _ (a.too_many.1 h));
-  }
+  -- none passes
+  pub none_found : (xs : List X) → ((k : ℕ) (d : X) → k < length xs → p (get_or xs k d) ≡ false) → None ≡ position p xs
+  none_found [] before = refl
+  none_found (x ∷ xs) before =
+      let n = length (x ∷ xs) in
+      let is = position_or_len_is p (x ∷ xs) n x (omega arith) (λ k l. before k x l) (λ l. absurd (omega (arith, l))) in
+      let past : nat_lt n n ≡ false = grind (arith, nat_tests) in
+      sym (ap (λ (k : ℕ). cond (nat_lt k n) (Some k) None) is ∙ ap (λ (b : Bool). cond b (Some n) None) past)
+
+module _ {X : Type 0} (f : X → ℤ) (xs : List X) where
+  -- of the first n elements none is earlier than the one at i, and those before that are later
+  pub record EarliestBelow (n i : ℕ) : Type 0 where
+    pub within : i < n
+    pub earliest : (k : ℕ) (d : X) → k < n → f (get_or xs i d) ≤ℤ f (get_or xs k d)
+    pub first : (k : ℕ) (d : X) → k < i → f (get_or xs i d) <ℤ f (get_or xs k d)
+
+  -- the moment of an element, whatever the default is
+  moment : (k : ℕ) (d e : X) (a : ℤ) → k < length xs → a ≡ f (get_or xs k d) → a ≡ f (get_or xs k e)
+  moment k d e a l is = is ∙ ap f (get_or_default xs k d e l)
+
+  module _ (n i : ℕ) (d e : X) (a b : ℤ) (l : n < length xs) (known : EarliestBelow n i) (p : a ≡ f (get_or xs n d))
+      (q : b ≡ f (get_or xs i e)) where
+    -- the one at n is earlier than the one at i
+    pub earlier_found : is_lt (int_cmp a b) ≡ true → EarliestBelow (n + 1) n
+    earlier_found is =
+        let lower : a <ℤ b = grind (arith, ints, is) in record {
+          within = omega arith;
+          earliest = λ k z m.
+              let at = moment n d z a l p in
+              ⊎_elim
+              (λ (before : k < n). let was = known.earliest k z before in
+              omega (arith, ints, at, moment i e z b (omega (arith, l, known.within)) q, lower, was))
+              (λ (here : n ≤ k). let same : n ≡ k = omega (arith, here, m) in
+              subst (λ (j : ℕ). f (get_or xs n z) ≤ℤ f (get_or xs j z)) same (omega (arith, ints)))
+              (cases_lt k n);
+          first = λ k z m. let was = known.earliest k z m in
+              omega (arith, ints, moment n d z a l p, moment i e z b (omega (arith, l, known.within)) q, lower, was);
+        }
+
+    -- it isn't
+    pub none_earlier : is_lt (int_cmp a b) ≡ false → EarliestBelow (n + 1) i
+    none_earlier is =
+        let higher : b ≤ℤ a = grind (arith, ints, is) in record {
+          within = omega (arith, known.within);
+          earliest = λ k z m.
+              ⊎_elim
+              (λ (before : k < n). known.earliest k z before)
+              (λ (here : n ≤ k). let same : n ≡ k = omega (arith, here, m) in
+              subst (λ (j : ℕ). f (get_or xs i z) ≤ℤ f (get_or xs j z)) same
+              (omega (arith, ints, moment n d z a l p, moment i e z b (omega (arith, l, known.within)) q, higher)))
+              (cases_lt k n);
+          first = known.first;
+        }
+
+-- what closes the goals of a head's calls, of a buffer's, of slots, and of laws
+pub ruleset heads = (meets_is, refused_adds)
+
+pub ruleset buffers = (all_lent, all_written, length-replicate)
+
+pub ruleset slots = (none_found, contains-nothing)
+
+pub ruleset laws = (byte_after, present_byte)

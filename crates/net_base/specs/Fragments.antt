@@ -5,7 +5,8 @@
 --     sized b last end, with_piece b offset data' last      a fragment arrived that is the packet's last one or isn't
 --     HasOtherEnd b end last      it contradicts the packet's size
 --     Adds      what adding it returns, and leaves
---     begun b e      an empty buffer with the bytes of b, which expires after e
+--     TakesSize capacity s total size r      what setting a size returns
+--     empty bytes e, begun b e      an empty buffer with these bytes, or with those of b, which expires after e
 --     IsBelow s n      a set has no position from n on
 --     Contradicts s total n      the packet can't have n bytes
 --     Meets s o n      a set has one of the n positions from o on
@@ -22,13 +23,14 @@
 --     is_for eq key own      whether a slot with this key is for the packet of `key`
 --     IsSlotFor eq own expires key xs at      where the slot for the packet of `key` is
 --     key_for, buffer_for      its key and its buffer, begun for that packet if it wasn't
+--     refusal_of e, answer_of at s      a buffer's refusal and answer, as those of its table
 --     Accepts      what a slot's call of `accept` returns, and leaves
 --     ExpiresFirst expires xs at      where the first of those is that expire earliest
 --     is_in_writes p writes, newest_element writes p x      what the writes have at a position
 --     Reassembles writes buffer present      a buffer and a set of positions are what the writes make
 use Rattle.std.specs.Prelude.{◌≡◌, ◌≢◌, ◌+◌, ◌-◌, ◌<◌, ◌≤◌, ℕ, ℤ, List, Option, length, slice_index_or, unwrap_or}
 use Rattle.std.specs.Prelude.{◌⊎◌, IsTrue, IsFalse, Bool, if◌then◌else◌, refl, ◌&&◌, ◌||◌, false, [], ◌∷◌, nat_eq}
-use Rattle.std.specs.Prelude.{nat_lt, nat_le, ◌↔◌, ◌<ℤ◌, ◌≤ℤ◌, is_none, Result, Err, OnOk}
+use Rattle.std.specs.Prelude.{nat_lt, nat_le, ◌↔◌, ◌<ℤ◌, ◌≤ℤ◌, is_none, Result, Ok, Err, OnOk, IsErr}
 use Rattle.std.specs.Coded.{Coded, code_by, coded×, coded_ℕ, coded_ℤ, coded_list, coded_option}
 use Rattle.std.specs.declared.option.Option.TheVariants.{Some, None}
 use Rattle.net_ring.specs.Overwrite.{overwrite}
@@ -72,9 +74,13 @@ with_fragment b offset data' = record b {
   present = with_range b.present offset (length data');
 }
 
+-- an empty buffer of these bytes, which expires after e
+abbrev pub empty : List ℕ → ℤ → FragmentsState
+empty bytes e = record { bytes = bytes; present = nothing; total = None; expires_at = e }
+
 -- a buffer that was begun again, with nothing in it
 abbrev pub begun : FragmentsState → ℤ → FragmentsState
-begun b e = record { bytes = b.bytes; present = nothing; total = None; expires_at = e }
+begun b e = empty b.bytes e
 
 -- the packet has n bytes, and each of them arrived
 abbrev pub IsComplete : FragmentsState → ℕ → Type 0
@@ -111,6 +117,13 @@ pub record Adds {T : Type 0} (most_runs : ℕ) (b : FragmentsState) (offset : �
   pub too_many : (r ≡ Err refused.TooManyHoles) ↔ ((offset + length data' ≤ length b.bytes)
       × (HasOtherEnd b (offset + length data') last → ⊥) × MakesTooManyRuns most_runs b.present offset (length data'))
 
+-- a size is taken, or refused for one of two reasons
+pub record TakesSize {T : Type 0} (capacity : ℕ) (s : Positions) (total : Option ℕ) (size : ℕ)
+    (r : Result T FragmentError) : Type 0 where
+  pub too_long : (r ≡ Err refused.TooLong) ↔ (capacity < size)
+  pub other_size : (r ≡ Err refused.OtherSize) ↔ ((size ≤ capacity) × Contradicts s total size)
+  pub refuses : IsErr r ↔ ((capacity < size) ⊎ Contradicts s total size)
+
 -- one of the n positions from o on is in the set
 abbrev pub Meets : Positions → ℕ → ℕ → Type 0
 Meets s o n = (p : ℕ) × (o ≤ p) × (p < o + n) × IsTrue (contains s p)
@@ -143,9 +156,10 @@ abbrev pub IsPlausible : ℕ → ℕ → FragmentsHead → Type 0
 IsPlausible c n h = (h.present.used ≤ n) × ((h.has_total ≡ 0) ⊎ (h.total ≤ c))
 
 -- the runs are sound, and end at the limit or below, which is within the bytes
-abbrev pub HasSoundParts : FragmentsHead → List ℕ → List (ℕ × ℕ) → Type 0
-HasSoundParts h bytes runs = let b = fragments_of h bytes runs in
-    HasSoundRuns h.present runs × (limit_of b ≤ length bytes) × IsBelow b.present (limit_of b)
+pub record HasSoundParts (h : FragmentsHead) (bytes : List ℕ) (runs : List (ℕ × ℕ)) : Type 0 where
+  pub runs_sound : HasSoundRuns h.present runs
+  pub room : unwrap_or (total_of h) (length bytes) ≤ length bytes
+  pub below : IsBelow (set_of h.present runs) (unwrap_or (total_of h) (length bytes))
 
 -- where no run is used, both numbers of `present` are 0; `has_total` is 0 or 1, and `total` is 0 where
 -- it is 0: two exact heads of one buffer that have the same runs are equal
@@ -203,18 +217,23 @@ key_for eq key own = if is_for eq key own then own else Some key
 abbrev pub buffer_for : {K : Type 0} → (K → K → Bool) → K → ℤ → Option K → FragmentsState → FragmentsState
 buffer_for eq key e own b = if is_for eq key own then b else begun b e
 
--- b is the buffer as it is for the packet: the fragment is kept, or it is refused for one reason
-pub record Accepts {T : Type 0} (most_runs : ℕ) (b : FragmentsState) (offset : ℕ) (data' : List ℕ) (last : Bool)
-    (r : Result T AcceptError) (u : FragmentsState) : Type 0 where
-  pub ok : OnOk r (u ≡ with_piece b offset data' last)
+-- a buffer's refusal, as a table's
+abbrev pub refusal_of : FragmentError → AcceptError
+refusal_of refused.TooLong = accept.TooLong
+refusal_of refused.TooManyHoles = accept.TooManyHoles
+refusal_of refused.OtherSize = accept.OtherSize
+
+-- a buffer's answer, as that of the table whose slot `at` has the buffer
+abbrev pub answer_of : ℕ → Result (Unit {0}) FragmentError → Result ℕ AcceptError
+answer_of at (Ok kept) = Ok at
+answer_of at (Err e) = Err (refusal_of e)
+
+-- b is the buffer as it is for the packet: a byte that arrived differs, or the answer is the buffer's
+pub record Accepts (most_runs : ℕ) (b : FragmentsState) (offset : ℕ) (data' : List ℕ) (last : Bool) (at : ℕ)
+    (r : Result ℕ AcceptError) (u : FragmentsState) : Type 0 where
   pub other_bytes : (r ≡ Err accept.OtherBytes) ↔ Differs b offset data'
-  pub too_long : (r ≡ Err accept.TooLong) ↔
-      ((Differs b offset data' → ⊥) × (length b.bytes < offset + length data'))
-  pub other_size : (r ≡ Err accept.OtherSize) ↔
-      ((Differs b offset data' → ⊥) × (offset + length data' ≤ length b.bytes) × HasOtherEnd b (offset + length data') last)
-  pub too_many : (r ≡ Err accept.TooManyHoles) ↔
-      ((Differs b offset data' → ⊥) × (offset + length data' ≤ length b.bytes)
-      × (HasOtherEnd b (offset + length data') last → ⊥) × MakesTooManyRuns most_runs b.present offset (length data'))
+  pub adds : (Differs b offset data' → ⊥) →
+      (s : Result (Unit {0}) FragmentError) × (r ≡ answer_of at s) × Adds most_runs b offset data' last s u
 
 -- ---- a buffer over which lists are written at offsets, and the set of the positions that were written
 module _ {X : Type 0} where

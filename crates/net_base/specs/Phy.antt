@@ -6,11 +6,9 @@
 --     HasIpMtu c, ip_mtu_of c      there is a longest IP packet, and its size
 --     FitsIpHeader c n, fragment_size_of c n      there is a longest payload of a fragment, and its size
 --     no_segmentation, default_capabilities, no_metadata      values that contracts name
---     metadata_hash m      what a hasher is fed
---     Echoes      what happens at a device that sends back a frame
 --     LoopbackState, frames_of buffers      a medium and the frames that wait, and the bytes of each buffer
 --     loopback_capabilities medium      what the device can do
-use Rattle.std.specs.Prelude.{Bool, true, false, ℕ, ◌-◌, ◌%◌, ◌≤◌, List, ◌++◌, map, Vec, None}
+use Rattle.std.specs.Prelude.{Bool, true, false, ℕ, ◌-◌, ◌%◌, ◌≤◌, List, map, Vec, None}
 use Rattle.net_base.specs.declared.phy.Checksum.{Checksum}
 use Rattle.net_base.specs.declared.phy.Checksum.TheVariants.{Both, Rx, Tx}
 use Rattle.net_base.specs.declared.phy.Checksum.TheVariants as checksum
@@ -20,7 +18,6 @@ use Rattle.net_base.specs.declared.phy.Medium.TheVariants.{Ethernet, Ip}
 use Rattle.net_base.specs.declared.phy.SegmentationCapabilities.{SegmentationCapabilities}
 use Rattle.net_base.specs.declared.phy.DeviceCapabilities.{DeviceCapabilities}
 use Rattle.net_base.specs.declared.phy.PacketMeta.{PacketMeta}
-use Rattle.std.specs.Hash as fed
 
 -- ---- checksums
 -- whether checksums are verified when receiving
@@ -79,20 +76,19 @@ no_segmentation = record { tcpv4 = None; tcpv6 = None }
 -- a device of which nothing is known
 abbrev pub default_capabilities : DeviceCapabilities
 default_capabilities =
-    record { medium = Ethernet; max_transmission_unit = 0; max_burst_size = None; checksum = all_checksums; segmentation = no_segmentation }
+    record {
+      medium = Ethernet;
+      max_transmission_unit = 0;
+      max_burst_size = None;
+      checksum =
+          all_checksums;
+      segmentation = no_segmentation;
+    }
 
 -- ---- frames
--- one frame was taken off the device, and then that very frame was sent
-abbrev pub Echoes : {D : Type 0} → (D → List ℕ → D → Type 0) → (D → List ℕ → D → Type 0) → D → D → Type 0
-Echoes {D} taken sent old new = (frame : List ℕ) × (between : D) × taken old frame between × sent between frame new
-
 -- the default metadata of a packet
 abbrev pub no_metadata : PacketMeta
 no_metadata = record { id = 0; segmentation_offload_size = None }
-
--- the input of a hasher: the identifier, and then the segment size, if there is one
-abbrev pub metadata_hash : PacketMeta → fed.HashWrites
-metadata_hash m = fed.u32 m.id ++ fed.option fed.u16 m.segmentation_offload_size
 
 -- ---- the loopback device
 -- the medium, and the frames that wait, the next first
@@ -107,4 +103,11 @@ frames_of {A} buffers = map (λ (b : Vec ℕ A). b.items) buffers
 -- frames of 65535 bytes, no checksums, no limit on bursts and no segmentation
 abbrev pub loopback_capabilities : Medium → DeviceCapabilities
 loopback_capabilities m =
-    record { medium = m; max_transmission_unit = 65535; max_burst_size = None; checksum = no_checksums; segmentation = no_segmentation }
+    record {
+      medium = m;
+      max_transmission_unit = 65535;
+      max_burst_size = None;
+      checksum =
+          no_checksums;
+      segmentation = no_segmentation;
+    }

@@ -21,18 +21,20 @@ iterate-add : {A : Type 0} (h : A → A) (n m : ℕ) (x : A) → iterate h (n + 
 iterate-add h zero m x = rw zero-add
 iterate-add h (suc n) m x = rw suc-add (iterate-add h n m (h x))
 
--- how far eight times SRTT is from the eight numbers that stand for r
+-- how far eight times SRTT is from the eight numbers whose eighth is r
 abbrev off : ℕ → ℕ → ℕ
 off r s = (8 * r - s) + (s - (8 * r + 7))
 
-settle_srtt : (fuel : ℕ) (e : Estimate) (r : ℕ) → off r e.srtt_8 ≤ fuel → (n : ℕ) × ((iterate (λ e. next_estimate e r) n e).srtt_8 / 8 ≡ r)
+settle_srtt : (fuel : ℕ) (e : Estimate) (r : ℕ) → off r e.srtt_8 ≤ fuel →
+    (n : ℕ) × ((iterate (λ e. next_estimate e r) n e).srtt_8 / 8 ≡ r)
 settle_srtt zero e r h = (0, omega arith)
 settle_srtt (suc k) e r h = elim (cases_lt 0 (off r e.srtt_8)) [
   | inl some ↦ let more = settle_srtt k (next_estimate e r) r (omega arith) in (suc more.0, more.1)
   | inr none ↦ (0, omega arith)
 ]
 
-settle_rttvar : (fuel : ℕ) (e : Estimate) (r : ℕ) → e.srtt_8 / 8 ≡ r → e.rttvar_4 ≤ fuel → (n : ℕ) × IsSettled r (iterate (λ e. next_estimate e r) n e)
+settle_rttvar : (fuel : ℕ) (e : Estimate) (r : ℕ) → e.srtt_8 / 8 ≡ r → e.rttvar_4 ≤ fuel →
+    (n : ℕ) × IsSettled r (iterate (λ e. next_estimate e r) n e)
 settle_rttvar zero e r is h = (0, (is, omega arith))
 settle_rttvar (suc k) e r is h = elim (cases_lt e.rttvar_4 4) [
   | inl low ↦ (0, (is, low))
@@ -43,7 +45,8 @@ stays_settled : (m : ℕ) (e : Estimate) (r : ℕ) → IsSettled r e → IsSettl
 stays_settled zero e r is = is
 stays_settled (suc m) e r is = stays_settled m (next_estimate e r) r (omega arith, omega arith)
 
-pub equal_samples_settle : (e : Estimate) (r : ℕ) → (n : ℕ) × ((m : ℕ) → n ≤ m → IsSettled r (iterate (λ e. next_estimate e r) m e))
+pub equal_samples_settle : (e : Estimate) (r : ℕ) → (n : ℕ)
+    × ((m : ℕ) → n ≤ m → IsSettled r (iterate (λ e. next_estimate e r) m e))
 equal_samples_settle e r =
     let f : Estimate → Estimate = λ e. next_estimate e r in
     let one = settle_srtt (off r e.srtt_8) e r (omega arith) in
@@ -57,7 +60,8 @@ equal_samples_settle e r =
           (subst (IsSettled r) (sym (iterate-add f one.0 two.0 e)) two.1))),
     )
 
-pub doubles_to_the_most : (b : TimeoutBounds) (k t : ℕ) → b.least ≤ t → t ≤ b.most → iterate (doubled b) k t ≡ min b.most (t * 2 ^ k)
+pub doubles_to_the_most : (b : TimeoutBounds) (k t : ℕ) → b.least ≤ t → t ≤ b.most →
+    iterate (doubled b) k t ≡ min b.most (t * 2 ^ k)
 doubles_to_the_most b zero t low high = omega arith
 doubles_to_the_most b (suc k) t low high =
     let power : 2 ^ suc k ≡ 2 ^ k * 2 = pow-suc 2 k in
@@ -66,9 +70,11 @@ doubles_to_the_most b (suc k) t low high =
     let later = doubles_to_the_most b k (doubled b t) (omega arith) (omega arith) in
     let some = pow_pos k in
     later ∙ elim (cases_lt (2 * t) b.most) [
-      | inl below ↦ let e : doubled b t ≡ t * 2 = omega arith in ap (λ n. min b.most (n * 2 ^ k)) e ∙ ap (λ n. min b.most n) (sym whole)
+      | inl below ↦ let e : doubled b t ≡ t * 2 = omega arith in ap (λ n. min b.most (n * 2 ^ k)) e
+          ∙ ap (λ n. min b.most n) (sym whole)
       | inr above ↦ let e : doubled b t ≡ b.most = omega arith in
-          let full : min b.most (doubled b t * 2 ^ k) ≡ min b.most (b.most * 2 ^ k) = ap (λ n. min b.most (n * 2 ^ k)) e in
+          let full : min b.most (doubled b t * 2 ^ k) ≡ min b.most (b.most * 2 ^ k) =
+          ap (λ n. min b.most (n * 2 ^ k)) e in
           let long = mul-le b.most 1 b.most (2 ^ k) (omega arith) (omega arith) in
           let longer = mul-le b.most 1 (t * 2) (2 ^ k) (omega arith) (omega arith) in
           omega (arith, full, whole, long, longer)
@@ -95,7 +101,8 @@ all_stay : (b : TimeoutBounds) (c : Connection) (es : List Event) → IsKept c �
 all_stay b c [] is = is
 all_stay b c (e ∷ es) is = all_stay b (after_event b c e) es (stays b c e is)
 
-pub timed_is_sent_once : (b : TimeoutBounds) (t first : ℕ) (es : List Event) → let c = after_events b (opened t first) es in
+pub timed_is_sent_once : (b : TimeoutBounds) (t first : ℕ) (es : List Event) →
+    let c = after_events b (opened t first) es in
     (s : TimedSegment) → c.timer.timed ≡ Some s → sends_over s.pos c.log ≡ (s.pos, s.since) ∷ []
 timed_is_sent_once b t first es = (all_stay b (opened t first) es (begins t first)).once
 
@@ -113,9 +120,11 @@ runs_on b c Stops free is = absurd free
 
 all_run : (b : TimeoutBounds) (c : Connection) (es : List Event) → All IsNoStop es → Runs c → Runs (after_events b c es)
 all_run b c [] free is = is
-all_run b c (e ∷ es) free is = all_run b (after_event b c e) es (All-tail IsNoStop e es free) (runs_on b c e (All-head IsNoStop e es free) is)
+all_run b c (e ∷ es) free is = all_run b (after_event b c e) es (All-tail IsNoStop e es free)
+    (runs_on b c e (All-head IsNoStop e es free) is)
 
-pub runs_while_unacknowledged : (b : TimeoutBounds) (t first : ℕ) (es : List Event) → All IsNoStop es → Runs (after_events b (opened t first) es)
+pub runs_while_unacknowledged : (b : TimeoutBounds) (t first : ℕ) (es : List Event) → All IsNoStop es →
+    Runs (after_events b (opened t first) es)
 runs_while_unacknowledged b t first es free = all_run b (opened t first) es free (search rules)
 
 -- one that isn't started rests
@@ -130,14 +139,18 @@ rests_on b c (Looks now) free is = search rules
 rests_on b c (Starts now) free is = absurd free
 rests_on b c Stops free is = search rules
 
-all_rest : (b : TimeoutBounds) (c : Connection) (es : List Event) → All IsNoStart es → Rests c → Rests (after_events b c es)
+all_rest : (b : TimeoutBounds) (c : Connection) (es : List Event) → All IsNoStart es → Rests c →
+    Rests (after_events b c es)
 all_rest b c [] free is = is
-all_rest b c (e ∷ es) free is = all_rest b (after_event b c e) es (All-tail IsNoStart e es free) (rests_on b c e (All-head IsNoStart e es free) is)
+all_rest b c (e ∷ es) free is = all_rest b (after_event b c e) es (All-tail IsNoStart e es free)
+    (rests_on b c e (All-head IsNoStart e es free) is)
 
-pub rests_unless_started : (b : TimeoutBounds) (t first : ℕ) (es : List Event) → All IsNoStart es → Rests (after_events b (opened t first) es)
+pub rests_unless_started : (b : TimeoutBounds) (t first : ℕ) (es : List Event) → All IsNoStart es →
+    Rests (after_events b (opened t first) es)
 rests_unless_started b t first es free = all_rest b (opened t first) es free (search rules)
 
-pub runs_to_an_end : (b : TimeoutBounds) (c : Connection) (e : Event) → IsTrue (runs c) → IsFalse (runs (after_event b c e)) → IsEnd c e
+pub runs_to_an_end : (b : TimeoutBounds) (c : Connection) (e : Event) → IsTrue (runs c) →
+    IsFalse (runs (after_event b c e)) → IsEnd c e
 runs_to_an_end b c (Sends pos end now) on free = search rules
 runs_to_an_end b c (Acknowledges next now) on free = search rules
 runs_to_an_end b c (Reports now) on free = search rules
@@ -153,3 +166,14 @@ expiry_moves_by b c (Reports now) on = search rules
 expiry_moves_by b c (Looks now) on = search rules
 expiry_moves_by b c (Starts now) on = search rules
 expiry_moves_by b c Stops on = inr tt
+
+-- what closes the goals of laws
+pub ruleset timeouts = (equal_samples_settle, doubles_to_the_most)
+
+pub ruleset timers = (
+  timed_is_sent_once,
+  runs_while_unacknowledged,
+  rests_unless_started,
+  runs_to_an_end,
+  expiry_moves_by,
+)

@@ -66,11 +66,13 @@ carried_is a (x ∷ y ∷ xs) h bytes =
     let low : y < 256 = bytes 1 0 (omega arith) in
     let sum = add_words-is a (x * 256 + y) h (omega arith) in
     let e : (a + (x * 256 + y)) + word_sum xs ≡ a + (x * 256 + y + word_sum xs) = omega arith in
-    carried_is (add_words a (x * 256 + y)) xs (omega (arith, sum, folded_le (a + (x * 256 + y)))) (λ k d l. bytes (suc (suc k)) d (omega arith))
+    carried_is (add_words a (x * 256 + y)) xs (omega (arith, sum, folded_le (a + (x * 256 + y))))
+    (λ k d l. bytes (suc (suc k)) d (omega arith))
     ∙ ap (λ s. folded (s + word_sum xs)) sum ∙ folded_first (a + (x * 256 + y)) (word_sum xs) ∙ ap folded e
 
 pub is_carried : (xs : List ℕ) → All (λ x. x < 256) xs → carried_sum 0 xs ≡ folded (word_sum xs)
-is_carried xs bytes = let e : 0 + word_sum xs ≡ word_sum xs = omega arith in carried_is 0 xs (omega arith) bytes ∙ ap folded e
+is_carried xs bytes = let e : 0 + word_sum xs ≡ word_sum xs = omega arith in carried_is 0 xs (omega arith) bytes
+    ∙ ap folded e
 
 -- ---- parts
 pub groups_add : (xs ys : List ℕ) → IsEven xs → word_sum (xs ++ ys) ≡ word_sum xs + word_sum ys
@@ -79,13 +81,15 @@ groups_add (a ∷ []) ys h = absurd (omega arith)
 groups_add (a ∷ b ∷ xs) ys h = omega (arith, groups_add xs ys (omega arith))
 
 -- after an odd count the next byte is a low byte
-pub word_sum-append_odd : (xs : List ℕ) (b : ℕ) (ys : List ℕ) → length xs % 2 ≡ 1 → word_sum (xs ++ b ∷ ys) ≡ word_sum xs + b + word_sum ys
+pub word_sum-append_odd : (xs : List ℕ) (b : ℕ) (ys : List ℕ) → length xs % 2 ≡ 1 →
+    word_sum (xs ++ b ∷ ys) ≡ word_sum xs + b + word_sum ys
 word_sum-append_odd [] b ys h = absurd (omega arith)
 word_sum-append_odd (a ∷ []) b ys h = omega arith
 word_sum-append_odd (a ∷ c ∷ xs) b ys h = omega (arith, word_sum-append_odd xs b ys (omega arith))
 
 -- four bytes as one number, in a sum
-pub four : (x : ℕ) (s : List ℕ) → 4 ≤ length s → folded (x + from_be_bytes w32 (take 4 s) + word_sum (drop 4 s)) ≡ folded (x + word_sum s)
+pub four : (x : ℕ) (s : List ℕ) → 4 ≤ length s → folded (x + from_be_bytes w32 (take 4 s) + word_sum (drop 4 s))
+    ≡ folded (x + word_sum s)
 four x (a ∷ b ∷ c ∷ d ∷ s) l = folded_same _ _ (a * 256 + b) (omega arith) (λ z. omega arith)
 four x _ l = absurd (omega arith)
 
@@ -95,22 +99,27 @@ folded_more a b y e = sym (folded_first a y) ∙ ap (λ n. folded (n + y)) e ∙
 
 -- a turn of the loop over four bytes
 pub four_more : (s w : ℕ) (rest part after : List ℕ) → w ≡ from_be_bytes w32 part →
-    (part ≡ take 4 rest) × (after ≡ drop 4 rest) × (length after + 4 ≡ length rest) → folded (s + w + word_sum after) ≡ folded (s + word_sum rest)
+    (part ≡ take 4 rest) × (after ≡ drop 4 rest) × (length after + 4 ≡ length rest) →
+    folded (s + w + word_sum after) ≡ folded (s + word_sum rest)
 four_more s w rest part after is parts =
-    ap (λ n. folded (s + n + word_sum after)) (is ∙ ap (from_be_bytes w32) parts.0) ∙ ap (λ l. folded (s + from_be_bytes w32 (take 4 rest) + word_sum l)) parts.1
+    ap (λ n. folded (s + n + word_sum after)) (is ∙ ap (from_be_bytes w32) parts.0)
+    ∙ ap (λ l. folded (s + from_be_bytes w32 (take 4 rest) + word_sum l)) parts.1
     ∙ four s rest (omega arith)
 
 -- a turn of the loop over blocks
-pub block_more : (s w r : ℕ) (rest part after : List ℕ) → folded w ≡ folded (word_sum part) → folded r ≡ folded (s + w) →
+pub block_more : (s w r : ℕ) (rest part after : List ℕ) → folded w ≡ folded (word_sum part) →
+    folded r ≡ folded (s + w) →
     rest ≡ part ++ after → IsEven part → folded (r + word_sum after) ≡ folded (s + word_sum rest)
 block_more s w r rest part after is sum cut even =
     let all = groups_add part after even in
     let e : (s + word_sum part) + word_sum after ≡ s + word_sum rest = omega (arith, all, ap word_sum cut) in
-    folded_more r (s + word_sum part) (word_sum after) (sum ∙ sym (folds_add s w) ∙ ap (λ n. folded (s + n)) is ∙ folds_add s (word_sum part)) ∙ ap folded e
+    folded_more r (s + word_sum part) (word_sum after) (sum ∙ sym (folds_add s w) ∙ ap (λ n. folded (s + n)) is
+    ∙ folds_add s (word_sum part)) ∙ ap folded e
 
 -- ---- a field of a message
 -- a word at an even offset
-pub field_sum : (xs ys : List ℕ) (w : ℕ) → IsEven xs → word_sum (xs ++ word_bytes w ++ ys) ≡ word_sum xs + word_sum ys + w
+pub field_sum : (xs ys : List ℕ) (w : ℕ) → IsEven xs → word_sum (xs ++ word_bytes w ++ ys) ≡ word_sum xs
+    + word_sum ys + w
 field_sum xs ys w h =
     let outer = groups_add (xs ++ word_bytes w) ys (omega (arith, length-append xs (word_bytes w))) in
     let inner = groups_add xs (word_bytes w) h in
@@ -118,10 +127,12 @@ field_sum xs ys w h =
 
 -- the checksum of the rest makes the whole 65535
 sum_valid : (s : ℕ) → folded (s + (65535 - folded s)) ≡ 65535
-sum_valid s = folded_same (s + (65535 - folded s)) 65535 ((s - 1) / 65535) (omega (arith, folded_is s, folded_le s)) (λ z. absurd (omega arith))
+sum_valid s = folded_same (s + (65535 - folded s)) 65535 ((s - 1) / 65535) (omega (arith, folded_is s, folded_le s))
+    (λ z. absurd (omega arith))
 
 -- and only it, but for the other zero
-sum_only : (s c : ℕ) → c ≤ 65535 → folded (s + c) ≡ 65535 → (c ≡ 65535 - folded s) ⊎ ((c ≡ 65535) × (65535 - folded s ≡ 0))
+sum_only : (s c : ℕ) → c ≤ 65535 → folded (s + c) ≡ 65535 →
+    (c ≡ 65535 - folded s) ⊎ ((c ≡ 65535) × (65535 - folded s ≡ 0))
 sum_only s c h valid =
     let few = folded_le s in let of_sum = folded_is s in let of_all = folded_is (s + c) in
     elim (cases_lt (folded s + c) 65536) [
@@ -137,10 +148,12 @@ positive s zero n h = omega arith
 positive s (suc m) n h = omega (arith, folded_some (s + suc m) (omega arith), folded_le (s + suc m))
 
 -- an update of the sum of all
-sum_updated : (s m n : ℕ) → m ≤ 65535 → n ≤ 65535 → 0 < s + n → folded ((65535 - (65535 - folded (s + m))) + (65535 - m) + n) ≡ folded (s + n)
+sum_updated : (s m n : ℕ) → m ≤ 65535 → n ≤ 65535 → 0 < s + n →
+    folded ((65535 - (65535 - folded (s + m))) + (65535 - m) + n) ≡ folded (s + n)
 sum_updated s m n h l some =
     let few = folded_le (s + m) in let is = folded_is (s + m) in
-    folded_alike ((65535 - (65535 - folded (s + m))) + (65535 - m) + n) (s + n) ((s + m - 1) / 65535) 1 (positive s m n h) some (omega (arith, few, is))
+    folded_alike ((65535 - (65535 - folded (s + m))) + (65535 - m) + n) (s + n) ((s + m - 1) / 65535) 1
+    (positive s m n h) some (omega (arith, few, is))
 
 -- the same, with the checksum's own field among the words
 sum_kept : (s c m n : ℕ) → c ≤ 65535 → m ≤ 65535 → n ≤ 65535 → 0 < s + n → folded (s + c + m) ≡ 65535 →
@@ -148,7 +161,8 @@ sum_kept : (s c m n : ℕ) → c ≤ 65535 → m ≤ 65535 → n ≤ 65535 → 0
 sum_kept s c m n hc hm hn some valid =
     let t = (65535 - c) + (65535 - m) + n in
     let few = folded_le t in let is = folded_is t in let was = folded_is (s + c + m) in
-    folded_alike (s + (65535 - folded t) + n) 65535 1 ((s + c + m - 1) / 65535 + (t - 1) / 65535) (omega arith) (omega arith) (omega (arith, few, is, was, valid))
+    folded_alike (s + (65535 - folded t) + n) 65535 1 ((s + c + m - 1) / 65535 + (t - 1) / 65535) (omega arith)
+    (omega arith) (omega (arith, few, is, was, valid))
 
 -- ---- laws
 pub checksum_verifies : (xs ys : List ℕ) → IsEven xs →
@@ -161,8 +175,10 @@ checksum_verifies xs ys h =
     ∙ ap (λ n. folded (s + (65535 - folded n))) zero_field
     ∙ sum_valid s
 
-pub only_checksum : (xs ys : List ℕ) (c : ℕ) → IsEven xs → c ≤ 65535 → folded (word_sum (xs ++ word_bytes c ++ ys)) ≡ 65535 →
-    (c ≡ internet_checksum (xs ++ word_bytes 0 ++ ys)) ⊎ ((c ≡ 65535) × (internet_checksum (xs ++ word_bytes 0 ++ ys) ≡ 0))
+pub only_checksum : (xs ys : List ℕ) (c : ℕ) → IsEven xs → c ≤ 65535 →
+    folded (word_sum (xs ++ word_bytes c ++ ys)) ≡ 65535 →
+    (c ≡ internet_checksum (xs ++ word_bytes 0 ++ ys)) ⊎
+    ((c ≡ 65535) × (internet_checksum (xs ++ word_bytes 0 ++ ys) ≡ 0))
 only_checksum xs ys c h few valid =
     let plain = field_sum xs ys 0 h in
     let s = word_sum xs + word_sum ys in
@@ -170,7 +186,8 @@ only_checksum xs ys c h few valid =
     subst (λ n. (c ≡ 65535 - folded n) ⊎ ((c ≡ 65535) × (65535 - folded n ≡ 0))) zero_field
     (sum_only s c few (sym (ap folded (field_sum xs ys c h)) ∙ valid))
 
-pub update_is_checksum : (xs ys : List ℕ) (m n : ℕ) → IsEven xs → m ≤ 65535 → n ≤ 65535 → 0 < word_sum (xs ++ word_bytes n ++ ys) →
+pub update_is_checksum : (xs ys : List ℕ) (m n : ℕ) → IsEven xs → m ≤ 65535 → n ≤ 65535 →
+    0 < word_sum (xs ++ word_bytes n ++ ys) →
     updated (internet_checksum (xs ++ word_bytes m ++ ys)) m n ≡ internet_checksum (xs ++ word_bytes n ++ ys)
 update_is_checksum xs ys m n h few less some =
     let s = word_sum xs + word_sum ys in
@@ -179,13 +196,16 @@ update_is_checksum xs ys m n h few less some =
     ∙ ap (λ k. 65535 - k) (sum_updated s m n few less (omega (arith, new)) ∙ ap folded (sym new))
 
 -- two fields
-fields_sum : (xs ys zs : List ℕ) (c m : ℕ) → IsEven xs → IsEven ys → word_sum (xs ++ word_bytes c ++ ys ++ word_bytes m ++ zs) ≡ word_sum xs + word_sum ys + word_sum zs + c + m
+fields_sum : (xs ys zs : List ℕ) (c m : ℕ) → IsEven xs → IsEven ys →
+    word_sum (xs ++ word_bytes c ++ ys ++ word_bytes m ++ zs) ≡ word_sum xs + word_sum ys + word_sum zs + c + m
 fields_sum xs ys zs c m h l =
-    let before : IsEven (xs ++ word_bytes c ++ ys) = omega (arith, length-append (xs ++ word_bytes c) ys, length-append xs (word_bytes c)) in
+    let before : IsEven (xs ++ word_bytes c ++ ys) = omega
+    (arith, length-append (xs ++ word_bytes c) ys, length-append xs (word_bytes c)) in
     omega (arith, field_sum (xs ++ word_bytes c ++ ys) zs m before, field_sum xs ys c h)
 
 pub update_keeps_valid : (xs ys zs : List ℕ) (c m n : ℕ) → IsEven xs → IsEven ys → c ≤ 65535 → m ≤ 65535 → n ≤ 65535 →
-    0 < word_sum (xs ++ ys ++ word_bytes n ++ zs) → folded (word_sum (xs ++ word_bytes c ++ ys ++ word_bytes m ++ zs)) ≡ 65535 →
+    0 < word_sum (xs ++ ys ++ word_bytes n ++ zs) → folded
+    (word_sum (xs ++ word_bytes c ++ ys ++ word_bytes m ++ zs)) ≡ 65535 →
     folded (word_sum (xs ++ word_bytes (updated c m n) ++ ys ++ word_bytes n ++ zs)) ≡ 65535
 update_keeps_valid xs ys zs c m n h l hc hm hn some valid =
     let s = word_sum xs + word_sum ys + word_sum zs in
@@ -224,7 +244,8 @@ swap_is w = sym (folded_same (256 * w) (w % 256 * 256 + w / 256) (w / 256) (omeg
 -- folding before a multiplication
 times : (a : ℕ) → folded (256 * folded a) ≡ folded (256 * a)
 times zero = refl
-times (suc n) = folded_alike (256 * folded (suc n)) (256 * suc n) (256 * (n / 65535)) 0 (omega arith) (omega arith) (omega arith)
+times (suc n) = folded_alike (256 * folded (suc n)) (256 * suc n) (256 * (n / 65535)) 0 (omega arith) (omega arith)
+    (omega arith)
 
 -- ---- one part after another
 -- a folded sum is folded
@@ -262,9 +283,11 @@ low_part ys = high_then_low 0 ys ∙ omega arith
 with_is : (s : PartsSum) (xs ys : List ℕ) → Sums s xs → Sums (sum_with s ys) (xs ++ ys)
 with_is s xs ys sums =
     cond_both s.odd (0 ∷ ys) ys
-    (λ zs. (folded (s.sum + word_sum zs) ≡ folded (word_sum (xs ++ ys))) × (nat_eq (length zs % 2) 1 ≡ nat_eq (length (xs ++ ys) % 2) 1))
+    (λ zs. (folded (s.sum + word_sum zs) ≡ folded (word_sum (xs ++ ys)))
+    × (nat_eq (length zs % 2) 1 ≡ nat_eq (length (xs ++ ys) % 2) 1))
     (λ odd. (let at = odd_of s xs sums odd in (
-      ap (λ n. folded (s.sum + n)) (low_part ys) ∙ folded_more s.sum (word_sum xs) (low_sum ys) (sum_of s xs sums) ∙ ap folded (sym (after_odd xs ys at)),
+      ap (λ n. folded (s.sum + n)) (low_part ys) ∙ folded_more s.sum (word_sum xs) (low_sum ys) (sum_of s xs sums)
+          ∙ ap folded (sym (after_odd xs ys at)),
       same_parity (length (0 ∷ ys)) (length (xs ++ ys)) (omega (arith, length-append xs ys, at)),
     )))
     (λ even. (let at = even_of s xs sums even in (
@@ -278,10 +301,12 @@ with_sums s r xs ys is sums = subst (λ r. Sums r (xs ++ ys)) (sym is) (with_is 
 
 joined_is : (s t : PartsSum) (xs ys : List ℕ) → Sums s xs → Sums t ys → Sums (sum_joined s t) (xs ++ ys)
 joined_is s t xs ys sums after =
-    cond_both s.odd (record { sum = folded (s.sum + 256 * t.sum); odd = not t.odd }) (record { sum = folded (s.sum + t.sum); odd = t.odd })
+    cond_both s.odd (record { sum = folded (s.sum + 256 * t.sum); odd = not t.odd })
+    (record { sum = folded (s.sum + t.sum); odd = t.odd })
     (λ r. Sums r (xs ++ ys))
     (λ odd. (let at = odd_of s xs sums odd in (
-      folded_both (256 * t.sum) (low_sum ys) (sym (times t.sum) ∙ ap (λ n. folded (256 * n)) (sum_of t ys after) ∙ times (word_sum ys) ∙ turned ys)
+      folded_both (256 * t.sum) (low_sum ys) (sym (times t.sum) ∙ ap (λ n. folded (256 * n)) (sum_of t ys after)
+          ∙ times (word_sum ys) ∙ turned ys)
           ∙ ap folded (sym (after_odd xs ys at)),
       ap not after.1 ∙ turned_parity (length ys) (length (xs ++ ys)) (omega (arith, length-append xs ys, at)),
     )))
@@ -292,7 +317,8 @@ joined_is s t xs ys sums after =
   where
     folded_both : (a b : ℕ) → folded a ≡ folded b → folded (s.sum + a) ≡ folded (word_sum xs + b)
     folded_both a b e =
-        folded_more s.sum (word_sum xs) a (sum_of s xs sums) ∙ sym (folds_add (word_sum xs) a) ∙ ap (λ n. folded (word_sum xs + n)) e ∙ folds_add (word_sum xs) b
+        folded_more s.sum (word_sum xs) a (sum_of s xs sums) ∙ sym (folds_add (word_sum xs) a)
+        ∙ ap (λ n. folded (word_sum xs + n)) e ∙ folds_add (word_sum xs) b
 
 pub joined_sums : (s t r : PartsSum) (xs ys : List ℕ) → r ≡ sum_joined s t → Sums s xs → Sums t ys → Sums r (xs ++ ys)
 joined_sums s t r xs ys is sums after = subst (λ r. Sums r (xs ++ ys)) (sym is) (joined_is s t xs ys sums after)
@@ -325,7 +351,8 @@ pub low_first : (s r : PartsSum) (part words : List ℕ) (low : ℕ) → s.odd �
     r.sum ≡ folded (s.sum + low + word_sum words) → r.odd ≡ nat_eq (length words % 2) 1 → r ≡ sum_with s part
 low_first s r part words low odd cut sum rest =
     let all : (s.sum + low) + word_sum words ≡ s.sum + word_sum (0 ∷ low ∷ words) = omega arith in
-    let sum_is : r.sum ≡ folded (s.sum + word_sum (0 ∷ part)) = sum ∙ ap folded all ∙ ap (λ l. folded (s.sum + word_sum (0 ∷ l))) (sym cut) in
+    let sum_is : r.sum ≡ folded (s.sum + word_sum (0 ∷ part)) = sum ∙ ap folded all
+    ∙ ap (λ l. folded (s.sum + word_sum (0 ∷ l))) (sym cut) in
     let odd_is : r.odd ≡ nat_eq (length (0 ∷ part) % 2) 1 =
     rest ∙ same_parity (length words) (length (0 ∷ part)) (omega (arith, ap length cut)) in
     (λ i. record { sum = sum_is i; odd = odd_is i })
@@ -340,4 +367,15 @@ none_last s odd few =
     let same : s.sum ≡ folded (s.sum + word_sum (0 ∷ [])) =
     sym (folded_small s.sum few) ∙ ap folded (let e : s.sum ≡ s.sum + word_sum (0 ∷ []) = omega arith in e) in
     (λ i. record { sum = same i; odd = odd i })
-    ∙ (λ i. record { sum = folded (s.sum + word_sum (cond (sym odd i) (0 ∷ []) [])); odd = nat_eq (length {A = ℕ} (cond (sym odd i) (0 ∷ []) []) % 2) 1 })
+    ∙ (λ i. record {
+      sum = folded (s.sum + word_sum (cond (sym odd i) (0 ∷ []) []));
+      odd =
+          nat_eq (length {A = ℕ} (cond (sym odd i) (0 ∷ []) []) % 2) 1;
+    })
+
+-- what closes the goals of laws, and of sums in parts
+pub ruleset sums = (is_carried, groups_add)
+
+pub ruleset updates = (update_is_checksum, update_keeps_valid)
+
+pub ruleset parts = (block_more, with_sums, word_joins, low_first, none_last)

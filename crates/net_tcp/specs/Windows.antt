@@ -13,10 +13,9 @@
 --     announced next scale field      the right edge that it promises, with this first missing position
 --     IsScaleFor capacity scale      the least scale by which a capacity can be announced
 --     worth capacity mss, gain edge scale next end      how far the edge must move for an update of its own, and would
---     IsNewer w seq ack      the segment of these numbers is not older than the one that w is from
---     Replaces w seq ack      it is newer, or acknowledges more
+--     IsNotOlder w seq ack      the segment of these numbers is not older than the one that w is from
+--     Replaces w seq ack      it is not older, or acknowledges more
 --     window_from seq ack window      the window that a segment leaves
---     opened_to w edge      it reaches to the edge at least
 --     with_segment w seq ack window      the window after a segment
 --     after_update w first sent seq ack window      the window that `update` leaves
 --     acknowledgement_number w first sent      the number of a segment without positions
@@ -42,8 +41,7 @@ IsInTable next (suc w) seq (suc n) = IsWithin next (suc w) seq ⊎ IsWithin next
 abbrev pub Meets : ℕ → ℕ → ℕ → ℕ → Type 0
 Meets a m b n = (p : ℕ) × IsWithin a m p × IsWithin b n p
 
--- a segment of no positions counts as the one at which it stands, and if the window is empty it
--- must stand at next
+-- of a segment without positions its number must be within the window, or be next if the window is empty
 abbrev pub IsAcceptable : ℕ → ℕ → ℕ → ℕ → Type 0
 IsAcceptable next zero seq zero = seq ≡ next
 IsAcceptable next (suc w) seq zero = IsWithin next (suc w) seq
@@ -71,8 +69,8 @@ IsIgnored next window s =
     × (IsAcceptable next window s.seq s.len ⊎ IsProbe next window s.seq s.len))
 
 -- each of five answers exactly where its rule says
-pub record IsArrival {A : Type 0} (takes acknowledges answers resets ignores : A) (next window : ℕ) (s : Segment) (a : A)
-    : Type 0 where
+pub record IsArrival {A : Type 0} (takes acknowledges answers resets ignores : A) (next window : ℕ) (s : Segment)
+    (a : A) : Type 0 where
   pub take : (a ≡ takes) ↔ (IsFalse s.rst × IsFalse s.syn × IsTrue s.ack × IsAcceptable next window s.seq s.len)
   pub only : (a ≡ acknowledges) ↔ (IsFalse s.rst × IsFalse s.syn × IsTrue s.ack × IsProbe next window s.seq s.len)
   pub answer : (a ≡ answers) ↔ IsAnswered next window s
@@ -104,33 +102,31 @@ gain edge scale next window_end = announced next scale (field_for scale (window_
 
 -- ---- the window that the peer announced
 -- the RFC's SND.WL1 is w.seq, and its SND.WL2 is w.ack
-abbrev pub IsNewer : PeerWindow → ℕ → ℕ → Type 0
-IsNewer w seq ack = (w.seq < seq) ⊎ ((w.seq ≡ seq) × (w.ack ≤ ack))
+abbrev pub IsNotOlder : PeerWindow → ℕ → ℕ → Type 0
+IsNotOlder w seq ack = (w.seq < seq) ⊎ ((w.seq ≡ seq) × (w.ack ≤ ack))
 
-abbrev pub is_newer : PeerWindow → ℕ → ℕ → Bool
-is_newer w seq ack = nat_lt w.seq seq || ((w.seq == seq) && nat_le w.ack ack)
+abbrev pub is_not_older : PeerWindow → ℕ → ℕ → Bool
+is_not_older w seq ack = nat_lt w.seq seq || ((w.seq == seq) && nat_le w.ack ack)
 
--- a segment that acknowledges more was sent later, whatever its number is. The RFC has only IsNewer, by
+-- a segment that acknowledges more was sent later, whatever its number is. The RFC has only IsNotOlder, by
 -- which one forged segment ahead of all others shuts out each later one
 abbrev pub Replaces : PeerWindow → ℕ → ℕ → Type 0
-Replaces w seq ack = (w.ack < ack) ⊎ IsNewer w seq ack
+Replaces w seq ack = (w.ack < ack) ⊎ IsNotOlder w seq ack
 
 abbrev pub replaces : PeerWindow → ℕ → ℕ → Bool
-replaces w seq ack = nat_lt w.ack ack || is_newer w seq ack
+replaces w seq ack = nat_lt w.ack ack || is_not_older w seq ack
 
 -- its edge is a position, so it is at most the last one
 abbrev pub window_from : ℕ → ℕ → ℕ → PeerWindow
 window_from seq ack window = record { edge = min (ack + window) (2 ^ 64 - 1); seq = seq; ack = ack }
-
-abbrev pub opened_to : PeerWindow → ℕ → PeerWindow
-opened_to w edge = record w { edge = max w.edge edge }
 
 abbrev pub with_segment : PeerWindow → ℕ → ℕ → ℕ → PeerWindow
 with_segment w seq ack window = if replaces w seq ack then window_from seq ack window else w
 
 -- the window after `update`: as it was, if what the segment acknowledges is below first or above sent
 abbrev pub after_update : PeerWindow → ℕ → ℕ → ℕ → ℕ → ℕ → PeerWindow
-after_update w first sent seq ack window = if nat_le first ack && nat_le ack sent then with_segment w seq ack window else w
+after_update w first sent seq ack window = if nat_le first ack && nat_le ack sent then with_segment w seq ack window
+    else w
 
 -- what was sent, but not beyond the window, nor below first
 abbrev pub acknowledgement_number : PeerWindow → ℕ → ℕ → ℕ

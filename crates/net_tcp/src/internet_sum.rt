@@ -1,4 +1,6 @@
 //! The Internet checksum (RFC 1071), over one part or several, and its update (RFC 1624).
+#![tactic(auto, using(crate::proofs::WordSums::parts))]
+
 ghost use Rattle.std.specs.Prelude.{◌≡◌, ◌↔◌, ℕ, ◌+◌, ◌-◌, ◌*◌, ◌%◌, ◌<◌, ◌≤◌, List, [], ◌++◌, ◌/◌, IsTrue, IsFalse};
 ghost use Rattle.std.specs.Prelude.{◌⊎◌, length, nat_eq, if◌then◌else◌};
 ghost use Rattle.net_tcp.specs.InternetChecksum.{folded, word_sum, internet_checksum, updated, Sums, is_odd};

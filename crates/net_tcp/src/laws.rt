@@ -22,7 +22,7 @@ use crate::retransmission_timer::RetransmissionTimer;
 
 /// States what the folded sum is: that of RFC 1071, which adds each carry at the low end; and that
 /// neither cuts at even offsets nor where a part is folded changes it.
-#[tactic(auto, using(crate::proofs::WordSums::is_carried, crate::proofs::WordSums::groups_add))]
+#[tactic(auto, using(crate::proofs::WordSums::sums))]
 pub fn sums()
     ensures carried { (xs : List ℕ) → All (λ x. x < 256) xs → carried_sum 0 xs ≡ folded (word_sum xs) }
     ensures groups { (xs ys : List ℕ) → IsEven xs → word_sum (xs ++ ys) ≡ word_sum xs + word_sum ys }
@@ -43,7 +43,7 @@ pub fn verification()
 
 /// States what an update gives, unless the message is all zeros then: from the checksum of the message
 /// before, the checksum of the message; and a message that was valid stays so.
-#[tactic(auto, using(crate::proofs::WordSums::update_is_checksum, crate::proofs::WordSums::update_keeps_valid))]
+#[tactic(auto, using(crate::proofs::WordSums::updates))]
 pub fn updates()
     ensures checksum { (xs ys : List ℕ) (m n : ℕ) → IsEven xs → m ≤ 65535 → n ≤ 65535 →
         0 < word_sum (xs ++ word_bytes n ++ ys) →
@@ -70,7 +70,7 @@ pub fn acceptable_segments()
 /// left, an update is worth a segment. A promise is kept whole if there is room for it, and its rest is
 /// a multiple of the unit that a number can say; `not_each` shows that not every promise can be: 100
 /// positions were promised in units of 4, and one byte came.
-#[tactic(auto, using(crate::proofs::WindowFacts::scale_opens, crate::proofs::WindowFacts::reopens))]
+#[tactic(auto, using(crate::proofs::WindowFacts::announced_windows))]
 pub fn announced_windows()
     ensures opens { (capacity scale : ℕ) → IsScaleFor capacity scale → 0 < capacity →
         0 < field_for scale capacity }
@@ -88,7 +88,7 @@ pub fn announced_windows()
 /// acknowledged, in either order of arrival; that in whatever order and however often its segments come,
 /// the window is that of the last one that it sent; that after any list of segments, forged ones too,
 /// one that acknowledges something new is taken; and that no segment is older than a window of zeros.
-#[tactic(auto, using(crate::proofs::WindowFacts::latest, crate::proofs::WindowFacts::taken))]
+#[tactic(auto, using(crate::proofs::WindowFacts::peer_windows))]
 pub fn peer_windows()
     ensures calls { (h : Heard) (s : Announcement) →
         updated (acknowledged h s) s ≡ acknowledged (updated h s) s }
@@ -145,7 +145,7 @@ fn is_small(estimate: Option<RttEstimate>)
 /// and (3 / 4) * RTTVAR + |SRTT - R| / 4, but for less than the eighth or quarter of a microsecond that is
 /// rounded; equal samples settle it; and a timeout within its bounds that passes k times becomes 2^k times as
 /// long, up to the greatest.
-#[tactic(auto, using(crate::proofs::Timers::equal_samples_settle, crate::proofs::Timers::doubles_to_the_most))]
+#[tactic(auto, using(crate::proofs::Timers::timeouts))]
 pub fn timeouts()
     ensures formulas { (e : Estimate) (r : ℕ) → let n = next_estimate e r in
         (7 * e.srtt_8 + 8 * r ≤ 8 * n.srtt_8) × (8 * n.srtt_8 < 7 * e.srtt_8 + 8 * r + 8)
@@ -163,7 +163,7 @@ pub fn timeouts()
 /// then. A timer that runs, whatever started it, runs until it is stopped, or until all that was sent is
 /// acknowledged, if some of it wasn't before; and only an expiry, and what acknowledges something
 /// new, moves the moment at which it expires.
-#[tactic(auto, using(crate::proofs::Timers::timed_is_sent_once, crate::proofs::Timers::runs_while_unacknowledged, crate::proofs::Timers::rests_unless_started, crate::proofs::Timers::runs_to_an_end, crate::proofs::Timers::expiry_moves_by))]
+#[tactic(auto, using(crate::proofs::Timers::timers))]
 pub fn timers()
     ensures once { (b : TimeoutBounds) (t first : ℕ) (es : List Event) →
         let c = after_events b (opened t first) es in

@@ -1,7 +1,7 @@
 //! The window that the peer announced.
 ghost use Rattle.std.specs.Prelude.{◌≡◌, ◌↔◌, ◌-◌, ◌*◌, ◌^◌, ◌<◌, ◌≤◌, IsTrue, IsFalse, min, max};
 ghost use Rattle.net_tcp.specs.Windows.{shift_count, Replaces, replaces, window_from, after_update};
-ghost use Rattle.net_tcp.specs.Windows.{acknowledgement_number, no_window, opened_to};
+ghost use Rattle.net_tcp.specs.Windows.{acknowledgement_number, no_window};
 
 use crate::advertised_window::MAX_SCALE;
 use net_numbers::SentNumbers;
@@ -35,6 +35,7 @@ pub struct PeerWindow {
 /// Returns how many bytes the field of a segment announces. A scale above 14 counts as 14, as RFC 7323,
 /// section 2.3, has it.
 #[must_use]
+#[tactic(auto, using(crate::proofs::WindowFacts::scaled_few))]
 pub fn scaled(field: u16, scale: u8) -> u64
     // Guarantee.
     ensures value { result ≡ field * 2 ^ shift_count scale }
@@ -80,7 +81,7 @@ impl PeerWindow {
     /// Lets all positions below `edge` be sent, unless more may be already: for a protocol that announces
     /// a position, and no number that tells which of two segments is the older one. Such a window doesn't shrink.
     pub fn open_to(&mut self, edge: u64)
-        ensures { self.new ≡ opened_to self.old edge }
+        ensures { self.new ≡ record self.old { edge = max self.old.edge edge } }
     {
         self.edge = self.edge.max(edge);
     }
@@ -112,7 +113,7 @@ impl PeerWindow {
     #[inline]
     fn is_replaced_by(&self, seq: u64, ack: u64) -> bool
         ensures value { result ≡ replaces self.now seq ack }
-        ensures newer { IsTrue result ↔ Replaces self.now seq ack }
+        ensures replaces { IsTrue result ↔ Replaces self.now seq ack }
     {
         self.ack < ack || self.seq < seq || self.seq == seq && self.ack <= ack
     }

@@ -1,6 +1,5 @@
 //! A frame that is sent back, on any device.
 ghost use Rattle.std.specs.Prelude.{◌≡◌, ℕ, List, length, OnErr, Ok, true, false};
-ghost use Rattle.net_base.specs.Phy.{Echoes};
 
 use crate::phy::{Device, RxToken};
 use crate::time::Instant;
@@ -15,7 +14,8 @@ pub fn echo_once<D: Device>(device: &mut D, timestamp: Instant) -> Result<bool, 
     ensures idle { result ≡ Ok false → D.is_idle device.old × D.idled device.old device.new }
     ensures unchanged { result ≡ Ok false → ((old new : D) → D.idled old new → new ≡ old)
         → device.new ≡ device.old }
-    ensures echoed { result ≡ Ok true → Echoes D.taken D.sent device.old device.new }
+    ensures echoed { result ≡ Ok true → (frame : List ℕ) × (between : D)
+        × D.taken device.old frame between × D.sent between frame device.new }
     ensures err { OnErr result ((frame : List ℕ) × D.taken device.old frame device.new
         × D.lacks_memory device.new (length frame)) }
 {

@@ -1,10 +1,9 @@
 //! Laws of all values of the types of this module, and of its constant. No function here changes
 //! anything.
 
-ghost use Rattle.std.specs.Prelude.{◌≡◌};
+ghost use Rattle.std.specs.Prelude.{◌≡◌, ◌++◌};
 ghost use Rattle.std.specs.Hash as fed;
 ghost use Rattle.net_base.specs.Phy.{all_checksums, default_capabilities, no_segmentation, no_metadata};
-ghost use Rattle.net_base.specs.Phy.{metadata_hash};
 ghost use Rattle.net_base.specs.Values.{ClonesAreSame, ComparesValues};
 ghost use Rattle.net_base.specs.declared.phy.Checksum.TheVariants.{Both};
 ghost use Rattle.net_base.specs.declared.phy.Medium.TheVariants.{Ethernet};
@@ -59,7 +58,8 @@ pub fn equality()
 
 /// States what a hasher is fed: the identifier and the segment size of a packet's metadata, or a number.
 pub fn hashes()
-    ensures packet_meta { (x : _) → ⟦<PacketMeta as Hash>⟧.hash_input x ≡ metadata_hash x }
+    ensures packet_meta { (x : _) → ⟦<PacketMeta as Hash>⟧.hash_input x
+        ≡ fed.u32 x.id ++ fed.option fed.u16 x.segmentation_offload_size }
     ensures nonzero_u16 { (x : _) → ⟦<NonZeroU16 as Hash>⟧.hash_input x ≡ fed.u16 x }
     ensures nonzero_usize { (x : _) → ⟦<NonZeroUsize as Hash>⟧.hash_input x ≡ fed.usize x }
 {}

@@ -1,11 +1,12 @@
 //! A packet that arrives in fragments: a buffer of its bytes and runs, its head, and a table of such buffers.
-ghost use Rattle.std.specs.Prelude.{◌≡◌, ◌↔◌, ◌+◌, ◌<◌, ◌≤◌, ◌^◌, ◌⊎◌, ℕ, IsTrue, IsSome, IsErr, IfSome, OnOk, OnErr};
-ghost use Rattle.std.specs.Prelude.{◌<ℤ◌, Err, length, take};
-ghost use Rattle.std.specs.declared.option.Option.TheVariants.{Some, None};
+#![tactic(auto, using(crate::proofs::FragmentFacts::buffers))]
+
+ghost use Rattle.std.specs.Prelude.{◌≡◌, ◌↔◌, ◌+◌, ◌<◌, ◌≤◌, ◌^◌, ℕ, IsTrue, IsSome, IfSome, OnOk, OnErr, ◌<ℤ◌};
+ghost use Rattle.std.specs.Prelude.{length, take, false};
+ghost use Rattle.std.specs.declared.option.Option.TheVariants.{Some};
 ghost use Rattle.net_assembler.specs.Positions.{nothing};
-ghost use Rattle.net_assembler.specs.Assembler.{MakesTooManyRuns};
-ghost use Rattle.net_base.specs.Fragments.{fragments_of, HasSoundParts, IsExact, with_fragment, limit_of, IsBelow};
-ghost use Rattle.net_base.specs.Fragments.{IsComplete, Contradicts, Differs, Adds, Meets, begun};
+ghost use Rattle.net_base.specs.Fragments.{fragments_of, HasSoundParts, IsExact, limit_of, IsBelow, IsComplete};
+ghost use Rattle.net_base.specs.Fragments.{Differs, Adds, TakesSize, Meets, empty, begun};
 
 use crate::time::Instant;
 use net_assembler::Run;
@@ -81,9 +82,7 @@ impl<B: Storage<u8>, const N: usize> FragmentsOver<B, N> {
     /// A program in which `N` is 0 does not compile.
     pub const fn over(bytes: B, expires_at: Instant) -> Self
         requires { 1 ≤ N }
-        ensures bytes { result.bytes ≡ B.elements bytes }
-        ensures nothing { (result.present ≡ nothing) × (result.total ≡ None) }
-        ensures expires { result.expires_at ≡ expires_at }
+        ensures { result ≡ empty (B.elements bytes) expires_at }
     {
         prove!(N >= 1, "N is at least 1");
         FragmentsOver {
@@ -199,19 +198,9 @@ impl<B: Storage<u8>, const N: usize> FragmentsOver<B, N> {
     /// `TooLong`, or else past the packet's, which is `OtherSize`, or else would leave more than `N`
     /// maximal runs, which is `TooManyHoles`. A fragment without bytes has its end at `offset`.
     pub fn add(&mut self, offset: usize, data: &[u8]) -> Result<(), FragmentError>
-        ensures ok { OnOk result (self.new ≡ with_fragment self.old offset «data».now) }
+        ensures adds { Adds N self.old offset «data».now false result self.new }
         ensures unchanged { OnErr result (self.new ≡ self.old) }
         ensures fits { OnOk result (offset + length «data».now < 2 ^ 64) }
-        ensures too_long { (result ≡ Err FragmentError.TooLong)
-            ↔ (length self.old.bytes < offset + length «data».now) }
-        ensures other_size { (result ≡ Err FragmentError.OtherSize)
-            ↔ ((offset + length «data».now ≤ length self.old.bytes)
-            × (limit_of self.old < offset + length «data».now)) }
-        ensures too_many { (result ≡ Err FragmentError.TooManyHoles)
-            ↔ ((offset + length «data».now ≤ limit_of self.old)
-            × MakesTooManyRuns N self.old.present offset (length «data».now)) }
-        ensures refused { IsErr result ↔ ((limit_of self.old < offset + length «data».now)
-            ⊎ MakesTooManyRuns N self.old.present offset (length «data».now)) }
     {
         let count = self.bytes.count();
         let bytes = self.bytes.part_mut(0, count);
@@ -312,11 +301,7 @@ impl<B: Storage<u8>, const N: usize> FragmentsOver<B, N> {
     pub fn set_total_size(&mut self, size: usize) -> Result<(), FragmentError>
         ensures ok { OnOk result (self.new ≡ record self.old { total = Some size }) }
         ensures unchanged { OnErr result (self.new ≡ self.old) }
-        ensures too_long { (result ≡ Err FragmentError.TooLong) ↔ (length self.old.bytes < size) }
-        ensures other_size { (result ≡ Err FragmentError.OtherSize)
-            ↔ ((size ≤ length self.old.bytes) × Contradicts self.old.present self.old.total size) }
-        ensures refused { IsErr result ↔ ((length self.old.bytes < size)
-            ⊎ Contradicts self.old.present self.old.total size) }
+        ensures takes { TakesSize (length self.old.bytes) self.old.present self.old.total size result }
     {
         self.head
             .set_total_size(self.bytes.count(), &self.runs, size)
@@ -420,9 +405,7 @@ impl<B: Storage<u8>, const N: usize> FragmentsOver<B, N> {
     /// # Ok::<(), FragmentError>(())
     /// ```
     pub fn reset(&mut self, expires_at: Instant)
-        ensures bytes { self.new.bytes ≡ self.old.bytes }
-        ensures nothing { (self.new.present ≡ nothing) × (self.new.total ≡ None) }
-        ensures expires { self.new.expires_at ≡ expires_at }
+        ensures { self.new ≡ begun self.old expires_at }
     {
         self.head.reset(expires_at.total_micros());
     }

@@ -1,13 +1,12 @@
 //! The head of a buffer of fragments: what it has besides its bytes and runs, which each call takes as slices.
-ghost use Rattle.std.specs.Prelude.{◌≡◌, ◌↔◌, ◌+◌, ◌<◌, ◌≤◌, ◌⊎◌, ◌<ℤ◌, ℕ, List, Err, length, IsTrue, IsSome, IsErr};
-ghost use Rattle.std.specs.Prelude.{IfSome, OnOk, OnErr, unwrap_or};
-ghost use Rattle.std.specs.declared.option.Option.TheVariants.{Some, None};
-ghost use Rattle.net_assembler.specs.Assembler.{MakesTooManyRuns};
+#![tactic(auto, using(crate::proofs::FragmentFacts::heads))]
+
+ghost use Rattle.std.specs.Prelude.{◌≡◌, ◌↔◌, ◌+◌, ◌<◌, ◌≤◌, ◌<ℤ◌, ℕ, List, length, IsTrue, IsSome, IfSome, OnOk};
+ghost use Rattle.std.specs.Prelude.{OnErr, unwrap_or, false};
 ghost use Rattle.net_assembler.specs.Positions.{nothing};
 ghost use Rattle.net_assembler.specs.RunLists.{set_of, HasSoundRuns};
-ghost use Rattle.net_base.specs.Fragments.{with_fragment, limit_of, IsComplete, IsBelow, Contradicts, begun};
-ghost use Rattle.net_base.specs.Fragments.{Adds, Differs, HasOther, Meets, total_of, fragments_of};
-ghost use Rattle.net_base.specs.Fragments.{HasSoundParts, IsExact};
+ghost use Rattle.net_base.specs.Fragments.{IsComplete, IsBelow, begun, Adds, TakesSize, Differs, HasOther, Meets};
+ghost use Rattle.net_base.specs.Fragments.{total_of, fragments_of, HasSoundParts, IsExact, zero_fragments};
 
 use super::FragmentError;
 use net_assembler::{AssemblerHead, Run, assembler};
@@ -44,10 +43,7 @@ impl FragmentsHead {
     pub const fn new(expires_at: i64) -> Self
         ensures sound { (bytes : List ℕ) (runs : List (ℕ × ℕ)) → HasSoundParts result bytes runs }
         ensures nothing { (runs : List (ℕ × ℕ)) → set_of result.present runs ≡ nothing }
-        ensures total { total_of result ≡ None }
-        ensures expires { result.expires_at ≡ expires_at }
-        ensures zeros { (result.present.used ≡ 0) × (result.present.first_start ≡ 0)
-            × (result.has_total ≡ 0) × (result.total ≡ 0) }
+        ensures value { result ≡ zero_fragments expires_at }
         ensures exact { IsExact result }
     {
         FragmentsHead {
@@ -63,10 +59,7 @@ impl FragmentsHead {
         ensures sound { (bytes : List ℕ) (runs : List (ℕ × ℕ)) →
             HasSoundParts self.new bytes runs }
         ensures nothing { (runs : List (ℕ × ℕ)) → set_of self.new.present runs ≡ nothing }
-        ensures total { total_of self.new ≡ None }
-        ensures expires { self.new.expires_at ≡ expires_at }
-        ensures zeros { (self.new.present.used ≡ 0) × (self.new.present.first_start ≡ 0)
-            × (self.new.has_total ≡ 0) × (self.new.total ≡ 0) }
+        ensures value { self.new ≡ zero_fragments expires_at }
         ensures exact { IsExact self.new }
     {
         *self = FragmentsHead::new(expires_at);
@@ -148,23 +141,10 @@ impl FragmentsHead {
     ) -> Result<(), FragmentError>
         requires sound { HasSoundParts self.old bytes.old runs.old }
         ensures sound { HasSoundParts self.new bytes.new runs.new }
-        ensures ok { OnOk result (fragments_of self.new bytes.new runs.new
-            ≡ with_fragment (fragments_of self.old bytes.old runs.old) offset «data».now) }
+        ensures adds { Adds (length runs.old) (fragments_of self.old bytes.old runs.old) offset «data».now
+            false result (fragments_of self.new bytes.new runs.new) }
         ensures unchanged { OnErr result
             ((self.new ≡ self.old) × (bytes.new ≡ bytes.old) × (runs.new ≡ runs.old)) }
-        ensures too_long { (result ≡ Err FragmentError.TooLong)
-            ↔ (length bytes.old < offset + length «data».now) }
-        ensures other_size { (result ≡ Err FragmentError.OtherSize)
-            ↔ ((offset + length «data».now ≤ length bytes.old)
-            × (limit_of (fragments_of self.old bytes.old runs.old) < offset + length «data».now)) }
-        ensures too_many { (result ≡ Err FragmentError.TooManyHoles) ↔ ((offset + length «data».now
-            ≤ limit_of (fragments_of self.old bytes.old runs.old))
-            × MakesTooManyRuns (length runs.old) (set_of self.old.present runs.old)
-            offset (length «data».now)) }
-        ensures refused { IsErr result
-            ↔ ((limit_of (fragments_of self.old bytes.old runs.old) < offset + length «data».now)
-            ⊎ MakesTooManyRuns (length runs.old) (set_of self.old.present runs.old)
-            offset (length «data».now)) }
         ensures others { (self.new.has_total ≡ self.old.has_total)
             × (self.new.total ≡ self.old.total) × (self.new.expires_at ≡ self.old.expires_at) }
         ensures exact { IsExact self.old → IsExact self.new }
@@ -270,18 +250,11 @@ impl FragmentsHead {
         size: usize,
     ) -> Result<(), FragmentError>
         requires sound { HasSoundRuns self.old.present runs.now }
-        ensures ok { OnOk result ((self.new.has_total ≡ 1) × (self.new.total ≡ size)
-            × (self.new.present ≡ self.old.present) × (self.new.expires_at ≡ self.old.expires_at)) }
-        ensures total { OnOk result (total_of self.new ≡ Some size) }
+        ensures ok { OnOk result (self.new ≡ record self.old { has_total = 1; total = size }) }
         ensures sound { OnOk result ((bytes : List ℕ) → length bytes ≡ capacity →
             HasSoundParts self.old bytes runs.now → HasSoundParts self.new bytes runs.now) }
         ensures unchanged { OnErr result (self.new ≡ self.old) }
-        ensures too_long { (result ≡ Err FragmentError.TooLong) ↔ (capacity < size) }
-        ensures other_size { (result ≡ Err FragmentError.OtherSize)
-            ↔ ((size ≤ capacity)
-            × Contradicts (set_of self.old.present runs.now) (total_of self.old) size) }
-        ensures refused { IsErr result ↔ ((capacity < size)
-            ⊎ Contradicts (set_of self.old.present runs.now) (total_of self.old) size) }
+        ensures takes { TakesSize capacity (set_of self.old.present runs.now) (total_of self.old) size result }
         ensures exact { IsExact self.old → IsExact self.new }
     {
         if size > capacity {
@@ -320,7 +293,6 @@ impl FragmentsHead {
     /// # Requires
     ///
     /// The runs are sound.
-    #[tactic(auto, using(crate::proofs::FragmentFacts::meets_is))]
     pub fn overlaps(&self, runs: &[Run], offset: usize, len: usize) -> bool
         requires sound { HasSoundRuns self.now.present runs.now }
         ensures { IsTrue result ↔ Meets (set_of self.now.present runs.now) offset len }

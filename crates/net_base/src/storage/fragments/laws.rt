@@ -1,9 +1,14 @@
 //! Laws of packets that arrive in fragments. No function here does anything.
-ghost use Rattle.std.specs.Prelude.{◌≡◌, ◌<◌, ℕ, ℤ, IsTrue, List, length, slice_index_or};
+#![tactic(auto, using(crate::proofs::FragmentFacts::laws))]
+
+ghost use Rattle.std.specs.Prelude.{◌≡◌, ◌↔◌, ◌+◌, ◌<◌, ◌≤◌, ◌⊎◌, ℕ, ℤ, IsTrue, IsErr, List, Result, length};
+ghost use Rattle.std.specs.Prelude.{slice_index_or, false};
+ghost use Rattle.net_assembler.specs.Assembler.{MakesTooManyRuns};
 ghost use Rattle.net_assembler.specs.Positions.{contains, nothing};
 ghost use Rattle.net_assembler.specs.RunLists.{set_of};
 ghost use Rattle.net_base.specs.Fragments.{FragmentsState, after_fragments, last_byte, HasSoundParts, IsExact};
-ghost use Rattle.net_base.specs.Fragments.{total_of, zero_fragments};
+ghost use Rattle.net_base.specs.Fragments.{total_of, zero_fragments, limit_of, Adds};
+ghost use Rattle.net_base.specs.declared.storage.fragments.FragmentError.{FragmentError};
 ghost use Rattle.net_base.specs.Values.{ClonesAreSame, ComparesValues};
 ghost use Rattle.std.specs.declared.option.Option.TheVariants.{None};
 
@@ -14,7 +19,6 @@ use net_ring::ring_buffer;
 /// States that after any accepted fragments, in any order and however they overlap, the byte at
 /// each position that arrived is that of the last fragment there, whatever was in the buffer
 /// before.
-#[tactic(auto, using(crate::proofs::FragmentFacts::byte_after, crate::proofs::FragmentFacts::present_byte))]
 pub fn latest_arrival_wins()
     ensures each { (b : FragmentsState) (fs : List (ℕ × List ℕ)) (p d : ℕ) → p < length b.bytes
         → slice_index_or (after_fragments b fs).bytes p d ≡ last_byte p (slice_index_or b.bytes p d) fs }
@@ -39,6 +43,14 @@ pub fn head_of_zeros()
 {
     assembler::laws::head_of_zeros();
 }
+
+/// States that `add` refuses a fragment exactly if it ends past a known size or the buffer's end, or would leave too
+/// many runs.
+pub fn refused_fragments()
+    ensures { (n : ℕ) (b c : FragmentsState) (offset : ℕ) (xs : List ℕ) (r : Result (Unit {0}) FragmentError) →
+        limit_of b ≤ length b.bytes → Adds n b offset xs false r c →
+        (IsErr r ↔ ((limit_of b < offset + length xs) ⊎ MakesTooManyRuns n b.present offset (length xs))) }
+{}
 
 /// States that two refusals are equal exactly if they are the same, and that a clone of one is the same, and is never
 /// refused.

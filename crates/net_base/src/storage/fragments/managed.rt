@@ -1,7 +1,6 @@
 //! A buffer over a [`ManagedSlice`], of which Rust's takes all that converts to one.
 ghost use Rattle.std.specs.Prelude.{◌≡◌, ◌≤◌};
-ghost use Rattle.std.specs.declared.option.Option.TheVariants.{None};
-ghost use Rattle.net_assembler.specs.Positions.{nothing};
+ghost use Rattle.net_base.specs.Fragments.{empty};
 
 use crate::storage::fragments::{FragmentBuffer, FragmentsOver};
 use crate::time::Instant;
@@ -15,9 +14,7 @@ impl<'a, const N: usize> FragmentBuffer<'a, N> {
     /// A program in which `N` is 0 does not compile.
     pub fn new(bytes: ManagedSlice<'a, u8>, expires_at: Instant) -> Self
         requires { 1 ≤ N }
-        ensures bytes { result.bytes ≡ elements bytes.entry }
-        ensures nothing { (result.present ≡ nothing) × (result.total ≡ None) }
-        ensures expires { result.expires_at ≡ expires_at }
+        ensures { result ≡ empty (elements bytes.entry) expires_at }
     {
         FragmentsOver::over(bytes, expires_at)
     }

@@ -21,13 +21,14 @@
 //! assert_eq!(slots[at].buffer.assemble(), Some(&b"abcd"[..]));
 //! # Ok::<(), FragmentError>(())
 //! ```
+#![tactic(auto, using(crate::proofs::FragmentFacts::slots))]
+
 ghost use Rattle.std.specs.Prelude.{◌≡◌, ◌↔◌, ◌<◌, ◌≤◌, ◌<ℤ◌, ℕ, length, set, is_none, slice_get, pos, [], IsErr};
 ghost use Rattle.std.specs.Prelude.{IsNone, IfOk, IfSome, OnErr, OnOk, Ok, Err, ◌≢◌};
 ghost use Rattle.std.specs.declared.option.Option.TheVariants.{Some, None};
 ghost use Rattle.std.specs.List.{position, AllZip};
-ghost use Rattle.net_assembler.specs.Positions.{nothing};
-ghost use Rattle.net_base.specs.Fragments.{IsComplete, begun, is_for, ExpiresFirst, IsSlotFor, Accepts, buffer_for};
-ghost use Rattle.net_base.specs.Fragments.{key_for};
+ghost use Rattle.net_base.specs.Fragments.{IsComplete, begun, empty, is_for, ExpiresFirst, IsSlotFor, Accepts};
+ghost use Rattle.net_base.specs.Fragments.{buffer_for, key_for, refusal_of};
 
 use super::{FragmentError, FragmentsOver};
 use crate::time::Instant;
@@ -59,12 +60,7 @@ pub enum AcceptError {
 
 /// Returns the same refusal, of a table.
 fn refusal(error: FragmentError) -> AcceptError
-    ensures too_long { (result ≡ AcceptError.TooLong) ↔ (error ≡ FragmentError.TooLong) }
-    ensures too_many { (result ≡ AcceptError.TooManyHoles) ↔ (error ≡ FragmentError.TooManyHoles) }
-    ensures other_size { (result ≡ AcceptError.OtherSize) ↔ (error ≡ FragmentError.OtherSize) }
-    ensures other_bytes { result ≢ AcceptError.OtherBytes }
-    ensures no_bytes { result ≢ AcceptError.NoBytes }
-    ensures no_slot { result ≢ AcceptError.NoSlot }
+    ensures { result ≡ refusal_of error }
 {
     match error {
         FragmentError::TooLong => AcceptError::TooLong,
@@ -89,9 +85,7 @@ impl<K: Copy + Eq, B: Storage<u8>, const N: usize> FragmentSlot<K, B, N> {
     pub fn over(bytes: B) -> Self
         requires { 1 ≤ N }
         ensures key { result.key ≡ None }
-        ensures bytes { result.buffer.bytes ≡ B.elements bytes }
-        ensures nothing { (result.buffer.present ≡ nothing) × (result.buffer.total ≡ None) }
-        ensures expires { result.buffer.expires_at ≡ pos 0 }
+        ensures buffer { result.buffer ≡ empty (B.elements bytes) (pos 0) }
     {
         prove!(N >= 1, "N is at least 1");
         FragmentSlot {
@@ -133,7 +127,7 @@ impl<K: Copy + Eq, B: Storage<u8>, const N: usize> FragmentSlot<K, B, N> {
         ensures key { OnOk result (self.new.key ≡ key_for K.PartialEq.eq key self.old.key) }
         ensures at { OnOk result (result ≡ Ok at) }
         ensures buffer { Accepts N (buffer_for K.PartialEq.eq key expires_at self.old.key self.old.buffer)
-            offset «data».now is_last result self.new.buffer }
+            offset «data».now is_last at result self.new.buffer }
         ensures unchanged { OnErr result (self.new ≡ self.old) }
         ensures no_bytes { result ≢ Err AcceptError.NoBytes }
         ensures no_slot { result ≢ Err AcceptError.NoSlot }
@@ -301,7 +295,7 @@ pub fn accept<K: Copy + Eq, B: Storage<u8>, const N: usize>(
         × (slice_get slots.old at ≡ Some s) × (slots.new ≡ set slots.old at t)
         × OnOk result ((result ≡ Ok at) × (t.key ≡ key_for K.PartialEq.eq key s.key))
         × Accepts N (buffer_for K.PartialEq.eq key expires_at s.key s.buffer) offset «data».now
-        is_last result t.buffer }
+        is_last at result t.buffer }
 {
     if data.is_empty() {
         return Err(AcceptError::NoBytes);

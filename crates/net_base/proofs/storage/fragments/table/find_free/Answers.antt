@@ -1,5 +1,5 @@
 use Rattle.std.proofs.Common.{◌≡◌, true, subst, rules, arith, is_none}
-use Rattle.net_base.proofs.FragmentSlots.{first_found, none_found}
+use Rattle.net_base.proofs.FragmentFacts.{first_found}
 use Rattle.net_base.proofs.storage.fragments.table.find_free.Goals as goal
 
 pub returns-then-is_none-clause-first : goal.returns-then-is_none-clause-first
@@ -7,6 +7,3 @@ returns-then-is_none-clause-first g c =
     first_found (λ s. is_none s.key) c.args.slots.now c.loop-at.at c.index-slots-at.result (omega arith)
     (λ k l. c.loop-at.invariant k _ l)
     (subst (λ s. is_none s.key ≡ true) c.index-slots-at.is (search rules))
-
-pub returns-clause-first : goal.returns-clause-first
-returns-clause-first g c = none_found (λ s. is_none s.key) c.args.slots.now (λ k d l. c.loop-at.invariant k d (omega arith))

@@ -1,4 +1,4 @@
-use Rattle.net_base.proofs.FragmentSlots.{EarliestBelow}
+use Rattle.net_base.proofs.FragmentFacts.{EarliestBelow}
 use Rattle.net_base.proofs.storage.fragments.table.first_to_expire.Given as goal
 
 -- of the slots before the index none expires earlier
