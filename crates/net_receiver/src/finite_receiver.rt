@@ -2,18 +2,18 @@
 #![tactic(auto, using(crate::proofs::FiniteReceivers::ends))]
 
 ghost use Rattle.std.specs.Prelude.{◌≡◌, ◌↔◌, ℕ, ◌+◌, ◌-◌, ◌<◌, ◌≤◌, ◌^◌, min, List, length, ◌++◌, IsTrue, Some, None};
-ghost use Rattle.std.specs.Prelude.{take, drop, slice_range, max, [], ◌∷◌};
+ghost use Rattle.std.specs.Prelude.{take, drop, max};
 ghost use Rattle.net_receiver.specs.{no_end, fresh_finite, can_end, bytes_end, finite_after, finite_result};
 ghost use Rattle.net_receiver.specs.{finite_after_read, is_complete, acknowledged, has_read_all, IsSameFinite};
 ghost use Rattle.net_receiver.specs.{IsSoundEnd, finite_of, HasSoundFinite, new_count, MatchesFinite, ReceivesFinite};
-ghost use Rattle.net_receiver.specs.{end_with, end_after, contiguous_count, first_part, second_part, newest_runs, with_starts, domain};
-ghost use Rattle.net_receiver.specs.{limit_of, next_position, IsSound};
+ghost use Rattle.net_receiver.specs.{end_with, end_after, contiguous_count, first_part, limit_of, next_position};
+ghost use Rattle.net_receiver.specs.{IsSound};
 ghost use Rattle.std.specs.Fn.{FnOnceTakesAt, FnOnceReturnsAt};
-ghost use Rattle.net_assembler.specs.Positions.{maximal_runs, runs as run_count};
 ghost use Rattle.net_assembler.specs.RunLists.{IsCanonical};
 
-use crate::finite_receiver_head::{FiniteReceiverHead, NO_END, acknowledged, count_below, end_or_max};
-use crate::finite_receiver_head::{is_reached, number_after};
+use crate::finite_receiver_head::{
+    FiniteReceiverHead, NO_END, acknowledged, count_below, end_or_max, is_reached, number_after,
+};
 use crate::kept::{FiniteError, KeptBytes};
 use crate::receiver::ReceiverOver;
 use net_assembler::Run;
@@ -302,7 +302,10 @@ impl<S: Storage<u8>, const N: usize> FiniteReceiverOver<S, N> {
         requires { count ≤ length self.old.receiver.queue }
         ensures state { self.new ≡ finite_after_read self.old count }
     {
-        prove!(count <= self.receiver().queued(), "more bytes than are queued");
+        prove!(
+            count <= self.receiver().queued(),
+            "more bytes than are queued"
+        );
         self.receiver.remove_part(count);
     }
 

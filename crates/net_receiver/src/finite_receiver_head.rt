@@ -1,14 +1,12 @@
 //! A receiver of a stream that ends, in parts.
 #![tactic(auto, using(crate::proofs::FiniteReceivers::ends))]
 
-ghost use Rattle.std.specs.Prelude.{◌≡◌, ◌↔◌, ℕ, ◌+◌, ◌-◌, ◌<◌, ◌≤◌, ◌^◌, min, max, List, length};
-ghost use Rattle.std.specs.Prelude.{IsTrue, OnErr, Some, None, ◌==◌, ◌++◌, take, drop};
-ghost use Rattle.std.specs.Prelude.{slice_range, nat_lt, nat_le, ◌&&◌, if◌then◌else◌};
+ghost use Rattle.std.specs.Prelude.{◌≡◌, ◌↔◌, ℕ, ◌+◌, ◌-◌, ◌<◌, ◌≤◌, ◌^◌, min, max, List, length, IsTrue, OnErr, Some};
+ghost use Rattle.std.specs.Prelude.{None, ◌==◌, ◌++◌, take, drop, nat_lt, nat_le, ◌&&◌, if◌then◌else◌};
 ghost use Rattle.net_ring.specs.Ring.{queue};
 ghost use Rattle.net_ring.specs.RingHead.{IsSound as IsSoundPlace, ring_at};
 ghost use Rattle.net_receiver.specs.Finite.{no_end, fresh_finite, can_end_by, finite_after, finite_result};
 ghost use Rattle.net_receiver.specs.Finite.{finite_after_read, IsSameFinite, is_complete, acknowledged, has_read_all};
-ghost use Rattle.net_receiver.specs.Finite.{MatchesFinite, ReceivesFinite};
 ghost use Rattle.net_receiver.specs.ReceiverState.{count_between, limit_of};
 ghost use Rattle.net_receiver.specs.Head.{head_after_read, held_at, top_at, HasSoundHeld};
 ghost use Rattle.net_receiver.specs.FiniteHead.{finite_of, HasSoundFinite, next_of, end_of, end_with};
@@ -84,7 +82,8 @@ pub(crate) fn acknowledged(next: u64, after_end: u64) -> u64
     requires { next < no_end }
     ensures { result ≡ (if next == end_with after_end then next + 1 else next) }
 {
-    if next == end_or_max(after_end) { next + 1 } else { next }
+    let end = end_or_max(after_end);
+    if next == end { next + 1 } else { next }
 }
 
 impl FiniteReceiverHead {
