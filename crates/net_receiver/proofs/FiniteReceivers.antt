@@ -37,7 +37,7 @@ use Rattle.net_receiver.proofs.Words.{finite_after_commands, CommandMatches, Rec
 use Rattle.net_receiver.proofs.Words.{SegmentReply, with_sack, setting, Refines, receiver_after_commands}
 use Rattle.net_receiver.proofs.Words.{receiver_reply, receiver_replies, state_from, IsAccepted, bytes_read, Brings}
 use Rattle.net_receiver.proofs.Words.{MatchesFinite, ReceiverState, ReceiverHead, TooManyHolesError, KeptBytes}
-use Rattle.net_receiver.proofs.Words.{set_of, slice_get_within, take-take, All-head}
+use Rattle.net_receiver.proofs.Words.{set_of, slice_get_within, take-take, All-head, slice_range, take_min}
 use Rattle.net_receiver.proofs.Words.{All-tail, All-nil, All-cons, All-append}
 use Rattle.net_receiver.proofs.Sets.{piece_at, clip_at, contains-domain, next_joined, lacks, lacking, updated_has}
 use Rattle.net_receiver.proofs.Sets.{left_above, cond_some, slice_get-take, piece_from}
@@ -46,7 +46,7 @@ use Rattle.std.specs.Prelude.{IsOk, Ok}
 use Rattle.net_receiver.proofs.OneStream.{has_all_reaches, segment_receives, read_receives, fresh_receives_from}
 use Rattle.net_receiver.proofs.OneStream.{queue_of, held_of_stream, first_stays, next_position_grows}
 use Rattle.net_receiver.proofs.OneStream.{segment_reads_nothing, read_leaves_next, limit_grows, completes}
-use Rattle.net_receiver.proofs.OneStream.{in_order_reaches, kept_in_order}
+use Rattle.net_receiver.proofs.OneStream.{in_order_reaches, kept_in_order, head_bytes}
 use Rattle.net_receiver.proofs.NewestRuns.{there}
 use Rattle.std.specs.FinMap as fin
 use Rattle.net_receiver.specs.declared.kept.FiniteError.TheVariants as errors
@@ -173,6 +173,23 @@ sound_read s n sound = record {
   number = (let top = top_read s.receiver (no_end - 1) (omega (arith, sound.number)) n in omega arith);
 }
 
+-- nothing has arrived
+pub fresh_sound_end : (first capacity : ℕ) → first < no_end → IsSoundEnd (fresh_finite first capacity)
+fresh_sound_end first capacity h =
+    let none : top_of (fresh_receiver first capacity) ≤ first = top_le (fresh_receiver first capacity) first (omega arith) (λ p there. absurd (both_ways _ (ap is_some (fin.get-empty nat_cmp p)) there)) in
+    record { below = omega arith; number = omega arith }
+
+-- the same of the parts: nothing has arrived, or some bytes were read
+pub fresh_end : (v : ReceiverState) (e : ℕ) → v ≡ fresh_receiver v.first v.capacity → v.first < no_end → e ≡ no_end →
+    IsSoundEnd (record { receiver = v; end = e })
+fresh_end v e is h same =
+    let sound = subst (λ w. IsSoundEnd (record { receiver = w; end = no_end })) (sym is) (fresh_sound_end v.first v.capacity h) in
+    subst (λ m. IsSoundEnd (record { receiver = v; end = m })) (sym same) sound
+
+pub read_end : (s : FiniteState) (v : ReceiverState) (n : ℕ) → v ≡ receiver_after_read s.receiver n → IsSoundEnd s →
+    IsSoundEnd (record { receiver = v; end = s.end })
+read_end s v n is sound = subst (λ w. IsSoundEnd (record { receiver = w; end = s.end })) (sym is) (sound_read s n sound)
+
 -- it doesn't say that the stream ends where it can't
 pub no_other : (s : FiniteState) (e : ℕ) (last : Bool) → (last ≡ false) ⊎ (can_end s e ≡ true) → has_other_end s e last ≡ false
 no_other s e last which = grind (arith, nat_tests)
@@ -242,12 +259,6 @@ module _ (h : FiniteReceiverHead) (xs : List ℕ) (rs : List (ℕ × ℕ)) (pos 
   pub left_storage : has_other_end (finite_of h xs rs) (pos + length bytes) last ≡ false → (cut : List ℕ) → cut ≡ below_end (finite_of h xs rs) pos bytes →
       (ys : List ℕ) → ys ≡ written cut → ys ≡ finite_storage_after h xs rs pos bytes last
   left_storage other cut cut_is ys ys_is = ys_is ∙ ap written cut_is ∙ (λ i. cond (sym other i) xs (written (below_end (finite_of h xs rs) pos bytes)))
-
--- nothing has arrived
-pub fresh_sound_end : (first capacity : ℕ) → first < no_end → IsSoundEnd (fresh_finite first capacity)
-fresh_sound_end first capacity h =
-    let none : top_of (fresh_receiver first capacity) ≤ first = top_le (fresh_receiver first capacity) first (omega arith) (λ p there. absurd (both_ways _ (ap is_some (fin.get-empty nat_cmp p)) there)) in
-    record { below = omega arith; number = omega arith }
 
 -- ---- The laws of a receiver of a stream that ends.
 pub sound_end_stays : SoundEndStays
@@ -353,6 +364,14 @@ pub one_of_stream : (N f : ℕ) (x : List ℕ) (s : FiniteState) (c : FiniteComm
 one_of_stream N f x s (Arrives pos xs last) r h = (segment_of_stream N f x s pos xs last r h).1
 one_of_stream N f x s (Reads n) r h = record { bytes = read_receives f x s.receiver _ n refl r.bytes; end = r.end }
 
+-- a read takes the stream's next bytes
+pub one_read : (f : ℕ) (x : List ℕ) (s : FiniteState) (n : ℕ) → ReceivesFinite f x s → ReceivesFinite f x (finite_after_read s n)
+    × (take n s.receiver.queue ≡ slice_range x s.receiver.read (s.receiver.read + min n (length s.receiver.queue)))
+one_read f x s n r = (
+  one_of_stream 0 f x s (Reads n) r tt,
+  sym (take_min n s.receiver.queue) ∙ head_bytes f x s.receiver (min n (length s.receiver.queue)) (omega arith) r.bytes,
+)
+
 -- the bytes that were read before, and those of one command
 taken_bytes : (x q : List ℕ) (n read : ℕ) → q ≡ take (length q) (drop read x) → read + length q ≤ length x → take read x ++ take n q ≡ take (read + min n (length q)) x
 taken_bytes x q n read is within = grind (arith, nat_tests, common_steps, cut_is, take-take, take-add)
@@ -398,13 +417,17 @@ reads_the_stream N f capacity x cs h all =
 
 -- ---- what is acknowledged, and when all has arrived
 -- then all bytes of the stream were read or are queued
-pub complete_whole : (f : ℕ) (x : List ℕ) (s : FiniteState) → IsSoundEnd s → ReceivesFinite f x s → is_complete s ≡ true →
+complete_whole : (f : ℕ) (x : List ℕ) (s : FiniteState) → IsSoundEnd s → ReceivesFinite f x s → is_complete s ≡ true →
     s.receiver.read + length s.receiver.queue ≡ length x
 complete_whole f x s sound r on = grind (arith, nat_tests, eqb-true, known, first_is)
 
 -- and then all were read
-pub read_whole : (f : ℕ) (x : List ℕ) (s : FiniteState) → IsSoundEnd s → ReceivesFinite f x s → has_read_all s ≡ true → s.receiver.read ≡ length x
+read_whole : (f : ℕ) (x : List ℕ) (s : FiniteState) → IsSoundEnd s → ReceivesFinite f x s → has_read_all s ≡ true → s.receiver.read ≡ length x
 read_whole f x s sound r on = grind (arith, nat_tests, eqb-true, known, first_is)
+
+pub all_of_stream : (f : ℕ) (x : List ℕ) (s : FiniteState) → IsSoundEnd s → ReceivesFinite f x s →
+    (is_complete s ≡ true → s.receiver.read + length s.receiver.queue ≡ length x) × (has_read_all s ≡ true → s.receiver.read ≡ length x)
+all_of_stream f x s sound r = ((λ on. complete_whole f x s sound r on), (λ on. read_whole f x s sound r on))
 
 -- a segment reads nothing
 pub finite_reads_nothing : (N : ℕ) (s : FiniteState) (pos : ℕ) (xs : List ℕ) (last : Bool) →
@@ -704,3 +727,6 @@ resent_is_read N f capacity n x before cs first match fit' match' h brings few =
     (All-cons (CommandMatches f x) read [] tt (All-nil (CommandMatches f x)))) in
     let last = after_both N (fresh_finite f capacity) (before ++ cs) (read ∷ []) ∙ ap (λ u. finite_after_read u n) (after_both N (fresh_finite f capacity) before cs) in
     (all, whole.2 (ap has_read_all last ∙ all))
+
+-- what the calls of a receiver of a stream that ends need
+pub ruleset ends = (fresh_end, read_end, has_sound_end)

@@ -1,21 +1,22 @@
 //! A receiver of a stream that ends.
+#![tactic(auto, using(crate::proofs::FiniteReceivers::ends))]
+
 ghost use Rattle.std.specs.Prelude.{◌≡◌, ◌↔◌, ℕ, ◌+◌, ◌-◌, ◌<◌, ◌≤◌, ◌^◌, min, List, length, ◌++◌, IsTrue, Some, None};
-ghost use Rattle.std.specs.Prelude.{take, drop, slice_range, max, [], ◌∷◌};
+ghost use Rattle.std.specs.Prelude.{take, drop, max};
 ghost use Rattle.net_receiver.specs.{no_end, fresh_finite, can_end, bytes_end, finite_after, finite_result};
 ghost use Rattle.net_receiver.specs.{finite_after_read, is_complete, acknowledged, has_read_all, IsSameFinite};
 ghost use Rattle.net_receiver.specs.{IsSoundEnd, finite_of, HasSoundFinite, new_count, MatchesFinite, ReceivesFinite};
-ghost use Rattle.net_receiver.specs.{contiguous_count, first_part, second_part, newest_runs, with_starts, domain};
-ghost use Rattle.net_receiver.specs.{limit_of, next_position, IsSound};
+ghost use Rattle.net_receiver.specs.{end_with, end_after, contiguous_count, first_part, limit_of, next_position};
+ghost use Rattle.net_receiver.specs.{IsSound};
 ghost use Rattle.std.specs.Fn.{FnOnceTakesAt, FnOnceReturnsAt};
-ghost use Rattle.net_assembler.specs.Positions.{maximal_runs, runs as run_count};
 ghost use Rattle.net_assembler.specs.RunLists.{IsCanonical};
 
-use crate::finite_receiver_head::FiniteReceiverHead;
-use crate::held_runs::{HeldRun, HeldRuns, NewestRunIter};
+use crate::finite_receiver_head::{
+    FiniteReceiverHead, NO_END, acknowledged, count_below, end_or_max, is_reached, number_after,
+};
 use crate::kept::{FiniteError, KeptBytes};
-use crate::receiver::whole;
-use crate::receiver_head::ReceiverHead;
-use net_assembler::{AssemblerHead, Run};
+use crate::receiver::ReceiverOver;
+use net_assembler::Run;
 use net_ring::{ManagedSlice, Storage};
 use std::marker::Model;
 
@@ -23,14 +24,16 @@ use std::marker::Model;
 ///
 /// It is a `Receiver` that knows where the stream ends, once a segment has said so. The end is the
 /// position after the last byte. It has a number, as a byte has (that of TCP's FIN), and needs no room.
-/// Segments may arrive in any order, the last one too. The held runs that a selective acknowledgement
-/// lists are of bytes alone: an end that came out of order is sent again.
+/// Segments may arrive in any order, the last one too. `receiver` lends the receiver of the bytes, for
+/// all that isn't about the end: how many are queued, a look at them, the window, the held runs. The
+/// held runs that a selective acknowledgement lists are of bytes alone: an end that came out of order is
+/// sent again.
 pub struct FiniteReceiverOver<S: Storage<u8>, const N: usize> {
-    // Invariant: the head is sound with the storage and the runs, as `FiniteReceiverHead::is_sound`
-    // tests. If there is no run, the head of the runs is 0 in both numbers.
-    head: FiniteReceiverHead,
-    storage: S,
-    runs: [Run; N],
+    // Invariant: no byte is queued or held at the end or above, and a number is left for an end after the
+    // last byte.
+    receiver: ReceiverOver<S, N>,
+    // The number after the end's, or 0 while the end isn't known.
+    after_end: u64,
 }
 
 /// A receiver of one stream of bytes that ends, over storage that is lent or owned. Its calls are those
@@ -39,31 +42,27 @@ pub type FiniteReceiver<'a, const N: usize> = FiniteReceiverOver<ManagedSlice<'a
 
 /// Contracts see what the receiver of the bytes stores, and the end, `no_end` while it isn't known.
 impl<S: Storage<u8>, const N: usize> Model for FiniteReceiverOver<S, N> {
-    ghost use Rattle.std.specs.Prelude.{◌≡◌, length};
-    ghost use Rattle.net_assembler.specs.RunLists.{IsCanonical};
-    ghost use Rattle.net_receiver.specs.Finite.{FiniteState, finite_code};
-    ghost use Rattle.net_receiver.specs.FiniteHead.{finite_of, HasSoundFinite};
+    ghost use Rattle.net_receiver.specs.Finite.{FiniteState, finite_code, IsSoundEnd};
+    ghost use Rattle.net_receiver.specs.FiniteHead.{end_with};
 
     ghost Value = { FiniteState };
 
     ghost coded = { finite_code };
 
-    ghost view = { λ a. finite_of a.head (S.elements a.storage) a.runs };
+    ghost view = { λ a. record { receiver = a.receiver; end = end_with a.after_end } };
 
     ghost invariant = { λ a.
-        HasSoundFinite a.head (length (S.elements a.storage)) a.runs × (length a.runs ≡ N)
-        × IsCanonical a.head.receiver.held };
+        IsSoundEnd (record { receiver = a.receiver; end = end_with a.after_end }) };
 }
 
 /// Written by hand, so that storage that isn't `Drop` can be used too.
 impl<S: Storage<u8> + Drop, const N: usize> Drop for FiniteReceiverOver<S, N> {
     fn drop(self) {
         let FiniteReceiverOver {
-            head: _,
-            storage,
-            runs: _,
+            receiver,
+            after_end: _,
         } = self;
-        drop(storage);
+        drop(receiver);
     }
 }
 
@@ -75,7 +74,6 @@ impl<S: Storage<u8>, const N: usize> FiniteReceiverOver<S, N> {
     pub const fn over(storage: S) -> Self
         requires { 1 ≤ N }
         ensures state { result ≡ fresh_finite 0 (length (S.elements storage)) }
-        ensures receives { (x : List ℕ) → ReceivesFinite 0 x result }
     {
         prove!(N >= 1, "N is at least 1");
         Self::over_at(storage, 0)
@@ -94,14 +92,12 @@ impl<S: Storage<u8>, const N: usize> FiniteReceiverOver<S, N> {
         requires runs { 1 ≤ N }
         requires number { first < no_end }
         ensures state { result ≡ fresh_finite first (length (S.elements storage)) }
-        ensures receives { (x : List ℕ) → ReceivesFinite first x result }
     {
         prove!(N >= 1, "N is at least 1");
         prove!(first < u64::MAX, "no number is left for an end");
         FiniteReceiverOver {
-            head: FiniteReceiverHead::new(first),
-            storage,
-            runs: [Run { start: 0, end: 0 }; N],
+            receiver: ReceiverOver::over_at(storage, first),
+            after_end: 0,
         }
     }
 
@@ -114,23 +110,9 @@ impl<S: Storage<u8>, const N: usize> FiniteReceiverOver<S, N> {
         requires { HasSoundFinite head (length (S.elements storage)) runs }
         ensures { result ≡ finite_of head (S.elements storage) runs.entry }
     {
-        if head.receiver.held.used == 0 {
-            return FiniteReceiverOver {
-                head: FiniteReceiverHead {
-                    receiver: ReceiverHead {
-                        held: AssemblerHead::new(),
-                        ..head.receiver
-                    },
-                    ..head
-                },
-                storage,
-                runs,
-            };
-        }
         FiniteReceiverOver {
-            head,
-            storage,
-            runs,
+            receiver: ReceiverOver::from_parts(head.receiver, storage, runs),
+            after_end: head.after_end,
         }
     }
 
@@ -142,10 +124,14 @@ impl<S: Storage<u8>, const N: usize> FiniteReceiverOver<S, N> {
         ensures canonical { IsCanonical result.0.receiver.held }
     {
         let FiniteReceiverOver {
-            head,
-            storage,
-            runs,
+            receiver,
+            after_end,
         } = self;
+        let (receiver, storage, runs) = receiver.into_parts();
+        let head = FiniteReceiverHead {
+            receiver,
+            after_end,
+        };
         (head, storage, runs)
     }
 
@@ -154,8 +140,28 @@ impl<S: Storage<u8>, const N: usize> FiniteReceiverOver<S, N> {
     pub fn into_storage(self) -> S
         ensures { length (S.elements result) ≡ self.receiver.capacity }
     {
-        let (_head, storage, _runs) = self.into_parts();
-        storage
+        let FiniteReceiverOver {
+            receiver,
+            after_end: _,
+        } = self;
+        receiver.into_storage()
+    }
+
+    /// Lends the receiver of the bytes, for reading. Bytes are kept and read by the calls of this type
+    /// alone, so none is kept after the end.
+    ///
+    /// ```
+    /// # use net_base::finite::FiniteReceiver;
+    /// # let mut storage = [0u8; 16];
+    /// # let mut receiver = FiniteReceiver::<4>::empty_at(&mut storage[..], 0);
+    /// assert!(receiver.keep(0, b"abc", true).is_ok());
+    /// assert_eq!((receiver.receiver().queued(), receiver.receiver().window()), (3, 13));
+    /// ```
+    #[must_use]
+    pub fn receiver(&self) -> &ReceiverOver<S, N>
+        ensures { result.now ≡ self.now.receiver }
+    {
+        &self.receiver
     }
 
     /// Begins again over the same storage: a receiver of a stream that begins at position `first`;
@@ -168,10 +174,10 @@ impl<S: Storage<u8>, const N: usize> FiniteReceiverOver<S, N> {
     pub fn reset_at(&mut self, first: u64)
         requires { first < no_end }
         ensures state { self.new ≡ fresh_finite first self.old.receiver.capacity }
-        ensures receives { (x : List ℕ) → ReceivesFinite first x self.new }
     {
         prove!(first < u64::MAX, "no number is left for an end");
-        self.head.reset_at(first);
+        self.receiver.reset_at(first);
+        self.after_end = 0;
     }
 
     /// Returns whether the stream can end at a position: it is the end that is known, or none is,
@@ -181,7 +187,10 @@ impl<S: Storage<u8>, const N: usize> FiniteReceiverOver<S, N> {
     pub fn can_end(&self, pos: u64) -> bool
         ensures { result ≡ can_end self.now pos }
     {
-        self.head.can_end(&self.runs, pos)
+        match self.end() {
+            Some(end) => pos == end,
+            None => pos < NO_END && self.receiver.has_all_below(pos),
+        }
     }
 
     /// Keeps the bytes of a segment that are in the free window and below the end, as
@@ -205,9 +214,32 @@ impl<S: Storage<u8>, const N: usize> FiniteReceiverOver<S, N> {
         // Guarantee.
         ensures grows { acknowledged self.old ≤ acknowledged self.new }
     {
-        let count = self.storage.count();
-        let storage = self.storage.part_mut(0, count);
-        self.head.keep(storage, &mut self.runs, pos, bytes, is_last)
+        // No stream ends at the greatest number.
+        let last = pos.saturating_add(bytes.len() as u64);
+        if is_last && !self.can_end(last) {
+            return Err(FiniteError::OtherEnd);
+        }
+        let after_end = self.after_end_with(last, is_last);
+        let count = count_below(self.after_end, pos, bytes.len());
+        match self.receiver.keep_part(pos, &bytes[..count]) {
+            Ok(kept) => {
+                self.after_end = after_end;
+                Ok(kept)
+            }
+            Err(_) => Err(FiniteError::TooManyHoles),
+        }
+    }
+
+    /// Returns `after_end` after a segment that ends at `last`.
+    #[inline]
+    fn after_end_with(&self, last: u64, is_last: bool) -> u64
+        ensures { end_with result ≡ end_after self.now last is_last }
+    {
+        if is_last && is_reached(self.receiver.next(), self.receiver.window(), last) {
+            number_after(last)
+        } else {
+            self.after_end
+        }
     }
 
     /// Moves bytes from the head of the queue to the beginning of `into`, and returns how many: as
@@ -221,29 +253,13 @@ impl<S: Storage<u8>, const N: usize> FiniteReceiverOver<S, N> {
             ++ drop (length self.old.receiver.queue) into.old }
         ensures receives { (f : ℕ) (x : List ℕ) → ReceivesFinite f x self.old →
             ReceivesFinite f x self.new }
-        ensures bytes { (f : ℕ) (x : List ℕ) → ReceivesFinite f x self.old → take result into.new
-            ≡ slice_range x self.old.receiver.read (self.old.receiver.read + result) }
     {
-        self.head.read(whole(&self.storage), into)
+        self.receiver.read(into)
     }
 
-    /// Shows the queue, in order, in two parts: the bytes up to the storage's end, and those from its
-    /// beginning on. The second part is empty unless the queue wraps.
-    #[must_use]
-    pub fn as_slices(&self) -> (&[u8], &[u8])
-        // Guarantee.
-        ensures queue { result.0.now ++ result.1.now ≡ self.now.receiver.queue }
-        ensures value { (result.0.now ≡ first_part self.now.receiver)
-            × (result.1.now ≡ second_part self.now.receiver) }
-        ensures bytes { (f : ℕ) (x : List ℕ) → ReceivesFinite f x self.now →
-            result.0.now ++ result.1.now ≡ slice_range x self.now.receiver.read
-            (self.now.receiver.read + length self.now.receiver.queue) }
-    {
-        self.head.receiver.as_slices(whole(&self.storage))
-    }
-
-    /// Calls `f` on the first part of the queue, as `as_slices` shows it, takes as many bytes off the
-    /// queue as `f` counts, and returns what `f` returned. The part is empty only if the queue is.
+    /// Calls `f` on the first part of the queue, as `ReceiverOver::as_slices` shows it, takes as many
+    /// bytes off the queue as `f` counts, and returns what `f` returned. The part is empty only if the
+    /// queue is.
     ///
     /// ```
     /// # use net_base::finite::FiniteReceiver;
@@ -251,7 +267,7 @@ impl<S: Storage<u8>, const N: usize> FiniteReceiverOver<S, N> {
     /// # let mut receiver = FiniteReceiver::<4>::empty_at(&mut storage[..], 0);
     /// assert!(receiver.keep(0, b"abc", true).is_ok());
     /// assert_eq!(receiver.read_with(|bytes| (2, bytes.len())), (2, 3));
-    /// assert_eq!((receiver.queued(), receiver.has_read_all()), (1, false));
+    /// assert_eq!((receiver.receiver().queued(), receiver.has_read_all()), (1, false));
     /// ```
     ///
     /// # Requires
@@ -267,17 +283,12 @@ impl<S: Storage<u8>, const N: usize> FiniteReceiverOver<S, N> {
         ensures not_empty { 0 < length self.old.receiver.queue →
             0 < contiguous_count self.old.receiver }
         ensures state { self.new ≡ finite_after_read self.old result.0 }
-        ensures receives { (f : ℕ) (x : List ℕ) → ReceivesFinite f x self.old →
-            ReceivesFinite f x self.new }
-        ensures bytes { (f : ℕ) (x : List ℕ) → ReceivesFinite f x self.old →
-            take result.0 self.old.receiver.queue
-            ≡ slice_range x self.old.receiver.read (self.old.receiver.read + result.0) }
     {
-        let part = self.first_slice();
+        let part = self.receiver.first_slice();
         let lent = part.len();
         let answer = f(part);
         prove!(answer.0 <= lent, "more bytes than were lent");
-        self.head.remove(self.storage.count(), answer.0);
+        self.receiver.remove_part(answer.0);
         answer
     }
 
@@ -290,23 +301,12 @@ impl<S: Storage<u8>, const N: usize> FiniteReceiverOver<S, N> {
     pub fn remove(&mut self, count: usize)
         requires { count ≤ length self.old.receiver.queue }
         ensures state { self.new ≡ finite_after_read self.old count }
-        ensures receives { (f : ℕ) (x : List ℕ) → ReceivesFinite f x self.old →
-            ReceivesFinite f x self.new }
-        ensures bytes { (f : ℕ) (x : List ℕ) → ReceivesFinite f x self.old →
-            take count self.old.receiver.queue
-            ≡ slice_range x self.old.receiver.read (self.old.receiver.read + count) }
     {
-        prove!(count <= self.queued(), "more bytes than are queued");
-        self.head.remove(self.storage.count(), count);
-    }
-
-    /// Shows the first part of the queue, which is empty only if the queue is.
-    fn first_slice(&self) -> &[u8]
-        ensures value { result.now ≡ first_part self.now.receiver }
-        ensures some { 0 < length self.now.receiver.queue → 0 < contiguous_count self.now.receiver }
-    {
-        let receiver = &self.head.receiver;
-        receiver.peek(whole(&self.storage), 0, receiver.queued())
+        prove!(
+            count <= self.receiver().queued(),
+            "more bytes than are queued"
+        );
+        self.receiver.remove_part(count);
     }
 
     /// Returns the position after the last byte, once it is known.
@@ -315,17 +315,15 @@ impl<S: Storage<u8>, const N: usize> FiniteReceiverOver<S, N> {
         ensures some { self.now.end < no_end → result ≡ Some self.now.end }
         ensures none { no_end ≤ self.now.end → result ≡ None }
     {
-        self.head.end()
+        self.after_end.checked_sub(1)
     }
 
     /// Returns whether all bytes and the end have arrived. Once it is so it stays so.
     #[must_use]
     pub fn is_complete(&self) -> bool
         ensures value { result ≡ is_complete self.now }
-        ensures whole { (f : ℕ) (x : List ℕ) → ReceivesFinite f x self.now → IsTrue result →
-            self.now.receiver.read + length self.now.receiver.queue ≡ length x }
     {
-        self.head.is_complete()
+        self.receiver.next() == end_or_max(self.after_end)
     }
 
     /// Returns the number that an acknowledgement carries: the first missing position, or, once all
@@ -334,59 +332,15 @@ impl<S: Storage<u8>, const N: usize> FiniteReceiverOver<S, N> {
     pub fn acknowledged(&self) -> u64
         ensures { result ≡ acknowledged self.now }
     {
-        self.head.acknowledged()
+        acknowledged(self.receiver.next(), self.after_end)
     }
 
     /// Returns whether all bytes were read, up to the end. Once it is so it stays so.
     #[must_use]
     pub fn has_read_all(&self) -> bool
         ensures value { result ≡ has_read_all self.now }
-        ensures whole { (f : ℕ) (x : List ℕ) → ReceivesFinite f x self.now → IsTrue result →
-            self.now.receiver.read ≡ length x }
     {
-        self.head.has_read_all()
-    }
-
-    /// Returns the first missing position, as `ReceiverOver::next` does. It doesn't count the end:
-    /// `acknowledged` does.
-    #[must_use]
-    pub fn next(&self) -> u64
-        ensures { result ≡ next_position self.now.receiver }
-    {
-        self.head.receiver.next()
-    }
-
-    /// Returns how many bytes are queued.
-    #[must_use]
-    pub fn queued(&self) -> usize
-        ensures { result ≡ length self.now.receiver.queue }
-    {
-        self.head.receiver.queued()
-    }
-
-    /// Returns whether no byte is queued; bytes may be held.
-    #[must_use]
-    pub fn is_empty(&self) -> bool
-        ensures { IsTrue result ↔ (self.now.receiver.queue ≡ []) }
-    {
-        self.queued() == 0
-    }
-
-    /// Returns how many bytes have room, queued and held ones included: the storage's length.
-    #[must_use]
-    pub fn capacity(&self) -> usize
-        ensures { result ≡ self.now.receiver.capacity }
-    {
-        self.storage.count()
-    }
-
-    /// Returns the window: how many bytes have room after the queue, held ones among them.
-    #[must_use]
-    pub fn window(&self) -> usize
-        ensures window { result ≡ self.now.receiver.capacity - length self.now.receiver.queue }
-        ensures room { length self.now.receiver.queue + result ≡ self.now.receiver.capacity }
-    {
-        self.head.receiver.window(self.storage.count())
+        self.receiver.unread() == end_or_max(self.after_end)
     }
 
     /// Returns the end of the free window, for what is announced: never below `acknowledged`, which is
@@ -409,42 +363,8 @@ impl<S: Storage<u8>, const N: usize> FiniteReceiverOver<S, N> {
         ensures none { 2 ^ 64 ≤ limit_of self.now.receiver → result ≡ None }
         ensures after_next { next_position self.now.receiver ≤ limit_of self.now.receiver }
     {
-        self.head.window_end(self.storage.count())
-    }
-
-    /// Returns the held runs as absolute (start, end), as `ReceiverOver::held` does: of bytes alone.
-    #[must_use]
-    pub fn held(&self) -> HeldRuns<'_, N>
-        ensures runs { result ≡ maximal_runs (domain self.now.receiver.held) }
-        ensures bound { length result ≤ N }
-    {
-        self.head.receiver.held(&self.runs)
-    }
-
-    /// Returns how many runs are held, without a look at them: as many as `held` yields, at most `N`.
-    #[must_use]
-    pub fn held_count(&self) -> usize
-        ensures count { result ≡ run_count (domain self.now.receiver.held) }
-        ensures bound { result ≤ N }
-    {
-        self.head.receiver.held_count()
-    }
-
-    /// Returns at most `K` held runs, the newest first, as `ReceiverOver::newest_runs` does.
-    pub fn newest_runs<const K: usize>(
-        &self,
-        position: u64,
-        recent: &mut [u64; K],
-    ) -> NewestRunIter<K>
-        ensures listed { result
-            ≡ newest_runs K (domain self.now.receiver.held) (position ∷ recent.old) }
-        ensures count { length result ≤ K }
-        ensures recent { recent.new ≡ with_starts recent.old result }
-    {
-        let mut runs = [HeldRun { start: 0, end: 0 }; K];
-        let head = &self.head.receiver;
-        let count = head.newest_runs(&self.runs, position, recent, &mut runs);
-        NewestRunIter::over(runs, count)
+        let end = self.receiver.window_end()?;
+        Some(end.max(self.acknowledged()))
     }
 
     /// Returns how many bytes of a segment of `len` bytes at `position` would be new: those in the
@@ -455,8 +375,8 @@ impl<S: Storage<u8>, const N: usize> FiniteReceiverOver<S, N> {
         ensures { result ≡ new_count self.now.receiver position
             (min len (bytes_end self.now - position)) }
     {
-        self.head
-            .count_new(self.storage.count(), &self.runs, position, len)
+        let count = count_below(self.after_end, position, len);
+        self.receiver.count_part(position, count)
     }
 
     /// Returns whether two receivers of a stream that ends are equal in first position, count of
@@ -465,9 +385,8 @@ impl<S: Storage<u8>, const N: usize> FiniteReceiverOver<S, N> {
     pub fn same_state<O: Storage<u8>>(&self, other: &FiniteReceiverOver<O, N>) -> bool
         ensures { IsTrue result ↔ IsSameFinite self.now other.now }
     {
-        let storage = whole(&self.storage);
-        let other_storage = whole(&other.storage);
-        self.head.is_same_state(storage, &self.runs, &other.head, other_storage, &other.runs)
+        end_or_max(self.after_end) == end_or_max(other.after_end)
+            && self.receiver.same_state(&other.receiver)
     }
 
     /// States what is true of every receiver; it does nothing. Callers use `laws::is_sound_end`.
@@ -475,6 +394,6 @@ impl<S: Storage<u8>, const N: usize> FiniteReceiverOver<S, N> {
         ensures bytes { IsSound N self.now.receiver }
         ensures end { IsSoundEnd self.now }
     {
-        let _ = &self.head;
+        self.receiver.is_sound();
     }
 }

@@ -1,12 +1,12 @@
 //! A receiver of a stream that ends, in parts.
-ghost use Rattle.std.specs.Prelude.{◌≡◌, ◌↔◌, ℕ, ◌+◌, ◌-◌, ◌<◌, ◌≤◌, ◌^◌, min, max, List, length};
-ghost use Rattle.std.specs.Prelude.{IsTrue, OnErr, Some, None, ◌==◌, ◌++◌, take, drop};
-ghost use Rattle.std.specs.Prelude.{slice_range, nat_lt, nat_le, ◌&&◌, if◌then◌else◌};
+#![tactic(auto, using(crate::proofs::FiniteReceivers::ends))]
+
+ghost use Rattle.std.specs.Prelude.{◌≡◌, ◌↔◌, ℕ, ◌+◌, ◌-◌, ◌<◌, ◌≤◌, ◌^◌, min, max, List, length, IsTrue, OnErr, Some};
+ghost use Rattle.std.specs.Prelude.{None, ◌==◌, ◌++◌, take, drop, nat_lt, nat_le, ◌&&◌, if◌then◌else◌};
 ghost use Rattle.net_ring.specs.Ring.{queue};
 ghost use Rattle.net_ring.specs.RingHead.{IsSound as IsSoundPlace, ring_at};
 ghost use Rattle.net_receiver.specs.Finite.{no_end, fresh_finite, can_end_by, finite_after, finite_result};
 ghost use Rattle.net_receiver.specs.Finite.{finite_after_read, IsSameFinite, is_complete, acknowledged, has_read_all};
-ghost use Rattle.net_receiver.specs.Finite.{MatchesFinite, ReceivesFinite};
 ghost use Rattle.net_receiver.specs.ReceiverState.{count_between, limit_of};
 ghost use Rattle.net_receiver.specs.Head.{head_after_read, held_at, top_at, HasSoundHeld};
 ghost use Rattle.net_receiver.specs.FiniteHead.{finite_of, HasSoundFinite, next_of, end_of, end_with};
@@ -39,12 +39,51 @@ pub struct FiniteReceiverHead {
     pub after_end: u64,
 }
 
-/// Returns the number after that of an end, or 0 if that is none.
+// What a head and a `FiniteReceiverOver` do with the number after the end's, `after_end`.
+
+/// Returns the position after the last byte, or the greatest number of 64 bits while it isn't known: that is
+/// above each position.
 #[inline(always)]
-fn number_after(end: u64) -> u64
+pub(crate) fn end_or_max(after_end: u64) -> u64
+    ensures { result ≡ end_with after_end }
+{
+    after_end.wrapping_sub(1)
+}
+
+/// Returns the number after that of an end, or 0 for `NO_END`.
+#[inline(always)]
+pub(crate) fn number_after(end: u64) -> u64
     ensures { end_with result ≡ end }
 {
-    if end == NO_END { 0 } else { end + 1 }
+    end.wrapping_add(1)
+}
+
+/// Returns whether an end is at most the end of the free window, which has `window` bytes from `next` on.
+#[inline(always)]
+pub(crate) fn is_reached(next: u64, window: usize, end: u64) -> bool
+    ensures { result ≡ nat_le end (next + window) }
+{
+    end.saturating_sub(next) <= window as u64
+}
+
+/// Returns how many of `len` bytes at `pos` are below the end, or while that isn't known below the
+/// greatest number that an end can have.
+#[inline(always)]
+pub(crate) fn count_below(after_end: u64, pos: u64, len: usize) -> usize
+    ensures { result ≡ min len (min (end_with after_end) (no_end - 1) - pos) }
+{
+    let end = end_or_max(after_end).min(NO_END - 1);
+    (len as u64).min(end.saturating_sub(pos)) as usize
+}
+
+/// Returns the number that an acknowledgement carries, where `next` is the first missing position.
+#[inline(always)]
+pub(crate) fn acknowledged(next: u64, after_end: u64) -> u64
+    requires { next < no_end }
+    ensures { result ≡ (if next == end_with after_end then next + 1 else next) }
+{
+    let end = end_or_max(after_end);
+    if next == end { next + 1 } else { next }
 }
 
 impl FiniteReceiverHead {
@@ -92,23 +131,8 @@ impl FiniteReceiverHead {
     pub fn is_sound(&self, capacity: usize, runs: &[Run]) -> bool
         ensures { IsTrue result ↔ HasSoundFinite self.now capacity runs.now }
     {
-        self.receiver.is_sound(capacity, runs)
-            && self
-                .receiver
-                .has_all_below(runs, self.end_or_none().min(NO_END - 1))
-    }
-
-    /// Returns the position after the last byte, or the greatest number of 64 bits while it isn't known.
-    #[inline(always)]
-    fn end_or_none(&self) -> u64
-        ensures value { result ≡ end_of self.now }
-        ensures most { result ≤ no_end }
-    {
-        if self.after_end == 0 {
-            NO_END
-        } else {
-            self.after_end - 1
-        }
+        let end = end_or_max(self.after_end).min(NO_END - 1);
+        self.receiver.is_sound(capacity, runs) && self.receiver.has_all_below(runs, end)
     }
 
     /// Returns whether the end is known.
@@ -117,7 +141,7 @@ impl FiniteReceiverHead {
         ensures value { result ≡ nat_lt (end_of self.now) no_end }
         ensures known { IsTrue result ↔ (end_of self.now < no_end) }
     {
-        self.end_or_none() < NO_END
+        self.after_end > 0
     }
 
     /// Returns the position after the last byte, once it is known.
@@ -125,11 +149,7 @@ impl FiniteReceiverHead {
         ensures some { end_of self.now < no_end → result ≡ Some (end_of self.now) }
         ensures none { no_end ≤ end_of self.now → result ≡ None }
     {
-        if self.knows_end() {
-            Some(self.end_or_none())
-        } else {
-            None
-        }
+        self.after_end.checked_sub(1)
     }
 
     /// Returns whether the stream can end at `pos`: it is the end that is known, or none is, and it
@@ -142,41 +162,26 @@ impl FiniteReceiverHead {
         requires { HasSoundHeld self.now.receiver runs.now }
         ensures { result ≡ can_end_by (end_of self.now) (top_at self.now.receiver runs.now) pos }
     {
-        if pos == NO_END {
-            return false;
+        match self.end() {
+            Some(end) => pos == end,
+            None => pos < NO_END && self.receiver.has_all_below(runs, pos),
         }
-        if self.knows_end() {
-            return pos == self.end_or_none();
-        }
-        self.receiver.has_all_below(runs, pos)
     }
 
-    /// Returns the end that is known after a segment that ends at `pos`, where the storage has
-    /// `capacity` bytes.
+    /// Returns `after_end` after a segment that ends at `last`, where the storage has `capacity` bytes.
     #[inline]
-    fn end_after(&self, capacity: usize, pos: u64, is_last: bool) -> u64
+    fn after_end_with(&self, capacity: usize, last: u64, is_last: bool) -> u64
         requires place { self.now.receiver.place.length ≤ capacity }
         requires fits { next_of self.now < 2 ^ 64 }
-        ensures { result ≡ (if is_last && nat_le pos
+        ensures { end_with result ≡ (if is_last && nat_le last
             (self.now.receiver.first + self.now.receiver.count_read + capacity)
-            then pos else end_of self.now) }
+            then last else end_of self.now) }
     {
-        let ahead = pos.saturating_sub(self.receiver.next());
-        if is_last && ahead <= self.receiver.window(capacity) as u64 {
-            pos
+        if is_last && is_reached(self.receiver.next(), self.receiver.window(capacity), last) {
+            number_after(last)
         } else {
-            self.end_or_none()
+            self.after_end
         }
-    }
-
-    /// Returns how many of `len` bytes at `pos` are below the end, or while that isn't known below the
-    /// greatest number that an end can have.
-    #[inline]
-    fn count_below(&self, pos: u64, len: usize) -> usize
-        ensures { result ≡ min len (min (end_of self.now) (no_end - 1) - pos) }
-    {
-        let end = self.end_or_none().min(NO_END - 1);
-        (len as u64).min(end.saturating_sub(pos)) as usize
     }
 
     /// Keeps the bytes of a segment that are in the free window and below the end, and takes the end, as
@@ -206,19 +211,14 @@ impl FiniteReceiverHead {
         ensures unchanged { OnErr result ((self.new ≡ self.old) × (storage.new ≡ storage.old)
             × (runs.new ≡ runs.old)) }
         ensures canonical { IsCanonical self.old.receiver.held → IsCanonical self.new.receiver.held }
-        ensures receives { (f : ℕ) (x : List ℕ) →
-            ReceivesFinite f x (finite_of self.old storage.old runs.old) →
-            MatchesFinite f x pos bytes.now is_last →
-            ReceivesFinite f x (finite_of self.new storage.new runs.new) }
     {
         // No stream ends at the greatest number.
         let last = pos.saturating_add(bytes.len() as u64);
         if is_last && !self.can_end(runs, last) {
             return Err(FiniteError::OtherEnd);
         }
-        let end = self.end_after(storage.len(), last, is_last);
-        let after_end = number_after(end);
-        let count = self.count_below(pos, bytes.len());
+        let after_end = self.after_end_with(storage.len(), last, is_last);
+        let count = count_below(self.after_end, pos, bytes.len());
         match self.receiver.keep(storage, runs, pos, &bytes[..count]) {
             Ok(kept) => {
                 self.after_end = after_end;
@@ -242,7 +242,7 @@ impl FiniteReceiverHead {
             HasSoundFinite self.now (length storage) runs →
             result ≡ is_complete (finite_of self.now storage runs) }
     {
-        self.receiver.next() == self.end_or_none()
+        self.receiver.next() == end_or_max(self.after_end)
     }
 
     /// Returns the number that an acknowledgement carries: the first missing position, or, once all
@@ -261,8 +261,7 @@ impl FiniteReceiverHead {
         ensures value { result
             ≡ (if next_of self.now == end_of self.now then next_of self.now + 1 else next_of self.now) }
     {
-        let (next, end) = (self.receiver.next(), self.end_or_none());
-        if next == end { next + 1 } else { next }
+        acknowledged(self.receiver.next(), self.after_end)
     }
 
     /// Returns whether all bytes were read, up to the end. Once it is so it stays so.
@@ -276,7 +275,7 @@ impl FiniteReceiverHead {
         ensures state { (storage : List ℕ) (runs : List (ℕ × ℕ)) →
             result ≡ has_read_all (finite_of self.now storage runs) }
     {
-        self.receiver.first + self.receiver.count_read == self.end_or_none()
+        self.receiver.first + self.receiver.count_read == end_or_max(self.after_end)
     }
 
     /// Returns the end of the free window, where the storage has `capacity` bytes, for what is announced:
@@ -327,11 +326,6 @@ impl FiniteReceiverHead {
         ensures state { (runs : List (ℕ × ℕ)) → HasSoundFinite self.old (length storage.now) runs →
             finite_of self.new storage.now runs
             ≡ finite_after_read (finite_of self.old storage.now runs) (length into.old) }
-        ensures receives { (runs : List (ℕ × ℕ)) → HasSoundFinite self.old (length storage.now) runs →
-            (f : ℕ) (x : List ℕ) → ReceivesFinite f x (finite_of self.old storage.now runs) →
-            ReceivesFinite f x (finite_of self.new storage.now runs)
-            × (take result into.new ≡ slice_range x self.old.receiver.count_read
-            (self.old.receiver.count_read + result)) }
     {
         self.receiver.read(storage, into)
     }
@@ -355,12 +349,6 @@ impl FiniteReceiverHead {
         ensures state { (storage : List ℕ) (runs : List (ℕ × ℕ)) → length storage ≡ capacity →
             HasSoundFinite self.old capacity runs → finite_of self.new storage runs
             ≡ finite_after_read (finite_of self.old storage runs) count }
-        ensures receives { (storage : List ℕ) (runs : List (ℕ × ℕ)) → length storage ≡ capacity →
-            HasSoundFinite self.old capacity runs → (f : ℕ) (x : List ℕ) →
-            ReceivesFinite f x (finite_of self.old storage runs) →
-            ReceivesFinite f x (finite_of self.new storage runs)
-            × (take count (queue (ring_at storage self.old.receiver.place))
-            ≡ slice_range x self.old.receiver.count_read (self.old.receiver.count_read + count)) }
     {
         self.receiver.remove(capacity, count);
     }
@@ -383,10 +371,11 @@ impl FiniteReceiverHead {
         ensures { IsTrue result ↔ IsSameFinite (finite_of self.now storage.now runs.now)
             (finite_of other.now other_storage.now other_runs.now) }
     {
-        self.end_or_none() == other.end_or_none()
+        let there = &other.receiver;
+        end_or_max(self.after_end) == end_or_max(other.after_end)
             && self
                 .receiver
-                .is_same_state(storage, runs, &other.receiver, other_storage, other_runs)
+                .is_same_state(storage, runs, there, other_storage, other_runs)
     }
 
     /// Returns how many bytes of a segment of `len` bytes at `position` would be new, where the
@@ -405,7 +394,7 @@ impl FiniteReceiverHead {
             (held_at self.now.receiver runs.now) position
             (min len (min (end_of self.now) (no_end - 1) - position)) }
     {
-        let count = self.count_below(position, len);
+        let count = count_below(self.after_end, position, len);
         self.receiver.count_part(capacity, runs, position, count)
     }
 }

@@ -1,55 +1,95 @@
+use Rattle.std.proofs.Common.{ℕ, List, cond, is_ok}
+use Rattle.net_receiver.specs.{end_with, bytes_end, with_error, finite_result}
+use Rattle.net_receiver.proofs.FiniteReceivers.{no_other_at, end_after_at, cut_is, left_state, left_result, sound_after}
 use Rattle.net_receiver.proofs.FiniteReceivers.{segment_of_stream, finite_reads_nothing, one_acknowledged}
-use Rattle.net_receiver.proofs.FiniteReceivers.{has_sound_end}
-use Rattle.net_receiver.proofs.Words.{◌≡◌, ◌≤◌, ◌∙◌, ap, subst, sym, length, FiniteState, IsSoundEnd, acknowledged}
-use Rattle.net_receiver.proofs.Words.{finite_after, finite_result, finite_of, HasSoundFinite, ReceivesFinite, Arrives}
-use Rattle.net_receiver.proofs.Heads.{part_is, whole_written}
+use Rattle.net_receiver.proofs.Words.{◌≡◌, ◌⊎◌, ◌+◌, ◌-◌, ◌≤◌, ◌∙◌, ap, subst, sym, inl, inr, length, take, min}
+use Rattle.net_receiver.proofs.Words.{false, true, Ok, FiniteState, IsSoundEnd, acknowledged}
+use Rattle.net_receiver.proofs.Words.{ReceivesFinite, Arrives, can_end, has_other_end, below_end, end_after, Segment}
+use Rattle.net_receiver.proofs.Words.{finite_after, receiver_after_command, numbers, verdict, piece, KeptBytes}
 use Rattle.net_receiver.proofs.finite_receiver.FiniteReceiverOver.keep.Given as given
 use Rattle.net_receiver.proofs.finite_receiver.FiniteReceiverOver.keep.Goals as goal
+use Rattle.net_receiver.proofs.finite_receiver.FiniteReceiverOver.keep.Goals.{else-is_last-via-then-is_last+else-not-can_end}
+use Rattle.net_receiver.proofs.finite_receiver.FiniteReceiverOver.keep.Goals.{else-is_last-via-else-is_last}
+use Rattle.net_receiver.proofs.finite_receiver.FiniteReceiverOver.keep.Goals.{After-keep_part}
 
-pub keep-requires : goal.keep-requires
-keep-requires g c =
-    let i = c.self.inside in
-    subst (λ xs. HasSoundFinite i.head (length xs) i.runs) (sym (part_is _ _ _ c.count-count.ensures c.part_mut-storage.ensures.value)) c.self.invariant.0
+-- the segment isn't refused for its end, and its bytes below the end are given to the receiver
+module _ (g : given.Over) (c : After-keep_part g) where
+  ends : (c.args.is_last ≡ false) ⊎ (can_end c.args.self.now c.saturating_add-last.result ≡ true)
+  ends = elim c.else-is_last.branch [
+    | else-is_last-via-then-is_last+else-not-can_end w ↦ inr (sym w.can_end.ensures ∙ w.if-not-can_end.false)
+    | else-is_last-via-else-is_last w ↦ inl w.if-is_last.false
+  ]
 
--- what was stored, as the whole storage
-stored : (g : given.Over) (c : goal.After-self-2-1 g) →
-    g.S.Storage.elements (g.S.Storage.with_part c.self.inside.storage 0 c.keep.new.storage) ≡ c.keep.new.storage
-stored g c =
-    whole_written (g.S.Storage.elements c.self.inside.storage) _ c.keep.new.storage
-    (c.keep.auto.storage ∙ ap length (part_is _ _ _ c.count-count.ensures c.part_mut-storage.ensures.value))
-    (g.met.S.Storage.part_written c.self.inside.storage 0 c.keep.new.storage)
+  other : has_other_end c.args.self.now (c.args.pos + length c.args.bytes.now) c.args.is_last ≡ false
+  other = no_other_at c.args.self.now _ c.saturating_add-last.result c.args.is_last c.saturating_add-last.ensures ends
 
--- what was there, in the storage as it was lent
-before : (g : given.Over) (c : goal.After-self-2-1 g) → finite_of c.self.inside.head c.part_mut-storage.result.now c.self.inside.runs ≡ c.args.self.now
-before g c =
-    ap (λ xs. finite_of c.self.inside.head xs c.self.inside.runs) (part_is _ _ _ c.count-count.ensures c.part_mut-storage.ensures.value) ∙ c.self.view_is
+  cut : take c.count_below-count.result c.args.bytes.now ≡ below_end c.args.self.now c.args.pos c.args.bytes.now
+  cut =
+      cut_is _ c.count_below-count.result c.args.bytes.now
+      (c.count_below-count.ensures ∙ ap (λ (s : FiniteState). min (length c.args.bytes.now) (bytes_end s - c.args.pos)) c.self-2.view_is)
 
-sound_end : (g : given.Over) (c : goal.After-self-2-1 g) → IsSoundEnd c.args.self.now
-sound_end g c = subst IsSoundEnd c.self.view_is (has_sound_end _ _ _ c.self.invariant.0)
+  end : end_with c.after_end_with-after_end.result ≡ end_after c.args.self.now (c.args.pos + length c.args.bytes.now) c.args.is_last
+  end = c.after_end_with-after_end.ensures ∙ end_after_at c.args.self.now _ c.saturating_add-last.result c.args.is_last c.saturating_add-last.ensures ends
+
+  -- what was there, as the receiver of the bytes has it
+  before : c.self-2.inside.receiver ≡ c.args.self.now.receiver
+  before = ap (λ (s : FiniteState). s.receiver) c.self-2.view_is
+
+  abbrev given_bytes : List ℕ
+  given_bytes = take c.count_below-count.result c.args.bytes.now
+
+  left_bytes : c.keep_part.new.self ≡ receiver_after_command g.row.N c.args.self.now.receiver (Segment c.args.pos given_bytes)
+  left_bytes = c.keep_part.ensures.state ∙ ap (λ v. receiver_after_command g.row.N v (Segment c.args.pos given_bytes)) before
+
+  counts : c.keep_part.result ≡ numbers c.args.self.now.receiver (verdict g.row.N c.args.self.now.receiver (piece c.args.pos given_bytes))
+  counts = c.keep_part.ensures.counts ∙ ap (λ v. numbers v (verdict g.row.N v (piece c.args.pos given_bytes))) before
+
+  left : (e : ℕ) → e ≡ cond (is_ok c.keep_part.result) (end_after c.args.self.now (c.args.pos + length c.args.bytes.now) c.args.is_last) c.args.self.now.end →
+      record { receiver = c.keep_part.new.self; end = e } ≡ finite_after g.row.N c.args.self.now c.args.pos c.args.bytes.now c.args.is_last
+  left e is = left_state g.row.N c.args.self.now _ _ _ other _ cut _ left_bytes _ counts e is
+
+  value : with_error c.keep_part.result ≡ finite_result g.row.N c.args.self.now c.args.pos c.args.bytes.now c.args.is_last
+  value = left_result g.row.N c.args.self.now _ _ _ other _ cut _ left_bytes _ counts
+
+  -- the segment is kept
+  module _ (k : KeptBytes) (is : c.keep_part.result ≡ Ok k) where
+    state_is : record { receiver = c.keep_part.new.self; end = end_with c.after_end_with-after_end.result }
+        ≡ finite_after g.row.N c.args.self.now c.args.pos c.args.bytes.now c.args.is_last
+    state_is = left _ (end ∙ ap (λ r. cond (is_ok r) (end_after c.args.self.now (c.args.pos + length c.args.bytes.now) c.args.is_last) c.args.self.now.end) (sym is))
+
+    was_sound : IsSoundEnd c.args.self.now
+    was_sound = subst IsSoundEnd c.self-2.view_is c.self-2.invariant
+
+    is_sound : IsSoundEnd (record { receiver = c.keep_part.new.self; end = end_with c.after_end_with-after_end.result })
+    is_sound = subst IsSoundEnd (sym state_is) (sound_after g.row.N c.args.self.now c.args.pos c.args.bytes.now c.args.is_last was_sound)
 
 pub invariant_of-self : goal.invariant_of-self
-invariant_of-self g c =
-    (subst (λ xs. HasSoundFinite c.keep.new.self (length xs) c.keep.new.runs) (sym (stored g c)) c.keep.ensures.sound, c.keep.auto.runs ∙ c.self.invariant.1, c.keep.ensures.canonical c.self.invariant.2)
+invariant_of-self g c = is_sound g (goal.at.invariant_of-self g c).After-keep_part c.in-Ok.kept c.in-Ok.is
 
-state_is : (g : given.Over) (c : goal.After-self-2-1 g) →
-    finite_of c.keep.new.self (g.S.Storage.elements (g.S.Storage.with_part c.self.inside.storage 0 c.keep.new.storage)) c.keep.new.runs
-    ≡ finite_after g.row.N c.args.self.now c.args.pos c.args.bytes.now c.args.is_last
-state_is g c =
-    ap (λ xs. finite_of c.keep.new.self xs c.keep.new.runs) (stored g c)
-    ∙ c.keep.ensures.state
-    ∙ (λ k. finite_after (c.self.invariant.1 k) (before g c k) c.args.pos c.args.bytes.now c.args.is_last)
+pub returns-in-Ok : goal.returns-in-Ok
+returns-in-Ok g c =
+    let s = c.args.self.now in
+    let w = (goal.at.returns-in-Ok g c).After-keep_part in
+    let state = state_is g w c.in-Ok.kept c.in-Ok.is in
+    record {
+      state = state;
+      value = ap with_error (sym c.in-Ok.is) ∙ value g w;
+      receives = λ f x r h.
+          subst (ReceivesFinite f x) (sym state) (segment_of_stream g.row.N f x s c.args.pos c.args.bytes.now c.args.is_last r h).1;
+      read =
+          ap (λ (t : FiniteState). t.receiver.read) state
+          ∙ finite_reads_nothing g.row.N s c.args.pos c.args.bytes.now c.args.is_last;
+      grows =
+          subst (λ t. acknowledged s ≤ acknowledged t) (sym state)
+          (one_acknowledged g.row.N s (Arrives c.args.pos c.args.bytes.now c.args.is_last) (was_sound g w c.in-Ok.kept c.in-Ok.is));
+    }
 
-pub returns : goal.returns
-returns g c = record {
-  state = state_is g c;
-  value = c.keep.ensures.value ∙ (λ k. finite_result (c.self.invariant.1 k) (before g c k) c.args.pos c.args.bytes.now c.args.is_last);
-  receives = λ f x r h.
-      subst (ReceivesFinite f x) (sym (state_is g c))
-      (segment_of_stream g.row.N f x c.args.self.now c.args.pos c.args.bytes.now c.args.is_last r h).1;
-  read =
-      ap (λ (s : FiniteState). s.receiver.read) (state_is g c)
-      ∙ finite_reads_nothing g.row.N c.args.self.now c.args.pos c.args.bytes.now c.args.is_last;
-  grows =
-      subst (λ t. acknowledged c.args.self.now ≤ acknowledged t) (sym (state_is g c))
-      (one_acknowledged g.row.N c.args.self.now (Arrives c.args.pos c.args.bytes.now c.args.is_last) (sound_end g c));
-}
+pub returns-in-Err-clause-state : goal.returns-in-Err-clause-state
+returns-in-Err-clause-state g c =
+    let w = (goal.at.returns-in-Err-clause-state g c).After-keep_part in
+    left g w (end_with c.self-2.inside.after_end) (ap (λ (s : FiniteState). s.end) c.self-2.view_is ∙ ap (λ r. cond (is_ok r) (end_after c.args.self.now (c.args.pos + length c.args.bytes.now) c.args.is_last) c.args.self.now.end) (sym c.in-Err.is))
+
+pub returns-in-Err-clause-value : goal.returns-in-Err-clause-value
+returns-in-Err-clause-value g c =
+    let w = (goal.at.returns-in-Err-clause-value g c).After-keep_part in
+    ap with_error (sym c.in-Err.is) ∙ value g w

@@ -1,8 +1,8 @@
 use Rattle.std.proofs.Common.{◌≡◌, ◌⊎◌, ◌+◌, length, take, true, false, inl, inr, refl, sym, subst, ◌∙◌, Ok, Err, ap, cond, ◌&&◌, nat_le}
-use Rattle.net_receiver.specs.{FiniteState, IsSoundEnd, finite_of, end_with, ReceivesFinite, can_end, has_other_end}
+use Rattle.net_receiver.specs.{FiniteState, IsSoundEnd, finite_of, end_with, can_end, has_other_end}
 use Rattle.net_receiver.specs.{below_end, end_after}
 use Rattle.net_receiver.proofs.FiniteReceivers.{can_end_is, other_end_is, other_state, other_result, other_stores}
-use Rattle.net_receiver.proofs.FiniteReceivers.{segment_of_stream, no_other_at, end_after_at, left_state, left_result}
+use Rattle.net_receiver.proofs.FiniteReceivers.{no_other_at, end_after_at, left_state, left_result}
 use Rattle.net_receiver.proofs.FiniteReceivers.{left_storage, sound_after, cut_is, has_sound_end, sound_finite}
 use Rattle.net_receiver.proofs.Heads.{limit_is}
 use Rattle.net_receiver.proofs.finite_receiver_head.FiniteReceiverHead.keep.Goals as goal
@@ -28,10 +28,9 @@ module _ (c : After-count_below-count) where
   cut : take c.count_below-count.result c.args.bytes.now ≡ below_end s c.args.pos c.args.bytes.now
   cut = cut_is _ c.count_below-count.result c.args.bytes.now c.count_below-count.ensures
 
-  end : end_with c.number_after-after_end.result ≡ end_after s (c.args.pos + length c.args.bytes.now) c.args.is_last
+  end : end_with c.after_end_with-after_end.result ≡ end_after s (c.args.pos + length c.args.bytes.now) c.args.is_last
   end =
-      c.number_after-after_end.ensures
-      ∙ c.end_after-end.ensures
+      c.after_end_with-after_end.ensures
       ∙ ap (λ limit. cond (c.args.is_last && nat_le c.saturating_add-last.result limit) c.saturating_add-last.result s.end)
       (limit_is c.args.storage.now c.requires.parts)
       ∙ end_after_at s _ c.saturating_add-last.result c.args.is_last c.saturating_add-last.ensures ends
@@ -79,14 +78,6 @@ pub returns-in-Err-clause-value : goal.returns-in-Err-clause-value
 returns-in-Err-clause-value c =
     let w = (goal.at.returns-in-Err-clause-value c).After-count_below-count in
     left_result _ (s w) _ _ _ (other w) _ (cut w) _ c.keep.ensures.state (Err c.in-Err.field-0) c.in-Err.ensures.numbers
-
-pub returns-in-Ok-clause-receives : goal.returns-in-Ok-clause-receives
-returns-in-Ok-clause-receives c = λ f x r h.
-    subst (ReceivesFinite f x) (sym (returns-in-Ok-clause-state c)) (segment_of_stream _ f x _ _ _ _ r h).1
-
-pub returns-in-Err-clause-receives : goal.returns-in-Err-clause-receives
-returns-in-Err-clause-receives c = λ f x r h.
-    subst (ReceivesFinite f x) (sym (returns-in-Err-clause-state c)) (segment_of_stream _ f x _ _ _ _ r h).1
 
 pub returns-in-Ok-clause-stored : goal.returns-in-Ok-clause-stored
 returns-in-Ok-clause-stored c =
