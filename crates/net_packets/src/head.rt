@@ -89,7 +89,7 @@ impl PacketsHead {
     /// Returns how many bytes are skipped before a packet of `size` bytes; `None` if there are no
     /// `size` contiguous free bytes, or no slot for the packet or its gap.
     #[inline]
-    pub fn placement(self, slot_count: usize, capacity: usize, size: usize) -> Option<usize>
+    pub(crate) fn placement(self, slot_count: usize, capacity: usize, size: usize) -> Option<usize>
         requires sound { IsSoundHead slot_count capacity self }
         ensures gap { result ≡ placement_in slot_count capacity self size }
     {
@@ -104,7 +104,7 @@ impl PacketsHead {
     /// An empty queue begins at the storage's beginning. The caller writes the size of the gap, if
     /// it has a slot, and size and header of the packet to their slots.
     #[inline]
-    pub fn place(&mut self, slot_count: usize, capacity: usize, size: usize) -> Option<PacketPlace>
+    pub(crate) fn place(&mut self, slot_count: usize, capacity: usize, size: usize) -> Option<PacketPlace>
         requires sound { IsSoundHead slot_count capacity self.old }
         ensures full { IsNone result ↔ (placement_in slot_count capacity self.old size ≡ None) }
         ensures unchanged { IsNone result → self.new ≡ self.old }
@@ -149,7 +149,7 @@ impl PacketsHead {
     ///
     /// The head is sound, a slot is used, and at least `size` bytes are.
     #[inline]
-    pub fn take(&mut self, slot_count: usize, capacity: usize, size: usize) -> usize
+    pub(crate) fn take(&mut self, slot_count: usize, capacity: usize, size: usize) -> usize
         requires sound { IsSoundHead slot_count capacity self.old }
         requires slot { 1 ≤ self.old.slots.length }
         requires size { size ≤ self.old.bytes.length }
@@ -170,7 +170,7 @@ impl PacketsHead {
     ///
     /// At least `count` bytes are used.
     #[inline]
-    pub fn shorten_last(&mut self, count: usize)
+    pub(crate) fn shorten_last(&mut self, count: usize)
         requires size { count ≤ self.old.bytes.length }
         ensures slots { self.new.slots ≡ self.old.slots }
         ensures bytes { self.new.bytes

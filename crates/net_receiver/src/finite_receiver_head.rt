@@ -107,24 +107,6 @@ impl FiniteReceiverHead {
         }
     }
 
-    /// Begins again: the head of a receiver of a stream that begins at position `first`, as `new`
-    /// returns it.
-    ///
-    /// # Requires
-    ///
-    /// `first` is not the greatest number of 64 bits: an end there would have no number after it.
-    #[inline]
-    pub fn reset_at(&mut self, first: u64)
-        requires { first < no_end }
-        ensures sound { (capacity : ℕ) (runs : List (ℕ × ℕ)) →
-            HasSoundFinite self.new capacity runs }
-        ensures state { (storage : List ℕ) (runs : List (ℕ × ℕ)) →
-            finite_of self.new storage runs ≡ fresh_finite first (length storage) }
-        ensures canonical { IsCanonical self.new.receiver.held }
-    {
-        *self = FiniteReceiverHead::new(first);
-    }
-
     /// Returns whether this head, a storage of `capacity` bytes and runs are sound: they are those of
     /// a receiver, and the position after its last byte, held ones too, is at most the end, if that
     /// is known, and below 2^64 - 1. It looks at each held run, and at no byte.
@@ -135,17 +117,8 @@ impl FiniteReceiverHead {
         self.receiver.is_sound(capacity, runs) && self.receiver.has_all_below(runs, end)
     }
 
-    /// Returns whether the end is known.
-    #[inline]
-    pub fn knows_end(&self) -> bool
-        ensures value { result ≡ nat_lt (end_of self.now) no_end }
-        ensures known { IsTrue result ↔ (end_of self.now < no_end) }
-    {
-        self.after_end > 0
-    }
-
     /// Returns the position after the last byte, once it is known.
-    pub fn end(&self) -> Option<u64>
+    fn end(&self) -> Option<u64>
         ensures some { end_of self.now < no_end → result ≡ Some (end_of self.now) }
         ensures none { no_end ≤ end_of self.now → result ≡ None }
     {
@@ -351,31 +324,6 @@ impl FiniteReceiverHead {
             ≡ finite_after_read (finite_of self.old storage runs) count }
     {
         self.receiver.remove(capacity, count);
-    }
-
-    /// Compares two receivers, as `FiniteReceiverOver::same_state` does.
-    ///
-    /// # Requires
-    ///
-    /// Both heads are sound with their storages and runs, as `is_sound` tests.
-    pub fn is_same_state(
-        &self,
-        storage: &[u8],
-        runs: &[Run],
-        other: &FiniteReceiverHead,
-        other_storage: &[u8],
-        other_runs: &[Run],
-    ) -> bool
-        requires sound { HasSoundFinite self.now (length storage.now) runs.now }
-        requires other_sound { HasSoundFinite other.now (length other_storage.now) other_runs.now }
-        ensures { IsTrue result ↔ IsSameFinite (finite_of self.now storage.now runs.now)
-            (finite_of other.now other_storage.now other_runs.now) }
-    {
-        let there = &other.receiver;
-        end_or_max(self.after_end) == end_or_max(other.after_end)
-            && self
-                .receiver
-                .is_same_state(storage, runs, there, other_storage, other_runs)
     }
 
     /// Returns how many bytes of a segment of `len` bytes at `position` would be new, where the

@@ -68,7 +68,7 @@ impl ReceiverHead {
     /// Begins again: the head of a receiver of a stream that begins at position `first`, as `new`
     /// returns it.
     #[inline]
-    pub fn reset_at(&mut self, first: u64)
+    pub(crate) fn reset_at(&mut self, first: u64)
         ensures sound { (capacity : ℕ) (runs : List (ℕ × ℕ)) → HasSoundParts self.new capacity runs }
         ensures state { (storage : List ℕ) (runs : List (ℕ × ℕ)) →
             receiver_of self.new storage runs ≡ fresh_receiver first (length storage) }
@@ -152,7 +152,7 @@ impl ReceiverHead {
     /// Head, storage and runs are sound, as `is_sound` tests, and the segment ends within 64 bits,
     /// as `ReceiverOver::fits` tests.
     #[inline(always)]
-    pub fn segment(
+    pub(crate) fn segment(
         &mut self,
         storage: &mut [u8],
         runs: &mut [Run],
@@ -294,7 +294,7 @@ impl ReceiverHead {
     ///
     /// The queue is in the storage.
     #[inline]
-    pub fn peek<'a>(&self, storage: &'a [u8], offset: usize, size: usize) -> &'a [u8]
+    pub(crate) fn peek<'a>(&self, storage: &'a [u8], offset: usize, size: usize) -> &'a [u8]
         requires { IsSoundPlace (length storage.now) self.now.place }
         ensures count { let g = ring_at storage.now self.now.place in
             length result.now ≡ contiguous_allocated g offset size }
@@ -313,7 +313,7 @@ impl ReceiverHead {
     ///
     /// The queue is in the storage.
     #[inline]
-    pub fn peek_slices<'a>(
+    pub(crate) fn peek_slices<'a>(
         &self,
         storage: &'a [u8],
         offset: usize,
@@ -339,7 +339,7 @@ impl ReceiverHead {
     ///
     /// The queue is in the storage.
     #[inline]
-    pub fn as_slices<'a>(&self, storage: &'a [u8]) -> (&'a [u8], &'a [u8])
+    pub(crate) fn as_slices<'a>(&self, storage: &'a [u8]) -> (&'a [u8], &'a [u8])
         requires { IsSoundPlace (length storage.now) self.now.place }
         ensures queue { result.0.now ++ result.1.now ≡ queue (ring_at storage.now self.now.place) }
         ensures cut { length result.0.now ≡ contiguous_queued (ring_at storage.now self.now.place) }
@@ -390,7 +390,7 @@ impl ReceiverHead {
 
     /// Returns how many bytes are queued.
     #[inline(always)]
-    pub fn queued(&self) -> usize
+    pub(crate) fn queued(&self) -> usize
         ensures { result ≡ self.now.place.length }
     {
         self.place.length
@@ -428,7 +428,7 @@ impl ReceiverHead {
     ///
     /// Head and runs are sound, as `is_sound` tests, with a storage of some length.
     #[inline(always)]
-    pub fn held<'a>(&self, runs: &'a [Run]) -> HeldRunIter<'a>
+    pub(crate) fn held<'a>(&self, runs: &'a [Run]) -> HeldRunIter<'a>
         requires { HasSoundHeld self.now runs.now }
         ensures runs { result ≡ maximal_runs (held_at self.now runs.now) }
         ensures bound { length result ≤ length runs.now }
@@ -441,7 +441,7 @@ impl ReceiverHead {
 
     /// Returns how many runs are held, without a look at them.
     #[inline(always)]
-    pub fn held_count(&self) -> usize
+    pub(crate) fn held_count(&self) -> usize
         ensures value { result ≡ self.now.held.used }
         ensures state { (storage : List ℕ) (runs : List (ℕ × ℕ)) →
             HasSoundParts self.now (length storage) runs →
@@ -588,7 +588,7 @@ impl ReceiverHead {
     /// # Requires
     ///
     /// Head and runs are sound, as `is_sound` tests, with a storage of some length.
-    pub fn has_all_below(&self, runs: &[Run], pos: u64) -> bool
+    pub(crate) fn has_all_below(&self, runs: &[Run], pos: u64) -> bool
         requires { HasSoundHeld self.now runs.now }
         ensures { IsTrue result ↔ (top_at self.now runs.now ≤ pos) }
     {
@@ -601,7 +601,7 @@ impl ReceiverHead {
     /// # Requires
     ///
     /// Both heads are sound with their storages and runs, as `is_sound` tests.
-    pub fn is_same_state(
+    pub(crate) fn is_same_state(
         &self,
         storage: &[u8],
         runs: &[Run],

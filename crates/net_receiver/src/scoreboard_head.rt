@@ -65,7 +65,7 @@ impl ScoreboardHead {
     }
 
     /// Returns a scoreboard to which nothing was reported, whatever its runs: `new_at` with 0.
-    pub const fn new() -> Self
+    pub(crate) const fn new() -> Self
         ensures base { result.base ≡ 0 }
         ensures no_run { result.reported.used ≡ 0 }
         ensures no_start { result.reported.first_start ≡ 0 }
@@ -77,7 +77,7 @@ impl ScoreboardHead {
     }
 
     /// Begins again: a scoreboard of a stream that begins at position `first`, as `new_at` returns it.
-    pub fn reset_at(&mut self, first: u64)
+    pub(crate) fn reset_at(&mut self, first: u64)
         ensures base { self.new.base ≡ first }
         ensures no_run { self.new.reported.used ≡ 0 }
         ensures no_start { self.new.reported.first_start ≡ 0 }
@@ -179,7 +179,7 @@ impl ScoreboardHead {
 
     /// Returns the first position that wasn't reported.
     #[tactic(auto, using(crate::proofs::Scoreboards::front_board))]
-    pub fn first_unreported(&self) -> u64
+    pub(crate) fn first_unreported(&self) -> u64
         ensures value { result ≡ self.now.base }
         ensures state { (runs : List (ℕ × ℕ)) → IsSoundBoard self.now runs →
             result ≡ front (reported_by self.now runs) }
@@ -214,7 +214,7 @@ impl ScoreboardHead {
     /// # Requires
     ///
     /// The scoreboard is sound with the runs.
-    pub fn reported<'a>(&self, runs: &'a [Run]) -> HeldRunIter<'a>
+    pub(crate) fn reported<'a>(&self, runs: &'a [Run]) -> HeldRunIter<'a>
         requires { IsSoundBoard self.now runs.now }
         ensures runs { result ≡ maximal_runs (beyond (reported_by self.now runs.now)) }
         ensures bound { length result ≤ length runs.now }
@@ -257,7 +257,7 @@ impl ScoreboardHead {
     /// # Requires
     ///
     /// The scoreboard is sound with the runs.
-    pub fn first_missing(&self, runs: &[Run], pos: u64) -> u64
+    pub(crate) fn first_missing(&self, runs: &[Run], pos: u64) -> u64
         requires { IsSoundBoard self.now runs.now }
         ensures { result ≡ first_missing (reported_by self.now runs.now) pos }
     {

@@ -54,7 +54,7 @@ impl SenderHead {
 
     /// Returns whether the position after the last byte that was written fits 64 bits.
     #[inline]
-    pub fn end_fits(&self) -> bool
+    pub(crate) fn end_fits(&self) -> bool
         ensures { IsTrue result
             ↔ (self.now.first_unacknowledged + self.now.place.length < 2 ^ 64) }
     {
@@ -67,7 +67,7 @@ impl SenderHead {
     ///
     /// It fits 64 bits, as `end_fits` tests, and as it does where the head is sound for a storage.
     #[inline]
-    pub fn end(&self) -> u64
+    pub(crate) fn end(&self) -> u64
         requires { self.now.first_unacknowledged + self.now.place.length < 2 ^ 64 }
         ensures { result ≡ self.now.first_unacknowledged + self.now.place.length }
     {
@@ -81,7 +81,7 @@ impl SenderHead {
     ///
     /// The head is sound for a storage of `capacity` bytes.
     #[inline]
-    pub fn room(&self, capacity: usize) -> usize
+    pub(crate) fn room(&self, capacity: usize) -> usize
         requires { IsSoundHead capacity self.now }
         ensures value { result ≡ min (capacity - self.now.place.length)
             (2 ^ 64 - 1 - (self.now.first_unacknowledged + self.now.place.length)) }
@@ -97,7 +97,7 @@ impl SenderHead {
     ///
     /// The head is sound for the storage.
     #[inline]
-    pub fn write(&mut self, storage: &mut [u8], bytes: &[u8]) -> usize
+    pub(crate) fn write(&mut self, storage: &mut [u8], bytes: &[u8]) -> usize
         requires { IsSoundHead (length storage.old) self.old }
         ensures sound { IsSoundHead (length storage.old) self.new }
         ensures count { result ≡ min (length bytes.now) (room_of (sender_of self.old storage.old)) }
@@ -120,7 +120,7 @@ impl SenderHead {
     ///
     /// The head is sound for a storage of `capacity` bytes.
     #[inline]
-    pub fn peek_at(&self, capacity: usize, pos: u64, max: usize) -> Span
+    pub(crate) fn peek_at(&self, capacity: usize, pos: u64, max: usize) -> Span
         requires { IsSoundHead capacity self.now }
         ensures from { self.now.first_unacknowledged ≤ pos → result.from
             ≡ queued_index capacity self.now.place (pos - self.now.first_unacknowledged) }
@@ -157,7 +157,7 @@ impl SenderHead {
     ///
     /// The head is sound for a storage of `capacity` bytes.
     #[inline]
-    pub fn acknowledge(&mut self, capacity: usize, next: u64) -> bool
+    pub(crate) fn acknowledge(&mut self, capacity: usize, next: u64) -> bool
         requires { IsSoundHead capacity self.old }
         ensures sound { IsSoundHead capacity self.new }
         ensures accepted { IsTrue result ↔ ((self.old.first_unacknowledged ≤ next)
@@ -194,7 +194,7 @@ impl SenderHead {
     ///
     /// The position after the last byte that was written fits 64 bits, as `end_fits` tests.
     #[inline]
-    pub fn mark_sent(&self, sent: &mut u64, pos: u64) -> bool
+    pub(crate) fn mark_sent(&self, sent: &mut u64, pos: u64) -> bool
         requires { self.now.first_unacknowledged + self.now.place.length < 2 ^ 64 }
         ensures accepted { IsTrue result
             ↔ ((sent.old ≤ self.now.first_unacknowledged + self.now.place.length)
@@ -218,7 +218,7 @@ impl SenderHead {
     ///
     /// The head is sound for a storage of `capacity` bytes.
     #[inline]
-    pub fn acknowledge_sent(&mut self, capacity: usize, next: u64, sent: u64) -> bool
+    pub(crate) fn acknowledge_sent(&mut self, capacity: usize, next: u64, sent: u64) -> bool
         requires { IsSoundHead capacity self.old }
         ensures sound { IsSoundHead capacity self.new }
         ensures accepted { IsTrue result ↔ ((self.old.first_unacknowledged ≤ next) × (next ≤ sent)

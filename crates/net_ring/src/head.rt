@@ -192,7 +192,7 @@ impl RingHead {
 impl RingHead {
     /// Empties the queue, and moves the read index to the storage's beginning.
     #[inline]
-    pub fn clear(&mut self)
+    pub(crate) fn clear(&mut self)
         ensures { self.new ≡ place 0 0 }
     {
         *self = RingHead::new();
@@ -296,7 +296,7 @@ impl RingHead {
     ///
     /// An empty ring first moves its read index to the storage's beginning.
     #[inline]
-    pub fn enqueue_many(&mut self, capacity: usize, size: usize) -> Span
+    pub(crate) fn enqueue_many(&mut self, capacity: usize, size: usize) -> Span
         requires sound { IsSound capacity self.old }
         ensures from { result.from ≡ free_index capacity (rewound self.old) 0 }
         ensures count { result.count
@@ -337,7 +337,7 @@ impl RingHead {
     /// Dequeues contiguous elements, at most `size`, and returns where they are: the span has no
     /// others.
     #[inline]
-    pub fn dequeue_many(&mut self, capacity: usize, size: usize) -> Span
+    pub(crate) fn dequeue_many(&mut self, capacity: usize, size: usize) -> Span
         requires sound { IsSound capacity self.old }
         ensures from { result.from ≡ self.old.read_at }
         ensures count { result.count

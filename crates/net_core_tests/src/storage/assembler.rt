@@ -49,32 +49,23 @@ fn an_assembler_in_parts(rt: HostRuntime) {
     assert_holds(&rt, adds_in_parts(&mut head, &mut runs), ("parts", 2));
 }
 
-/// Adds a range to an assembler and to one in parts, with counts that were raised before. Returns whether both took it.
-fn adds_counted(
-    assembler: &mut Assembler<2>,
-    head: &mut AssemblerHead,
-    runs: &mut [Run; 2],
-) -> bool {
+/// Adds a range to an assembler, with counts that were raised before. Returns whether it was taken.
+fn adds_counted(assembler: &mut Assembler<2>) -> bool {
     let mut turns = Turns::new();
     turns.look();
     turns.step();
-    *head = AssemblerHead::new();
     is_usize(9);
     assembler.add_counted(7, 2, &mut turns).is_ok()
-        && head.add_counted(runs, 7, 2, &mut turns).is_ok()
 }
 
 /// A range whose turns are counted is added as others are.
 #[test]
 fn counted_ranges_are_added(rt: HostRuntime) {
     let mut assembler = Assembler::<2>::empty();
-    let mut head = AssemblerHead::new();
-    let mut runs = [Run { start: 0, end: 0 }; 2];
-    let added = adds_counted(&mut assembler, &mut head, &mut runs);
+    let added = adds_counted(&mut assembler);
     assert_holds(
         &rt,
         added && assembler.run_at(0) == Some((7, 9)),
         ("run", 7),
     );
-    assert_holds(&rt, head.first_start == 7 && head.used == 1, ("parts", 7));
 }

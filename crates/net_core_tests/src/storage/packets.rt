@@ -2,5 +2,4 @@
 
 mod clones;
 mod drops;
-mod head;
 mod packet_buffer;

@@ -55,7 +55,7 @@ impl FragmentsHead {
     }
 
     /// Begins again, for a packet that expires after `expires_at`.
-    pub fn reset(&mut self, expires_at: i64)
+    pub(crate) fn reset(&mut self, expires_at: i64)
         ensures sound { (bytes : List ℕ) (runs : List (ℕ × ℕ)) →
             HasSoundParts self.new bytes runs }
         ensures nothing { (runs : List (ℕ × ℕ)) → set_of self.new.present runs ≡ nothing }
@@ -171,7 +171,7 @@ impl FragmentsHead {
     /// # Requires
     ///
     /// Head, bytes and runs are those of a buffer.
-    pub fn add_fragment(
+    pub(crate) fn add_fragment(
         &mut self,
         bytes: &mut [u8],
         runs: &mut [Run],
@@ -212,7 +212,7 @@ impl FragmentsHead {
     /// # Requires
     ///
     /// Head, bytes and runs are those of a buffer.
-    pub fn reset_with(
+    pub(crate) fn reset_with(
         &mut self,
         bytes: &mut [u8],
         runs: &mut [Run],
@@ -274,7 +274,7 @@ impl FragmentsHead {
     }
 
     /// Returns the packet's size, once it is known.
-    pub fn total_size(&self) -> Option<usize>
+    pub(crate) fn total_size(&self) -> Option<usize>
         ensures { result ≡ total_of self.now }
     {
         if self.has_total == 0 {
