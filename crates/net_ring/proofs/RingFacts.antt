@@ -81,6 +81,10 @@ module _ {T : Type 0} where
   ring_is a b es er eh = ap (λ l. ring l a.read_at a.count) es ∙ ap₂ (λ r n. ring b.storage r n) er eh
 
   module _ (g : RingState T) (wf : IsWellFormed g) where
+    -- p is the index in the storage of the element j of the rotated storage
+    abbrev At : ℕ → ℕ → Type 0
+    At j p = IsStorageIndex (capacity g) g.read_at j p
+
     pub written_wf : (p : ℕ) (ws : List T) → IsWellFormed (with_elements g p ws)
     written_wf p ws = subst (λ (n : ℕ). ((g.read_at ≡ 0) ⊎ (g.read_at < n)) × (g.count ≤ n))
         (sym (length-overwrite g.storage p ws)) wf
@@ -92,33 +96,31 @@ module _ {T : Type 0} where
     storage_index_is_one : (k p n : ℕ) → p ≡ storage_index g k → k ≤ capacity g → n ≡ capacity g → (p ≡ 0) ⊎ (p < n)
     storage_index_is_one k p n ep le long = grind (arith, nat_tests)
 
-    pub read_index_is : IsStorageIndex (capacity g) g.read_at 0 g.read_at
+    pub read_index_is : At 0 g.read_at
     read_index_is = grind arith
 
     pub storage_index-zero : storage_index g 0 ≡ g.read_at
     storage_index-zero = grind (arith, nat_tests)
 
-    pub write_index_is : IsStorageIndex (capacity g) g.read_at (g.count + 0) (write_at g)
-    write_index_is = subst (λ (j : ℕ). IsStorageIndex (capacity g) g.read_at j (write_at g)) (sym (add-zero g.count))
-        (storage_index_is g g.count)
+    pub write_index_is : At (g.count + 0) (write_at g)
+    write_index_is = subst (λ (j : ℕ). At j (write_at g)) (sym (add-zero g.count)) (storage_index_is g g.count)
 
     -- ---- parts of the storage, by queue and spare part
-    pub spare_value : (i k p : ℕ) → i + k ≤ window g → p + k ≤ capacity g → IsStorageIndex (capacity g) g.read_at
-        (g.count + i) p
+    pub spare_value : (i k p : ℕ) → i + k ≤ window g → p + k ≤ capacity g → At (g.count + i) p
         → take k (drop p g.storage) ≡ take k (drop i (spare g))
     spare_value i k p hi hp at = same_lists _ _ (grind (arith, places)) (λ m d h. grind (arith, places))
 
-    pub queue_value : (i k p : ℕ) → i + k ≤ g.count → p + k ≤ capacity g → IsStorageIndex (capacity g) g.read_at i p
+    pub queue_value : (i k p : ℕ) → i + k ≤ g.count → p + k ≤ capacity g → At i p
         → take k (drop p g.storage) ≡ take k (drop i (queue g))
     queue_value i k p hi hp at = same_lists _ _ (grind (arith, places)) (λ m d h. grind (arith, places))
 
     -- ---- writes
     pub spare_law : (i p : ℕ) (ws : List T) → i + length ws ≤ window g → p + length ws ≤ capacity g
-        → IsStorageIndex (capacity g) g.read_at (g.count + i) p → WritesSpare g i ws (with_elements g p ws)
+        → At (g.count + i) p → WritesSpare g i ws (with_elements g p ws)
     spare_law i p ws hi hp at = let w = spare-written g wf i p ws hi hp at in (w.0, w.1, refl)
 
     pub queue_law : (i p : ℕ) (ws : List T) → i + length ws ≤ g.count → p + length ws ≤ capacity g
-        → IsStorageIndex (capacity g) g.read_at i p → WritesQueue g i ws (with_elements g p ws)
+        → At i p → WritesQueue g i ws (with_elements g p ws)
     queue_law i p ws hi hp at = (
       same_lists _ _ (grind (arith, places, nat_tests)) (λ m d h. grind (arith, places, nat_tests)),
       same_lists _ _ (grind (arith, places, nat_tests)) (λ m d h. grind (arith, places, nat_tests)),
@@ -196,15 +198,11 @@ module _ {T : Type 0} where
         ∙ ap (λ b. ring b g.read_at g.count) (overwrite_none (overwrite g.storage p ws) 0)
 
     -- after a write that ends at the storage's end comes the storage's beginning
-    wrapped_index : (i p m n : ℕ) → i + m + n ≤ window g → p + m ≡ capacity g → 0 < n → IsStorageIndex (capacity g)
-        g.read_at (g.count + i) p
-        → IsStorageIndex (capacity g) g.read_at (g.count + (i + m)) 0
+    wrapped_index : (i p m n : ℕ) → i + m + n ≤ window g → p + m ≡ capacity g → 0 < n → At (g.count + i) p → At (g.count + (i + m)) 0
     wrapped_index i p m n le full some at = grind arith
 
     wrapping_twice : (i p : ℕ) (a b : List T) → i + length a + length b ≤ window g → p + length a ≡ capacity g
-        → 0 < length b
-        → IsStorageIndex (capacity g) g.read_at (g.count + i) p → WritesSpare g i (a ++ b)
-        (with_elements (with_elements g p a) 0 b)
+        → 0 < length b → At (g.count + i) p → WritesSpare g i (a ++ b) (with_elements (with_elements g p a) 0 b)
     wrapping_twice i p a b le full some at =
         let s = spare_law i p a (omega arith) (omega arith) at in
         let w = with_elements g p a in
@@ -219,7 +217,7 @@ module _ {T : Type 0} where
         )
 
     pub wrapping_law : (i p : ℕ) (ws : List T) → i + length ws ≤ window g → p ≤ capacity g
-        → IsStorageIndex (capacity g) g.read_at (g.count + i) p → WritesSpare g i ws (with_elements_wrapping g p ws)
+        → At (g.count + i) p → WritesSpare g i ws (with_elements_wrapping g p ws)
     wrapping_law i p ws le within at = elim (cases_lt (length g.storage - p) (length ws)) [
       | inr once ↦ subst (WritesSpare g i ws) (sym (unwrapped p ws once)) (spare_law i p ws le (omega arith) at)
       | inl past ↦
@@ -236,17 +234,15 @@ module _ {T : Type 0} where
     ]
 
     -- ---- an index that is found within the window, or within the queue
-    pub spare_at : (i : ℕ) → i ≤ window g → IsStorageIndex (capacity g) g.read_at (g.count + i) (spare_index g i)
+    pub spare_at : (i : ℕ) → i ≤ window g → At (g.count + i) (spare_index g i)
     spare_at i le =
         let same : g.count + min i (window g) ≡ g.count + i = omega arith in
-        subst (λ (j : ℕ). IsStorageIndex (capacity g) g.read_at j (spare_index g i)) same
-        (storage_index_is g (g.count + min i (window g)))
+        subst (λ (j : ℕ). At j (spare_index g i)) same (storage_index_is g (g.count + min i (window g)))
 
-    pub queue_at : (i : ℕ) → i ≤ g.count → IsStorageIndex (capacity g) g.read_at i (queue_index g i)
+    pub queue_at : (i : ℕ) → i ≤ g.count → At i (queue_index g i)
     queue_at i le =
         let same : min i g.count ≡ i = omega arith in
-        subst (λ (j : ℕ). IsStorageIndex (capacity g) g.read_at j (queue_index g i)) same
-        (storage_index_is g (min i g.count))
+        subst (λ (j : ℕ). At j (queue_index g i)) same (storage_index_is g (min i g.count))
 
     spare_index_le : (i : ℕ) → spare_index g i ≤ capacity g
     spare_index_le i = storage_index_le (g.count + min i (window g)) (omega (arith, wf.1))
@@ -265,15 +261,14 @@ module _ {T : Type 0} where
     queue_part_value i n = same_lists _ _ (grind (arith, places, nat_tests)) (λ m d h. grind (arith, places, nat_tests))
 
     -- what is read from the index p on, up to the storage's end, and the rest of it at the storage's beginning
-    pub read_around : (i n p k : ℕ) → n ≤ g.count - i → p ≤ capacity g → IsStorageIndex (capacity g) g.read_at
-        (min i g.count) p
+    pub read_around : (i n p k : ℕ) → n ≤ g.count - i → p ≤ capacity g → At (min i g.count) p
         → k ≡ min n (capacity g - p) → take k (drop p g.storage) ++ take (n - k) g.storage ≡ take n (drop i (queue g))
     read_around i n p k le within at ek = same_lists _ _ (grind (arith, places)) (λ m d h. grind (arith, places))
 
     pub read_parts : (i n p k : ℕ) → n ≤ g.count - i → p ≡ queue_index g i → k ≡ min n (capacity g - p)
         → take k (drop p g.storage) ++ take (n - k) g.storage ≡ take n (drop i (queue g))
     read_parts i n p k le ep = read_around i n p k le (omega (arith, queue_index_le i))
-        (subst (IsStorageIndex (capacity g) g.read_at (min i g.count)) (sym ep) (storage_index_is g (min i g.count)))
+        (subst (At (min i g.count)) (sym ep) (storage_index_is g (min i g.count)))
 
     nothing_spare : (i p : ℕ) → WritesSpare g i [] (with_elements g p [])
     nothing_spare i p =
