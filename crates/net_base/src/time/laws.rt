@@ -1,10 +1,10 @@
 //! Laws of all moments and lengths, and of the constants. No function here changes anything.
 
-ghost use Rattle.std.specs.Prelude.{◌≡◌, ◌↔◌, ◌-◌, ◌^◌, ◌<◌, ◌<ℤ◌, pos, IsTrue, Some, ℕ, ℤ, List, Option};
+ghost use Rattle.std.specs.Prelude.{◌≡◌, ◌-◌, ◌^◌, ◌<◌, ◌<ℤ◌, pos, Some, ℕ, ℤ, List, Option};
 ghost use Rattle.std.specs.Ordering.{MatchOrdering};
 ghost use Rattle.net_base.specs.Time.{earliest_of, IsEarliest, distance, moment_text, length_text};
 ghost use Rattle.std.specs.Fmt.{format_spec};
-ghost use Rattle.net_base.specs.Values.{ClonesAreSame};
+ghost use Rattle.net_base.specs.Values.{ClonesAreSame, ComparesValues};
 
 use crate::time::{Duration, Instant};
 use std::fmt::Display;
@@ -19,27 +19,25 @@ pub fn constants() -> (Instant, Duration, Duration)
 
 /// States that the order of moments is that of their microseconds, and two moments are equal
 /// exactly if they are the same.
-pub fn instant_order(x: &Instant, y: &Instant)
-    ensures order { MatchOrdering (⟦<Instant as Ord>⟧.cmp x.now y.now)
-        (x.now <ℤ y.now) (x.now ≡ y.now) (y.now <ℤ x.now) }
-    ensures partial { ⟦<Instant as PartialOrd>⟧.partial_cmp x.now y.now
-        ≡ Some (⟦<Instant as Ord>⟧.cmp x.now y.now) }
-    ensures equality { IsTrue (⟦<Instant as PartialEq>⟧.eq x.now y.now) ↔ (x.now ≡ y.now) }
+pub fn instant_order()
+    ensures order { (x y : _) → MatchOrdering (⟦<Instant as Ord>⟧.cmp x y) (x <ℤ y) (x ≡ y) (y <ℤ x) }
+    ensures partial { (x y : _) → ⟦<Instant as PartialOrd>⟧.partial_cmp x y
+        ≡ Some (⟦<Instant as Ord>⟧.cmp x y) }
+    ensures equality { ComparesValues ⟦<Instant as PartialEq>⟧.eq }
 {}
 
 /// States that the order of lengths is that of their microseconds, and two lengths are equal
 /// exactly if they are the same.
-pub fn duration_order(x: &Duration, y: &Duration)
-    ensures order { MatchOrdering (⟦<Duration as Ord>⟧.cmp x.now y.now)
-        (x.now < y.now) (x.now ≡ y.now) (y.now < x.now) }
-    ensures partial { ⟦<Duration as PartialOrd>⟧.partial_cmp x.now y.now
-        ≡ Some (⟦<Duration as Ord>⟧.cmp x.now y.now) }
-    ensures equality { IsTrue (⟦<Duration as PartialEq>⟧.eq x.now y.now) ↔ (x.now ≡ y.now) }
+pub fn duration_order()
+    ensures order { (x y : _) → MatchOrdering (⟦<Duration as Ord>⟧.cmp x y) (x < y) (x ≡ y) (y < x) }
+    ensures partial { (x y : _) → ⟦<Duration as PartialOrd>⟧.partial_cmp x y
+        ≡ Some (⟦<Duration as Ord>⟧.cmp x y) }
+    ensures equality { ComparesValues ⟦<Duration as PartialEq>⟧.eq }
 {}
 
 /// States that the distance between two moments is the same both ways.
-pub fn distance_both_ways(x: &Instant, y: &Instant)
-    ensures { distance x.now y.now ≡ distance y.now x.now }
+pub fn distance_both_ways()
+    ensures { (x y : ℤ) → distance x y ≡ distance y x }
 {}
 
 /// States that a clone of a moment or of a length is the same, and is never refused.
@@ -56,13 +54,13 @@ pub fn default()
 {}
 
 /// States that no option changes the text of a moment or of a length.
-pub fn texts(instant: &Instant, duration: &Duration)
-    ensures instant { (fill align flags width precision : ℕ)
-        → ⟦<Instant as Display>⟧.styled_output instant.now (format_spec fill align flags width precision)
-        ≡ Some (moment_text instant.now) }
-    ensures duration { (fill align flags width precision : ℕ)
-        → ⟦<Duration as Display>⟧.styled_output duration.now (format_spec fill align flags width precision)
-        ≡ Some (length_text duration.now) }
+pub fn texts()
+    ensures instant { (x : _) (fill align flags width precision : ℕ)
+        → ⟦<Instant as Display>⟧.styled_output x (format_spec fill align flags width precision)
+        ≡ Some (moment_text x) }
+    ensures duration { (x : _) (fill align flags width precision : ℕ)
+        → ⟦<Duration as Display>⟧.styled_output x (format_spec fill align flags width precision)
+        ≡ Some (length_text x) }
 {}
 
 /// States that a fold with `earlier`, from `None` on, finds the earliest of the moments of a list's
