@@ -34,6 +34,13 @@ use Rattle.net_receiver.proofs.Schedules.{schedule, setting_kept, settings_kept,
 use Rattle.net_receiver.proofs.Schedules.{stream, follows_verdict, any_verdict, read_prefix}
 use Rattle.net_receiver.proofs.Theorems.{fresh_refines, ran}
 use Rattle.std.proofs.lemmas.List.{append_assoc, take-append-drop, drop_at, append-nil}
+use Rattle.net_assembler.proofs.SoundHeads.{runs-set_of}
+use Rattle.net_ring.proofs.Rotations.{length-queue, length-spare}
+use Rattle.net_receiver.proofs.Places.{none_there, held_count, alike}
+use Rattle.net_receiver.proofs.Heads.{lent_view, lent_sound, back_view, back_sound, queue_size, spare_size, next_is}
+use Rattle.net_receiver.proofs.Heads.{limit_is, held_is, top_is, new_is, sound_for, after_read, read_sound, only_err}
+use Rattle.net_receiver.proofs.Theorems.{held_none}
+use Rattle.std.proofs.lemmas.List.{length-replicate}
 use Rattle.std.specs.FinMap as fin
 
 -- ---- What truthful segments leave.
@@ -568,3 +575,10 @@ pub ruleset matches_stream_law = (matches_what_is_there, matches_longer)
 pub ruleset retransmission_law = (second_copy, held_changes_nothing)
 
 pub ruleset numbers_law = (first_stays, next_position_grows, limit_grows, segment_reads_nothing, capacity_stays)
+
+-- ---- The lemmas of each module.
+-- the calls of a receiver, which lend its storage whole to its head
+pub ruleset receivers = (lent_view, lent_sound, back_view, back_sound, queue_size, spare_size, sound_for, next_is, limit_is, held_is, top_is, new_is, length-queue, length-spare, length-replicate, begun_receives)
+
+-- those of a head
+pub ruleset heads = (length-queue, length-spare, held_count, runs-set_of, none_there, held_none, append-nil, after_read, read_sound, only_err, held_is, alike)

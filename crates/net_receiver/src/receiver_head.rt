@@ -1,4 +1,6 @@
 //! A receiver in parts: a head of numbers, a storage, and runs that are kept elsewhere.
+#![tactic(auto, using(crate::proofs::OneStream::heads))]
+
 ghost use Rattle.std.specs.Prelude.{◌≡◌, ◌↔◌, ℕ, ◌+◌, ◌-◌, ◌<◌, ◌≤◌, ◌^◌, ◌%◌, List, length, All};
 ghost use Rattle.std.specs.Prelude.{IsTrue, OnErr, Some, None, min, ◌++◌, take, drop};
 ghost use Rattle.std.specs.Prelude.{◌∷◌};

@@ -1,13 +1,7 @@
-use Rattle.net_receiver.proofs.Words.{◌∙◌, ap, drop, take, length, ring_at, contiguous_count_from, ReceiverState}
+use Rattle.net_receiver.proofs.Words.{◌∙◌, ap, length, ring_at, contiguous_count_from}
 use Rattle.net_receiver.proofs.Places.{lent_from, end_lent}
 use Rattle.net_receiver.proofs.Heads.{lent_view, lent_sound}
 use Rattle.net_receiver.proofs.receiver.ReceiverOver.peek.Goals as goal
-
-pub returns-clause-value : goal.returns-clause-value
-returns-clause-value g c =
-    c.peek.ensures.value
-    ∙ ap (λ (v : ReceiverState). take (length c.peek.result.now) (drop c.args.offset v.queue))
-    (lent_view _ _ _ _ c.whole.ensures c.args.self.now c.self.view_is)
 
 pub returns-clause-count : goal.returns-clause-count
 returns-clause-count g c =
