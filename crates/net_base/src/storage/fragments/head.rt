@@ -3,6 +3,7 @@
 
 ghost use Rattle.std.specs.Prelude.{◌≡◌, ◌↔◌, ◌+◌, ◌<◌, ◌≤◌, ◌<ℤ◌, ℕ, List, length, IsTrue, IsSome, IfSome, OnOk};
 ghost use Rattle.std.specs.Prelude.{OnErr, unwrap_or, false};
+ghost use Rattle.std.specs.declared.option.Option.TheVariants.{Some};
 ghost use Rattle.net_assembler.specs.Positions.{nothing};
 ghost use Rattle.net_assembler.specs.RunLists.{set_of, HasSoundRuns};
 ghost use Rattle.net_base.specs.Fragments.{IsComplete, IsBelow, begun, Adds, TakesSize, Differs, HasOther, Meets};
@@ -251,6 +252,7 @@ impl FragmentsHead {
     ) -> Result<(), FragmentError>
         requires sound { HasSoundRuns self.old.present runs.now }
         ensures ok { OnOk result (self.new ≡ record self.old { has_total = 1; total = size }) }
+        ensures total { OnOk result (total_of self.new ≡ Some size) }
         ensures sound { OnOk result ((bytes : List ℕ) → length bytes ≡ capacity →
             HasSoundParts self.old bytes runs.now → HasSoundParts self.new bytes runs.now) }
         ensures unchanged { OnErr result (self.new ≡ self.old) }
