@@ -80,8 +80,7 @@ default_capabilities =
       medium = Ethernet;
       max_transmission_unit = 0;
       max_burst_size = None;
-      checksum =
-          all_checksums;
+      checksum = all_checksums;
       segmentation = no_segmentation;
     }
 
@@ -107,7 +106,6 @@ loopback_capabilities m =
       medium = m;
       max_transmission_unit = 65535;
       max_burst_size = None;
-      checksum =
-          no_checksums;
+      checksum = no_checksums;
       segmentation = no_segmentation;
     }
