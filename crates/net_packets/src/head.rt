@@ -6,17 +6,19 @@
 //! the number of bytes.
 //!
 //! What is `#[inline]` was chosen by counted instructions and bytes (docs/PERFORMANCE.md); no clause is about it.
-ghost use Rattle.std.specs.Prelude.{◌≡◌, ◌≢◌, ◌↔◌, ◌≤◌, ◌<◌, ◌-◌, ◌+◌, ◌∷◌, ℕ, List, length, set, slice_get, ⊤, IsTrue};
-ghost use Rattle.std.specs.Prelude.{IsFalse, IsNone, IfSome};
+ghost use Rattle.std.specs.Prelude.{◌≡◌, ◌≢◌, ◌↔◌, ◌≤◌, ◌<◌, ◌-◌, ◌+◌, ◌∷◌, ℕ, List, length, set, slice_get, ⊤};
+ghost use Rattle.std.specs.Prelude.{IsTrue, IsFalse, IsNone, IfSome};
 ghost use Rattle.std.specs.declared.option.Option.TheVariants.{Some, None};
 ghost use Rattle.net_ring.specs.Ring.{index_after};
 ghost use Rattle.net_ring.specs.RingHead.{place, IsSound, rewound, contiguous_free};
-ghost use Rattle.net_packets.specs.{HasSoundSlots, AreSlotsAfter, metadata, queue_of, CanTake, CanShorten, after_slot};
-ghost use Rattle.net_packets.specs.{packet_slot, slots_written, last_slot_index, last_slot, HasFirst, IsFirstAt};
-ghost use Rattle.net_packets.specs.{first_packet, first_slot, head_after_gap, head_after_first, IsFirstSlot};
-ghost use Rattle.net_packets.specs.{packets_head, IsSoundHead, placement_in, with_packet_placed, place_after_gap};
-ghost use Rattle.net_packets.specs.{with_slot_taken, gap_for, slots_for, if_slots, with_last_size, with_packet_if_room};
-ghost use Rattle.net_packets.specs.{without_first_and_gap};
+ghost use Rattle.net_packets.specs.PacketsHead.{HasSoundSlots, AreSlotsAfter, metadata, queue_of, CanTake};
+ghost use Rattle.net_packets.specs.PacketsHead.{CanShorten, after_slot, packet_slot, slots_written, last_slot_index};
+ghost use Rattle.net_packets.specs.PacketsHead.{last_slot, HasFirst, IsFirstAt, first_packet, first_slot};
+ghost use Rattle.net_packets.specs.PacketsHead.{head_after_gap, head_after_first, IsFirstSlot, packets_head};
+ghost use Rattle.net_packets.specs.PacketsHead.{IsSoundHead, placement_in, with_packet_placed, place_after_gap};
+ghost use Rattle.net_packets.specs.PacketsHead.{with_slot_taken};
+ghost use Rattle.net_packets.specs.Packets.{gap_for, slots_for, if_slots, with_last_size, with_packet_if_room};
+ghost use Rattle.net_packets.specs.Packets.{without_first_and_gap};
 ghost use Rattle.net_packets.specs.declared.packet_metadata.PacketMetadata.{PacketMetadata};
 
 use crate::packet_slot::PacketSlot;

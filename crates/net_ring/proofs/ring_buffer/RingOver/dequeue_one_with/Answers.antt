@@ -23,11 +23,10 @@ module _ (g : given.Over) (c : After-element_mut g) where
       some
 
   -- writing over an element keeps the number of elements
-  long : (w : _) → length (g.S.Storage.elements (g.S.Storage.with_element c.self.inside.storage
-      c.self.inside.head.read_at w))
-      ≡ length (g.S.Storage.elements c.self.inside.storage)
-  long w = ap length (g.met.S.Storage.element_written c.self.inside.storage c.self.inside.head.read_at w)
-      ∙ length-overwrite (g.S.Storage.elements c.self.inside.storage) c.self.inside.head.read_at (w ∷ [])
+  long : (s : _) (w : _)
+      → length (g.S.Storage.elements (g.S.Storage.with_element s c.self.inside.head.read_at w)) ≡ length (g.S.Storage.elements s)
+  long s w = ap length (g.met.S.Storage.element_written s c.self.inside.head.read_at w)
+      ∙ length-overwrite (g.S.Storage.elements s) c.self.inside.head.read_at (w ∷ [])
 
 pub f-answer-requires : goal.f-answer-requires
 f-answer-requires g c = c.requires.callable c.element_mut.result.now (first g c) c.element_mut.result refl
@@ -37,13 +36,12 @@ invariant_of-self g c =
     let size = ap (λ o. length o.storage) c.self.view_is in
     let read = ap (λ o. o.read_at) c.self.view_is in
     let counts = ap (λ o. o.count) c.self.view_is in
-    grind (arith, long g (goal.at.invariant_of-self g c).After-element_mut c.f-answer.new.arg2, size, read, counts)
+    grind (arith, long g (goal.at.invariant_of-self g c).After-element_mut, size, read, counts)
 
 pub invariant_of-self-else-is_ok : goal.invariant_of-self-else-is_ok
 invariant_of-self-else-is_ok g c = grind (
   arith,
-  long g (goal.at.invariant_of-self-else-is_ok g c).After-element_mut
-      c.f-answer.new.arg2,
+  long g (goal.at.invariant_of-self-else-is_ok g c).After-element_mut,
 )
 
 pub returns-clause-called : goal.returns-clause-called
