@@ -1,8 +1,7 @@
-use Rattle.net_receiver.proofs.Words.{◌∙◌, ◌++◌, min, ap, sym, subst, length, take, drop, IsCanonical, Read, ReadReply}
+use Rattle.net_receiver.proofs.Words.{◌∙◌, ◌++◌, min, ap, sym, subst, length, take, drop, IsCanonical, Read}
 use Rattle.net_receiver.proofs.Words.{receiver_after_read, ReceiverState}
 use Rattle.net_receiver.proofs.OneStream.{stays, read_receives, read_bytes}
 use Rattle.net_receiver.proofs.Heads.{lent_view, lent_sound, back_view, back_sound, queue_size, sound_for}
-use Rattle.net_receiver.proofs.Schedules.{read_prefix}
 use Rattle.net_receiver.proofs.receiver.ReceiverOver.read.Goals as goal
 
 pub invariant_of-self : goal.invariant_of-self
@@ -29,11 +28,6 @@ returns-clause-into g c =
     c.read.ensures.into
     ∙ ap (λ (v : ReceiverState). take (length c.args.into.now) v.queue ++ drop (length v.queue) c.args.into.now)
     (lent_view _ _ _ _ c.whole.ensures c.args.self.now c.self.view_is)
-
-pub returns-clause-reply : goal.returns-clause-reply
-returns-clause-reply g c =
-    ap (λ xs. ReadReply xs)
-    (read_prefix c.args.self.now.queue c.read.new.into c.args.into.now c.read.result (returns-clause-count g c) (returns-clause-into g c))
 
 pub returns-clause-setting : goal.returns-clause-setting
 returns-clause-setting g c =

@@ -1,10 +1,7 @@
 -- `f` was run on the queue's first part; what it counts is taken off, as by a read of that many bytes.
 use Rattle.net_receiver.specs.{HasSoundParts}
-use Rattle.net_receiver.proofs.Words.{sym, ap, subst, ◌∙◌, length, arith, IsCanonical, receiver_after_read}
+use Rattle.net_receiver.proofs.Words.{sym, ap, subst, length, arith, IsCanonical}
 use Rattle.net_receiver.proofs.receiver.ReceiverOver.read_with.Goals as goal
-
-pub f-answer-requires : goal.f-answer-requires
-f-answer-requires g c = c.requires.callable c.first_slice-part.result c.first_slice-part.ensures.value
 
 pub invariant_of-self : goal.invariant_of-self
 invariant_of-self g c = (
@@ -12,12 +9,6 @@ invariant_of-self g c = (
   c.self.invariant.1,
   subst (λ h. IsCanonical h.held) (sym c.remove.ensures.head) c.self.invariant.2,
 )
-
-pub returns-clause-state : goal.returns-clause-state
-returns-clause-state g c =
-    c.remove.ensures.state (g.S.Storage.elements c.self.inside.storage) c.self.inside.runs (sym c.count.ensures)
-    (subst (λ n. HasSoundParts c.self.inside.head n c.self.inside.runs) (sym c.count.ensures) c.self.invariant.0)
-    ∙ ap (λ v. receiver_after_read v c.f-answer.result.0) c.self.view_is
 
 pub prove-unreachable-requires : goal.prove-unreachable-requires
 prove-unreachable-requires g c =
