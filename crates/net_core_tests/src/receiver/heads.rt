@@ -44,7 +44,8 @@ fn sends_from_nine() -> bool {
 fn heads_at_their_ends(rt: HostRuntime) {
     let mut storage = *b"........";
     let mut runs = [NONE; 1];
-    let mut head = FiniteReceiverHead::new(5);
+    let mut head = FiniteReceiverHead::new(9);
+    head.reset_at(5);
     let ends = ends_at_seven(&mut head, &mut storage, &mut runs);
     assert_holds(&rt, ends, ("end", 7));
     let nothing = has_nothing(&ReceiverHead::new(5), &storage, &runs);
