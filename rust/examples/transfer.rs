@@ -131,7 +131,8 @@ fn main() {
                     let mut into = [0; CAPACITY];
                     let count = receiver.read(&mut into);
                     read.extend(&into[..count]);
-                    let (next, runs) = (receiver.acknowledged(), receiver.held().collect());
+                    let (next, runs) =
+                        (receiver.acknowledged(), receiver.receiver().held().collect());
                     let end = receiver.window_end().unwrap_or(next);
                     path.send(now, Datagram::Answer(next, end, runs));
                 }

@@ -80,10 +80,10 @@ impl<'a> FiniteSender<'a> {
 impl<S: Storage<u8>, const N: usize> fmt::Debug for FiniteReceiverOver<S, N> {
     fn fmt(&self, f: &mut fmt::Formatter) -> fmt::Result {
         f.debug_struct("FiniteReceiver")
-            .field("next", &self.next())
-            .field("len", &self.queued())
-            .field("window", &self.window())
-            .field("held", &Listed(|| self.held()))
+            .field("next", &self.receiver().next())
+            .field("len", &self.receiver().queued())
+            .field("window", &self.receiver().window())
+            .field("held", &Listed(|| self.receiver().held()))
             .field("end", &self.end())
             .finish()
     }

@@ -42,7 +42,10 @@ fn a_receiver_of_a_stream_that_ends() {
     receiver.remove(3);
     assert!(receiver.has_read_all() && !same.has_read_all());
     receiver.reset_at(7);
-    assert_eq!((receiver.end(), receiver.acknowledged(), receiver.capacity()), (None, 7, 8));
+    assert_eq!(
+        (receiver.end(), receiver.acknowledged(), receiver.receiver().capacity()),
+        (None, 7, 8)
+    );
     assert_eq!(length(receiver.into_storage()), 8);
 }
 

@@ -11,13 +11,13 @@ fn closures() {
     let mut it = FiniteReceiver::<2>::empty_at(&mut storage[..], 5);
     assert!(it.keep(5, b"abcdef", true).is_ok());
     assert_eq!(it.read_with(|part| (2, part.to_vec())), (2, b"abcdef".to_vec()));
-    assert_eq!((it.queued(), it.acknowledged(), it.has_read_all()), (4, 12, false));
+    assert_eq!((it.receiver().queued(), it.acknowledged(), it.has_read_all()), (4, 12, false));
     let more = "more bytes than were lent";
     assert_eq!(message(|| it.read_with(|part| (part.len() + 1, ()))), more);
     assert_eq!(message(|| it.read_with(|_| -> (usize, ()) { panic!("now") })), "now");
-    assert_eq!((it.queued(), it.as_slices()), (4, (&b"cdef"[..], &b""[..])));
+    assert_eq!((it.receiver().queued(), it.receiver().as_slices()), (4, (&b"cdef"[..], &b""[..])));
     assert_eq!(it.read_with(|part| (part.len(), part[3])), (4, b'f'));
-    assert!(it.is_empty() && it.has_read_all());
+    assert!(it.receiver().is_empty() && it.has_read_all());
 }
 
 /// A stream begins below the last number, which would be its end's.
@@ -32,5 +32,8 @@ fn no_number_for_the_end() {
     let none = "no number is left for an end";
     assert_eq!(message(|| sender.reset_at(u64::MAX)), none);
     assert_eq!(message(|| FiniteSender::new_at(&mut bytes[..], u64::MAX).len()), none);
-    assert_eq!(message(|| FiniteReceiver::<2>::empty_at(&mut bytes[..], u64::MAX).queued()), none);
+    assert_eq!(
+        message(|| FiniteReceiver::<2>::empty_at(&mut bytes[..], u64::MAX).acknowledged()),
+        none
+    );
 }

@@ -80,7 +80,7 @@ fn receivers() {
             }
             1 => assert!(plain.read(&mut into) <= 9 && finite.read(&mut into) <= 9),
             2 => assert!(plain.count_new(pos, other as usize) <= plain.window()),
-            3 => assert!(finite.count_new(pos, other as usize) <= finite.window()),
+            3 => assert!(finite.count_new(pos, other as usize) <= finite.receiver().window()),
             4 => assert!(
                 !finite.can_end(u64::MAX)
                     && (finite.end().is_none()
@@ -88,7 +88,7 @@ fn receivers() {
                         || finite.end() == Some(pos))
             ),
             5 => assert!(plain.newest_runs(pos, &mut [other; 2]).count() <= 2),
-            6 => assert!(finite.newest_runs(pos, &mut [other; 2]).count() <= 2),
+            6 => assert!(finite.receiver().newest_runs(pos, &mut [other; 2]).count() <= 2),
             7 => assert!(plain.keep(pos, bytes).map_or(0, |it| it.kept) <= bytes.len()),
             _ => {
                 let next = finite.acknowledged();

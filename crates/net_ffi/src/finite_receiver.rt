@@ -5,7 +5,6 @@ ghost use Rattle.net_receiver.specs.Finite.{no_end, acknowledged, finite_after, 
 ghost use Rattle.net_receiver.specs.ReceiverState.{limit_of};
 ghost use Rattle.net_assembler.specs.RunLists.{IsCanonical};
 ghost use Rattle.net_receiver.specs.FiniteHead.{finite_of, finite_storage_after, HasSoundFinite, next_of, end_of};
-ghost use Rattle.net_receiver.specs.Finite.{MatchesFinite, ReceivesFinite};
 ghost use Rattle.net_ffi.specs.ReceiverParts.{IsPlausible};
 ghost use Rattle.net_ffi.specs.Results.{status_of_finite};
 
@@ -62,9 +61,6 @@ pub extern "C" fn net_base_finite_receiver_segment(
     ensures state { IsPlausible (length storage.old) (length runs.old) receiver.old.receiver → finite_of
         receiver.new storage.new runs.new ≡ finite_after (length runs.old) (finite_of receiver.old storage.old runs.old)
         position bytes.now is_last }
-    ensures receives { IsPlausible (length storage.old) (length runs.old) receiver.old.receiver → (f : ℕ) (x : List
-        ℕ) → ReceivesFinite f x (finite_of receiver.old storage.old runs.old) → MatchesFinite f x position bytes.now
-        is_last → ReceivesFinite f x (finite_of receiver.new storage.new runs.new) }
     ensures stored { IsPlausible (length storage.old) (length runs.old) receiver.old.receiver → storage.new ≡
         finite_storage_after receiver.old storage.old runs.old position bytes.now is_last }
     ensures canonical { IsCanonical receiver.old.receiver.held → IsCanonical receiver.new.receiver.held }

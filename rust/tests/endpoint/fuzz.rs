@@ -111,7 +111,7 @@ impl Model {
         let promised = self.next() + (i64::from(packet.window) << self.scales.0);
         assert!(packet.window == 0 || promised <= self.read + self.capacity, "no such room");
         self.promised = self.promised.max(promised);
-        let held = self.talk.endpoint.receiver.held();
+        let held = self.talk.endpoint.receiver.receiver().held();
         let first = (1u64 << 32) + u64::from(PEER) + 1;
         let held = held.map(|run| ((run.0 - first) as u32, (run.1 - first) as u32));
         let held = held.collect::<Vec<_>>();
@@ -169,7 +169,7 @@ impl Model {
             0 => at == next || next < at && at < self.promised,
             _ => first < end,
         };
-        let held = self.talk.endpoint.receiver.queued();
+        let held = self.talk.endpoint.receiver.receiver().queued();
         let said = self.talk.say(&packet);
         let is_reset = has(RST) && at == next && !was_closed;
         let is_probe = self.promised <= next && at == next && len > 0;
@@ -188,7 +188,7 @@ impl Model {
         self.judge_all(&said);
         assert_eq!(self.talk.endpoint.state == State::Reset, is_reset);
         if !is_taken {
-            assert_eq!(self.talk.endpoint.receiver.queued(), held, "text that isn't acceptable");
+            assert_eq!(self.talk.endpoint.receiver.receiver().queued(), held, "text that isn't acceptable");
             let is_silent = has(RST) && (!is_acceptable || at == next)
                 || (is_acceptable || is_probe) && !has(RST | SYN | ACK);
             assert_eq!(said.len(), usize::from(!is_silent), "{packet:?}");

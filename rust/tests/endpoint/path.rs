@@ -49,7 +49,7 @@ impl<const N: usize> End<N> {
         }
         let mut into = [0; 4096];
         let reads = reads_at.map_or(*written == text.len(), |at| at <= now);
-        while reads && !endpoint.receiver.is_empty() {
+        while reads && !endpoint.receiver.receiver().is_empty() {
             let count = endpoint.receiver.read(&mut into);
             read.extend(&into[..count]);
         }

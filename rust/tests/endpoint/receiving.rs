@@ -188,7 +188,7 @@ fn old_acknowledgements() {
     // The greatest window that was announced has 0x10000 bytes.
     let mut talk = Talk::<4>::open(64, OPTIONS);
     challenge(&talk.say(&peer(0, 0u32.wrapping_sub(0x1_0001)).text(b"X")), 0);
-    assert!(talk.endpoint.receiver.is_empty());
+    assert!(talk.endpoint.receiver.receiver().is_empty());
     talk.say(&peer(0, 0u32.wrapping_sub(0x1_0000)).text(b"abc"));
     assert_eq!(talk.read(9), b"abc");
     // A greater one was announced.
@@ -236,7 +236,7 @@ fn what_is_not_acceptable() {
     // Old text, text beyond the window, and what was never sent is acknowledged: answered, not kept.
     for packet in [peer(0, 0).text(b"XYZ"), peer(64, 0).text(b"X"), peer(6, 1).text(b"X")] {
         challenge(&talk.say(&packet), 6);
-        assert_eq!(talk.endpoint.receiver.queued(), 6);
+        assert_eq!(talk.endpoint.receiver.receiver().queued(), 6);
     }
     // Without the flag ACK nothing is taken, and nothing is answered.
     assert_eq!(talk.say(&Packet { flags: 0, ..peer(6, 0).text(b"X") }), []);
@@ -297,7 +297,7 @@ fn the_end() {
     // Text after it isn't kept, and an end elsewhere is refused.
     for packet in [peer(4, 0).text(b"xyz"), peer(3, 0).text(b"xyz"), peer(4, 0).with(FIN)] {
         challenge(&talk.say(&packet), 4);
-        assert!(talk.endpoint.receiver.has_read_all() && talk.endpoint.receiver.is_empty());
+        assert!(talk.endpoint.receiver.has_read_all() && talk.endpoint.receiver.receiver().is_empty());
     }
     let mut talk = Talk::<4>::open(64, OPTIONS);
     challenge(&talk.say(&peer(6, 0).with(FIN)), 0);
@@ -339,7 +339,7 @@ fn windows_open_and_close() {
                         edge = edge.max(announced);
                     }
                 }
-                let free = capacity - talk.endpoint.receiver.queued();
+                let free = capacity - talk.endpoint.receiver.receiver().queued();
                 assert!(free < 1 << scale || options.is_empty(), "{free} of {capacity} unused");
                 read += talk.read(capacity).len() as u32;
                 let update = talk.wait(0);

@@ -65,13 +65,14 @@ impl<S: Storage<u8>, const N: usize> Subject for Ending<S, N> {
     /// from the stream's first.
     fn show(&mut self) -> String {
         let (finite, first) = (&self.receiver, self.first);
-        let (one, other) = finite.as_slices();
+        let of_bytes = finite.receiver();
+        let (one, other) = of_bytes.as_slices();
         format!(
             "{} {} {} {} {} {} {} {}",
-            finite.next() - first,
-            finite.queued(),
-            finite.window(),
-            finite.held().count(),
+            of_bytes.next() - first,
+            of_bytes.queued(),
+            of_bytes.window(),
+            of_bytes.held().count(),
             finite.end().map_or("-".to_string(), |end| (end - first).to_string()),
             finite.acknowledged() - first,
             u8::from(finite.is_complete()) + u8::from(finite.has_read_all()),

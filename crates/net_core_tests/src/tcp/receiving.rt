@@ -25,7 +25,7 @@ fn acknowledgement(
     scale: u8,
 ) -> (u32, u16) {
     let number = SequenceNumber::at(initial, receiver.acknowledged()).get();
-    let next = receiver.next();
+    let next = receiver.receiver().next();
     if let Some(end) = receiver.window_end() {
         return (number, window.announce(scale, next, end));
     }
@@ -49,7 +49,7 @@ fn a_stream_is_received(rt: HostRuntime) {
     assert_holds(&rt, receiver.read(&mut into) == 6, ("step", 3));
     assert_holds(
         &rt,
-        into.starts_with(b"abcdef") && receiver.has_read_all() && receiver.is_empty(),
+        into.starts_with(b"abcdef") && receiver.has_read_all() && receiver.receiver().is_empty(),
         ("step", 4),
     );
     let told = acknowledgement(&receiver, &mut window, initial, 0);
