@@ -189,9 +189,6 @@ board_at b s p = grind (arith, boards)
 pub board_from : (b : ℕ) (s : Positions) (p : ℕ) → b ≤ p → contains (board b s) p ≡ contains s (p - b)
 board_from b s p le = grind (arith, boards)
 
--- whether a position was reported
-pub ruleset in_board = (board_below, board_from, position_fits)
-
 -- nothing is beyond the base
 pub empty_board : (b : ℕ) (s : Positions) → s ≡ nothing → board b s ≡ with_range nothing 0 b
 empty_board b s is =
@@ -207,13 +204,7 @@ no_front s is = subst (λ (e : ℕ). contains s e ≡ false) is (front_misses s)
 pub front_none : (s : Positions) → contains s 0 ≡ false → front s ≡ 0
 front_none s misses = front_is s 0 misses (λ q l. absurd (omega arith))
 
--- positions end within 64 bits exactly if the last one does
-pub fit_by_end : (b : ℕ) (s : Positions) (e : ℕ) → IsEnd s e → e ≤ 2 ^ 64 - 1 - b → (p : ℕ) → IsTrue (contains s p) → b + p + 1 < 2 ^ 64
-fit_by_end b s e end fits p has = let l = end.above p has in omega (arith, fits, l)
-
-pub end_fits : (b : ℕ) (s : Positions) (e : ℕ) → IsEnd s e → ((p : ℕ) → IsTrue (contains s p) → b + p + 1 < 2 ^ 64) → e ≤ 2 ^ 64 - 1 - b
-end_fits b s e end fits = grind (arith, nat_tests)
-
+-- positions that end within 64 bits still do once the base is added
 pub beyond_fits : (b : ℕ) (s : Positions) → ((p : ℕ) → IsTrue (contains s p) → b + p + 1 < 2 ^ 64) → (p : ℕ) →
     contains (shift_up s b) p ≡ true → p + 1 < 2 ^ 64
 beyond_fits b s fits p has = let l = fits (p - b) in grind (arith, boards)
@@ -662,4 +653,4 @@ pub ruleset missing_runs = (runs_beyond, runs_fit, missing_found, hole_found)
 
 pub ruleset heads = (fronts, empties, ends, counts, missing_runs, nat_tests)
 
-pub ruleset scoreboards = (front_board, empties, first_missing-misses, sound_positions)
+pub ruleset scoreboards = (front_board, empties)

@@ -438,6 +438,6 @@ pub dropped_twice : (f h n : ℕ) (w : List ℕ) → f ≤ h → h ≤ n → dro
 dropped_twice f h n w low high =
     let place : (h - f) + (n - h) ≡ n - f = omega arith in drop-drop (n - h) (h - f) w ∙ ap (λ k. drop k w) place
 
-pub ruleset senders = (part_long, dropped_twice, length-drop, fresh_sends, sends_from, sends_written, written_number, nat_tests)
+pub ruleset senders = (part_long, dropped_twice, length-drop, fresh_sends, written_number, nat_tests)
 
 pub ruleset peeks = (part_long, lent_at)
