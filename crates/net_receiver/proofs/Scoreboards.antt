@@ -607,16 +607,20 @@ losses_count_all s p q misses l =
 
 -- ---- What closes the goals of the calls.
 -- without runs nothing is beyond the base
-pub unused_board : (b : ℕ) (h : AssemblerHead) (rs : List (ℕ × ℕ)) → HasSoundRuns h rs → h.used ≡ 0 → board b (set_of h rs) ≡ with_range nothing 0 b
+pub unused_board : (b : ℕ) (h : AssemblerHead) (rs : List (ℕ × ℕ)) → HasSoundRuns h rs → h.used ≡ 0 →
+    board b (set_of h rs) ≡ with_range nothing 0 b
 unused_board b h rs sound none = empty_board b (set_of h rs) (no_runs (runs_of h rs) (length-runs_of h rs sound ∙ none))
 
 -- the runs of the offsets, counted from 0
-pub runs_beyond : (b : ℕ) (s : Positions) → contains s 0 ≡ false → runs_shifted_up b (maximal_runs s) ≡ maximal_runs (beyond (board b s))
+pub runs_beyond : (b : ℕ) (s : Positions) → contains s 0 ≡ false →
+    runs_shifted_up b (maximal_runs s) ≡ maximal_runs (beyond (board b s))
 runs_beyond b s begins = sym (maximal_runs-shift_up s b) ∙ ap maximal_runs (sym (beyond_board b s begins))
 
-pub runs_fit : (b : ℕ) (s : Positions) → ((p : ℕ) → IsTrue (contains s p) → b + p + 1 < 2 ^ 64) → EndBelow (2 ^ 64) (runs_shifted_up b (maximal_runs s))
+pub runs_fit : (b : ℕ) (s : Positions) → ((p : ℕ) → IsTrue (contains s p) → b + p + 1 < 2 ^ 64) →
+    EndBelow (2 ^ 64) (runs_shifted_up b (maximal_runs s))
 runs_fit b s fits =
-    subst (EndBelow (2 ^ 64)) (maximal_runs-shift_up s b) (ends_below are_maximal_runs (2 ^ 64) (shift_up s b) (beyond_fits b s fits))
+    subst (EndBelow (2 ^ 64)) (maximal_runs-shift_up s b)
+    (ends_below are_maximal_runs (2 ^ 64) (shift_up s b) (beyond_fits b s fits))
 
 -- the number of reported positions is one of `usize`
 pub sizes_usize : (h : AssemblerHead) (rs : List (ℕ × ℕ)) → HasSoundRuns h rs → 0 < sizes (maximal_runs (set_of h rs)) →
@@ -634,11 +638,13 @@ missing_found b s begins p =
     ∙ ap (λ t. max p b + count_from (maximal_runs t) (max p b)) (sym (beyond_board b s begins))
 
 -- the next range that isn't reported
-pub hole_found : (b : ℕ) (s : Positions) → contains s 0 ≡ false → (p limit start end : ℕ) → start ≡ min (first_missing (board b s) p) limit →
-    end ≡ next_start (maximal_runs (beyond (board b s))) start limit → IsNextHole (board b s) p limit start end
+pub hole_found : (b : ℕ) (s : Positions) → contains s 0 ≡ false → (p limit start end : ℕ) →
+    start ≡ min (first_missing (board b s) p) limit → end ≡ next_start (maximal_runs (beyond (board b s))) start limit →
+    IsNextHole (board b s) p limit start end
 hole_found b s begins p limit start end from to =
     let missing = missing_beyond b s begins p in
-    hole_beyond b s begins p limit start end (next_hole_is (shift_up s b) (max p b) limit start end (from ∙ ap (λ e. min e limit) missing)
+    hole_beyond b s begins p limit start end
+    (next_hole_is (shift_up s b) (max p b) limit start end (from ∙ ap (λ e. min e limit) missing)
     (to ∙ ap (λ t. next_start (maximal_runs t) start limit) (beyond_board b s begins)))
 
 pub ruleset fronts = (front_board, no_front, front_none, board_below, board_from, position_fits)

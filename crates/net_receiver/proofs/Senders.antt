@@ -41,8 +41,9 @@ lent_says says f w v pos xs s h is =
     (is ∙ ap (λ q. take (length xs) (drop (pos - v.first_unacknowledged) q)) s.queue
     ∙ ap (take (length xs)) (drop-drop (pos - v.first_unacknowledged) (v.first_unacknowledged - f) w ∙ ap (λ n. drop n w) place))
 
-pub lent_bytes : (f : ℕ) (w : List ℕ) (v : SenderState) (pos : ℕ) (xs : List ℕ) → Sends f w v → v.first_unacknowledged ≤ pos →
-    xs ≡ take (length xs) (drop (pos - v.first_unacknowledged) v.queue) → MatchesStream f w pos xs
+pub lent_bytes : (f : ℕ) (w : List ℕ) (v : SenderState) (pos : ℕ) (xs : List ℕ) → Sends f w v →
+    v.first_unacknowledged ≤ pos → xs ≡ take (length xs) (drop (pos - v.first_unacknowledged) v.queue) →
+    MatchesStream f w pos xs
 lent_bytes = lent_says matches_what_is_there
 
 -- and each of its bytes is kept there
@@ -225,10 +226,11 @@ module _ (s : FiniteSenderState) (sound : IsSoundSent s) where
       let none = sound.none_left (omega arith) in (omega (arith, sound.finished, sound.closed), omega (arith, sends.end))
 
 -- as many bytes were written as have room
-pub sends_bytes : (f : ℕ) (w : List ℕ) (s : FiniteSenderState) (n : ℕ) (bytes : List ℕ) → n ≡ min (length bytes) (finite_room s) →
-    Sends f w s.sender → Sends f (w ++ take n bytes) (with_bytes s (take n bytes)).sender
+pub sends_bytes : (f : ℕ) (w : List ℕ) (s : FiniteSenderState) (n : ℕ) (bytes : List ℕ) →
+    n ≡ min (length bytes) (finite_room s) → Sends f w s.sender → Sends f (w ++ take n bytes) (with_bytes s (take n bytes)).sender
 sends_bytes f w s n bytes e sends =
-    subst (λ k. Sends f (w ++ take k bytes) (with_bytes s (take k bytes)).sender) (sym e) (one_sends s (Writes bytes) f w sends)
+    subst (λ k. Sends f (w ++ take k bytes) (with_bytes s (take k bytes)).sender) (sym e)
+    (one_sends s (Writes bytes) f w sends)
 
 -- ---- all commands
 pub closed_stays : ClosedStays

@@ -1,5 +1,5 @@
-//! What a sender of TCP sends next where segments are lost. It stores no bytes: it is given the sender's numbers and the
-//! scoreboard.
+//! What a sender of TCP sends next where segments are lost. It stores no bytes: it is given the sender's
+//! numbers and the scoreboard.
 #![tactic(auto)]
 
 pub mod loss_recovery;

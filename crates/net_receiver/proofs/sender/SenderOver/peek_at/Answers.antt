@@ -17,4 +17,5 @@ returns-clause-some g c = grind (arith, nat_tests, part_long)
 
 pub returns-clause-says : goal.returns-clause-says
 returns-clause-says g c = λ f w s h.
-    lent_says c.matches_stream.ensures.there f w c.args.self.now c.args.pos c.part.result.now s h (returns-clause-value g c)
+    lent_says c.matches_stream.ensures.there f w c.args.self.now c.args.pos c.part.result.now s h
+    (returns-clause-value g c)
