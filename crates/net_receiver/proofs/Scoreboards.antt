@@ -12,7 +12,9 @@ use Rattle.net_receiver.proofs.Words.{contains-with_range, contains-shift_up, co
 use Rattle.net_receiver.proofs.Words.{first_missing-le, maximal_runs-shift_up, IsNextHole, board, reported_by, sizes}
 use Rattle.net_receiver.proofs.Words.{beyond, HasNoRoom, IsSoundBoard, IsSoundScoreboard, length-range_with_len}
 use Rattle.net_receiver.proofs.Words.{MakesTooManyRuns, makes_too_many_runs, TooManyHolesError, IsRising, set_of}
-use Rattle.net_receiver.proofs.Words.{length-runs_of, from_bool, sum_by-cons}
+use Rattle.net_receiver.proofs.Words.{length-runs_of, from_bool, sum_by-cons, AssemblerHead, EndBelow, runs_of, no_runs}
+use Rattle.net_receiver.proofs.Words.{HasSoundRuns}
+use Rattle.net_assembler.specs.Width.{shortfall}
 use Rattle.std.specs.Prelude.{if◌then◌else◌}
 use Rattle.std.specs.List.{count_by}
 use Rattle.net_assembler.specs.Positions.{front}
@@ -29,7 +31,6 @@ use Rattle.net_receiver.specs.declared.scoreboard_head.ScoreboardHead.{Scoreboar
 use Rattle.net_receiver.proofs.Sets.{IsShiftedUp, runs_shifted, begins_above, ends_below, ends_within}
 
 -- ---- The maximal runs of a set as a list of ranges: which positions they have, and where the next hole is.
--- ---- lists of ranges
 -- whether a position is in one of the ranges
 abbrev pub is_in_run : List (ℕ × ℕ) → ℕ → Bool
 is_in_run ranges p = list_any (lies_in p) ranges
@@ -188,9 +189,6 @@ board_at b s p = grind (arith, boards)
 pub board_from : (b : ℕ) (s : Positions) (p : ℕ) → b ≤ p → contains (board b s) p ≡ contains s (p - b)
 board_from b s p le = grind (arith, boards)
 
--- whether a position was reported
-pub ruleset in_board = (board_below, board_from, position_fits)
-
 -- nothing is beyond the base
 pub empty_board : (b : ℕ) (s : Positions) → s ≡ nothing → board b s ≡ with_range nothing 0 b
 empty_board b s is =
@@ -206,13 +204,7 @@ no_front s is = subst (λ (e : ℕ). contains s e ≡ false) is (front_misses s)
 pub front_none : (s : Positions) → contains s 0 ≡ false → front s ≡ 0
 front_none s misses = front_is s 0 misses (λ q l. absurd (omega arith))
 
--- positions end within 64 bits exactly if the last one does
-pub fit_by_end : (b : ℕ) (s : Positions) (e : ℕ) → IsEnd s e → e ≤ 2 ^ 64 - 1 - b → (p : ℕ) → IsTrue (contains s p) → b + p + 1 < 2 ^ 64
-fit_by_end b s e end fits p has = let l = end.above p has in omega (arith, fits, l)
-
-pub end_fits : (b : ℕ) (s : Positions) (e : ℕ) → IsEnd s e → ((p : ℕ) → IsTrue (contains s p) → b + p + 1 < 2 ^ 64) → e ≤ 2 ^ 64 - 1 - b
-end_fits b s e end fits = grind (arith, nat_tests)
-
+-- positions that end within 64 bits still do once the base is added
 pub beyond_fits : (b : ℕ) (s : Positions) → ((p : ℕ) → IsTrue (contains s p) → b + p + 1 < 2 ^ 64) → (p : ℕ) →
     contains (shift_up s b) p ≡ true → p + 1 < 2 ^ 64
 beyond_fits b s fits p has = let l = fits (p - b) in grind (arith, boards)
@@ -612,3 +604,59 @@ losses_count_all s p q misses l =
     let off = contains-beyond s p from ∙ misses in
     counted_above (maximal_runs (beyond s)) p q (not_in_run (beyond s) p off) l
     ∙ counted (beyond s) q ∙ ap from_bool (contains-beyond s q (omega (arith, from, l)))
+
+-- ---- What closes the goals of the calls.
+-- without runs nothing is beyond the base
+pub unused_board : (b : ℕ) (h : AssemblerHead) (rs : List (ℕ × ℕ)) → HasSoundRuns h rs → h.used ≡ 0 →
+    board b (set_of h rs) ≡ with_range nothing 0 b
+unused_board b h rs sound none = empty_board b (set_of h rs) (no_runs (runs_of h rs) (length-runs_of h rs sound ∙ none))
+
+-- the runs of the offsets, counted from 0
+pub runs_beyond : (b : ℕ) (s : Positions) → contains s 0 ≡ false →
+    runs_shifted_up b (maximal_runs s) ≡ maximal_runs (beyond (board b s))
+runs_beyond b s begins = sym (maximal_runs-shift_up s b) ∙ ap maximal_runs (sym (beyond_board b s begins))
+
+pub runs_fit : (b : ℕ) (s : Positions) → ((p : ℕ) → IsTrue (contains s p) → b + p + 1 < 2 ^ 64) →
+    EndBelow (2 ^ 64) (runs_shifted_up b (maximal_runs s))
+runs_fit b s fits =
+    subst (EndBelow (2 ^ 64)) (maximal_runs-shift_up s b)
+    (ends_below are_maximal_runs (2 ^ 64) (shift_up s b) (beyond_fits b s fits))
+
+-- the number of reported positions is one of `usize`
+pub sizes_usize : (h : AssemblerHead) (rs : List (ℕ × ℕ)) → HasSoundRuns h rs → 0 < sizes (maximal_runs (set_of h rs)) →
+    sizes (maximal_runs (set_of h rs)) + shortfall < 2 ^ 64
+sizes_usize h rs sound some =
+    let top = 2 ^ 64 - 1 - shortfall in
+    let few = sizes_few top (set_of h rs) (λ p has. let l = position_fits h rs sound p has in omega (arith, l)) in
+    omega (arith, few, some)
+
+-- the first position that isn't reported
+pub missing_found : (b : ℕ) (s : Positions) → contains s 0 ≡ false → (p : ℕ) →
+    first_missing (board b s) p ≡ max p b + count_from (maximal_runs (beyond (board b s))) (max p b)
+missing_found b s begins p =
+    missing_beyond b s begins p ∙ sym (missing_is (shift_up s b) (max p b))
+    ∙ ap (λ t. max p b + count_from (maximal_runs t) (max p b)) (sym (beyond_board b s begins))
+
+-- the next range that isn't reported
+pub hole_found : (b : ℕ) (s : Positions) → contains s 0 ≡ false → (p limit start end : ℕ) →
+    start ≡ min (first_missing (board b s) p) limit → end ≡ next_start (maximal_runs (beyond (board b s))) start limit →
+    IsNextHole (board b s) p limit start end
+hole_found b s begins p limit start end from to =
+    let missing = missing_beyond b s begins p in
+    hole_beyond b s begins p limit start end
+    (next_hole_is (shift_up s b) (max p b) limit start end (from ∙ ap (λ e. min e limit) missing)
+    (to ∙ ap (λ t. next_start (maximal_runs t) start limit) (beyond_board b s begins)))
+
+pub ruleset fronts = (front_board, no_front, front_none, board_below, board_from, position_fits)
+
+pub ruleset empties = (empty_board, unused_board, no_board, contains-nothing)
+
+pub ruleset ends = (end_is, end_beyond)
+
+pub ruleset counts = (sizes_usize, number_beyond)
+
+pub ruleset missing_runs = (runs_beyond, runs_fit, missing_found, hole_found)
+
+pub ruleset heads = (fronts, empties, ends, counts, missing_runs, nat_tests)
+
+pub ruleset scoreboards = (front_board, empties)

@@ -24,12 +24,13 @@ use Rattle.net_receiver.proofs.Words.{All-head, All-tail, All-weaker, ReceiverSt
 use Rattle.net_receiver.specs.{QueueFromGreatest, acknowledge, acknowledge_each, greatest_within}
 use Rattle.net_receiver.specs.SenderState.{SenderState}
 use Rattle.std.specs.Prelude.{IsTrue, IsFalse}
-use Rattle.net_ring.specs.RingHead.{IsSound}
+use Rattle.net_ring.specs.RingHead.{IsSound, place}
+use Rattle.net_ring.specs.Ring.{ring, index_after, contiguous_allocated}
+use Rattle.net_ring.proofs.RingFacts.{queue_part_value}
 use Rattle.net_receiver.proofs.OneStream.{matches_longer, matches_what_is_there, queue_of}
 use Rattle.net_receiver.specs.Transfers.{ComesFrom, SaysAtMost, AnyPathCarries}
 use Rattle.net_receiver.proofs.FiniteReceivers.{reads_the_stream, nexts_grow}
 
--- ---- Facts of senders: what is lent, and what is sent.
 -- what a sender lends matches the stream
 pub lent_says : MatchesWhatIsThere → (f : ℕ) (w : List ℕ) (v : SenderState) (pos : ℕ) (xs : List ℕ) → Sends f w v →
     v.first_unacknowledged ≤ pos →
@@ -39,6 +40,11 @@ lent_says says f w v pos xs s h is =
     says f pos w xs (omega arith)
     (is ∙ ap (λ q. take (length xs) (drop (pos - v.first_unacknowledged) q)) s.queue
     ∙ ap (take (length xs)) (drop-drop (pos - v.first_unacknowledged) (v.first_unacknowledged - f) w ∙ ap (λ n. drop n w) place))
+
+pub lent_bytes : (f : ℕ) (w : List ℕ) (v : SenderState) (pos : ℕ) (xs : List ℕ) → Sends f w v →
+    v.first_unacknowledged ≤ pos → xs ≡ take (length xs) (drop (pos - v.first_unacknowledged) v.queue) →
+    MatchesStream f w pos xs
+lent_bytes = lent_says matches_what_is_there
 
 -- and each of its bytes is kept there
 pub lent_at : (head pos : ℕ) (queue xs : List ℕ) → head ≤ pos → xs ≡ take (length xs) (drop (pos - head) queue) → (q d : ℕ) →
@@ -168,7 +174,7 @@ sound_sent_stays s (Acknowledges n) sound =
     }) sound
 
 -- ---- one command
-module _ (s : FiniteSenderState) (sound : IsSoundSent s) where
+module _ (s : FiniteSenderState) where
   one_sends : (c : SenderCommand) (f : ℕ) (w : List ℕ) → Sends f w s.sender → Sends f (w ++ written_of s c) (sender_after_command s c).sender
   one_sends (Writes xs) f w sends =
       cond_both (nat_eq s.closed 0) (with_written s.sender _) s.sender (Sends f _)
@@ -204,6 +210,7 @@ module _ (s : FiniteSenderState) (sound : IsSoundSent s) where
       acknowledged_by (λ t. (t.closed ≡ 1) × (written_of s Closes ≡ []) × (end_of t.sender ≡ end_of s.sender)) s n
       (λ low high. (e, refl, omega arith)) (e, refl, refl)
 
+module _ (s : FiniteSenderState) (sound : IsSoundSent s) where
   one_finished : (c : SenderCommand) → s.finished ≡ 1 → (sender_after_command s c).finished ≡ 1
   one_finished (Writes xs) e = e
   one_finished Closes e = e
@@ -218,6 +225,13 @@ module _ (s : FiniteSenderState) (sound : IsSoundSent s) where
   all_acknowledged f w sends e =
       let none = sound.none_left (omega arith) in (omega (arith, sound.finished, sound.closed), omega (arith, sends.end))
 
+-- as many bytes were written as have room
+pub sends_bytes : (f : ℕ) (w : List ℕ) (s : FiniteSenderState) (n : ℕ) (bytes : List ℕ) →
+    n ≡ min (length bytes) (finite_room s) → Sends f w s.sender → Sends f (w ++ take n bytes) (with_bytes s (take n bytes)).sender
+sends_bytes f w s n bytes e sends =
+    subst (λ k. Sends f (w ++ take k bytes) (with_bytes s (take k bytes)).sender) (sym e)
+    (one_sends s (Writes bytes) f w sends)
+
 -- ---- all commands
 pub closed_stays : ClosedStays
 closed_stays s [] f w sound sends =
@@ -225,10 +239,10 @@ closed_stays s [] f w sound sends =
     (same, (λ e. (e, refl, refl)), (λ e. e), all_acknowledged s sound f (w ++ []) same)
 closed_stays s (c ∷ cs) f w sound sends =
     let t = sender_after_command s c in
-    let rest = closed_stays t cs f (w ++ written_of s c) (sound_sent_stays s c sound) (one_sends s sound c f w sends) in
+    let rest = closed_stays t cs f (w ++ written_of s c) (sound_sent_stays s c sound) (one_sends s c f w sends) in
     let joined = append_assoc w (written_of s c) (bytes_written t cs) in (
       subst (λ l. Sends f l (sender_after_commands t cs).sender) joined rest.0,
-      (λ e. (let one = one_closed s sound c e in let all = rest.1 one.0 in
+      (λ e. (let one = one_closed s c e in let all = rest.1 one.0 in
           (all.0, (λ i. one.1 i ++ all.1 i), all.2 ∙ one.2))),
       (λ e. rest.2 (one_finished s sound c e)),
       (λ e. (let all = rest.3 e in (all.0, all.1 ∙ ap (λ l. f + length l) joined))),
@@ -402,3 +416,30 @@ any_path_carries N first to_send to_receive ws cs fits from =
 
 -- ---- The lemmas of each law.
 pub ruleset lent_segments_law = (lent_some, lent_room, lent_none, lent_numbers, lent_beyond, lent_written)
+
+pub ruleset sends_law = (fresh_sends, sends_written, sends_from, lent_bytes)
+
+-- ---- What closes the goals of the calls.
+-- the part of the queue from its byte number i on, as that of the storage
+pub part_queued : (n i r k : ℕ) (xs : List ℕ) → IsSound (length xs) (place r k) → n ≤ k - i →
+    n ≤ length xs - index_after (length xs) r (min i k) →
+    take n (drop i (queue (ring xs r k))) ≡ take n (drop (index_after (length xs) r (min i k)) xs)
+part_queued n i r k xs sound few contiguous =
+    let all : contiguous_allocated (ring xs r k) i n ≡ n = omega (arith, few, contiguous) in
+    (λ j. take (sym all j) (drop i (queue (ring xs r k)))) ∙ sym (queue_part_value (ring xs r k) sound i n)
+    ∙ (λ j. take (all j) (drop (index_after (length xs) r (min i k)) xs))
+
+pub ruleset heads = (length-queue, part_queued)
+
+-- how many bytes a part that is lent has
+pub part_long : (n p : ℕ) (xs : List ℕ) → p + n ≤ length xs → length (take n (drop p xs)) ≡ n
+part_long n p xs within = omega (arith, length-take n (drop p xs), length-drop p xs)
+
+-- what is left of the stream after an acknowledgement
+pub dropped_twice : (f h n : ℕ) (w : List ℕ) → f ≤ h → h ≤ n → drop (n - h) (drop (h - f) w) ≡ drop (n - f) w
+dropped_twice f h n w low high =
+    let place : (h - f) + (n - h) ≡ n - f = omega arith in drop-drop (n - h) (h - f) w ∙ ap (λ k. drop k w) place
+
+pub ruleset senders = (part_long, dropped_twice, length-drop, fresh_sends, written_number, nat_tests)
+
+pub ruleset peeks = (part_long, lent_at)

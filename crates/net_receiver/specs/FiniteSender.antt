@@ -25,7 +25,6 @@ use Rattle.net_receiver.specs.declared.finite_sender_head.FiniteSenderHead.{Fini
 use Rattle.net_receiver.specs.Finite.{no_end, MatchesFinite}
 use Rattle.net_ring.specs.RingHead.{queued_index}
 
--- ---- A sender of a stream that ends: its end has a number after the last byte's, and is sent and acknowledged as a byte.
 -- a sender; 1 once it is closed; 1 once the end is acknowledged; and the number after the last one that was sent
 pub record FiniteSenderState : Type 0 where
   pub sender : SenderState

@@ -27,7 +27,6 @@ use Rattle.net_receiver.specs.SequenceNumbers.{IsNamed}
 use Rattle.net_receiver.specs.declared.scoreboard_head.ScoreboardHead.{ScoreboardHead}
 use Rattle.std.specs.Int.{from_bool}
 
--- ---- What a sender sends again: the holes of the positions that were reported to it.
 -- all positions below a base, and those at offsets that are counted from it
 abbrev pub board : ℕ → Positions → Positions
 board base offsets = with_range (shift_up offsets base) 0 base

@@ -18,7 +18,6 @@ use Rattle.net_ring.specs.Ring.{queue}
 use Rattle.net_ring.specs.RingHead.{IsSound, ring_at}
 use Rattle.net_receiver.specs.declared.sender_head.SenderHead.{SenderHead}
 
--- ---- A sender as one value: what it has queued, and the stream that it sends.
 -- the model of a sender: a byte of position `wraps_at` is at the storage's beginning, and one before it is at an index
 -- less by `wraps_at` minus its position than the storage's length
 pub record SenderState : Type 0 where

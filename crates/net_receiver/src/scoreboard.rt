@@ -1,4 +1,6 @@
 //! A scoreboard: which positions a sender knows that the other end has.
+#![tactic(auto, using(crate::proofs::Scoreboards::scoreboards))]
+
 ghost use Rattle.std.specs.Prelude.{◌≡◌, ◌↔◌, ◌-◌, ◌<◌, ◌≤◌, ℕ, length, Err, OnOk, OnErr};
 ghost use Rattle.net_assembler.specs.Positions.{contains, first_missing, front, maximal_runs, nothing, positions};
 ghost use Rattle.net_assembler.specs.Positions.{with_range};
@@ -67,7 +69,7 @@ impl<const N: usize> Scoreboard<N> {
     /// assert!(!Scoreboard::<4>::empty().contains(0));
     /// ```
     ///
-    /// ```compile_fail
+    /// ```compile_fail,E0080
     /// # use net_base::scoreboard::Scoreboard;
     /// let scoreboard = Scoreboard::<0>::empty();
     /// ```
@@ -110,6 +112,7 @@ impl<const N: usize> Scoreboard<N> {
         requires { IsSoundBoard head runs }
         ensures { result ≡ reported_by head runs.entry }
     {
+        // The head of an assembler without runs may have any start. A scoreboard's is canonical: 0 in both numbers.
         if head.reported.used == 0 {
             return Scoreboard {
                 head: ScoreboardHead::new_at(head.base),

@@ -1,4 +1,6 @@
 //! A scoreboard in parts: a head, and runs that are kept elsewhere.
+#![tactic(auto, using(crate::proofs::Scoreboards::heads))]
+
 ghost use Rattle.std.specs.Prelude.{◌≡◌, ◌↔◌, ◌-◌, ◌≤◌, List, ℕ, length, min, nat_lt, IsTrue, Err, OnOk, OnErr};
 ghost use Rattle.std.specs.Prelude.{if◌then◌else◌};
 ghost use Rattle.net_assembler.specs.Positions.{contains, first_missing, front, maximal_runs, nothing, positions};
@@ -45,14 +47,10 @@ pub struct ScoreboardHead {
     pub reported: AssemblerHead,
 }
 
-// A parameter `_runs` is there for the contract.
 impl ScoreboardHead {
     /// Returns a scoreboard of a stream that begins at position `first`, to which nothing was reported,
     /// whatever its runs. All positions below `first` count as reported.
     pub const fn new_at(first: u64) -> Self
-        ensures base { result.base ≡ first }
-        ensures no_run { result.reported.used ≡ 0 }
-        ensures no_start { result.reported.first_start ≡ 0 }
         ensures sound { (runs : List (ℕ × ℕ)) → IsSoundBoard result runs }
         ensures empty { (runs : List (ℕ × ℕ)) →
             reported_by result runs ≡ with_range nothing 0 first }
@@ -66,9 +64,6 @@ impl ScoreboardHead {
 
     /// Returns a scoreboard to which nothing was reported, whatever its runs: `new_at` with 0.
     pub(crate) const fn new() -> Self
-        ensures base { result.base ≡ 0 }
-        ensures no_run { result.reported.used ≡ 0 }
-        ensures no_start { result.reported.first_start ≡ 0 }
         ensures sound { (runs : List (ℕ × ℕ)) → IsSoundBoard result runs }
         ensures empty { (runs : List (ℕ × ℕ)) → reported_by result runs ≡ nothing }
         ensures numbers { result ≡ scoreboard_head 0 }
@@ -78,12 +73,10 @@ impl ScoreboardHead {
 
     /// Begins again: a scoreboard of a stream that begins at position `first`, as `new_at` returns it.
     pub(crate) fn reset_at(&mut self, first: u64)
-        ensures base { self.new.base ≡ first }
-        ensures no_run { self.new.reported.used ≡ 0 }
-        ensures no_start { self.new.reported.first_start ≡ 0 }
         ensures sound { (runs : List (ℕ × ℕ)) → IsSoundBoard self.new runs }
         ensures empty { (runs : List (ℕ × ℕ)) →
             reported_by self.new runs ≡ with_range nothing 0 first }
+        ensures numbers { self.new ≡ scoreboard_head first }
     {
         *self = ScoreboardHead::new_at(first);
     }
@@ -178,7 +171,6 @@ impl ScoreboardHead {
     }
 
     /// Returns the first position that wasn't reported.
-    #[tactic(auto, using(crate::proofs::Scoreboards::front_board))]
     pub(crate) fn first_unreported(&self) -> u64
         ensures value { result ≡ self.now.base }
         ensures state { (runs : List (ℕ × ℕ)) → IsSoundBoard self.now runs →
@@ -192,7 +184,6 @@ impl ScoreboardHead {
     /// # Requires
     ///
     /// The scoreboard is sound with the runs.
-    #[tactic(auto, using(crate::proofs::Scoreboards::in_board))]
     pub fn contains(&self, runs: &[Run], pos: u64) -> bool
         requires { IsSoundBoard self.now runs.now }
         ensures { result ≡ contains (reported_by self.now runs.now) pos }
@@ -329,7 +320,6 @@ fn is_report(first: u64, start: u64, end: u64, sent: u64) -> bool
 }
 
 /// Returns the end of the last run; 0 if there is none.
-#[tactic(auto, using(crate::proofs::Scoreboards::end_is))]
 fn highest_offset(reported: &AssemblerHead, runs: &[Run]) -> usize
     requires { HasSoundRuns reported.now runs.now }
     ensures { IsEnd (set_of reported.now runs.now) result }

@@ -1,4 +1,6 @@
 //! The sender of a stream.
+#![tactic(auto, using(crate::proofs::Senders::senders))]
+
 ghost use Rattle.std.specs.Prelude.{◌≡◌, ◌↔◌, ◌+◌, ◌-◌, ◌<◌, ◌≤◌, ◌==◌, ◌^◌, ◌++◌, ℕ, List, [], length, take, drop};
 ghost use Rattle.std.specs.Prelude.{min, max, slice_index_or, IsTrue, IsFalse};
 ghost use Rattle.net_receiver.specs.{MatchesStream, sender_state, end_of, room_of, contiguous_end, with_written};
@@ -253,6 +255,7 @@ impl<S: Storage<u8>> SenderOver<S> {
     /// assert_eq!((sender.peek_at(101, 9), sender.peek_at(103, 9)), (&b"bc"[..], &b""[..]));
     /// ```
     #[must_use]
+    #[tactic(auto, using(crate::proofs::Senders::peeks))]
     pub fn peek_at(&self, pos: u64, max: usize) -> &[u8]
         // Guarantee.
         ensures value { result.now

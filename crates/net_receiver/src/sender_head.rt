@@ -1,5 +1,7 @@
 //! A sender in parts: a head of numbers, and a storage that is kept elsewhere.
-ghost use Rattle.std.specs.Prelude.{◌≡◌, ◌↔◌, ◌+◌, ◌-◌, ◌<◌, ◌≤◌, ◌^◌, ◌&&◌, ◌++◌, ℕ, List, [], length, take, drop};
+#![tactic(auto, using(crate::proofs::Senders::heads))]
+
+ghost use Rattle.std.specs.Prelude.{◌≡◌, ◌↔◌, ◌+◌, ◌-◌, ◌<◌, ◌≤◌, ◌^◌, ◌&&◌, ℕ, List, [], length, take, drop};
 ghost use Rattle.std.specs.Prelude.{min, max, nat_le, IsTrue, IsFalse};
 ghost use Rattle.net_ring.specs.Ring.{queue, rewind_if_empty, with_enqueued, write_at, with_elements_wrapping};
 ghost use Rattle.net_ring.specs.RingHead.{ring_at, queued_index, dequeued_place};
@@ -106,8 +108,6 @@ impl SenderHead {
         ensures ring { let g = rewind_if_empty (ring_at storage.old self.old.place) in
             ring_at storage.new self.new.place
             ≡ with_enqueued result (with_elements_wrapping g (write_at g) (take result bytes.now)) }
-        ensures sends { (f : ℕ) (w : List ℕ) → Sends f w (sender_of self.old storage.old) →
-            Sends f (w ++ take result bytes.now) (sender_of self.new storage.new) }
     {
         let count = bytes.len().min(self.room(storage.len()));
         self.place.enqueue_slice(storage, &bytes[..count])

@@ -1,11 +1,10 @@
--- How many positions of a range a set lacks, hole by hole; there is one hole, and one end.
-use Rattle.std.proofs.Common.{◌≡◌, ℕ, zero, suc, ◌+◌, ◌-◌, ◌<◌, ◌≤◌, true, false, refl, sym, ap, ◌∙◌, arith, inl, inr}
-use Rattle.std.proofs.lemmas.Bool.{both_ways, cases_lt}
-use Rattle.std.specs.Prelude.{Option, Some, None, IsTrue, IsFalse}
+-- How many positions of a range a set lacks, hole by hole; there is one end.
+use Rattle.std.proofs.Common.{◌≡◌, ℕ, zero, suc, ◌+◌, ◌-◌, ◌<◌, ◌≤◌, true, false, sym, ap, ◌∙◌, arith, inl, inr}
+use Rattle.std.proofs.lemmas.Bool.{cases_lt}
+use Rattle.std.specs.Prelude.{IsTrue, IsFalse}
 use Rattle.net_assembler.specs.Positions.{Positions, contains}
 use Rattle.net_assembler.proofs.Sets.{first_missing-has, first_missing-le}
 use Rattle.net_receiver.specs.Scoreboards.{IsEnd, IsNextHole}
-use Rattle.net_receiver.specs.Scoreboards.{IsHole}
 use Rattle.net_recovery.specs.LossRecovery.{missing_count}
 
 -- of positions that are all in the set none is missing
@@ -68,28 +67,7 @@ none_counts s p limit h = elim (cases_lt p limit) [
       ap (missing_count s p) (sym all) ∙ count_has s p (limit - p) 0 (λ q low high. first_missing-has s p q low (omega (arith, begins, below, high))))
 ]
 
--- ---- what the calls of a scoreboard return is one
--- the end of one hole is not before the end of the other
-no_sooner : (s : Positions) (p limit start end start' end' : ℕ) → IsNextHole s p limit start end → IsNextHole s p limit start' end' →
-    start' < end' → end' ≤ end
-no_sooner s p limit start end start' end' h g some = elim (cases_lt end end') [
-  | inr le ↦ le
-  | inl lt ↦ (
-      let same : start' ≡ start = omega (arith, h.begins, g.begins) in
-      absurd (both_ways (contains s end) (g.missing end (omega (arith, same, h.order)) lt) (h.ended (omega (arith, lt, g.within)))))
-]
-
-pub one_hole : (s : Positions) (p limit : ℕ) (a b : Option (ℕ × ℕ)) → IsHole s p limit a → IsHole s p limit b → a ≡ b
-one_hole s p limit None None h g = refl
-one_hole s p limit None (Some y) h g = absurd (omega (arith, h.begins, g.0.begins, g.0.within, g.1))
-one_hole s p limit (Some x) None h g = absurd (omega (arith, g.begins, h.0.begins, h.0.within, h.1))
-one_hole s p limit (Some x) (Some y) h g =
-    let start : x.0 ≡ y.0 = omega (arith, h.0.begins, g.0.begins) in
-    let one = no_sooner s p limit x.0 x.1 y.0 y.1 h.0 g.0 g.1 in
-    let two = no_sooner s p limit y.0 y.1 x.0 x.1 g.0 h.0 h.1 in
-    let end : x.1 ≡ y.1 = omega (arith, one, two) in
-    λ i. Some (start i, end i)
-
+-- there is one end
 no_higher : (s : Positions) (m n : ℕ) → IsEnd s m → IsEnd s n → m ≤ n
 no_higher s m n x y = elim (cases_lt n m) [
   | inr le ↦ le

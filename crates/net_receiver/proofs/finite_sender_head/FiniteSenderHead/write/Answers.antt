@@ -1,6 +1,6 @@
-use Rattle.net_receiver.proofs.Words.{◌≡◌, ◌++◌, length, take, cond, nat_eq, refl, sym, ap, subst, ◌∙◌, arith}
+use Rattle.net_receiver.proofs.Words.{◌≡◌, length, take, cond, nat_eq, refl, sym, ap, subst, ◌∙◌, arith}
 use Rattle.net_receiver.proofs.Words.{length-append, length-take, take-take, with_elements_wrapping, with_enqueued}
-use Rattle.net_receiver.proofs.Words.{ring_at, length-queue, with_written, Sends, sender_of, open_room}
+use Rattle.net_receiver.proofs.Words.{ring_at, length-queue, with_written, sender_of, open_room}
 use Rattle.net_ring.specs.Ring.{rewind_if_empty, write_at}
 use Rattle.net_ring.specs.RingHead.{IsSound}
 use Rattle.net_receiver.proofs.FiniteReceivers.{eq_tests}
@@ -46,5 +46,4 @@ returns c =
       };
       ring = λ zero. done.ring ∙ ap (λ l. with_enqueued c.write.result (with_elements_wrapping g (write_at g) l)) same;
       closed = λ some. absurd (omega (arith, shut, some));
-      sends = λ f w s. subst (λ l. Sends f (w ++ l) (sender_of c.write.new.self c.write.new.storage)) same (done.sends f w s);
     }
