@@ -8,16 +8,16 @@
 ghost use Rattle.net_assembler.specs.RunLists.{IsCanonical};
 ghost use Rattle.net_ffi.specs.ReceiverParts.{HasRuns, IsPlausible};
 ghost use Rattle.net_ffi.specs.Refusals.{no_number};
-ghost use Rattle.net_receiver.specs.Finite.{ReceivesFinite, acknowledged, can_end_by, finite_after_read};
-ghost use Rattle.net_receiver.specs.Finite.{fresh_finite, has_read_all, is_complete, no_end};
+ghost use Rattle.net_receiver.specs.Finite.{acknowledged, can_end_by, finite_after_read, fresh_finite};
+ghost use Rattle.net_receiver.specs.Finite.{has_read_all, is_complete, no_end};
 ghost use Rattle.net_receiver.specs.FiniteHead.{HasSoundFinite, end_of, finite_of, next_of};
 ghost use Rattle.net_receiver.specs.Head.{HasSoundHeld, head_after_read, held_at, top_at};
 ghost use Rattle.net_receiver.specs.NewHeads.{finite_receiver_head};
 ghost use Rattle.net_receiver.specs.ReceiverState.{count_between};
 ghost use Rattle.net_ring.specs.Ring.{queue};
 ghost use Rattle.net_ring.specs.RingHead.{IsSound as IsSoundPlace, ring_at};
-ghost use Rattle.std.specs.Prelude.{IsFalse, IsTrue, List, drop, if◌then◌else◌, length, min, slice_range, take, ℕ};
-ghost use Rattle.std.specs.Prelude.{◌++◌, ◌+◌, ◌-◌, ◌<◌, ◌==◌, ◌^◌, ◌↔◌, ◌≡◌, ◌≤◌};
+ghost use Rattle.std.specs.Prelude.{IsFalse, IsTrue, List, drop, if◌then◌else◌, length, min, take, ℕ, ◌++◌, ◌+◌};
+ghost use Rattle.std.specs.Prelude.{◌-◌, ◌<◌, ◌==◌, ◌^◌, ◌↔◌, ◌≡◌, ◌≤◌};
 
 use crate::finite_receiver::has_number;
 use crate::receiver::{has_next, has_runs, is_plausible};
@@ -168,11 +168,6 @@ pub extern "C" fn net_base_finite_receiver_read(
     ensures state { (IsSoundPlace (length storage.now) receiver.old.receiver.place) × (next_of receiver.old < 2 ^
         64) → (runs : List (ℕ × ℕ)) → HasSoundFinite receiver.old (length storage.now) runs → finite_of receiver.new
         storage.now runs ≡ finite_after_read (finite_of receiver.old storage.now runs) (length into.old) }
-    ensures receives { (IsSoundPlace (length storage.now) receiver.old.receiver.place) × (next_of receiver.old < 2 ^
-        64) → (runs : List (ℕ × ℕ)) → HasSoundFinite receiver.old (length storage.now) runs → (f : ℕ) (x : List ℕ) →
-        ReceivesFinite f x (finite_of receiver.old storage.now runs) → ReceivesFinite f x (finite_of receiver.new
-        storage.now runs) × (take result into.new ≡ slice_range x receiver.old.receiver.count_read
-        (receiver.old.receiver.count_read + result)) }
     ensures refused { ((IsSoundPlace (length storage.now) receiver.old.receiver.place) × (next_of receiver.old < 2 ^
         64) → ⊥) → (result ≡ no_number) × (receiver.new ≡ receiver.old) × («into».new ≡ «into».old) }
 {
@@ -203,11 +198,6 @@ pub extern "C" fn net_base_finite_receiver_remove(
     ensures state { IsTrue result → (storage : List ℕ) (runs : List (ℕ × ℕ)) → length storage ≡ capacity →
         HasSoundFinite receiver.old capacity runs → finite_of receiver.new storage runs ≡ finite_after_read
         (finite_of receiver.old storage runs) count }
-    ensures receives { IsTrue result → (storage : List ℕ) (runs : List (ℕ × ℕ)) → length storage ≡ capacity →
-        HasSoundFinite receiver.old capacity runs → (f : ℕ) (x : List ℕ) → ReceivesFinite f x (finite_of
-        receiver.old storage runs) → ReceivesFinite f x (finite_of receiver.new storage runs) × (take count (queue
-        (ring_at storage receiver.old.receiver.place)) ≡ slice_range x receiver.old.receiver.count_read
-        (receiver.old.receiver.count_read + count)) }
     ensures unchanged { IsFalse result → (receiver.new ≡ receiver.old) }
 {
     if !receiver.receiver.place.is_sound(capacity)

@@ -16,8 +16,8 @@ ghost use Rattle.net_receiver.specs.SenderState.{Sends};
 ghost use Rattle.net_ring.specs.Ring.{rewind_if_empty, with_elements_wrapping, with_enqueued, write_at};
 ghost use Rattle.net_ring.specs.RingHead.{ring_at};
 ghost use Rattle.std.specs.Int.{from_bool};
-ghost use Rattle.std.specs.Prelude.{IsFalse, IsTrue, List, length, max, min, take, ℕ, ◌++◌, ◌+◌, ◌<◌, ◌==◌, ◌^◌};
-ghost use Rattle.std.specs.Prelude.{◌↔◌, ◌≡◌, ◌≢◌, ◌≤◌};
+ghost use Rattle.std.specs.Prelude.{IsFalse, IsTrue, List, length, max, min, take, ℕ, ◌+◌, ◌<◌, ◌==◌, ◌^◌, ◌↔◌};
+ghost use Rattle.std.specs.Prelude.{◌≡◌, ◌≢◌, ◌≤◌};
 
 use crate::refusals::{no_number, refused_segment_span};
 use crate::results::{SegmentSpan, segment_span};
@@ -140,9 +140,6 @@ pub extern "C" fn net_base_finite_sender_write(
         ≡ with_enqueued result (with_elements_wrapping g (write_at g) (take result bytes.now)) }
     ensures closed { IsSoundFiniteSender (length storage.old) sender.old → 0 < sender.old.closed → (sender.new ≡
         sender.old) × (storage.new ≡ storage.old) }
-    ensures sends { IsSoundFiniteSender (length storage.old) sender.old → (f : ℕ) (w : List ℕ) → Sends f w
-        (finite_sender_of sender.old storage.old).sender → Sends f (w ++ take result bytes.now) (finite_sender_of
-        sender.new storage.new).sender }
     ensures refused { (IsSoundFiniteSender (length storage.old) sender.old → ⊥) → (result ≡ no_number) × (sender.new
         ≡ sender.old) × (storage.new ≡ storage.old) }
 {

@@ -5,17 +5,13 @@
 //! longest packet has as many bytes as the storage. Fragments may overlap: at each position the
 //! byte is that of the last fragment there. `present` is an assembler.
 // Written by tools/ffi.py.
-ghost use Rattle.net_assembler.specs.Assembler.{MakesTooManyRuns};
 ghost use Rattle.net_assembler.specs.Positions.{nothing};
 ghost use Rattle.net_assembler.specs.RunLists.{HasSoundRuns, set_of};
-ghost use Rattle.net_base.specs.Fragments.{Contradicts, Differs, HasSoundParts, IsExact, IsPlausible, Meets};
-ghost use Rattle.net_base.specs.Fragments.{fragments_of, limit_of, total_of, with_fragment};
-ghost use Rattle.net_base.specs.declared.storage.fragments.FragmentError.TheVariants.{OtherSize, TooLong};
-ghost use Rattle.net_base.specs.declared.storage.fragments.FragmentError.TheVariants.{TooManyHoles};
+ghost use Rattle.net_base.specs.Fragments.{Adds, Differs, HasSoundParts, IsExact, IsPlausible, Meets, TakesSize};
+ghost use Rattle.net_base.specs.Fragments.{fragments_of, total_of, zero_fragments};
 ghost use Rattle.net_ffi.specs.Results.{IsStatus, done_or_error};
-ghost use Rattle.std.specs.Prelude.{Err, IsErr, IsFalse, IsTrue, List, OnErr, OnOk, length, ℕ, ◌+◌, ◌<ℤ◌, ◌<◌, ◌↔◌};
-ghost use Rattle.std.specs.Prelude.{◌≡◌, ◌≤◌, ◌⊎◌};
-ghost use Rattle.std.specs.declared.option.Option.TheVariants.{None, Some};
+ghost use Rattle.std.specs.Prelude.{IsFalse, IsTrue, List, OnErr, OnOk, false, length, ℕ, ◌<ℤ◌, ◌↔◌, ◌≡◌, ◌≤◌};
+ghost use Rattle.std.specs.declared.option.Option.TheVariants.{Some};
 
 use crate::fragments::is_plausible;
 use crate::refusals::{NET_BASE_REFUSED, Status};
@@ -29,10 +25,7 @@ use net_base::storage::FragmentsHead;
 pub extern "C" fn net_base_fragments_init(fragments: &mut FragmentsHead, expires_at: i64)
     ensures sound { (storage : List ℕ) (runs : List (ℕ × ℕ)) → HasSoundParts fragments.new storage runs }
     ensures nothing { (runs : List (ℕ × ℕ)) → set_of fragments.new.present runs ≡ nothing }
-    ensures total { total_of fragments.new ≡ None }
-    ensures expires { fragments.new.expires_at ≡ expires_at }
-    ensures zeros { (fragments.new.present.used ≡ 0) × (fragments.new.present.first_start ≡ 0) ×
-        (fragments.new.has_total ≡ 0) × (fragments.new.total ≡ 0) }
+    ensures value { fragments.new ≡ zero_fragments expires_at }
     ensures exact { IsExact fragments.new }
 {
     *fragments = FragmentsHead::new(expires_at);
@@ -71,9 +64,8 @@ pub extern "C" fn net_base_fragments_set_total_size(
     size: usize,
 ) -> Status
     requires sound { fragments.old.present.used ≤ length runs.now → HasSoundRuns fragments.old.present runs.now }
-    ensures ok { fragments.old.present.used ≤ length runs.now → OnOk (done_or_error result)
-        ((fragments.new.has_total ≡ 1) × (fragments.new.total ≡ size) × (fragments.new.present ≡
-        fragments.old.present) × (fragments.new.expires_at ≡ fragments.old.expires_at)) }
+    ensures ok { fragments.old.present.used ≤ length runs.now → OnOk (done_or_error result) (fragments.new ≡ record
+        fragments.old { has_total = 1; total = size }) }
     ensures total { fragments.old.present.used ≤ length runs.now → OnOk (done_or_error result) (total_of
         fragments.new ≡ Some size) }
     ensures sound { fragments.old.present.used ≤ length runs.now → OnOk (done_or_error result) ((storage : List ℕ) →
@@ -81,15 +73,11 @@ pub extern "C" fn net_base_fragments_set_total_size(
         storage runs.now) }
     ensures unchanged { fragments.old.present.used ≤ length runs.now → OnErr (done_or_error result) (fragments.new ≡
         fragments.old) }
-    ensures too_long { fragments.old.present.used ≤ length runs.now → (((done_or_error result) ≡ Err TooLong) ↔
-        (capacity < size)) }
-    ensures other_size { fragments.old.present.used ≤ length runs.now → (((done_or_error result) ≡ Err OtherSize) ↔
-        ((size ≤ capacity) × Contradicts (set_of fragments.old.present runs.now) (total_of fragments.old) size)) }
-    ensures refused { fragments.old.present.used ≤ length runs.now → (IsErr (done_or_error result) ↔ ((capacity <
-        size) ⊎ Contradicts (set_of fragments.old.present runs.now) (total_of fragments.old) size)) }
+    ensures takes { fragments.old.present.used ≤ length runs.now → TakesSize capacity (set_of fragments.old.present
+        runs.now) (total_of fragments.old) size (done_or_error result) }
     ensures exact { IsExact fragments.old → IsExact fragments.new }
     ensures status { fragments.old.present.used ≤ length runs.now → IsStatus result }
-    ensures unsound { (fragments.old.present.used ≤ length runs.now → ⊥) → (result ≡ NET_BASE_REFUSED) ×
+    ensures refused { (fragments.old.present.used ≤ length runs.now → ⊥) → (result ≡ NET_BASE_REFUSED) ×
         (fragments.new ≡ fragments.old) }
 {
     if fragments.present.used > runs.len() {
@@ -123,28 +111,16 @@ pub extern "C" fn net_base_fragments_add(
         storage.old runs.old }
     ensures sound { IsPlausible (length storage.old) (length runs.old) fragments.old → HasSoundParts fragments.new
         storage.new runs.new }
-    ensures ok { IsPlausible (length storage.old) (length runs.old) fragments.old → OnOk (done_or_error result)
-        (fragments_of fragments.new storage.new runs.new ≡ with_fragment (fragments_of fragments.old storage.old
-        runs.old) offset «data».now) }
+    ensures adds { IsPlausible (length storage.old) (length runs.old) fragments.old → Adds (length runs.old)
+        (fragments_of fragments.old storage.old runs.old) offset «data».now false (done_or_error result)
+        (fragments_of fragments.new storage.new runs.new) }
     ensures unchanged { IsPlausible (length storage.old) (length runs.old) fragments.old → OnErr (done_or_error
         result) ((fragments.new ≡ fragments.old) × (storage.new ≡ storage.old) × (runs.new ≡ runs.old)) }
-    ensures too_long { IsPlausible (length storage.old) (length runs.old) fragments.old → (((done_or_error result) ≡
-        Err TooLong) ↔ (length storage.old < offset + length «data».now)) }
-    ensures other_size { IsPlausible (length storage.old) (length runs.old) fragments.old → (((done_or_error result)
-        ≡ Err OtherSize) ↔ ((offset + length «data».now ≤ length storage.old) × (limit_of (fragments_of
-        fragments.old storage.old runs.old) < offset + length «data».now))) }
-    ensures too_many { IsPlausible (length storage.old) (length runs.old) fragments.old → (((done_or_error result) ≡
-        Err TooManyHoles) ↔ ((offset + length «data».now ≤ limit_of (fragments_of fragments.old storage.old
-        runs.old)) × MakesTooManyRuns (length runs.old) (set_of fragments.old.present runs.old) offset (length
-        «data».now))) }
-    ensures refused { IsPlausible (length storage.old) (length runs.old) fragments.old → (IsErr (done_or_error
-        result) ↔ ((limit_of (fragments_of fragments.old storage.old runs.old) < offset + length «data».now) ⊎
-        MakesTooManyRuns (length runs.old) (set_of fragments.old.present runs.old) offset (length «data».now))) }
     ensures others { (fragments.new.has_total ≡ fragments.old.has_total) × (fragments.new.total ≡
         fragments.old.total) × (fragments.new.expires_at ≡ fragments.old.expires_at) }
     ensures exact { IsExact fragments.old → IsExact fragments.new }
     ensures status { IsPlausible (length storage.old) (length runs.old) fragments.old → IsStatus result }
-    ensures unsound { (IsPlausible (length storage.old) (length runs.old) fragments.old → ⊥) → (result ≡
+    ensures refused { (IsPlausible (length storage.old) (length runs.old) fragments.old → ⊥) → (result ≡
         NET_BASE_REFUSED) × (fragments.new ≡ fragments.old) × (storage.new ≡ storage.old) × (runs.new ≡ runs.old) }
 {
     if !is_plausible(fragments, storage.len(), runs.len()) {

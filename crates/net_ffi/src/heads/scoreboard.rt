@@ -24,9 +24,6 @@ use net_receiver::{ReportError, ScoreboardHead};
 /// was reported, whatever its runs. All positions below `first` count as reported.
 #[unsafe(no_mangle)]
 pub extern "C" fn net_base_scoreboard_init(scoreboard: &mut ScoreboardHead, first: u64)
-    ensures base { scoreboard.new.base ≡ first }
-    ensures no_run { scoreboard.new.reported.used ≡ 0 }
-    ensures no_start { scoreboard.new.reported.first_start ≡ 0 }
     ensures sound { (runs : List (ℕ × ℕ)) → IsSoundBoard scoreboard.new runs }
     ensures empty { (runs : List (ℕ × ℕ)) → reported_by scoreboard.new runs ≡ with_range nothing 0 first }
     ensures numbers { scoreboard.new ≡ scoreboard_head first }

@@ -74,7 +74,7 @@ impl PacketsHead {
     /// Returns how many bytes are skipped before a packet of `size` bytes; `None` if there are no
     /// `size` contiguous free bytes, or no slot for the packet or its gap.
     #[inline]
-    pub fn placement(self, slot_count: usize, capacity: usize, size: usize) -> Option<usize> {
+    pub(crate) fn placement(self, slot_count: usize, capacity: usize, size: usize) -> Option<usize> {
         let contiguous = contiguous_if_placed(self.bytes, capacity);
         let gap = gap_for(size, contiguous, capacity - self.bytes.length);
         if_slots(slot_count - self.slots.length, gap)
@@ -86,7 +86,7 @@ impl PacketsHead {
     /// An empty queue begins at the storage's beginning. The caller writes the size of the gap, if
     /// it has a slot, and size and header of the packet to their slots.
     #[inline]
-    pub fn place(&mut self, slot_count: usize, capacity: usize, size: usize) -> Option<PacketPlace> {
+    pub(crate) fn place(&mut self, slot_count: usize, capacity: usize, size: usize) -> Option<PacketPlace> {
         let gap = self.placement(slot_count, capacity, size)?;
         let used = slots_for(gap);
         let gap_slot = self.slots.index(slot_count, self.slots.length);
@@ -116,7 +116,7 @@ impl PacketsHead {
     ///
     /// The head is sound, a slot is used, and at least `size` bytes are.
     #[inline]
-    pub fn take(&mut self, slot_count: usize, capacity: usize, size: usize) -> usize {
+    pub(crate) fn take(&mut self, slot_count: usize, capacity: usize, size: usize) -> usize {
         let from = self.bytes.read_at;
         self.slots.dequeue(slot_count, 1);
         self.bytes.dequeue(capacity, size);
@@ -130,7 +130,7 @@ impl PacketsHead {
     ///
     /// At least `count` bytes are used.
     #[inline]
-    pub fn shorten_last(&mut self, count: usize) {
+    pub(crate) fn shorten_last(&mut self, count: usize) {
         self.bytes.drop_last(count);
     }
 }

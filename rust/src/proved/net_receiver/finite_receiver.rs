@@ -1,12 +1,12 @@
 //! A receiver of a stream that ends.
 
 use crate::rattle::prelude::*;
-use crate::proved::net_receiver::finite_receiver_head::FiniteReceiverHead;
-use crate::proved::net_receiver::held_runs::{HeldRun, HeldRuns, NewestRunIter};
+use crate::proved::net_receiver::finite_receiver_head::{
+    FiniteReceiverHead, NO_END, acknowledged, count_below, end_or_max, is_reached, number_after,
+};
 use crate::proved::net_receiver::kept::{FiniteError, KeptBytes};
-use crate::proved::net_receiver::receiver::whole;
-use crate::proved::net_receiver::receiver_head::ReceiverHead;
-use crate::proved::net_assembler::{AssemblerHead, Run};
+use crate::proved::net_receiver::receiver::ReceiverOver;
+use crate::proved::net_assembler::Run;
 use crate::proved::net_ring::{ManagedSlice, Storage};
 use crate::rattle::std::marker::Model;
 
@@ -14,17 +14,19 @@ use crate::rattle::std::marker::Model;
 ///
 /// It is a `Receiver` that knows where the stream ends, once a segment has said so. The end is the
 /// position after the last byte. It has a number, as a byte has (that of TCP's FIN), and needs no room.
-/// Segments may arrive in any order, the last one too. The held runs that a selective acknowledgement
-/// lists are of bytes alone: an end that came out of order is sent again.
+/// Segments may arrive in any order, the last one too. `receiver` lends the receiver of the bytes, for
+/// all that isn't about the end: how many are queued, a look at them, the window, the held runs. The
+/// held runs that a selective acknowledgement lists are of bytes alone: an end that came out of order is
+/// sent again.
 ///
 /// Contracts: `crates/net_receiver/src/finite_receiver.rt`.
 #[derive(Clone)]
 pub struct FiniteReceiverOver<S: Storage<u8>, const N: usize> {
-    // Invariant: the head is sound with the storage and the runs, as `FiniteReceiverHead::is_sound`
-    // tests. If there is no run, the head of the runs is 0 in both numbers.
-    head: FiniteReceiverHead,
-    storage: S,
-    runs: [Run; N],
+    // Invariant: no byte is queued or held at the end or above, and a number is left for an end after the
+    // last byte.
+    receiver: ReceiverOver<S, N>,
+    // The number after the end's, or 0 while the end isn't known.
+    after_end: u64,
 }
 
 /// A receiver of one stream of bytes that ends, over storage that is lent or owned. Its calls are those
@@ -39,11 +41,10 @@ impl<S: Storage<u8>, const N: usize> Model for FiniteReceiverOver<S, N> {
 impl<S: Storage<u8> + Sized, const N: usize> crate::rattle::Drop for FiniteReceiverOver<S, N> {
     fn drop(self) {
         let FiniteReceiverOver {
-            head: _,
-            storage,
-            runs: _,
+            receiver,
+            after_end: _,
         } = self;
-        drop(storage);
+        drop(receiver);
     }
 }
 
@@ -70,9 +71,8 @@ impl<S: Storage<u8>, const N: usize> FiniteReceiverOver<S, N> {
         prove!(N >= 1, "N is at least 1");
         prove!(first < u64::MAX, "no number is left for an end");
         FiniteReceiverOver {
-            head: FiniteReceiverHead::new(first),
-            storage,
-            runs: [Run { start: 0, end: 0 }; N],
+            receiver: ReceiverOver::over_at(storage, first),
+            after_end: 0,
         }
     }
 
@@ -82,41 +82,49 @@ impl<S: Storage<u8>, const N: usize> FiniteReceiverOver<S, N> {
     ///
     /// They are sound, as `FiniteReceiverHead::is_sound` tests.
     pub(crate) fn from_parts(head: FiniteReceiverHead, storage: S, runs: [Run; N]) -> Self {
-        if head.receiver.held.used == 0 {
-            return FiniteReceiverOver {
-                head: FiniteReceiverHead {
-                    receiver: ReceiverHead {
-                        held: AssemblerHead::new(),
-                        ..head.receiver
-                    },
-                    ..head
-                },
-                storage,
-                runs,
-            };
-        }
         FiniteReceiverOver {
-            head,
-            storage,
-            runs,
+            receiver: ReceiverOver::from_parts(head.receiver, storage, runs),
+            after_end: head.after_end,
         }
     }
 
     /// Returns the head, the storage and the runs, which represent the receiver.
     pub(crate) fn into_parts(self) -> (FiniteReceiverHead, S, [Run; N]) {
         let FiniteReceiverOver {
-            head,
-            storage,
-            runs,
+            receiver,
+            after_end,
         } = self;
+        let (receiver, storage, runs) = receiver.into_parts();
+        let head = FiniteReceiverHead {
+            receiver,
+            after_end,
+        };
         (head, storage, runs)
     }
 
     /// Returns the storage, of which the bytes can be any.
     #[must_use]
     pub fn into_storage(self) -> S {
-        let (_head, storage, _runs) = self.into_parts();
-        storage
+        let FiniteReceiverOver {
+            receiver,
+            after_end: _,
+        } = self;
+        receiver.into_storage()
+    }
+
+    /// Lends the receiver of the bytes, for reading. Bytes are kept and read by the calls of this type
+    /// alone, so none is kept after the end.
+    ///
+    /// ```
+    /// # use net_base::finite::FiniteReceiver;
+    /// # let mut storage = [0u8; 16];
+    /// # let mut receiver = FiniteReceiver::<4>::empty_at(&mut storage[..], 0);
+    /// assert!(receiver.keep(0, b"abc", true).is_ok());
+    /// assert_eq!((receiver.receiver().queued(), receiver.receiver().window()), (3, 13));
+    /// ```
+    #[must_use]
+    pub fn receiver(&self) -> &ReceiverOver<S, N> {
+        &self.receiver
     }
 
     /// Begins again over the same storage: a receiver of a stream that begins at position `first`;
@@ -128,7 +136,8 @@ impl<S: Storage<u8>, const N: usize> FiniteReceiverOver<S, N> {
     #[track_caller]
     pub fn reset_at(&mut self, first: u64) {
         prove!(first < u64::MAX, "no number is left for an end");
-        self.head.reset_at(first);
+        self.receiver.reset_at(first);
+        self.after_end = 0;
     }
 
     /// Returns whether the stream can end at a position: it is the end that is known, or none is,
@@ -136,7 +145,10 @@ impl<S: Storage<u8>, const N: usize> FiniteReceiverOver<S, N> {
     /// no number for an end.
     #[must_use]
     pub fn can_end(&self, pos: u64) -> bool {
-        self.head.can_end(&self.runs, pos)
+        match self.end() {
+            Some(end) => pos == end,
+            None => pos < NO_END && self.receiver.has_all_below(pos),
+        }
     }
 
     /// Keeps the bytes of a segment that are in the free window and below the end, as
@@ -156,9 +168,30 @@ impl<S: Storage<u8>, const N: usize> FiniteReceiverOver<S, N> {
     ///
     /// - `old(self).acknowledged() <= self.acknowledged()`
     pub fn keep(&mut self, pos: u64, bytes: &[u8], is_last: bool) -> Result<KeptBytes, FiniteError> {
-        let count = self.storage.count();
-        let storage = self.storage.part_mut(0, count);
-        self.head.keep(storage, &mut self.runs, pos, bytes, is_last)
+        // No stream ends at the greatest number.
+        let last = pos.saturating_add(bytes.len() as u64);
+        if is_last && !self.can_end(last) {
+            return Err(FiniteError::OtherEnd);
+        }
+        let after_end = self.after_end_with(last, is_last);
+        let count = count_below(self.after_end, pos, bytes.len());
+        match self.receiver.keep_part(pos, &bytes[..count]) {
+            Ok(kept) => {
+                self.after_end = after_end;
+                Ok(kept)
+            }
+            Err(_) => Err(FiniteError::TooManyHoles),
+        }
+    }
+
+    /// Returns `after_end` after a segment that ends at `last`.
+    #[inline]
+    fn after_end_with(&self, last: u64, is_last: bool) -> u64 {
+        if is_last && is_reached(self.receiver.next(), self.receiver.window(), last) {
+            number_after(last)
+        } else {
+            self.after_end
+        }
     }
 
     /// Moves bytes from the head of the queue to the beginning of `into`, and returns how many: as
@@ -166,25 +199,15 @@ impl<S: Storage<u8>, const N: usize> FiniteReceiverOver<S, N> {
     ///
     /// # [Guarantees](crate#guarantees)
     ///
-    /// - `result == min(into.len(), old(self).queued())`
-    /// - `into == old(self).queue[..into.len()] ++ old(into)[old(self).queued()..]`
+    /// - `result == min(into.len(), old(self).queue.len())`
+    /// - `into == old(self).queue[..into.len()] ++ old(into)[old(self).queue.len()..]`
     pub fn read(&mut self, into: &mut [u8]) -> usize {
-        self.head.read(whole(&self.storage), into)
+        self.receiver.read(into)
     }
 
-    /// Shows the queue, in order, in two parts: the bytes up to the storage's end, and those from its
-    /// beginning on. The second part is empty unless the queue wraps.
-    ///
-    /// # [Guarantees](crate#guarantees)
-    ///
-    /// - `result.0 ++ result.1 == self.queue`
-    #[must_use]
-    pub fn as_slices(&self) -> (&[u8], &[u8]) {
-        self.head.receiver.as_slices(whole(&self.storage))
-    }
-
-    /// Calls `f` on the first part of the queue, as `as_slices` shows it, takes as many bytes off the
-    /// queue as `f` counts, and returns what `f` returned. The part is empty only if the queue is.
+    /// Calls `f` on the first part of the queue, as `ReceiverOver::as_slices` shows it, takes as many
+    /// bytes off the queue as `f` counts, and returns what `f` returned. The part is empty only if the
+    /// queue is.
     ///
     /// ```
     /// # use net_base::finite::FiniteReceiver;
@@ -192,7 +215,7 @@ impl<S: Storage<u8>, const N: usize> FiniteReceiverOver<S, N> {
     /// # let mut receiver = FiniteReceiver::<4>::empty_at(&mut storage[..], 0);
     /// assert!(receiver.keep(0, b"abc", true).is_ok());
     /// assert_eq!(receiver.read_with(|bytes| (2, bytes.len())), (2, 3));
-    /// assert_eq!((receiver.queued(), receiver.has_read_all()), (1, false));
+    /// assert_eq!((receiver.receiver().queued(), receiver.has_read_all()), (1, false));
     /// ```
     ///
     /// # Panics, unless
@@ -200,11 +223,11 @@ impl<S: Storage<u8>, const N: usize> FiniteReceiverOver<S, N> {
     /// `f` takes that part, and counts no more bytes than it is lent.
     #[track_caller]
     pub fn read_with<R, F: FnOnce(&[u8]) -> (usize, R)>(&mut self, f: F) -> (usize, R) {
-        let part = self.first_slice();
+        let part = self.receiver.first_slice();
         let lent = part.len();
         let answer = f(part);
         prove!(answer.0 <= lent, "more bytes than were lent");
-        self.head.remove(self.storage.count(), answer.0);
+        self.receiver.remove_part(answer.0);
         answer
     }
 
@@ -215,70 +238,36 @@ impl<S: Storage<u8>, const N: usize> FiniteReceiverOver<S, N> {
     /// At least `count` bytes are queued.
     #[track_caller]
     pub fn remove(&mut self, count: usize) {
-        prove!(count <= self.queued(), "more bytes than are queued");
-        self.head.remove(self.storage.count(), count);
-    }
-
-    /// Shows the first part of the queue, which is empty only if the queue is.
-    fn first_slice(&self) -> &[u8] {
-        let receiver = &self.head.receiver;
-        receiver.peek(whole(&self.storage), 0, receiver.queued())
+        prove!(
+            count <= self.receiver().queued(),
+            "more bytes than are queued"
+        );
+        self.receiver.remove_part(count);
     }
 
     /// Returns the position after the last byte, once it is known.
     #[must_use]
     pub fn end(&self) -> Option<u64> {
-        self.head.end()
+        self.after_end.checked_sub(1)
     }
 
     /// Returns whether all bytes and the end have arrived. Once it is so it stays so.
     #[must_use]
     pub fn is_complete(&self) -> bool {
-        self.head.is_complete()
+        self.receiver.next() == end_or_max(self.after_end)
     }
 
     /// Returns the number that an acknowledgement carries: the first missing position, or, once all
     /// bytes and the end have arrived, the end plus 1, since the end has a number.
     #[must_use]
     pub fn acknowledged(&self) -> u64 {
-        self.head.acknowledged()
+        acknowledged(self.receiver.next(), self.after_end)
     }
 
     /// Returns whether all bytes were read, up to the end. Once it is so it stays so.
     #[must_use]
     pub fn has_read_all(&self) -> bool {
-        self.head.has_read_all()
-    }
-
-    /// Returns the first missing position, as `ReceiverOver::next` does. It doesn't count the end:
-    /// `acknowledged` does.
-    #[must_use]
-    pub fn next(&self) -> u64 {
-        self.head.receiver.next()
-    }
-
-    /// Returns how many bytes are queued.
-    #[must_use]
-    pub fn queued(&self) -> usize {
-        self.head.receiver.queued()
-    }
-
-    /// Returns whether no byte is queued; bytes may be held.
-    #[must_use]
-    pub fn is_empty(&self) -> bool {
-        self.queued() == 0
-    }
-
-    /// Returns how many bytes have room, queued and held ones included: the storage's length.
-    #[must_use]
-    pub fn capacity(&self) -> usize {
-        self.storage.count()
-    }
-
-    /// Returns the window: how many bytes have room after the queue, held ones among them.
-    #[must_use]
-    pub fn window(&self) -> usize {
-        self.head.receiver.window(self.storage.count())
+        self.receiver.unread() == end_or_max(self.after_end)
     }
 
     /// Returns the end of the free window, for what is announced: never below `acknowledged`, which is
@@ -296,31 +285,8 @@ impl<S: Storage<u8>, const N: usize> FiniteReceiverOver<S, N> {
     /// ```
     #[must_use]
     pub fn window_end(&self) -> Option<u64> {
-        self.head.window_end(self.storage.count())
-    }
-
-    /// Returns the held runs as absolute (start, end), as `ReceiverOver::held` does: of bytes alone.
-    #[must_use]
-    pub fn held(&self) -> HeldRuns<'_, N> {
-        self.head.receiver.held(&self.runs)
-    }
-
-    /// Returns how many runs are held, without a look at them: as many as `held` yields, at most `N`.
-    #[must_use]
-    pub fn held_count(&self) -> usize {
-        self.head.receiver.held_count()
-    }
-
-    /// Returns at most `K` held runs, the newest first, as `ReceiverOver::newest_runs` does.
-    pub fn newest_runs<const K: usize>(
-        &self,
-        position: u64,
-        recent: &mut [u64; K],
-    ) -> NewestRunIter<K> {
-        let mut runs = [HeldRun { start: 0, end: 0 }; K];
-        let head = &self.head.receiver;
-        let count = head.newest_runs(&self.runs, position, recent, &mut runs);
-        NewestRunIter::over(runs, count)
+        let end = self.receiver.window_end()?;
+        Some(end.max(self.acknowledged()))
     }
 
     /// Returns how many bytes of a segment of `len` bytes at `position` would be new: those in the
@@ -328,21 +294,20 @@ impl<S: Storage<u8>, const N: usize> FiniteReceiverOver<S, N> {
     /// after them, which no stream has, aren't counted.
     #[must_use]
     pub fn count_new(&self, position: u64, len: usize) -> usize {
-        self.head
-            .count_new(self.storage.count(), &self.runs, position, len)
+        let count = count_below(self.after_end, position, len);
+        self.receiver.count_part(position, count)
     }
 
     /// Returns whether two receivers of a stream that ends are equal in first position, count of
     /// bytes read, queued bytes, held runs and end.
     #[must_use]
     pub fn same_state<O: Storage<u8>>(&self, other: &FiniteReceiverOver<O, N>) -> bool {
-        let storage = whole(&self.storage);
-        let other_storage = whole(&other.storage);
-        self.head.is_same_state(storage, &self.runs, &other.head, other_storage, &other.runs)
+        end_or_max(self.after_end) == end_or_max(other.after_end)
+            && self.receiver.same_state(&other.receiver)
     }
 
     /// States what is true of every receiver; it does nothing. Callers use `laws::is_sound_end`.
     pub(crate) fn is_sound(&self) {
-        let _ = &self.head;
+        self.receiver.is_sound();
     }
 }

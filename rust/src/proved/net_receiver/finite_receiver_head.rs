@@ -26,10 +26,40 @@ pub struct FiniteReceiverHead {
     pub after_end: u64,
 }
 
-/// Returns the number after that of an end, or 0 if that is none.
+// What a head and a `FiniteReceiverOver` do with the number after the end's, `after_end`.
+
+/// Returns the position after the last byte, or the greatest number of 64 bits while it isn't known: that is
+/// above each position.
 #[inline(always)]
-fn number_after(end: u64) -> u64 {
-    if end == NO_END { 0 } else { end + 1 }
+pub(crate) fn end_or_max(after_end: u64) -> u64 {
+    after_end.wrapping_sub(1)
+}
+
+/// Returns the number after that of an end, or 0 for `NO_END`.
+#[inline(always)]
+pub(crate) fn number_after(end: u64) -> u64 {
+    end.wrapping_add(1)
+}
+
+/// Returns whether an end is at most the end of the free window, which has `window` bytes from `next` on.
+#[inline(always)]
+pub(crate) fn is_reached(next: u64, window: usize, end: u64) -> bool {
+    end.saturating_sub(next) <= window as u64
+}
+
+/// Returns how many of `len` bytes at `pos` are below the end, or while that isn't known below the
+/// greatest number that an end can have.
+#[inline(always)]
+pub(crate) fn count_below(after_end: u64, pos: u64, len: usize) -> usize {
+    let end = end_or_max(after_end).min(NO_END - 1);
+    (len as u64).min(end.saturating_sub(pos)) as usize
+}
+
+/// Returns the number that an acknowledgement carries, where `next` is the first missing position.
+#[inline(always)]
+pub(crate) fn acknowledged(next: u64, after_end: u64) -> u64 {
+    let end = end_or_max(after_end);
+    if next == end { next + 1 } else { next }
 }
 
 impl FiniteReceiverHead {
@@ -46,50 +76,17 @@ impl FiniteReceiverHead {
         }
     }
 
-    /// Begins again: the head of a receiver of a stream that begins at position `first`, as `new`
-    /// returns it.
-    ///
-    /// # Panics, unless
-    ///
-    /// `first` is not the greatest number of 64 bits: an end there would have no number after it.
-    #[inline]
-    pub fn reset_at(&mut self, first: u64) {
-        *self = FiniteReceiverHead::new(first);
-    }
-
     /// Returns whether this head, a storage of `capacity` bytes and runs are sound: they are those of
     /// a receiver, and the position after its last byte, held ones too, is at most the end, if that
     /// is known, and below 2^64 - 1. It looks at each held run, and at no byte.
     pub fn is_sound(&self, capacity: usize, runs: &[Run]) -> bool {
-        self.receiver.is_sound(capacity, runs)
-            && self
-                .receiver
-                .has_all_below(runs, self.end_or_none().min(NO_END - 1))
-    }
-
-    /// Returns the position after the last byte, or the greatest number of 64 bits while it isn't known.
-    #[inline(always)]
-    fn end_or_none(&self) -> u64 {
-        if self.after_end == 0 {
-            NO_END
-        } else {
-            self.after_end - 1
-        }
-    }
-
-    /// Returns whether the end is known.
-    #[inline]
-    pub fn knows_end(&self) -> bool {
-        self.end_or_none() < NO_END
+        let end = end_or_max(self.after_end).min(NO_END - 1);
+        self.receiver.is_sound(capacity, runs) && self.receiver.has_all_below(runs, end)
     }
 
     /// Returns the position after the last byte, once it is known.
-    pub fn end(&self) -> Option<u64> {
-        if self.knows_end() {
-            Some(self.end_or_none())
-        } else {
-            None
-        }
+    fn end(&self) -> Option<u64> {
+        self.after_end.checked_sub(1)
     }
 
     /// Returns whether the stream can end at `pos`: it is the end that is known, or none is, and it
@@ -99,33 +96,20 @@ impl FiniteReceiverHead {
     ///
     /// Head and runs are sound, as `is_sound` tests, with a storage of some length.
     pub fn can_end(&self, runs: &[Run], pos: u64) -> bool {
-        if pos == NO_END {
-            return false;
+        match self.end() {
+            Some(end) => pos == end,
+            None => pos < NO_END && self.receiver.has_all_below(runs, pos),
         }
-        if self.knows_end() {
-            return pos == self.end_or_none();
-        }
-        self.receiver.has_all_below(runs, pos)
     }
 
-    /// Returns the end that is known after a segment that ends at `pos`, where the storage has
-    /// `capacity` bytes.
+    /// Returns `after_end` after a segment that ends at `last`, where the storage has `capacity` bytes.
     #[inline]
-    fn end_after(&self, capacity: usize, pos: u64, is_last: bool) -> u64 {
-        let ahead = pos.saturating_sub(self.receiver.next());
-        if is_last && ahead <= self.receiver.window(capacity) as u64 {
-            pos
+    fn after_end_with(&self, capacity: usize, last: u64, is_last: bool) -> u64 {
+        if is_last && is_reached(self.receiver.next(), self.receiver.window(capacity), last) {
+            number_after(last)
         } else {
-            self.end_or_none()
+            self.after_end
         }
-    }
-
-    /// Returns how many of `len` bytes at `pos` are below the end, or while that isn't known below the
-    /// greatest number that an end can have.
-    #[inline]
-    fn count_below(&self, pos: u64, len: usize) -> usize {
-        let end = self.end_or_none().min(NO_END - 1);
-        (len as u64).min(end.saturating_sub(pos)) as usize
     }
 
     /// Keeps the bytes of a segment that are in the free window and below the end, and takes the end, as
@@ -148,9 +132,8 @@ impl FiniteReceiverHead {
         if is_last && !self.can_end(runs, last) {
             return Err(FiniteError::OtherEnd);
         }
-        let end = self.end_after(storage.len(), last, is_last);
-        let after_end = number_after(end);
-        let count = self.count_below(pos, bytes.len());
+        let after_end = self.after_end_with(storage.len(), last, is_last);
+        let count = count_below(self.after_end, pos, bytes.len());
         match self.receiver.keep(storage, runs, pos, &bytes[..count]) {
             Ok(kept) => {
                 self.after_end = after_end;
@@ -168,7 +151,7 @@ impl FiniteReceiverHead {
     /// and runs are sound.
     #[inline]
     pub fn is_complete(&self) -> bool {
-        self.receiver.next() == self.end_or_none()
+        self.receiver.next() == end_or_max(self.after_end)
     }
 
     /// Returns the number that an acknowledgement carries: the first missing position, or, once all
@@ -180,8 +163,7 @@ impl FiniteReceiverHead {
     /// and runs are sound.
     #[inline]
     pub fn acknowledged(&self) -> u64 {
-        let (next, end) = (self.receiver.next(), self.end_or_none());
-        if next == end { next + 1 } else { next }
+        acknowledged(self.receiver.next(), self.after_end)
     }
 
     /// Returns whether all bytes were read, up to the end. Once it is so it stays so.
@@ -191,7 +173,7 @@ impl FiniteReceiverHead {
     /// The first missing position fits 64 bits, as it does where head, storage and runs are sound.
     #[inline]
     pub fn has_read_all(&self) -> bool {
-        self.receiver.first + self.receiver.count_read == self.end_or_none()
+        self.receiver.first + self.receiver.count_read == end_or_max(self.after_end)
     }
 
     /// Returns the end of the free window, where the storage has `capacity` bytes, for what is announced:
@@ -232,25 +214,6 @@ impl FiniteReceiverHead {
         self.receiver.remove(capacity, count);
     }
 
-    /// Compares two receivers, as `FiniteReceiverOver::same_state` does.
-    ///
-    /// # Panics, unless
-    ///
-    /// Both heads are sound with their storages and runs, as `is_sound` tests.
-    pub fn is_same_state(
-        &self,
-        storage: &[u8],
-        runs: &[Run],
-        other: &FiniteReceiverHead,
-        other_storage: &[u8],
-        other_runs: &[Run],
-    ) -> bool {
-        self.end_or_none() == other.end_or_none()
-            && self
-                .receiver
-                .is_same_state(storage, runs, &other.receiver, other_storage, other_runs)
-    }
-
     /// Returns how many bytes of a segment of `len` bytes at `position` would be new, where the
     /// storage has `capacity` bytes: those in the free window and below the end whose positions are
     /// not held. It is asked before the segment is kept, since the bytes whose positions are held
@@ -261,7 +224,7 @@ impl FiniteReceiverHead {
     ///
     /// Head, storage and runs are sound, as `is_sound` tests.
     pub fn count_new(&self, capacity: usize, runs: &[Run], position: u64, len: usize) -> usize {
-        let count = self.count_below(position, len);
+        let count = count_below(self.after_end, position, len);
         self.receiver.count_part(capacity, runs, position, count)
     }
 }

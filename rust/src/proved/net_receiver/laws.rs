@@ -129,6 +129,11 @@ pub fn worked_schedule() {}
 /// above its end.
 pub fn queue_from_greatest() {}
 
+/// States what keeps `Sends f w`, which says that w was written to a sender, its first byte at position f. It holds of
+/// a new sender at f and the empty list. Bytes that are written are put at the end of w, and an acknowledgement leaves
+/// w. What is lent of the queue is of w (`lends`). `finite_senders` says the same of a sender of a stream that ends.
+pub fn sends() {}
+
 /// States what the runs that begin above a position have, which `Scoreboard::lost_below` counts: if
 /// that position wasn't reported, each reported position above it, once, and no other. So they are
 /// those that RFC 6675 counts.
@@ -137,8 +142,9 @@ pub fn losses() {}
 /// States what a receiver of a stream that ends does over every list of segments and reads. No byte
 /// is ever at or above the end. An end that is known stays, and so does that all has arrived, or was
 /// read, whatever arrives later. A segment of the stream that ends below the greatest number is never
-/// said to end it elsewhere; and the bytes read are the stream's first ones, and the whole stream once
-/// the receiver says so. What is acknowledged never falls. After an accepted last segment its end is
+/// said to end it elsewhere; a read takes the next bytes of the stream, so the bytes read are its first ones,
+/// and the whole stream once the receiver says so. If all has arrived, all bytes were read or are queued
+/// (`whole`). What is acknowledged never falls. After an accepted last segment its end is
 /// known if it is at most the end of the free window before it, and once each byte below a known end is
 /// there all has arrived. Two receivers of one stream that kept the same positions, read as much and know
 /// the same of the end are equal in what `same_state` compares.

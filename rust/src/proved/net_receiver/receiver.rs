@@ -231,7 +231,11 @@ impl<S: Storage<u8>, const N: usize> ReceiverOver<S, N> {
 
     /// Keeps a segment that ends within 64 bits.
     #[inline]
-    fn keep_part(&mut self, pos: u64, bytes: &[u8]) -> Result<KeptBytes, TooManyHolesError> {
+    pub(crate) fn keep_part(
+        &mut self,
+        pos: u64,
+        bytes: &[u8],
+    ) -> Result<KeptBytes, TooManyHolesError> {
         let count = self.storage.count();
         let storage = self.storage.part_mut(0, count);
         self.head.keep(storage, &mut self.runs, pos, bytes)
@@ -388,8 +392,13 @@ impl<S: Storage<u8>, const N: usize> ReceiverOver<S, N> {
         self.head.remove(self.storage.count(), count);
     }
 
+    /// Takes bytes off the queue that are there.
+    pub(crate) fn remove_part(&mut self, count: usize) {
+        self.head.remove(self.storage.count(), count);
+    }
+
     /// Shows the first part of the queue, which is empty only if the queue is.
-    fn first_slice(&self) -> &[u8] {
+    pub(crate) fn first_slice(&self) -> &[u8] {
         self.head.peek(whole(&self.storage), 0, self.head.queued())
     }
 
@@ -551,8 +560,24 @@ impl<S: Storage<u8>, const N: usize> ReceiverOver<S, N> {
     /// Positions from `u64::MAX` on, which no stream has, aren't counted.
     #[must_use]
     pub fn count_new(&self, position: u64, len: usize) -> usize {
+        self.count_part(position, count_existing(position, len))
+    }
+
+    /// Counts those of a segment that ends within 64 bits.
+    pub(crate) fn count_part(&self, position: u64, len: usize) -> usize {
         self.head
-            .count_new(self.storage.count(), &self.runs, position, len)
+            .count_part(self.storage.count(), &self.runs, position, len)
+    }
+
+    /// Returns the position after the bytes that were read.
+    pub(crate) fn unread(&self) -> u64 {
+        let head = &self.head;
+        head.first + head.count_read
+    }
+
+    /// Returns whether all bytes that are queued or held are below a position.
+    pub(crate) fn has_all_below(&self, pos: u64) -> bool {
+        self.head.has_all_below(&self.runs, pos)
     }
 
     /// Returns whether first position, count of bytes read, queued bytes and held runs are equal.
@@ -588,6 +613,6 @@ fn existing(pos: u64, bytes: &[u8]) -> &[u8] {
 }
 
 /// Shows all bytes of a storage.
-pub(crate) fn whole<S: Storage<u8>>(storage: &S) -> &[u8] {
+fn whole<S: Storage<u8>>(storage: &S) -> &[u8] {
     storage.part(0, storage.count())
 }

@@ -48,7 +48,7 @@ impl ReceiverHead {
     /// Begins again: the head of a receiver of a stream that begins at position `first`, as `new`
     /// returns it.
     #[inline]
-    pub fn reset_at(&mut self, first: u64) {
+    pub(crate) fn reset_at(&mut self, first: u64) {
         *self = ReceiverHead::new(first);
     }
 
@@ -115,7 +115,7 @@ impl ReceiverHead {
     /// Head, storage and runs are sound, as `is_sound` tests, and the segment ends within 64 bits,
     /// as `ReceiverOver::fits` tests.
     #[inline(always)]
-    pub fn segment(
+    pub(crate) fn segment(
         &mut self,
         storage: &mut [u8],
         runs: &mut [Run],
@@ -205,7 +205,7 @@ impl ReceiverHead {
     ///
     /// The queue is in the storage.
     #[inline]
-    pub fn peek<'a>(&self, storage: &'a [u8], offset: usize, size: usize) -> &'a [u8] {
+    pub(crate) fn peek<'a>(&self, storage: &'a [u8], offset: usize, size: usize) -> &'a [u8] {
         let span = self.place.allocated(storage.len(), offset, size);
         &storage[span.from..span.from + span.contiguous]
     }
@@ -217,7 +217,7 @@ impl ReceiverHead {
     ///
     /// The queue is in the storage.
     #[inline]
-    pub fn peek_slices<'a>(
+    pub(crate) fn peek_slices<'a>(
         &self,
         storage: &'a [u8],
         offset: usize,
@@ -237,7 +237,7 @@ impl ReceiverHead {
     ///
     /// The queue is in the storage.
     #[inline]
-    pub fn as_slices<'a>(&self, storage: &'a [u8]) -> (&'a [u8], &'a [u8]) {
+    pub(crate) fn as_slices<'a>(&self, storage: &'a [u8]) -> (&'a [u8], &'a [u8]) {
         let span = self.place.allocated(storage.len(), 0, self.place.length);
         (
             &storage[span.from..span.from + span.contiguous],
@@ -271,7 +271,7 @@ impl ReceiverHead {
 
     /// Returns how many bytes are queued.
     #[inline(always)]
-    pub fn queued(&self) -> usize {
+    pub(crate) fn queued(&self) -> usize {
         self.place.length
     }
 
@@ -300,13 +300,13 @@ impl ReceiverHead {
     ///
     /// Head and runs are sound, as `is_sound` tests, with a storage of some length.
     #[inline(always)]
-    pub fn held<'a>(&self, runs: &'a [Run]) -> HeldRunIter<'a> {
+    pub(crate) fn held<'a>(&self, runs: &'a [Run]) -> HeldRunIter<'a> {
         HeldRunIter::over(self.held.iter_data(runs), self.next())
     }
 
     /// Returns how many runs are held, without a look at them.
     #[inline(always)]
-    pub fn held_count(&self) -> usize {
+    pub(crate) fn held_count(&self) -> usize {
         self.held.used
     }
 
@@ -413,7 +413,7 @@ impl ReceiverHead {
     /// # Panics, unless
     ///
     /// Head and runs are sound, as `is_sound` tests, with a storage of some length.
-    pub fn has_all_below(&self, runs: &[Run], pos: u64) -> bool {
+    pub(crate) fn has_all_below(&self, runs: &[Run], pos: u64) -> bool {
         let next = self.next();
         next <= pos && self.is_held_below(pos - next, runs)
     }
@@ -423,7 +423,7 @@ impl ReceiverHead {
     /// # Panics, unless
     ///
     /// Both heads are sound with their storages and runs, as `is_sound` tests.
-    pub fn is_same_state(
+    pub(crate) fn is_same_state(
         &self,
         storage: &[u8],
         runs: &[Run],

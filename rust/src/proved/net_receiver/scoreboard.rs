@@ -49,7 +49,7 @@ impl<const N: usize> Scoreboard<N> {
     /// assert!(!Scoreboard::<4>::empty().contains(0));
     /// ```
     ///
-    /// ```compile_fail
+    /// ```compile_fail,E0080
     /// # use net_base::scoreboard::Scoreboard;
     /// let scoreboard = Scoreboard::<0>::empty();
     /// ```
@@ -83,6 +83,7 @@ impl<const N: usize> Scoreboard<N> {
     ///
     /// They are sound, as `ScoreboardHead::is_sound` tests.
     pub(crate) fn from_parts(head: ScoreboardHead, runs: [Run; N]) -> Self {
+        // The head of an assembler without runs may have any start. A scoreboard's is canonical: 0 in both numbers.
         if head.reported.used == 0 {
             return Scoreboard {
                 head: ScoreboardHead::new_at(head.base),

@@ -35,7 +35,6 @@ pub struct ScoreboardHead {
     pub reported: AssemblerHead,
 }
 
-// A parameter `_runs` is there for the contract.
 impl ScoreboardHead {
     /// Returns a scoreboard of a stream that begins at position `first`, to which nothing was reported,
     /// whatever its runs. All positions below `first` count as reported.
@@ -47,12 +46,12 @@ impl ScoreboardHead {
     }
 
     /// Returns a scoreboard to which nothing was reported, whatever its runs: `new_at` with 0.
-    pub const fn new() -> Self {
+    pub(crate) const fn new() -> Self {
         ScoreboardHead::new_at(0)
     }
 
     /// Begins again: a scoreboard of a stream that begins at position `first`, as `new_at` returns it.
-    pub fn reset_at(&mut self, first: u64) {
+    pub(crate) fn reset_at(&mut self, first: u64) {
         *self = ScoreboardHead::new_at(first);
     }
 
@@ -126,7 +125,7 @@ impl ScoreboardHead {
     }
 
     /// Returns the first position that wasn't reported.
-    pub fn first_unreported(&self) -> u64 {
+    pub(crate) fn first_unreported(&self) -> u64 {
         self.base
     }
 
@@ -153,7 +152,7 @@ impl ScoreboardHead {
     /// # Panics, unless
     ///
     /// The scoreboard is sound with the runs.
-    pub fn reported<'a>(&self, runs: &'a [Run]) -> HeldRunIter<'a> {
+    pub(crate) fn reported<'a>(&self, runs: &'a [Run]) -> HeldRunIter<'a> {
         laws::maximal_runs();
         HeldRunIter::over(self.reported.iter_data(runs), self.base)
     }
@@ -186,7 +185,7 @@ impl ScoreboardHead {
     /// # Panics, unless
     ///
     /// The scoreboard is sound with the runs.
-    pub fn first_missing(&self, runs: &[Run], pos: u64) -> u64 {
+    pub(crate) fn first_missing(&self, runs: &[Run], pos: u64) -> u64 {
         let from = pos.max(self.base);
         for (start, end) in self.reported(runs) {
             if start <= from && from < end {

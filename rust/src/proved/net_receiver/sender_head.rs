@@ -41,7 +41,7 @@ impl SenderHead {
 
     /// Returns whether the position after the last byte that was written fits 64 bits.
     #[inline]
-    pub fn end_fits(&self) -> bool {
+    pub(crate) fn end_fits(&self) -> bool {
         self.place.length as u64 <= u64::MAX - self.first_unacknowledged
     }
 
@@ -51,7 +51,7 @@ impl SenderHead {
     ///
     /// It fits 64 bits, as `end_fits` tests, and as it does where the head is sound for a storage.
     #[inline]
-    pub fn end(&self) -> u64 {
+    pub(crate) fn end(&self) -> u64 {
         self.first_unacknowledged + self.place.length as u64
     }
 
@@ -62,7 +62,7 @@ impl SenderHead {
     ///
     /// The head is sound for a storage of `capacity` bytes.
     #[inline]
-    pub fn room(&self, capacity: usize) -> usize {
+    pub(crate) fn room(&self, capacity: usize) -> usize {
         let free = (capacity - self.place.length) as u64;
         free.min(u64::MAX - self.end()) as usize
     }
@@ -74,7 +74,7 @@ impl SenderHead {
     ///
     /// The head is sound for the storage.
     #[inline]
-    pub fn write(&mut self, storage: &mut [u8], bytes: &[u8]) -> usize {
+    pub(crate) fn write(&mut self, storage: &mut [u8], bytes: &[u8]) -> usize {
         let count = bytes.len().min(self.room(storage.len()));
         self.place.enqueue_slice(storage, &bytes[..count])
     }
@@ -86,7 +86,7 @@ impl SenderHead {
     ///
     /// The head is sound for a storage of `capacity` bytes.
     #[inline]
-    pub fn peek_at(&self, capacity: usize, pos: u64, max: usize) -> Span {
+    pub(crate) fn peek_at(&self, capacity: usize, pos: u64, max: usize) -> Span {
         if pos < self.first_unacknowledged {
             return Span {
                 from: 0,
@@ -105,7 +105,7 @@ impl SenderHead {
     ///
     /// The head is sound for a storage of `capacity` bytes.
     #[inline]
-    pub fn acknowledge(&mut self, capacity: usize, next: u64) -> bool {
+    pub(crate) fn acknowledge(&mut self, capacity: usize, next: u64) -> bool {
         if !is_acknowledgeable(self.first_unacknowledged, self.end(), next) {
             return false;
         }
@@ -129,7 +129,7 @@ impl SenderHead {
     ///
     /// The position after the last byte that was written fits 64 bits, as `end_fits` tests.
     #[inline]
-    pub fn mark_sent(&self, sent: &mut u64, pos: u64) -> bool {
+    pub(crate) fn mark_sent(&self, sent: &mut u64, pos: u64) -> bool {
         let end = self.end();
         if *sent > end || pos > end {
             return false;
@@ -146,7 +146,7 @@ impl SenderHead {
     ///
     /// The head is sound for a storage of `capacity` bytes.
     #[inline]
-    pub fn acknowledge_sent(&mut self, capacity: usize, next: u64, sent: u64) -> bool {
+    pub(crate) fn acknowledge_sent(&mut self, capacity: usize, next: u64, sent: u64) -> bool {
         if next > sent || sent > self.end() {
             return false;
         }

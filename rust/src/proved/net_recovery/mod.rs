@@ -1,5 +1,5 @@
-//! What a sender of TCP sends next where segments are lost: a machine beside its queue, its scoreboard
-//! and its timer. It stores no bytes.
+//! What a sender of TCP sends next where segments are lost. It stores no bytes: it is given the sender's
+//! numbers and the scoreboard.
 
 use crate::rattle::prelude::*;
 pub mod loss_recovery;

@@ -1,15 +1,9 @@
 //! Laws of every generator. No function here does anything.
 
 use crate::rattle::prelude::*;
-use crate::proved::net_base::rand::Rand;
-
 /// States that from every state every state is reached, in 1 to 2^64 steps.
-pub fn full_period(from: &Rand, to: &Rand) {
-    let _state = to.state;
-}
+pub fn full_period() {}
 
 /// States that the period is 2^64: that many steps lead from each state to itself, and fewer never
 /// do.
-pub fn period(state: &Rand) {
-    let _state = state.state;
-}
+pub fn period() {}

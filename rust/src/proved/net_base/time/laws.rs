@@ -12,14 +12,14 @@ pub fn constants() -> (Instant, Duration, Duration) {
 
 /// States that the order of moments is that of their microseconds, and two moments are equal
 /// exactly if they are the same.
-pub fn instant_order(x: &Instant, y: &Instant) {}
+pub fn instant_order() {}
 
 /// States that the order of lengths is that of their microseconds, and two lengths are equal
 /// exactly if they are the same.
-pub fn duration_order(x: &Duration, y: &Duration) {}
+pub fn duration_order() {}
 
 /// States that the distance between two moments is the same both ways.
-pub fn distance_both_ways(x: &Instant, y: &Instant) {}
+pub fn distance_both_ways() {}
 
 /// States that a clone of a moment or of a length is the same, and is never refused.
 pub fn clones() {}
@@ -28,7 +28,7 @@ pub fn clones() {}
 pub fn default() {}
 
 /// States that no option changes the text of a moment or of a length.
-pub fn texts(instant: &Instant, duration: &Duration) {}
+pub fn texts() {}
 
 /// States that a fold with `earlier`, from `None` on, finds the earliest of the moments of a list's
 /// elements.

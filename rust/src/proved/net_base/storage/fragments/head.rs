@@ -43,7 +43,7 @@ impl FragmentsHead {
     }
 
     /// Begins again, for a packet that expires after `expires_at`.
-    pub fn reset(&mut self, expires_at: i64) {
+    pub(crate) fn reset(&mut self, expires_at: i64) {
         *self = FragmentsHead::new(expires_at);
     }
 
@@ -129,7 +129,7 @@ impl FragmentsHead {
     /// # Panics, unless
     ///
     /// Head, bytes and runs are those of a buffer.
-    pub fn add_fragment(
+    pub(crate) fn add_fragment(
         &mut self,
         bytes: &mut [u8],
         runs: &mut [Run],
@@ -162,7 +162,7 @@ impl FragmentsHead {
     /// # Panics, unless
     ///
     /// Head, bytes and runs are those of a buffer.
-    pub fn reset_with(
+    pub(crate) fn reset_with(
         &mut self,
         bytes: &mut [u8],
         runs: &mut [Run],
@@ -208,7 +208,7 @@ impl FragmentsHead {
     }
 
     /// Returns the packet's size, once it is known.
-    pub fn total_size(&self) -> Option<usize> {
+    pub(crate) fn total_size(&self) -> Option<usize> {
         if self.has_total == 0 {
             None
         } else {

@@ -19,6 +19,10 @@ pub fn head_of_zeros() {
     assembler::laws::head_of_zeros();
 }
 
+/// States that `add` refuses a fragment exactly if it ends past a known size or the buffer's end, or would leave too
+/// many runs.
+pub fn refused_fragments() {}
+
 /// States that two refusals are equal exactly if they are the same, and that a clone of one is the same, and is never
 /// refused.
 pub fn refusals() {}
