@@ -28,7 +28,7 @@ use Rattle.net_ring.specs.RingHead.{IsSound, place}
 use Rattle.net_ring.specs.Ring.{ring, index_after, contiguous_allocated}
 use Rattle.net_ring.proofs.RingFacts.{queue_part_value}
 use Rattle.net_receiver.proofs.OneStream.{matches_longer, matches_what_is_there, queue_of}
-use Rattle.net_receiver.specs.Transfers.{ComesFrom, SaysAtMost, AnyPathCarries}
+use Rattle.net_receiver.specs.FiniteSender.{ComesFrom, SaysAtMost, AnyPathCarries}
 use Rattle.net_receiver.proofs.FiniteReceivers.{reads_the_stream, nexts_grow}
 
 -- what a sender lends matches the stream

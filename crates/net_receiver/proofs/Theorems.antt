@@ -44,7 +44,7 @@ use Rattle.std.proofs.lemmas.List.Sums.{sum_by-take-drop}
 use Rattle.net_receiver.specs.Execution.{runs_of_sack, ListsRuns, ReplayCall, Replays, ArePrefixes, Composes}
 use Rattle.net_receiver.specs.HeadlineLaws.{Calls, CallsReply, CallsGoOn, without_runs, KeepReplies, RepliesAre}
 use Rattle.std.specs.Cmp.Lexicographic.{pointwise, bytes_decides}
-use Rattle.net_receiver.specs.WorkedExample.{WorkedSchedule, WorkedRefusal}
+use Rattle.net_receiver.specs.HeadlineLaws.{WorkedSchedule, WorkedRefusal}
 use Rattle.net_receiver.proofs.Heads.{sound_joined, sound_read}
 use Rattle.std.specs.FinMap as fin
 

@@ -5,15 +5,18 @@
 --     KeepReplies      what `keep` returns is the reply to its segment, without the runs
 --     LookShows      what a look shows
 --     RepliesAre w cs rs complete      rs are the replies of the rules to the first of the commands cs
+-- Two schedules, computed in full by the rules of `Headline.antt`.
 use Rattle.std.specs.Prelude.{◌≡◌, ℕ, ◌-◌, List, [], ◌∷◌, ◌++◌, map, length, take, Result, Ok, Err}
+use Rattle.std.specs.Prelude.{Option, Some, None}
 use Rattle.net_assembler.specs.declared.assembler.error.TooManyHolesError.{TooManyHolesError}
 use Rattle.net_receiver.specs.declared.kept.Kept.{Kept}
 use Rattle.net_receiver.specs.declared.kept.KeptBytes.{KeptBytes}
-use Rattle.net_receiver.specs.Headline.{Setting, CommandValue, Segment, Show, ReplyValue, SegmentReply, ShowReply}
-use Rattle.net_receiver.specs.Headline.{queue, replies, state}
+use Rattle.net_receiver.specs.Headline.{Setting, CommandValue, Segment, Show, ReplyValue, SegmentReply}
+use Rattle.net_receiver.specs.Headline.{ShowReply, queue, replies, state, Read, ReadReply}
 use Rattle.net_receiver.specs.Schedule.{piece}
-use Rattle.net_receiver.specs.ReceiverState.{numbers, verdict, ReceiverState, fresh_receiver, receiver_after_command}
-use Rattle.net_receiver.specs.ReceiverState.{receiver_reply, next_position, domain}
+use Rattle.net_receiver.specs.ReceiverState.{numbers, verdict, ReceiverState, fresh_receiver}
+use Rattle.net_receiver.specs.ReceiverState.{receiver_after_command, receiver_reply, next_position}
+use Rattle.net_receiver.specs.ReceiverState.{domain}
 use Rattle.net_assembler.specs.Positions.{maximal_runs}
 
 -- calls on a receiver, each by its command and its reply: that it replies this, and what it leaves, is what clauses
@@ -57,3 +60,39 @@ LookShows = (most_runs : ℕ) (v : ReceiverState) → receiver_reply most_runs v
 -- these are the replies of the rules to the first of some commands, to all if it is complete
 abbrev pub RepliesAre : Setting → List CommandValue → List ReplyValue → Type 0 → Type 0
 RepliesAre w cs rs complete = (rs ≡ take (length rs) (replies w cs)) × (complete → rs ≡ replies w cs)
+
+-- ---- Two schedules, computed in full by the rules of `Headline.antt`.
+-- the reply to a segment, by how many of its bytes are kept, and how many join the queue
+abbrev pub segment_reply : ℕ → ℕ → List (Option (ℕ × ℕ)) → ReplyValue
+segment_reply kept queued sack = SegmentReply (Ok (record { kept = kept; queued = queued; sack = sack }))
+
+-- two segments that disagree arrive out of order, then the bytes before them: `AA` at 2, `BB` at 3,
+-- `CC` at 0, and then `CCABB` is read; for a capacity of 16 bytes and at most four runs
+abbrev pub WorkedSchedule : Type 0
+WorkedSchedule =
+    replies (record { first = 0; capacity = 16; most_runs = 4 })
+    (Segment 2 (65 ∷ 65 ∷ []) ∷ Segment 3 (66 ∷ 66 ∷ []) ∷ Show
+    ∷ Segment 0 (67 ∷ 67 ∷ []) ∷ Show ∷ Read 5 ∷ Show ∷ [])
+    ≡ segment_reply 2 0 (Some (2, 4) ∷ None ∷ None ∷ [])
+    ∷ segment_reply 2 0 (Some (2, 5) ∷ None ∷ None ∷ [])
+    ∷ ShowReply 0 0 16 ((2, 5) ∷ [])
+    ∷ segment_reply 2 5 (None ∷ None ∷ None ∷ [])
+    ∷ ShowReply 5 5 11 []
+    ∷ ReadReply (67 ∷ 67 ∷ 65 ∷ 66 ∷ 66 ∷ [])
+    ∷ ShowReply 5 0 16 [] ∷ []
+
+-- from position 100 on, with room for 8 bytes and one run: a second run is refused, what reaches to the first is not,
+-- and of a segment that begins too low and ends too high the free window's part is kept
+abbrev pub WorkedRefusal : Type 0
+WorkedRefusal =
+    replies (record { first = 100; capacity = 8; most_runs = 1 })
+    (Segment 103 (68 ∷ []) ∷ Segment 106 (71 ∷ []) ∷ Segment 104 (69 ∷ 70 ∷ []) ∷ Segment 100 (65 ∷ []) ∷ Read 9
+    ∷ Segment 99 (63 ∷ 63 ∷ 66 ∷ 67 ∷ 68 ∷ 69 ∷ 70 ∷ 71 ∷ 72 ∷ 73 ∷ 74 ∷ []) ∷ Show ∷ Segment 109 (63 ∷ []) ∷ [])
+    ≡ segment_reply 1 0 (Some (103, 104) ∷ None ∷ None ∷ [])
+    ∷ SegmentReply (Err (record {}))
+    ∷ segment_reply 2 0 (Some (103, 106) ∷ None ∷ None ∷ [])
+    ∷ segment_reply 1 1 (Some (103, 106) ∷ None ∷ None ∷ [])
+    ∷ ReadReply (65 ∷ [])
+    ∷ segment_reply 8 8 (None ∷ None ∷ None ∷ [])
+    ∷ ShowReply 109 8 0 []
+    ∷ segment_reply 0 0 (None ∷ None ∷ None ∷ []) ∷ []
