@@ -198,7 +198,8 @@ module _ {T : Type 0} where
         ∙ ap (λ b. ring b g.read_at g.count) (overwrite_none (overwrite g.storage p ws) 0)
 
     -- after a write that ends at the storage's end comes the storage's beginning
-    wrapped_index : (i p m n : ℕ) → i + m + n ≤ window g → p + m ≡ capacity g → 0 < n → At (g.count + i) p → At (g.count + (i + m)) 0
+    wrapped_index : (i p m n : ℕ) → i + m + n ≤ window g → p + m ≡ capacity g → 0 < n → At (g.count + i) p
+        → At (g.count + (i + m)) 0
     wrapped_index i p m n le full some at = grind arith
 
     wrapping_twice : (i p : ℕ) (a b : List T) → i + length a + length b ≤ window g → p + length a ≡ capacity g

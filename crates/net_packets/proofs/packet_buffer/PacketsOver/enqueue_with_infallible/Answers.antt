@@ -5,8 +5,8 @@ use Rattle.net_ring.proofs.Rotations.{length-overwrite}
 use Rattle.net_ring.proofs.RingFacts.{returned}
 use Rattle.net_packets.specs.{IsRoom, contents, with_last_size, with_last_bytes, with_packet_if_room}
 use Rattle.net_packets.specs.declared.head.PacketsHead.{PacketsHead}
-use Rattle.net_packets.proofs.HeadParts.{IsQueue, IsPlaceIn, place_in, queue_at, well, placement_is, has_place, room_is, filled}
-use Rattle.net_packets.proofs.HeadParts.{slots_of, slots_long, stored}
+use Rattle.net_packets.proofs.HeadParts.{IsQueue, IsPlaceIn, place_in, queue_at, well, placement_is, has_place, room_is}
+use Rattle.net_packets.proofs.HeadParts.{filled, slots_of, slots_long, stored}
 use Rattle.net_packets.proofs.PacketOrder as order
 use Rattle.net_packets.proofs.PacketOrder.{enqueue_with_call}
 use Rattle.net_packets.proofs.packet_buffer.PacketsOver.enqueue_with_infallible.Given as given

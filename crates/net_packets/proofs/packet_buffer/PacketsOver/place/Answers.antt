@@ -2,8 +2,8 @@ use Rattle.std.proofs.Common.{refl, sym, ap, ◌∙◌, arith, rules}
 use Rattle.std.proofs.lemmas.Bool.{false≢true}
 use Rattle.net_packets.specs.{with_packet, with_packet_if, first_size, only_last}
 use Rattle.net_packets.specs.declared.head.PacketsHead.{PacketsHead}
-use Rattle.net_packets.proofs.HeadParts.{IsQueue, IsPlaceIn, place_in, queue_at, well, placement_is, gap_is, has_place, placed_is}
-use Rattle.net_packets.proofs.HeadParts.{placed, size_is}
+use Rattle.net_packets.proofs.HeadParts.{IsQueue, IsPlaceIn, place_in, queue_at, well, placement_is, gap_is, has_place}
+use Rattle.net_packets.proofs.HeadParts.{placed_is, placed, size_is}
 use Rattle.net_packets.proofs.PacketOrder.{accepted_as, stands_as, place_call}
 use Rattle.net_packets.proofs.packet_buffer.PacketsOver.place.Given as given
 use Rattle.net_packets.proofs.packet_buffer.PacketsOver.place.Goals as goal

@@ -24,7 +24,8 @@ module _ (g : given.Over) (c : After-element_mut g) where
 
   -- writing over an element keeps the number of elements
   long : (s : _) (w : _)
-      → length (g.S.Storage.elements (g.S.Storage.with_element s c.self.inside.head.read_at w)) ≡ length (g.S.Storage.elements s)
+      → length (g.S.Storage.elements (g.S.Storage.with_element s c.self.inside.head.read_at w))
+      ≡ length (g.S.Storage.elements s)
   long s w = ap length (g.met.S.Storage.element_written s c.self.inside.head.read_at w)
       ∙ length-overwrite (g.S.Storage.elements s) c.self.inside.head.read_at (w ∷ [])
 
