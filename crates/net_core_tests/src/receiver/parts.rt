@@ -37,8 +37,9 @@ fn a_sender_goes_on_from_its_parts(rt: HostRuntime) {
     let mut sender = SenderOver::<&mut [u8]>::over_at(&mut storage, 5);
     let taken = sender.write(b"abcd") == 4 && sender.acknowledge(7);
     let (head, bytes) = sender.into_parts();
+    let sound = head.is_sound(8);
     let sender = SenderOver::<&mut [u8]>::from_parts(head, bytes);
-    assert_holds(&rt, taken, ("bytes", 4));
+    assert_holds(&rt, taken && sound, ("bytes", 4));
     assert_holds(&rt, sender.peek_at(7, 99) == b"cd".as_slice(), ("bytes", 2));
 }
 
