@@ -194,7 +194,7 @@ read_end s v n is sound = subst (λ w. IsSoundEnd (record { receiver = w; end = 
 pub no_other : (s : FiniteState) (e : ℕ) (last : Bool) → (last ≡ false) ⊎ (can_end s e ≡ true) → has_other_end s e last ≡ false
 no_other s e last which = grind (arith, nat_tests)
 
--- the greatest number stands for each end that has no number after it: no stream ends there
+-- an end that has no number after it counts as the greatest number: no stream ends there
 module _ (s : FiniteState) (e n : ℕ) (last : Bool) (is : n ≡ min e no_end) where
   can_end_at : can_end s n ≡ can_end s e
   can_end_at = grind (arith, nat_tests, and_left, le-ltb)

@@ -568,7 +568,14 @@ reads_give_together v m n = sym (take-add m n v.queue)
 -- ---- The lemmas of each law.
 pub ruleset reads_law = (reads_receive, read_leaves_next, read_leaves_bytes, reads_add, reads_give_together)
 
-pub ruleset receives_law = (begun_receives, agreeing_receives, longer_received, segments_receive, held_of_stream, queue_of)
+pub ruleset receives_law = (
+  begun_receives,
+  agreeing_receives,
+  longer_received,
+  segments_receive,
+  held_of_stream,
+  queue_of,
+)
 
 pub ruleset matches_stream_law = (matches_what_is_there, matches_longer)
 
@@ -578,7 +585,37 @@ pub ruleset numbers_law = (first_stays, next_position_grows, limit_grows, segmen
 
 -- ---- The lemmas of each module.
 -- the calls of a receiver, which lend its storage whole to its head
-pub ruleset receivers = (lent_view, lent_sound, back_view, back_sound, queue_size, spare_size, sound_for, next_is, limit_is, held_is, top_is, new_is, length-queue, length-spare, length-replicate, begun_receives)
+pub ruleset receivers = (
+  lent_view,
+  lent_sound,
+  back_view,
+  back_sound,
+  queue_size,
+  spare_size,
+  sound_for,
+  next_is,
+  limit_is,
+  held_is,
+  top_is,
+  new_is,
+  length-queue,
+  length-spare,
+  length-replicate,
+  begun_receives,
+)
 
 -- those of a head
-pub ruleset heads = (length-queue, length-spare, held_count, runs-set_of, none_there, held_none, append-nil, after_read, read_sound, only_err, held_is, alike)
+pub ruleset heads = (
+  length-queue,
+  length-spare,
+  held_count,
+  runs-set_of,
+  none_there,
+  held_none,
+  append-nil,
+  after_read,
+  read_sound,
+  only_err,
+  held_is,
+  alike,
+)

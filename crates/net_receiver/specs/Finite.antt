@@ -1,5 +1,5 @@
 -- A stream that ends, and a receiver of it: what it stores, and where the stream ends.
---     no_end      what stands for the end's position while that isn't known
+--     no_end      the end's position while that isn't known
 --     top_of v      the position after the last byte that is queued or held
 --     FiniteState, fresh_finite first capacity      what a receiver stores, and the end
 --     knows_end s, can_end s e      whether the end is known; whether it can be e

@@ -18,7 +18,7 @@ use crate::kept::{FiniteError, KeptBytes};
 use crate::receiver_head::ReceiverHead;
 use net_assembler::Run;
 
-/// What stands for the end's position while that isn't known.
+/// The end's position while that isn't known: no stream ends there.
 pub(crate) const NO_END: u64 = u64::MAX;
 
 /// What a receiver of a stream that ends has besides its storage and its held runs: numbers.

@@ -5,7 +5,7 @@ use crate::proved::net_receiver::kept::{FiniteError, KeptBytes};
 use crate::proved::net_receiver::receiver_head::ReceiverHead;
 use crate::proved::net_assembler::Run;
 
-/// What stands for the end's position while that isn't known.
+/// The end's position while that isn't known: no stream ends there.
 pub(crate) const NO_END: u64 = u64::MAX;
 
 /// What a receiver of a stream that ends has besides its storage and its held runs: numbers.
