@@ -106,7 +106,12 @@ impl PacketsHead {
     /// An empty queue begins at the storage's beginning. The caller writes the size of the gap, if
     /// it has a slot, and size and header of the packet to their slots.
     #[inline]
-    pub(crate) fn place(&mut self, slot_count: usize, capacity: usize, size: usize) -> Option<PacketPlace>
+    pub(crate) fn place(
+        &mut self,
+        slot_count: usize,
+        capacity: usize,
+        size: usize,
+    ) -> Option<PacketPlace>
         requires sound { IsSoundHead slot_count capacity self.old }
         ensures full { IsNone result ↔ (placement_in slot_count capacity self.old size ≡ None) }
         ensures unchanged { IsNone result → self.new ≡ self.old }
