@@ -86,7 +86,12 @@ impl PacketsHead {
     /// An empty queue begins at the storage's beginning. The caller writes the size of the gap, if
     /// it has a slot, and size and header of the packet to their slots.
     #[inline]
-    pub(crate) fn place(&mut self, slot_count: usize, capacity: usize, size: usize) -> Option<PacketPlace> {
+    pub(crate) fn place(
+        &mut self,
+        slot_count: usize,
+        capacity: usize,
+        size: usize,
+    ) -> Option<PacketPlace> {
         let gap = self.placement(slot_count, capacity, size)?;
         let used = slots_for(gap);
         let gap_slot = self.slots.index(slot_count, self.slots.length);
