@@ -1485,8 +1485,8 @@ bool net_base_retransmission_timer_expire(
  * A head of zeros is new: no bytes were added.
  */
 
-/** The sum of the bytes of several parts of a message, one after another, of any lengths. One of
- * zeros is that of no bytes.
+/** The sum of the 16-bit words of a message, which is given in parts of any lengths, one after
+ * another. One of zeros is that of no bytes.
  */
 struct net_base_parts_sum {
     /** The sum of the words, folded to 16 bits; 0 only if that sum is 0. */

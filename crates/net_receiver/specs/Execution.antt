@@ -60,13 +60,13 @@ command_values commands = map command_value commands
 abbrev pub new_replies : {A : Type 0} → List (Reply A) → List (Reply A) → List ReplyValue
 new_replies old new = map reply_value (items_after old new)
 
--- a segment's end is a position
+-- a segment ends below 2^64
 abbrev pub ValueFits : CommandValue → Type 0
 ValueFits (Segment pos bytes) = pos + length bytes < 2 ^ 64
 ValueFits (Read count) = Unit {0}
 ValueFits Show = Unit {0}
 
--- a command's segment, if it is one, ends at a position
+-- a command's segment, if it is one, ends below 2^64
 abbrev pub CommandFits : {A : Type 0} → Command A → Type 0
 CommandFits c = ValueFits (command_value c)
 

@@ -1,6 +1,6 @@
 -- A stream that ends, and a receiver of it: what it stores, and where the stream ends.
 --     no_end      the end's position while that isn't known
---     top_of v      the position after the last byte that is queued or held
+--     top_of v      the first missing position, or the end of the last held run if that is greater
 --     FiniteState, fresh_finite first capacity      what a receiver stores, and the end
 --     knows_end s, can_end s e      whether the end is known; whether it can be e
 --     can_end_by end top e      whether it can, if `end` is known, and the bytes end at `top`
@@ -9,7 +9,7 @@
 --     finite_after N s pos xs last, finite_result N s pos xs last      what a segment leaves, and its result
 --     finite_after_read s n      what a read leaves
 --     is_complete s, acknowledged s, has_read_all s      what it says of the end
---     IsSameFinite s t      what `is_same_state` compares
+--     IsSameFinite s t      what `same_state` compares
 --     IsSoundEnd s      what is true of every such receiver
 --     finite_code      what is stored, as a code
 -- The laws of a receiver of a stream that ends.
@@ -71,7 +71,8 @@ knows_end s = nat_lt s.end no_end
 abbrev pub can_end_by : ℕ → ℕ → ℕ → Bool
 can_end_by end top e = nat_lt e no_end && (if nat_lt end no_end then nat_eq e end else nat_le top e)
 
--- e is the end that is known, or none is, and no byte is queued or held at e or above; it has a number after it
+-- e is the end that is known, or none is, and it isn't below the first missing position or a held run's end; it has a
+-- number after it
 abbrev pub can_end : FiniteState → ℕ → Bool
 can_end s e = can_end_by s.end (top_of s.receiver) e
 
@@ -132,7 +133,7 @@ acknowledged s = if is_complete s then s.end + 1 else next_position s.receiver
 abbrev pub has_read_all : FiniteState → Bool
 has_read_all s = nat_eq (s.receiver.first + s.receiver.read) s.end
 
--- what `is_same_state` compares
+-- what `same_state` compares
 abbrev pub IsSameFinite : FiniteState → FiniteState → Type 0
 IsSameFinite s t = (s.end ≡ t.end) × IsSameState s.receiver t.receiver
 

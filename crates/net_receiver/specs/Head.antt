@@ -1,7 +1,7 @@
 -- A receiver in parts: a head of numbers, the storage of its ring, and the runs of its held bytes.
 --     receiver_of h xs rs      what is stored
 --     held_at h rs      the positions of the held bytes, whatever the bytes are
---     top_at h rs      the position after the last byte that is queued or held
+--     top_at h rs      the first missing position, or the end of the last held run if that is greater
 --     HasSoundHeld h rs      the runs are those of held bytes
 --     HasSoundParts h c rs      head and runs are those of a receiver whose storage has c bytes
 --     storage_after h xs x      the storage after a segment

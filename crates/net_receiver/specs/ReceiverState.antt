@@ -13,7 +13,7 @@
 --     StaysInSetting N v u      first position and capacity stay, and at most N runs are held
 --     Refines v s      what is stored represents a schedule's state
 --     IsSameState v u      what `same_state` compares
--- The commands, the replies and the schedules' states are those of `Headline.antt`, which says what the rules come to.
+-- The commands, the replies and the schedules' states are defined in `Headline.antt`.
 -- How a ring and a set of offsets represent what a receiver stores.
 --     held_bytes s n spare      the bytes of the spare part at the offsets of s, counted from n
 --     parts f r queue spare s      what is stored

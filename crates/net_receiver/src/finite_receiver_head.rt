@@ -39,10 +39,10 @@ pub struct FiniteReceiverHead {
     pub after_end: u64,
 }
 
-// What a head and a `FiniteReceiverOver` do with the number after the end's, `after_end`.
+// These are functions of `after_end`, the number after the end's. A head and a `FiniteReceiverOver` call them.
 
-/// Returns the position after the last byte, or the greatest number of 64 bits while it isn't known: that is
-/// above each position.
+/// Returns the position after the last byte, or the greatest number of 64 bits while it isn't known: no byte
+/// that is kept has that position.
 #[inline(always)]
 pub(crate) fn end_or_max(after_end: u64) -> u64
     ensures { result ≡ end_with after_end }
@@ -185,7 +185,7 @@ impl FiniteReceiverHead {
             × (runs.new ≡ runs.old)) }
         ensures canonical { IsCanonical self.old.receiver.held → IsCanonical self.new.receiver.held }
     {
-        // No stream ends at the greatest number.
+        // A sum above 64 bits becomes `u64::MAX`, which `can_end` refuses.
         let last = pos.saturating_add(bytes.len() as u64);
         if is_last && !self.can_end(runs, last) {
             return Err(FiniteError::OtherEnd);
@@ -241,7 +241,8 @@ impl FiniteReceiverHead {
     ///
     /// # Requires
     ///
-    /// The first missing position fits 64 bits, as it does where head, storage and runs are sound.
+    /// The first missing position and the one after it fit 64 bits, as they do where head, storage
+    /// and runs are sound.
     #[inline]
     pub fn has_read_all(&self) -> bool
         requires { next_of self.now < no_end }
@@ -251,9 +252,9 @@ impl FiniteReceiverHead {
         self.receiver.first + self.receiver.count_read == end_or_max(self.after_end)
     }
 
-    /// Returns the end of the free window, where the storage has `capacity` bytes, for what is announced:
-    /// never below `acknowledged`, which is one above the free window's end where the end is counted and
-    /// the storage is full. `None` if the free window's end doesn't fit 64 bits.
+    /// Returns the end of the window to announce, where the storage has `capacity` bytes: that of the free
+    /// window, or `acknowledged` if that is greater, as where the end is acknowledged and the storage is
+    /// full. `None` if the free window's end doesn't fit 64 bits.
     ///
     /// # Requires
     ///

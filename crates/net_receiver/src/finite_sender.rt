@@ -109,7 +109,7 @@ impl<S: Storage<u8>> FiniteSenderOver<S> {
         (head, storage)
     }
 
-    /// Returns the storage, of which the bytes can be any.
+    /// Returns the storage. Its bytes can be any.
     #[must_use]
     pub fn into_storage(self) -> S
         ensures { length (S.elements result) ≡ self.sender.capacity }
@@ -340,7 +340,7 @@ impl<S: Storage<u8>> FiniteSenderOver<S> {
         self.head.is_closed()
     }
 
-    /// Returns whether all bytes and the end are acknowledged. Once it is so it stays so.
+    /// Returns whether all bytes and the end are acknowledged. Once it is so it stays so, until `reset_at`.
     #[must_use]
     pub fn is_closed_and_acknowledged(&self) -> bool
         ensures { result ≡ (self.now.finished == 1) }

@@ -41,7 +41,7 @@ pub enum FiniteError {
     #[error("too many holes")]
     TooManyHoles,
     /// It says that the stream ends where it can't: at another position than an earlier one said,
-    /// or below a byte that is queued or held.
+    /// below the first missing position or the end of a held run, or at `u64::MAX`.
     #[error("the stream ends elsewhere")]
     OtherEnd,
 }

@@ -110,7 +110,7 @@ impl<S: Storage<u8>> SenderOver<S> {
         (head, storage)
     }
 
-    /// Returns the storage, of which the bytes can be any.
+    /// Returns the storage. Its bytes can be any.
     #[must_use]
     pub fn into_storage(self) -> S
         ensures { length (S.elements result) ≡ self.capacity }

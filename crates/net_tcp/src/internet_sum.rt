@@ -6,7 +6,7 @@ ghost use Rattle.std.specs.Prelude.{◌⊎◌, length, nat_eq, if◌then◌else�
 ghost use Rattle.net_tcp.specs.InternetChecksum.{folded, word_sum, internet_checksum, updated, Sums, is_odd};
 ghost use Rattle.net_tcp.specs.InternetChecksum.{sum_joined, sum_with, word_bytes};
 
-/// The sum of the bytes of several parts of a message, one after another, of any lengths.
+/// The sum of the 16-bit words of a message, which is given in parts of any lengths, one after another.
 /// One of zeros is that of no bytes.
 #[repr(C)]
 #[derive(Copy, Clone, Debug, PartialEq, Eq, Hash)]

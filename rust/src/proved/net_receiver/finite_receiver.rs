@@ -16,14 +16,13 @@ use crate::rattle::std::marker::Model;
 /// position after the last byte. It has a number, as a byte has (that of TCP's FIN), and needs no room.
 /// Segments may arrive in any order, the last one too. `receiver` lends the receiver of the bytes, for
 /// all that isn't about the end: how many are queued, a look at them, the window, the held runs. The
-/// held runs that a selective acknowledgement lists are of bytes alone: an end that came out of order is
-/// sent again.
+/// list of held runs doesn't show an end that came early, so its sender sends it again.
 ///
 /// Contracts: `crates/net_receiver/src/finite_receiver.rt`.
 #[derive(Clone)]
 pub struct FiniteReceiverOver<S: Storage<u8>, const N: usize> {
-    // Invariant: no byte is queued or held at the end or above, and a number is left for an end after the
-    // last byte.
+    // Invariant: the first missing position and the end of each held run are at most the end, and below
+    // `u64::MAX`, so that an end there has a number after it.
     receiver: ReceiverOver<S, N>,
     // The number after the end's, or 0 while the end isn't known.
     after_end: u64,
@@ -102,7 +101,7 @@ impl<S: Storage<u8>, const N: usize> FiniteReceiverOver<S, N> {
         (head, storage, runs)
     }
 
-    /// Returns the storage, of which the bytes can be any.
+    /// Returns the storage. Its bytes can be any.
     #[must_use]
     pub fn into_storage(self) -> S {
         let FiniteReceiverOver {
@@ -140,9 +139,9 @@ impl<S: Storage<u8>, const N: usize> FiniteReceiverOver<S, N> {
         self.after_end = 0;
     }
 
-    /// Returns whether the stream can end at a position: it is the end that is known, or none is,
-    /// and no byte is queued or held at it or above. No stream ends at `u64::MAX`, after which there is
-    /// no number for an end.
+    /// Returns whether the stream can end at a position: it is the end that is known, or none is, and it
+    /// isn't below the first missing position or a held run's end. No stream ends at `u64::MAX`, which
+    /// has no number after it.
     #[must_use]
     pub fn can_end(&self, pos: u64) -> bool {
         match self.end() {
@@ -155,9 +154,9 @@ impl<S: Storage<u8>, const N: usize> FiniteReceiverOver<S, N> {
     /// `ReceiverOver::keep` does. `is_last` says that the stream ends after the segment. Any segment may
     /// arrive: bytes after which an end has no number, which no stream has, are left out.
     ///
-    /// The end is taken if it is at most the end of the free window: an end beyond that is cut off,
-    /// as the bytes before it are, and is sent again. An end alone at the first missing position is
-    /// taken where nothing is free too.
+    /// The end is taken if it is at most the end of the free window. An end beyond that is left out, as
+    /// the bytes there are, and the sender sends it again. An end without bytes at the first missing
+    /// position is taken even if nothing is free.
     ///
     /// # Errors
     ///
@@ -168,7 +167,7 @@ impl<S: Storage<u8>, const N: usize> FiniteReceiverOver<S, N> {
     ///
     /// - `old(self).acknowledged() <= self.acknowledged()`
     pub fn keep(&mut self, pos: u64, bytes: &[u8], is_last: bool) -> Result<KeptBytes, FiniteError> {
-        // No stream ends at the greatest number.
+        // A sum above 64 bits becomes `u64::MAX`, which `can_end` refuses.
         let last = pos.saturating_add(bytes.len() as u64);
         if is_last && !self.can_end(last) {
             return Err(FiniteError::OtherEnd);
@@ -251,7 +250,7 @@ impl<S: Storage<u8>, const N: usize> FiniteReceiverOver<S, N> {
         self.after_end.checked_sub(1)
     }
 
-    /// Returns whether all bytes and the end have arrived. Once it is so it stays so.
+    /// Returns whether all bytes and the end have arrived. Once it is so it stays so, until `reset_at`.
     #[must_use]
     pub fn is_complete(&self) -> bool {
         self.receiver.next() == end_or_max(self.after_end)
@@ -264,15 +263,15 @@ impl<S: Storage<u8>, const N: usize> FiniteReceiverOver<S, N> {
         acknowledged(self.receiver.next(), self.after_end)
     }
 
-    /// Returns whether all bytes were read, up to the end. Once it is so it stays so.
+    /// Returns whether all bytes were read, up to the end. Once it is so it stays so, until `reset_at`.
     #[must_use]
     pub fn has_read_all(&self) -> bool {
         self.receiver.unread() == end_or_max(self.after_end)
     }
 
-    /// Returns the end of the free window, for what is announced: never below `acknowledged`, which is
-    /// one above the free window's end where the end is counted and the storage is full. `None` if the
-    /// free window's end doesn't fit 64 bits.
+    /// Returns the end of the window to announce: that of the free window, or `acknowledged` if that is
+    /// greater, as where the end is acknowledged and the storage is full. `None` if the free window's end
+    /// doesn't fit 64 bits.
     ///
     /// ```
     /// # use net_base::finite::FiniteReceiver;

@@ -40,7 +40,7 @@ pub enum FiniteError {
     /// Its bytes would make more held runs than there is room for.
     TooManyHoles,
     /// It says that the stream ends where it can't: at another position than an earlier one said,
-    /// or below a byte that is queued or held.
+    /// below the first missing position or the end of a held run, or at `u64::MAX`.
     OtherEnd,
 }
 

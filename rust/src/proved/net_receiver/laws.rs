@@ -1,6 +1,4 @@
-//! Laws of receivers: of the kept lists that they represent, of schedules of commands, of segments
-//! that are parts of one stream, of streams that end, and of sequence numbers. Laws of senders, and of
-//! new heads.
+//! Laws of receivers, of senders, of both together, of scoreboards, of heads and of sequence numbers.
 //!
 //! No function here changes anything: its contract is the law, for all kept lists, states, commands
 //! and calls.
@@ -19,15 +17,15 @@ use crate::proved::net_receiver::sender_head::SenderHead;
 use crate::proved::net_receiver::sequence_number::SequenceNumber;
 
 /// States that the runs which the result of an accepted segment lists are the first three maximal
-/// runs of the positions that are held after it, in rising order and filled from the first on, or
-/// all of them if there are fewer. This holds even if no byte of the segment was kept.
+/// runs of the positions that are held after it, in rising order, or all of them, and then `None`, if
+/// there are fewer. This holds even if no byte of the segment was kept.
 pub fn listed_runs() {}
 
 /// States which held runs `newest_runs` lists: maximal ones, each once; and all of them, if there is
 /// room; those of the given positions first, in the order of the positions. So over several calls, each
 /// with the positions that the one before left, the run of a position that was asked for later is listed
-/// first, as RFC 2018, section 4, asks: as far back as `K` calls, and while the position is held. What a
-/// receiver holds stays together, as `calls` asks, whatever it executes between them.
+/// first, as RFC 2018, section 4, asks: as far back as `K` calls, and while the position is held. If one
+/// byte of a held run is still held after some commands, all are (`together`), as `calls` asks.
 pub fn newest_runs() {}
 
 /// States what a new receiver does, by the rules of `Headline.antt`: calls of `segment`, `keep` and `read`, one after
@@ -65,7 +63,7 @@ pub fn completion() {}
 pub fn numbers() {}
 
 /// States what reads leave unchanged: the first missing position, all positions that the receiver
-/// has, and that it took only parts of one stream. Reading m bytes and then n is the same as
+/// has read, queued or held, and that it took only parts of one stream. Reading m bytes and then n is the same as
 /// reading m + n.
 pub fn reads() {}
 
@@ -76,10 +74,11 @@ pub fn is_sound<const N: usize>(receiver: &Receiver<'_, N>) {
 }
 
 /// States that what is true of every receiver, by `is_sound`, is true of a fresh one, and stays
-/// true after each command: for proofs about a stored state, with no receiver at hand.
+/// true after each command: for proofs about a stored state without a receiver.
 pub fn soundness() {}
 
-/// States what the queue of a receiver is, for every stream of which it took only parts.
+/// States what the queue of a receiver is, for every stream of which it took only parts (`receives`), and
+/// that it is no longer than the capacity (`fits`).
 pub fn queue<const N: usize>(receiver: &Receiver<'_, N>) {
     receiver.is_sound();
 }
@@ -111,7 +110,7 @@ pub fn all_match() {}
 pub fn receives() {}
 
 /// States what sequence numbers say of the positions that they represent: adding to a number adds
-/// to the position; two positions less than 2^32 apart have different numbers, of which the lower
+/// to the position; two different positions less than 2^32 apart have different numbers, of which the lower
 /// one's comes before the other's exactly if they are less than 2^31 apart. Of two numbers at most
 /// one comes before the other, and one does unless they are equal or 2^31 apart.
 pub fn sequence_numbers() {}
@@ -139,15 +138,16 @@ pub fn sends() {}
 /// those that RFC 6675 counts.
 pub fn losses() {}
 
-/// States what a receiver of a stream that ends does over every list of segments and reads. No byte
-/// is ever at or above the end. An end that is known stays, and so does that all has arrived, or was
-/// read, whatever arrives later. A segment of the stream that ends below the greatest number is never
-/// said to end it elsewhere; a read takes the next bytes of the stream, so the bytes read are its first ones,
-/// and the whole stream once the receiver says so. If all has arrived, all bytes were read or are queued
-/// (`whole`). What is acknowledged never falls. After an accepted last segment its end is
-/// known if it is at most the end of the free window before it, and once each byte below a known end is
-/// there all has arrived. Two receivers of one stream that kept the same positions, read as much and know
-/// the same of the end are equal in what `same_state` compares.
+/// States what a receiver of a stream that ends does over every list of segments and reads. No byte is
+/// ever kept at or above the end (`fresh`, `sound`). An end that is known stays known; once all has
+/// arrived, or was read, that stays so (`stays`). A segment of the stream that ends below the greatest
+/// number is never refused as `OtherEnd` (`segment`). A read takes the next bytes of the stream (`read`),
+/// so the bytes read are its first ones, and the whole stream once the receiver says so (`reads`). If all
+/// has arrived, all bytes were read or are queued (`whole`). What is acknowledged never falls. After an
+/// accepted last segment its end is known if it is at most the end of the free window before it
+/// (`taken`), and once each byte below a known end is there all has arrived (`complete`). Two receivers
+/// of one stream that kept the same positions, read as much and know the same of the end are equal in
+/// what `same_state` compares (`same`).
 pub fn finite_receivers() {}
 
 /// States of every list of segments and reads of a receiver of a stream that ends what `schedules`,
@@ -167,7 +167,8 @@ pub fn finite_schedules() {}
 pub fn finite_senders() {}
 
 /// States what is true of every receiver of a stream that ends: of its bytes what `is_sound` says, no byte
-/// is at or above the end, and a number is left for an end after the last one. `finite_receivers` asks for it.
+/// is at or above the end, and a number is left for an end after the last one. `finite_receivers` and
+/// `finite_schedules` ask for it.
 pub fn is_sound_end<const N: usize>(receiver: &FiniteReceiver<'_, N>) {
     receiver.is_sound();
 }
@@ -191,9 +192,9 @@ pub fn is_sound_scoreboard<const N: usize>(scoreboard: &Scoreboard<N>) {
     scoreboard.is_sound();
 }
 
-/// States that head and runs alone say whether they are those of a receiver whose storage has some length,
-/// and which positions are held, whatever the storage's bytes are: `receiver` and `end` say what sound parts
-/// store, `positions` by which numbers.
+/// States when parts are those of a receiver (`receiver`), and of one of a stream that ends (`end`), by what
+/// they store; and the first missing position, the end of the free window and the held positions by the
+/// numbers of head and runs, whatever the storage's bytes are (`positions`).
 pub fn sound_heads() {}
 
 /// States that a head whose numbers are all 0 is a new one, of a stream that begins at position 0: of a

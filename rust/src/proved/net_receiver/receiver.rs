@@ -135,7 +135,7 @@ impl<S: Storage<u8>, const N: usize> ReceiverOver<S, N> {
         (head, storage, runs)
     }
 
-    /// Returns the storage, of which the bytes can be any.
+    /// Returns the storage. Its bytes can be any.
     #[must_use]
     pub fn into_storage(self) -> S {
         let (_head, storage, _runs) = self.into_parts();
@@ -575,7 +575,7 @@ impl<S: Storage<u8>, const N: usize> ReceiverOver<S, N> {
         head.first + head.count_read
     }
 
-    /// Returns whether all bytes that are queued or held are below a position.
+    /// Returns whether the first missing position and the end of each held run are at most a position.
     pub(crate) fn has_all_below(&self, pos: u64) -> bool {
         self.head.has_all_below(&self.runs, pos)
     }

@@ -408,7 +408,7 @@ impl ReceiverHead {
         all as usize
     }
 
-    /// Returns whether all bytes that are queued or held are below a position.
+    /// Returns whether the first missing position and the end of each held run are at most a position.
     ///
     /// # Panics, unless
     ///
