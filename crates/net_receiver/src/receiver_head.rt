@@ -430,7 +430,7 @@ impl ReceiverHead {
     ///
     /// Head and runs are sound, as `is_sound` tests, with a storage of some length.
     #[inline(always)]
-    pub(crate) fn held<'a>(&self, runs: &'a [Run]) -> HeldRunIter<'a>
+    pub fn held<'a>(&self, runs: &'a [Run]) -> HeldRunIter<'a>
         requires { HasSoundHeld self.now runs.now }
         ensures runs { result ≡ maximal_runs (held_at self.now runs.now) }
         ensures bound { length result ≤ length runs.now }

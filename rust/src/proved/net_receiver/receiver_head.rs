@@ -300,7 +300,7 @@ impl ReceiverHead {
     ///
     /// Head and runs are sound, as `is_sound` tests, with a storage of some length.
     #[inline(always)]
-    pub(crate) fn held<'a>(&self, runs: &'a [Run]) -> HeldRunIter<'a> {
+    pub fn held<'a>(&self, runs: &'a [Run]) -> HeldRunIter<'a> {
         HeldRunIter::over(self.held.iter_data(runs), self.next())
     }
 
