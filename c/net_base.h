@@ -1,6 +1,6 @@
 /* SPDX-License-Identifier: 0BSD */
 /** @file
- * net-base 0.5.0.
+ * net-base 0.6.0-dev.
  *
  * What for, and which calls
  *
@@ -33,7 +33,8 @@
  *   `net_base_tcp_`: classify, is_acknowledgement, scale_for, scaled
  *   `net_base_sequence_number_`: position
  * - When to send again, and time:
- *   `net_base_retransmission_timer_`: init, sent, acknowledged, expire, take_sample, start, stop
+ *   `net_base_retransmission_timer_`: init, sent, acknowledged, reported, expire, take_sample,
+ *     start, stop
  *   `net_base_instant_`: saturating_add, distance
  * - Sets of positions:
  *   `net_base_assembler_`: init, is_sound, add, add_then_remove_front, remove_front, peek_front,
@@ -103,7 +104,7 @@
 /** The major number: until 1.0 names and structs may change with each minor one. */
 #define NET_BASE_VERSION_MAJOR 0
 /** The minor number: until 1.0 names and structs may change with each minor one. */
-#define NET_BASE_VERSION_MINOR 5
+#define NET_BASE_VERSION_MINOR 6
 /** The patch number: until 1.0 names and structs may change with each minor one. */
 #define NET_BASE_VERSION_PATCH 0
 
@@ -152,6 +153,12 @@ enum net_base_status {
     NET_BASE_IGNORE = 9,
     /** The peer has reset the connection. */
     NET_BASE_RESET = 10,
+    /** No answer has come in time: find what is overdue, and send a probe if nothing of it may be
+     * sent.
+     */
+    NET_BASE_PROBE = 11,
+    /** The timeout has passed: all that was sent and isn't acknowledged is lost. */
+    NET_BASE_TIMEOUT = 12,
     /** No status: it makes the type as wide on each processor, 32 bits. */
     NET_BASE_STATUS_WIDTH = 0x7fffffff
 };
@@ -755,8 +762,8 @@ size_t net_base_receiver_peek_slice(
  * beginning of `recent`, as many as there is room for. The caller sets `recent` to zeros before
  * the first call, and doesn't change it afterwards. It is enough if `recent` and `into` have as
  * many elements in each call as the longest acknowledgement has SACK blocks; a shorter one has the
- * first of them. RFC 2018, section 4, wants this order. The time grows with the number of runs
- * times the number of runs and of elements of `recent` together.
+ * first of them. RFC 2018, section 4, wants this order. Each run that is listed is found by a
+ * search.
  *
  * It is refused if `next` doesn't fit 64 bits, or `held.used` is above `runs_length`:
  * `NET_BASE_NONE`, and nothing changes.
@@ -1379,9 +1386,9 @@ uint64_t net_base_peer_window_acknowledgement_number(
 /* The time until a retransmission (RFC 6298), and its timer, with the one segment that is timed
  * for a sample. Lengths of time are in microseconds, and so are moments, of one clock.
  *
- * A timer of zeros is new: there was no sample, the timer doesn't run, no segment is timed, and
- * the timeout is 1 second, which the RFC begins with. A call writes the fields that it changes: 0
- * where there is nothing, and 0 or 1 in a flag.
+ * A timer of zeros is new, of a peer that reports no blocks: there was no sample, the timer
+ * doesn't run, no segment is timed, and the timeout is 1 second, which the RFC begins with. A call
+ * that changes anything writes all fields: 0 where there is nothing, and 0 or 1 in a flag.
  */
 
 /** An estimate of the time of a round trip; zeros are none. */
@@ -1407,19 +1414,35 @@ struct net_base_retransmission_timeout {
 struct net_base_retransmission_timer {
     /** The timeout. */
     struct net_base_retransmission_timeout timeout;
-    /** When it expires, while it runs. */
+    /** When it expires, while it runs: the earlier of the next two. It is written, and not read. */
     int64_t expiry;
+    /** When the timeout passes, while it runs. */
+    int64_t ends_at;
+    /** When a probe is due, if that is earlier. */
+    int64_t probe_at;
+    /** How long the probe has waited then. */
+    uint64_t wait;
     /** Not 0 while it runs. */
     uint64_t is_running;
+    /** Not 0 while the probe waits for an acknowledgement that may be delayed. */
+    uint64_t is_alone;
     /** The position of the timed segment, if there is one. */
     uint64_t timed;
     /** When that was sent. */
     int64_t timed_since;
     /** Not 0 while a segment is timed. */
     uint64_t is_timing;
+    /** Where the last segment begins that had something new. */
+    uint64_t last;
+    /** How often the timeout has passed since anything new was acknowledged or reported. */
+    uint64_t timeouts;
+    /** Not 0 if the peer reports blocks: else no probe is due. */
+    uint64_t reports;
 };
 
-/** The bounds of a timeout, and the tick of the clock that the samples are read from. */
+/** The bounds of a timeout, the tick of the clock that the samples are read from, and how long a
+ * peer delays an acknowledgement.
+ */
 struct net_base_timeout_bounds {
     /** The least timeout. */
     uint64_t least;
@@ -1427,32 +1450,40 @@ struct net_base_timeout_bounds {
     uint64_t most;
     /** The time between two ticks of the clock. */
     uint64_t tick;
+    /** The longest time for which the peer delays the acknowledgement of one segment: 200,000 for
+     * TCP.
+     */
+    uint64_t ack_delay;
 };
 
 /** Makes `timer` a timer that doesn't run, with a timeout before any sample. 0 counts as 1 second,
- * which the RFC has.
+ * which the RFC has. `reports` says whether the peer reports blocks (SACK): if not, no probe is
+ * ever due.
  */
 void net_base_retransmission_timer_init(
-    struct net_base_retransmission_timer *timer, uint64_t timeout);
+    struct net_base_retransmission_timer *timer, uint64_t timeout, bool reports);
 
-/** Starts the timer, unless it runs: it expires the timeout from `now` on, at `INT64_MAX` if that
- * is above it.
+/** Starts the timer, unless it runs, where nothing is on the way: it expires the timeout from `now`
+ * on, at `INT64_MAX` if that is above it, and no probe is due.
  */
 void net_base_retransmission_timer_start(struct net_base_retransmission_timer *timer, int64_t now);
 
 /** Stops the timer. A segment that is timed stays so. */
 void net_base_retransmission_timer_stop(struct net_base_retransmission_timer *timer);
 
-/** Takes notice that the positions from `position` on and below `end` are sent `now`, and starts
- * the timer, unless it runs. `numbers` are the sender's before that. Nothing changes if there are
- * no positions.
+/** Takes notice that the segment with the positions from `position` on and below `end` is sent
+ * `now`, and starts the timer, unless it runs. `numbers` are the sender's before that. Nothing
+ * changes if there are no positions.
  *
  * If no segment is timed, one of which nothing was sent before is then. One that was timed is no
  * longer if it is sent again: which of the copies an acknowledgement is for is not known (Karn).
+ *
+ * Where nothing else is on the way, the probe waits longer by `ack_delay`. The second segment that
+ * has something new brings it to two round trips from `now`.
  */
 void net_base_retransmission_timer_sent(
-    struct net_base_retransmission_timer *timer, uint64_t position, uint64_t end,
-    const struct net_base_sent_numbers *numbers, int64_t now);
+    struct net_base_retransmission_timer *timer, const struct net_base_timeout_bounds *bounds,
+    uint64_t position, uint64_t end, const struct net_base_sent_numbers *numbers, int64_t now);
 
 /** Takes the sample of the timed segment, if there is one, since it has arrived:
  * `net_base_retransmission_timer_acknowledged` does so of what is acknowledged; a SACK block may
@@ -1464,7 +1495,8 @@ void net_base_retransmission_timer_take_sample(
 
 /** Takes an acknowledgement of all positions below `next`: the sample of the timed segment, if that
  * is below; then, if it acknowledges something new, it stops the timer if all that was sent is
- * below `next`, and otherwise starts it again. A repeated acknowledgement does neither.
+ * below `next`, and otherwise starts it again. A repeated acknowledgement does neither. One of
+ * what was never sent changes nothing.
  *
  * `numbers` are the sender's before it takes the acknowledgement.
  */
@@ -1472,11 +1504,19 @@ void net_base_retransmission_timer_acknowledged(
     struct net_base_retransmission_timer *timer, const struct net_base_timeout_bounds *bounds,
     const struct net_base_sent_numbers *numbers, uint64_t next, int64_t now);
 
-/** If the timer has expired, doubles the timeout within the bounds, starts it again, and times no
- * segment any longer. Returns whether it had: then the first segment that isn't acknowledged is to
- * be sent again. Otherwise nothing changes.
+/** Takes notice that a block has reported what wasn't known: a timer that runs is started again. A
+ * peer that reports delays no acknowledgement.
  */
-bool net_base_retransmission_timer_expire(
+void net_base_retransmission_timer_reported(
+    struct net_base_retransmission_timer *timer, int64_t now);
+
+/** Returns what is due: `NET_BASE_DONE` if nothing is, and then nothing changes; `NET_BASE_PROBE`
+ * where no answer has come: the next probe waits twice as long, and the timeout passes when it
+ * would have passed; and `NET_BASE_TIMEOUT` where that has: then it is doubled within the bounds,
+ * the timer starts again, no segment is timed any longer, and no probe is due until something new
+ * is acknowledged or reported.
+ */
+NET_BASE_MUST_USE enum net_base_status net_base_retransmission_timer_expire(
     struct net_base_retransmission_timer *timer, const struct net_base_timeout_bounds *bounds,
     int64_t now);
 

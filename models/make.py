@@ -1,7 +1,8 @@
 #!/usr/bin/env python3
 """Writes the files that the models of this folder give, or compares them.
 
-    python3 models/make.py          writes the rows, rust/tests/rows/rows.txt, and the program's tables of net_program_tests
+    python3 models/make.py          writes the rows, rust/tests/rows/rows.txt, the program's, rust/tests/net_bench/rows.txt,
+                                    and those of assemblers as tables of net_core_tests
     python3 models/make.py --check  writes nothing, and names each file that is not as the models give it
 
 A row is `call => reply`. Blocks are divided by an empty line, and a block's first line makes what its other lines call. A
@@ -34,7 +35,8 @@ import tables
 import worked
 
 REPOSITORY = pathlib.Path(__file__).resolve().parent.parent
-ROWS, PROGRAM = "rust/tests/rows/rows.txt", "crates/net_program_tests/src/modes.rt"
+ROWS, PROGRAM = "rust/tests/rows/rows.txt", "rust/tests/net_bench/rows.txt"
+ASSEMBLERS = "crates/net_core_tests/src/worked/assembler_rows.rt"
 
 
 def text_of(blocks):
@@ -42,6 +44,13 @@ def text_of(blocks):
     rows = [(line, reply) for lines, replies in blocks for line, reply in zip(lines, replies)]
     assert not any("=>" in line or "\n" in line + reply for line, reply in rows)
     return "\n".join("".join(f"{line} => {reply}\n" for line, reply in zip(*block)) for block in blocks)
+
+
+def seen(blocks):
+    """Rows of the program. A line feed is `;` in them, a byte that isn't seen has a backslash, and nothing is shown."""
+    plain = str.maketrans({"\\": "\\\\", "\r": "\\r", "\t": "\\t", "\0": "\\0"})
+    return [([line.translate(plain) for line in lines[1:]], [reply.removesuffix("|").translate(plain) for reply in replies[1:]])
+            for lines, replies in blocks]
 
 
 def given():
@@ -53,7 +62,7 @@ def given():
         print(f"{name:10} {len(of_subject):4} blocks {rows:6} lines")
     blocks = [block for of_subject in subjects.values() for block in of_subject] + by_hand.drawn()
     print(f"{len(branches.ALL)} questions, {sum(len(each.counts) for each in branches.ALL)} answers")
-    return {ROWS: text_of(blocks), PROGRAM: tables.text_of(program)}, wrong
+    return {ROWS: text_of(blocks), PROGRAM: text_of(seen(program)), ASSEMBLERS: tables.assembler_rows()}, wrong
 
 
 def unknown_tests():

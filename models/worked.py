@@ -153,16 +153,18 @@ ASSEMBLERS = [
         "contains 18446744073709551614: 1; contains 18446744073709551615: 0",
      [(2 ** 63, 2 ** 63 + 8), (2 ** 64 - 6, 2 ** 64 - 1)]),
     ("test_rejected_add_keeps_state",
-     4, "FILL; add 1 3: refused; add_counted 1 3: refused; add_then_remove_front 1 3: refused; add 13 7: ok; "
+     4, "FILL; add 1 3: refused; add_counted 1 3: refused; add_then_remove_front 1 3: refused; run_at 0: 10-13; add 13 7: ok; "
         "add 1 3: ok", [(1, 4), (10, 23), (30, 33), (40, 43)]),
+    ("", 4, "FILL; add 1 3: refused", [(10, 13), (20, 23), (30, 33), (40, 43)]),
     ("", 4, "FILL; add_counted 13 7: ok", [(10, 23), (30, 33), (40, 43)]),
+    ("", 4, "add 2 6: ok; add 10 1: ok; run_at 0: 2-8; run_at 1: 10-11; run_at 2: none", [(2, 8), (10, 11)]),
     ("", 4, "add 0 2: ok; add 10 1: ok; add 20 1: ok; add 30 1: ok; add_then_remove_front 40 1: refused; "
         "add_then_remove_front 40 0: front 2", [(8, 9), (18, 19), (28, 29)]),
     ("test_add_then_remove_front_at_front_full_offset_0",
      4, "FILL; add_then_remove_front 0 3: front 3", [(7, 10), (17, 20), (27, 30), (37, 40)]),
     ("test_add_then_remove_front", 4, "add 50 10: ok; add_then_remove_front 10 10: front 0", [(10, 20), (50, 60)]),
     ("test_add_then_remove_front_at_front", 4, "add 50 10: ok; add_then_remove_front 0 10: front 10", [(40, 50)]),
-    ("test_add_then_remove_front_at_front_touch", 4, "add 50 10: ok; add_then_remove_front 0 50: front 60", []),
+    ("test_add_then_remove_front_at_front_touch", 4, "add 50 10: ok; add_then_remove_front 0 50: front 60; text 0: 1", []),
     ("", 4, "add 0 4: ok; add_then_remove_front 0 0: front 4", []),
     ("test_trailing_data_remove_front",
      4, "add 0 4: ok; add 8 4: ok; remove_front: front 4; remove_front: front 0", [(4, 8)]),
@@ -174,11 +176,11 @@ ASSEMBLERS = [
         "contains 1: 0; contains 2: 1; contains 7: 1; contains 8: 0; contains 14: 1; contains 15: 0",
      [(2, 8), (10, 11), (13, 15)]),
     ("test_add_then_remove_front_at_front_full",
-     32, "FILL; add 1 3: refused; add_then_remove_front 1 3: refused; run_at 31: 320-323; "
+     32, "FILL; add 1 3: refused; add_then_remove_front 1 3: refused; run_at 0: 10-13; run_at 31: 320-323; "
          "add_then_remove_front 0 3: front 3; run_at 0: 7-10; run_at 31: 317-320; remove_front: front 0; add 0 320: ok; "
          "remove_front: front 320", []),
-    ("test_shrink_next_hole", 4, "add 100 10: ok; add 50 10: ok; add 40 30: ok", [(40, 70), (100, 110)]),
-    ("", 1, "add 18446744073709551613 2: ok; add 0 1: refused; add_then_remove_front 0 1: front 1; "
+    ("test_shrink_next_hole", 4, "add 100 10: ok; add 50 10: ok; add 40 30: ok; text 0: 1", [(40, 70), (100, 110)]),
+    ("", 1, "add 18446744073709551613 2: ok; add 0 1: refused; add_then_remove_front 0 1: front 1; text 0: 1; "
         "fits 18446744073709551614 1: 1; fits 18446744073709551614 2: 0", [(18446744073709551612, 18446744073709551614)]),
     ("",
      4, "add 4 8: ok; add 0 2: ok; clone: done; clear: done; eq: 0 1; add 0 1: ok; add 4 4: ok; add 8 4: ok; add 1 1: ok; "
@@ -200,7 +202,7 @@ SETS = [
     ([], "[ ]"), ([(4, 12)], "[ (4) 8 ]"), ([(0, 2), (3, 4)], "[ 2 (1) 1 ]"),
     ([(40, 70), (100, 110)], "[ (40) 30 (30) 10 ]"),
     ([(2000000, 5000000), (9000000, 9000001)], "[ (2000000) 3000000 (4000000) 1 ]"),
-    ([(0, 2 ** 64 - 1)], "[ 18446744073709551615 ]"),
+    ([(0, 2 ** 64 - 1)], "[ 18446744073709551615 ]"), ([(2 ** 64 - 4, 2 ** 64 - 2)], "[ (18446744073709551612) 2 ]"),
     *(([((hole + data) * number + hole, (hole + data) * (number + 1)) for number in range(32)],
        f"[ {f'({hole}) {data} ' * 32}]") for hole, data in ((7, 3), (7 * 10 ** 16, 5 * 10 ** 17))),
 ]
@@ -750,28 +752,51 @@ TCP = [
     ("expired", [1_000_000, 1_000_000, 60_000_000], "2000000"), ("expired", [40_000_000, 0, 60_000_000], "60000000"),
     ("expired", [2 ** 64 - 1, 1_000_000, 60_000_000], "60000000"),
 ]
-# Timers, by RFC 6298, section 5, with a timeout of 1 s, of at least 1 s and at most 60 s.
+# Timers, by RFC 6298, section 5, with a timeout of 1 s, of at least 1 s and at most 60 s; the peer delays an acknowledgement by
+# 0.2 s at most. The last number of a state is how many timeouts came in a row.
 TIMERS = [
-    # A round trip of 0.5 s gives 0.5 + 4 * 0.25 = 1.5 s. What is sent after an expiry was sent before: it is no sample.
-    "sent 100 150 100 0: done|1000000 1000000 100; sent 150 200 150 10000: done|1000000 1000000 100; "
-    "acknowledged 100 200 100 20000: done|1000000 1000000 100; acknowledged 100 200 150 500000: done|1500000 2000000 -; "
-    "expire 1999999: 0; expire 2000000: 1|3000000 5000000 -; sent 150 200 200 2000000: done|3000000 5000000 -; "
-    "acknowledged 150 200 200 2100000: done|3000000 - -; expire 5000000: 0|3000000 - -",
+    # A round trip of 0.5 s gives 0.5 + 4 * 0.25 = 1.5 s. One segment is left, whose acknowledgement may be delayed: a probe after
+    # 1 + 0.2 s. The timeout stays where it was. What is sent after it was sent before: it is no sample.
+    "sent 100 150 100 100 0: done|1000000 1000000 100; sent 150 200 100 150 10000: done|1000000 1000000 100; "
+    "acknowledged 100 200 100 20000: done|1000000 1000000 100; acknowledged 100 200 150 500000: done|1500000 1700000 - 0; "
+    "expire 1699999: none; expire 1700000: probe|1500000 2000000 - 0; expire 1999999: none; "
+    "expire 2000000: timeout|3000000 5000000 - 1; sent 150 200 150 200 3000000: done|3000000 5000000 - 1; "
+    "acknowledged 150 200 200 3100000: done|3000000 - - 0; expire 6000000: none|3000000 - - 0",
     # Sent again while it is timed, in a range that has it; and one that ends before it, one after it.
-    "sent 0 10 0 0: done|1000000 1000000 0; sent 0 10 10 100000: done|1000000 1000000 -; "
-    "acknowledged 0 10 10 150000: done|1000000 - -; sent 10 20 10 200000: done|1000000 1200000 10; "
-    "sent 5 10 20 300000: done|1000000 1200000 10; sent 11 20 20 300000: done|1000000 1200000 10; "
-    "sent 5 11 20 300000: done|1000000 1200000 -",
+    "sent 0 10 0 0 0: done|1000000 1000000 0; sent 0 10 0 10 100000: done|1000000 1000000 -; "
+    "acknowledged 0 10 10 150000: done|1000000 - -; sent 10 20 10 10 200000: done|1000000 1200000 10; "
+    "sent 5 10 10 20 300000: done|1000000 1200000 10; sent 11 20 10 20 300000: done|1000000 1200000 10; "
+    "sent 5 11 10 20 300000: done|1000000 1200000 -",
     # A SACK block reports what is timed: the next one is timed; nothing is sent while a window is shut.
-    "sent 1 2 1 7: done|1000000 1000007 1; take_sample 500007: done|1500000 1000007 -; take_sample 600007: done|1500000 1000007 -; "
-    "sent 2 3 2 600000: done|1500000 1000007 2; stop: done|1500000 - 2; sent 9 9 3 0: done|1500000 - 2; start 5: done|1500000 1500005 2; "
-    "start 6: done|1500000 1500005 2; acknowledged 1 3 2 9: done|1500000 1500009 2",
+    "sent 1 2 1 1 7: done|1000000 1000007 1; take_sample 500007: done|1500000 1000007 -; take_sample 600007: done|1500000 1000007 -; "
+    "sent 2 3 1 2 600000: done|1500000 1000007 2; stop: done|1500000 - 2; sent 9 9 1 3 0: done|1500000 - 2; start 5: done|1500000 1500005 2; "
+    "start 6: done|1500000 1500005 2; acknowledged 1 3 2 9: done|1500000 1200009 2; "
+    # What was never sent isn't acknowledged; a peer that reports delays nothing.
+    "acknowledged 1 3 4 10: done|1500000 1200009 2; reported 20: done|1500000 1000020 2",
+    # A round trip of 0.1 s gives 0.3 s, which is below the least. Two segments are left: probes after 0.2 s and 0.4 s more; the
+    # next one would be after the timeout, which is where it was.
+    "sent 0 1 0 0 0: done|1000000 1000000 0; sent 1 2 0 1 0: done; sent 2 3 0 2 0: done|1000000 1000000 0; "
+    "acknowledged 0 3 1 100000: done|1000000 300000 - 0; expire 300000: probe|1000000 700000 - 0; "
+    "expire 700000: probe|1000000 1100000 - 0; expire 1099999: none; expire 1100000: timeout|2000000 3100000 - 1; "
+    "expire 3100000: timeout|4000000 7100000 - 2; acknowledged 1 3 2 7100001: done|4000000 7500001 - 0; "
+    "acknowledged 2 3 3 7200000: done|4000000 - - 0; start 7300000: done|4000000 11300000 - 0; stop: done; "
+    # One segment alone; the second brings the probe, and the third doesn't.
+    "sent 3 4 3 3 7400000: done|4000000 7800000 3 0; sent 4 5 3 4 7450000: done|4000000 7650000 3 0; "
+    "sent 5 6 3 5 7500000: done|4000000 7650000 3 0; "
+    # Both are due: the timeout has passed.
+    "expire 12000000: timeout|8000000 20000000 - 1",
     # The last moment.
     "start 9223372036853775807: done|1000000 9223372036854775807 -; stop: done; start 9223372036853775808: done|1000000 "
-    "9223372036854775807 -; expire 9223372036854775806: 0; expire 9223372036854775807: 1|2000000 9223372036854775807 -",
+    "9223372036854775807 -; expire 9223372036854775806: none; expire 9223372036854775807: timeout|2000000 9223372036854775807 -",
     # The peer's window is shut, and nothing is on the way: what is acknowledged again doesn't stop the timer of a probe.
-    "start 0: done|1000000 1000000 -; acknowledged 50 50 50 10: done|1000000 1000000 -; sent 50 51 50 20: done|1000000 1000000 50; "
+    "start 0: done|1000000 1000000 -; acknowledged 50 50 50 10: done|1000000 1000000 -; sent 50 51 50 50 20: done|1000000 1000000 50; "
     "acknowledged 50 51 50 30: done|1000000 1000000 50; acknowledged 50 51 51 40: done|1000000 - -",
+]
+# The peer reports no blocks: no probe, and the timeout is where it was.
+SILENT_TIMERS = [
+    "sent 0 1 0 0 0: done|1000000 1000000 0; sent 1 2 0 1 0: done; sent 2 3 0 2 0: done|1000000 1000000 0; "
+    "acknowledged 0 3 1 100000: done|1000000 1100000 - 0; expire 1099999: none; expire 1100000: timeout|2000000 3100000 - 1; "
+    "reported 1200000: done|2000000 3200000 - 0",
 ]
 
 
@@ -864,9 +889,10 @@ def add_ends(cases):
     for capacity, first, text in CLOSINGS:
         subject = closing.Closing(capacity, first)
         play(cases, f"closing {capacity} {first}", subject, text)
-    for text in TIMERS:
-        subject = timer.Timer(1_000_000, 1_000_000, 60_000_000)
-        play(cases, "timer 1000000 1000000 60000000", subject, text)
+    for reports, texts in ((1, TIMERS), (0, SILENT_TIMERS)):
+        for text in texts:
+            subject = timer.Timer(1_000_000, 1_000_000, 60_000_000, 200_000, reports)
+            play(cases, f"timer 1000000 1000000 60000000 200000 {reports}", subject, text)
     cases.begin("tcp")
     for name, numbers, reply in TCP:
         found = answer("tcp", tcp.CALLS, name, numbers)

@@ -48,6 +48,8 @@ CALL = '''    #[cfg_attr(target_pointer_width = "32", inline(never))]
     #[cfg_attr(not(target_pointer_width = "32"), inline)]
 '''
 
+MARK = r"^    #\[must_use\]\n(?=    pub fn "
+
 # A file of src/proved, a pattern in it, what replaces it, and how often it is found there.
 CHANGES = [
     # Storage is that of the crate `managed`, and nothing else becomes a ring by `into`.
@@ -59,10 +61,14 @@ CHANGES = [
     # What smoltcp derives.
     ("net_ring/error.rs", r"^(?=pub struct (?:Full|Empty);)", DEFMT, 2),
     ("net_packets/packet_metadata.rs", r"^(?=pub struct PacketMetadata<H>)", DEFMT, 1),
+    # What smoltcp doesn't mark, though it only answers.
+    ("net_ring/ring_buffer.rs", MARK + r"(?:capacity|(?:contiguous_)?window|len|is_empty|is_full)\b)", "", 6),
+    ("net_packets/packet_buffer.rs", MARK + r"(?:is_empty|is_full|packet_capacity|payload_capacity|payload_bytes_count)\b)", "", 5),
+    ("net_assembler/assembler.rs", MARK + r"(?:peek_front|is_empty)\b)", "", 2),
     # One copy of the assembler's rule.
     ("net_assembler/assembler.rs", r"\.add_inlined\((.*?), &mut Turns::new\(\)\)$", r".add(\1)", 1),
     # Where numbers of 64 bits take two registers, a call is less code than such a sum.
-    ("net_base/time/instant.rs", r"^    #\[inline\]\n(?=    pub fn saturating_(?:add|sub)\b|    fn sub\(self, rhs: Instant\))", CALL, 3),
+    ("net_base/time/instant.rs", r"^    #\[inline\]\n(?=    #\[must_use\]\n    pub fn saturating_(?:add|sub)\b|    fn sub\(self, rhs: Instant\))", CALL, 3),
 ]
 
 # In smoltcp's test modules, what names a private field, or what the module around them imports.

@@ -28,3 +28,4 @@ cargo build --offline --quiet --examples
 for example in stream transfer reassembly bridge interrupt; do
     "$CARGO_TARGET_DIR/debug/examples/$example" > "$out/said" || { echo "package: the example $example failed" >&2; exit 1; }
 done
+sh examples/net_bench/run.sh "$CARGO_TARGET_DIR/debug/examples/net_bench"

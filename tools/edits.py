@@ -57,7 +57,8 @@ def differing():
     wrong = [f"{it}: no row of {PAGE.name} has this edit" for it in sorted(there - set(clauses))]
     wrong += [f"{it}: {PAGE.name} names this edit, and there is none" for it in sorted(set(clauses) - there)]
     for crate, name in tests:
-        texts = "".join(path.read_text() for path in (CRATES / crate / "src").rglob("*.rt"))
+        files = (CRATES.parent / "rust/tests").rglob("*.rs") if crate == "rust" else (CRATES / crate / "src").rglob("*.rt")
+        texts = "".join(path.read_text() for path in files)
         if not re.search(rf"#\[test\]\nfn {name}\(", texts):
             wrong.append(f"{crate}/{name}: {PAGE.name} names this test, and there is none")
     print("\n".join([*wrong, f"{len(clauses)} edits and {len(tests)} tests in rows, {len(wrong)} differ"]))

@@ -1,12 +1,15 @@
 #!/usr/bin/env python3
 """Erases Rattle to Rust: what can't run goes, all else stays, token by token.
 
-    python3 tools/erase.py             writes rust/src/proved, of the crates that tools/parts/erase_list.py names
+    python3 tools/erase.py             writes rust/src/proved, of the crates that tools/parts/erase_list.py names, and the
+                                       program, rust/examples/net_bench/proved
     python3 tools/erase.py --check     writes nothing, and names each file that isn't so
     python3 tools/erase.py --rules     prints the rules, and the modules that aren't erased
 
-What it does are `RULES`, and no more: a form that it doesn't know is refused, with its file and line. It never takes out a
-statement or a call. tools/parts/erase_says.py adds lines of documentation.
+What it does are `RULES`, and no more; what they refuse is said with its file and line. From a function that stays it takes
+no statement and no call; what goes as a whole are functions that nothing in the text calls, by rule 9. What is taken out
+ends where its bracket closes, and texts and comments in it, which may hide a bracket, are refused. That names mean in Rust
+what they mean in Rattle is for tools/same_calls.py. tools/parts/erase_says.py adds lines of documentation.
 """
 import re
 import sys
@@ -16,41 +19,69 @@ from pathlib import Path
 sys.dont_write_bytecode = True
 from parts import erase_list as given
 from parts import erase_says
-from parts.erase_tokens import SPACE, Refused, Text, words
+from parts.erase_tokens import OPEN, SPACE, Refused, Text, words
 
 RULES = '''\
 1. Contracts go, `requires` and `ensures` between a function's signature and its body, with their comments; and so do ghost
    items and members.
-2. Attributes `tactic` and `error` go. The text of `error` becomes that of the error's `Display`.
+2. Attributes `tactic` and `error` go. The text of `error` becomes that of the error's `Display`; `{0}` in it is the only field.
 3. `Drop` and `Error` go from lists of derives.
 4. Modules that are listed below, and imports from them, go: Rust has them by hand, or not at all.
-5. Before the paths `crate`, `std` and those of crates there is the module where Rust has them.
-6. An impl of `Drop` or `Clone` is one of the traits of these names in `rattle.rs`, of which the first isn't called, since
-   rustc drops fields by itself, and the second is called by Rust's `Clone`. A bound by `Drop` is one by `Sized`.
+5. Before the paths `crate`, `std` and those of crates there is the module where Rust has them. These words in no path are
+   refused.
+6. An impl of `Drop` goes, since rustc drops fields by itself: a `drop` that does more than take apart and drop is refused.
+   So does one of `Model`, which has ghost members alone. An impl of `Clone` is one of the trait of this name in
+   `rattle.rs`, which Rust's `Clone` calls. A bound by `Drop` is one by `Sized`.
 7. A public function whose signature names a head becomes `pub(crate)`. An export loses `extern "C"` and its
    documentation, and becomes `inline(always)`.
 8. `erase_list.py` has what else differs, with its files and how often: lifetimes, attributes, and types.
-9. All other tokens stay, in their order, and no word of contracts is left. Each file begins with an import of
-   `rattle::prelude`, where `prove!` is `assert!`, tested when a program is compiled if it is about `N`, and in debug
-   builds alone if it is of a `usize` of any width.
+9. A law goes that no text but laws names, and so does a function of `UNCALLED`. These are free functions, and methods
+   whose names no trait has: rustc refuses a text that calls one which isn't there.
+10. From an import goes what only contracts name, unless it is a trait or std's, and so do a `pub use` of another crate, and
+    names of `UNNAMED`. Rustc refuses a text that uses what isn't imported.
+11. Refused are comments in logic, and texts but of letters, spaces and line feeds; a contract inside of a function, imports
+    of all names, and macros and words that aren't, or are, in `erase_list.py`: `clone` as a call, operators by path, sizes,
+    `isize`, `BITS`.
+12. All other tokens stay, in their order, and no word of contracts is left. A file that uses it imports
+    `rattle::prelude`, where `prove!` is `assert!`, tested when a program is compiled if it is about `N`, and in debug
+    builds alone if it is of a `usize` of any width.
+13. In documentation what a public function requires and tests is under "Panics".
 
 Not erased:
 
 ''' + ''.join('\n  '.join(textwrap.wrap(f'- {", ".join(f"`{name}`" for name in names)}: {why}', 118)) + '\n'
                 for why, names in given.UNERASED.items())
 REPOSITORY = Path(__file__).resolve().parent.parent
-OUT = REPOSITORY / 'rust/src/proved'
+OUT, EXAMPLE = REPOSITORY / 'rust/src/proved', REPOSITORY / 'rust/examples/net_bench/proved'
 TOP = '''//! The proved code: crates of the repository without their contracts, as `tools/erase.py` writes them.
-#![allow(missing_docs, dead_code, unused_variables, unused_imports, clippy::all)]
+// Which item is public in a crate of Rattle isn't which one is in this crate: `lib.rs` re-exports by hand. A parameter may
+// be for contracts alone. The rest is what Rattle has no other form for.
+#![allow(unreachable_pub, unused_variables)]
+#![allow(clippy::manual_filter, clippy::manual_find, clippy::manual_map, clippy::needless_range_loop, clippy::question_mark)]
+#![allow(clippy::int_plus_one, clippy::len_without_is_empty, clippy::needless_lifetimes, clippy::new_without_default)]
+#![allow(clippy::precedence, clippy::redundant_closure, clippy::redundant_pattern_matching, clippy::single_match)]
+#![allow(clippy::too_many_arguments)]
+'''
+FEATURES = '''// Some calls and names are for the features `c` and `segmentation-offload` alone.
+#![cfg_attr(not(all(feature = "c", feature = "segmentation-offload")), allow(dead_code, unused_imports))]
 
 '''
+PROGRAM = '''// Some names are for tests alone, and labels for contracts. A line feed is in a text, as in what is read.
+#![cfg_attr(not(test), allow(unused_imports))]
+#![allow(unused_labels, clippy::write_with_newline)]
+
+''' + ''.join(f'pub mod {name};\n' for name in given.PROGRAM) + 'pub mod {} {{\n    pub mod {};\n}}\n'.format(*given.SCHEDULE.split('/'))
 ROOT, RATTLE = 'crate::proved', 'crate::rattle'
+HEADER = '// Written by tools/erase.py from {}: a change here would be lost.\n'
+# What a prelude has: that of the library, and that of the program.
+PRELUDE = {'prove', 'slice_mut', 'Vec', 'ASSEMBLER_MAX_SEGMENT_COUNT'}, {'String', 'Vec'}
 GHOST_DERIVES = {'Drop', 'Error'}
 PLAIN_ATTRIBUTES = {'allow', 'cfg', 'default', 'derive', 'inline', 'must_use', 'non_exhaustive', 'repr', 'track_caller'}
 CONTRACT_WORDS = {'ghost', 'requires', 'ensures', 'tactic', 'thiserror'}
 MODIFIERS = {'pub', 'const', 'unsafe', 'extern'}
 GONE, NO_CLAUSE = '\0', '\1'                      # where a form, and where a clause, was
-DOCS = {'/// # Requires': '/// # Panics, unless', '/// ```rust': '/// ```text', '//! ```rust': '//! ```text'}
+DOCS = {'/// ```rust': '/// ```text', '//! ```rust': '//! ```text'}
+OF_TRAIT = re.compile(r'\bfor\b|\btrait\b')
 # The type that an impl is of, or a trait's name.
 OWNER = re.compile(r'(?:.*?\b(?:for|trait) |impl(?:<(?:[^<>]|<(?:[^<>]|<[^<>]*>)*>)*>)? )(\w+)', re.S)
 LINK = re.compile(r'(?<=\]\()(?:crate|net_\w+)(?=::)')
@@ -60,10 +91,13 @@ class Eraser(Text):
     """One file of a crate. `new` has the text that is written for a token, where that is another one; `after` what is added
     behind one, by tools/parts/erase_says.py lines of documentation alone."""
 
-    def __init__(self, text, crate, omitted=(), file=''):
+    def __init__(self, text, crate, omitted=(), file='', laws=None, traits=(), by_hand=()):
         super().__init__(text)
-        self.crate, self.omitted, self.file = crate, omitted, file
-        self.new, self.after, self.functions, self.errors = {}, {}, [], {}
+        self.laws, self.traits = laws, traits     # of a module `laws` the names that stay; the names of all traits
+        self.crate, self.omitted, self.file, self.by_hand = crate, omitted, file, by_hand
+        self.key = file.removeprefix('crates/').replace('/src/', '/', 1).removesuffix('.rt')
+        self.uncalled, self.gone, self.imports = given.UNCALLED.get(self.key, ()), set(), []
+        self.new, self.after, self.functions, self.errors, self.inside = {}, {}, [], {}, 0
 
     def put(self, start, end, text):
         """Writes a text for the tokens from start to end."""
@@ -73,8 +107,10 @@ class Eraser(Text):
 
     def path(self, first):
         """What is written for the first word of a path."""
-        of_crate = {'crate': f'{ROOT}::{self.crate}', 'std': f'{RATTLE}::std'}
-        return of_crate.get(first, f'{ROOT}::{first}' if first in given.CRATES else first)
+        crate = self.crate if first == 'crate' else first
+        if crate in self.by_hand or first == 'std':
+            return f'{RATTLE}::{crate}'
+        return f'{ROOT}::{crate}' if first == 'crate' or first in given.CRATES else first
 
     def run(self):
         """`head` is where the documentation, the attributes and the modifiers of an item begin."""
@@ -112,31 +148,116 @@ class Eraser(Text):
             return self.function(k, head)
         if word in ('use', 'mod') and follows in ('thiserror', *self.omitted):
             return self.put(head, self.until(k, ';') + 1, GONE)
-        if word in ('Drop', 'Clone') and follows == 'for':
+        if word == 'use':
+            if '*' in self.source(k, self.until(k, ';')):
+                self.refuse(at, 'an import of all names')
+            is_public = re.search(r'\bpub(?!\()', self.source(head, k))
+            if is_public and follows in given.CRATES:
+                return self.put(head, self.until(k, ';') + 1, GONE)
+            self.imports.append((head, k, self.until(k, ';'), is_public))
+        if word == 'impl' and (trait := re.match(r'impl\b[^{;]*?\b(Drop|Model) for\b[^{;]*\{', self.text[at:])):
+            body = next(j for j in range(k, len(self.tokens)) if self.tokens[j][2] == at + trait.end() - 1)
+            end = self.group(body)
+            if trait[1] == 'Model' and any(kind not in ('ghost', *SPACE) for kind, *_ in self.tokens[body + 1:end - 1]):
+                self.refuse(at, 'an impl of Model with members')
+            if trait[1] == 'Drop':
+                self.drop_only(body, end)
+            return self.put(head, end, GONE)
+        if word == 'Clone' and follows == 'for':
             return self.put(k, k + 1, f'{RATTLE}::{word}')
         if word == 'Drop' and self.tokens[k - 1][1] != '::':
             return self.put(k, k + 1, 'Sized')
-        if follows == '::' and self.tokens[k - 1][1] not in ('::', '.'):
+        before, is_member = self.before(k), self.tokens[k - 1][1] == '.' != self.tokens[k - 2][1]
+        if follows == '::' and before != '::' and not is_member:
             self.put(k, k + 1, self.path(word))
+        elif self.path(word) != word and before != '::' and not is_member and follows != '(':
+            self.refuse(at, 'the root of paths, in no path')
+        if follows == '!' and self.tokens[self.next(after + 1)][1] in OPEN and word not in given.MACROS[bool(self.by_hand)]:
+            self.refuse(at, 'an unknown macro')
+        is_call = word in given.OPERATORS and (follows == '::' or before == 'as') or word == 'clone' and before in ('.', '::')
+        if (is_call or word in given.UNLIKE) and not given.NO_BYTES.match(self.text, at):
+            self.refuse(at, 'Rust may have another meaning')
         return k + 1
 
     def function(self, k, head):
         """A signature and its contract, which goes."""
         begin = body = self.until(k, '{', ';')
+        if k < self.inside and self.tokens[begin][0] == 'clause':
+            self.refuse(self.tokens[k][2], 'a contract inside of a function')
         while self.tokens[body][0] == 'clause':
             body = self.next(self.put(body, body + 1, NO_CLAUSE))
         first = max(j for j in range(k, begin) if self.tokens[j][0] not in SPACE) if body != begin else body
         self.new.update({j: NO_CLAUSE for j in range(first, body) if self.tokens[j][0] == 'note'})
         if body != begin and self.tokens[body][1] not in ('{', ';'):
             self.refuse(self.tokens[body][2], 'no body after a contract')
+        self.inside = max(self.inside, self.group(body) if self.tokens[body][1] == '{' else 0)
         impl = re.findall(r'^(?:impl|(?:pub )?trait)\b[^{]*', self.text[:self.tokens[k][2]], re.M)
         owner = OWNER.match(impl[-1])[1] if impl and self.margin(head) else ''
         pub = next((j for j in range(head, k) if self.tokens[j][1] == 'pub' and self.tokens[j + 1][1] != '('), None)
         if pub is not None and self.crate != given.EXPORTS and not owner.endswith('Head'):
             if re.search(r'Head\b', self.source(k, begin)):
                 self.put(pub, pub + 1, 'pub(crate)')
+        is_law = self.laws is not None and self.name(k) not in self.laws
+        if (is_law or self.name(k) in self.uncalled) and not (owner and OF_TRAIT.search(impl[-1])):
+            self.gone.add(self.name(k))
+            return self.put(head, self.group(body), GONE)
+        if pub is not None and pub not in self.new and 'track_caller' in self.source(head, k) and self.crate != given.EXPORTS:
+            self.panics(head, k)
         self.functions.append((owner, impl[-1] if owner else '', k, head, begin, body, pub))
         return k + 1
+
+    def name(self, k):
+        """The name after `fn`."""
+        return self.tokens[self.next(k + 1)][1]
+
+    def panics(self, head, k):
+        """What a function requires, as what it panics unless."""
+        docs = [j for j in range(head, k) if self.tokens[j][0] == 'doc']
+        lines = [self.tokens[j][1][3:].strip() for j in docs]
+        if '# Requires' not in lines:
+            return
+        heading = lines.index('# Requires')
+        end = next((i for i in range(heading + 2, len(docs)) if not lines[i]), len(docs))
+        said = ' '.join(lines[heading + 2:end])
+        if lines[heading + 1] or re.match(r'[-*|#]', said):
+            self.refuse(self.tokens[docs[heading]][2], 'no sentence after it')
+        said = said[0].lower() + said[1:] if re.match(r'[A-Z][a-z]*\b', said) else said
+        margin = self.margin(head)
+        text = textwrap.wrap(f'Panics unless {said}', 96 - len(margin), break_long_words=False, break_on_hyphens=False)
+        self.put(docs[heading], docs[heading] + 1, '/// # Panics')
+        self.put(docs[heading + 2], docs[end - 1] + 1, f'\n{margin}'.join(f'/// {line}' for line in text))
+
+    def trim(self):
+        """Takes from imports what only contracts name, but for traits and std's, and from a `pub use` the list's names."""
+        spans = {j for _, k, end, _ in self.imports for j in range(k, end)}
+        used = {self.tokens[j][1] for j, token in enumerate(self.tokens) if token[0] == 'word' and j not in spans and j not in self.new}
+        used |= {word for j, text in self.new.items() if j not in spans for word in words(text)}
+        for head, k, end, is_public in self.imports:
+            named = [j for j in range(k + 1, end) if self.tokens[j][0] == 'word']
+            kept = lambda name: name not in given.UNNAMED.get(self.key, ()) if is_public else name in used or name in self.traits
+            leaves = [j for j in named if self.tokens[self.next(j + 1)][1] in (',', ';', '}')]
+            gone = [j for j in leaves if self.tokens[j][1] == 'Model' or
+                    self.tokens[named[0]][1] not in ('std', 'thiserror') and not kept(self.tokens[j][1])]
+            if len(gone) == len(leaves):
+                self.put(head, end + 1, GONE)
+            elif gone and re.search(r'\bas\b', self.source(k, end)):
+                self.refuse(self.tokens[k][2], 'an import by another name, with what only contracts name')
+            elif gone and len(leaves) - len(gone) == 1 and self.source(k, end).count('{') == 1:      # the braces go too
+                brace = next(j for j in range(k, end) if self.tokens[j][1] == '{')
+                self.put(brace, self.group(brace), self.tokens[min({*leaves} - {*gone})][1])
+            else:
+                for j in gone:
+                    after = self.next(j + 1) + (self.tokens[self.next(j + 1)][1] == ',')
+                    self.put(j, after + (self.tokens[after][0] == 'space'), '')
+
+    def drop_only(self, start, end):
+        """Refuses a `drop` that does more than take apart and drop."""
+        for j in range(start, end):
+            kind, word, at = self.tokens[j]
+            calls = word == '(' and self.before(j)[:1].islower() and self.before(j) != 'drop'
+            assigns = word == '=' and self.tokens[self.next(j + 1)][1] != 'self'
+            if calls or assigns or kind == 'sign' and word in '*.!+-&|[' or word in ('loop', 'while', 'for', 'return'):
+                self.refuse(at, 'a `drop` that does more than drop')
 
     def margin(self, k):
         return re.search(r'[ \t]*$', self.text[:self.tokens[k][2]]).group()
@@ -149,8 +270,9 @@ class Eraser(Text):
         if name == 'error':
             item = re.compile(r'(?:\s*(?:#\[[^\]]*\]|///[^\n]*|pub|struct)(?=\s))*\s*(\w+)').match(self.text, self.tokens[end][2])[1]
             owner = re.findall(r'^pub (?:struct|enum) (\w+)', self.text[:self.tokens[end][2]], re.M) if self.margin(k) else [item]
-            text = re.fullmatch(r'#\[error\(("[^"{}\\]*")\)\]', self.source(k, end)) or self.refuse(self.tokens[k][2], 'not a text')
-            self.errors.setdefault(owner[-1], []).append(f'{owner[-1]}{f"::{item}" * bool(self.margin(k))} => {text[1]}')
+            text = re.fullmatch(r'#\[error\(("(?:[^"{}\\]|\{0\})*")\)\]', self.source(k, end)) or self.refuse(self.tokens[k][2], 'not a text')
+            taken, shown = ('(field)', ' (field)') if '{0}' in text[1] else ('', '')
+            self.errors.setdefault(owner[-1], []).append(f'{owner[-1]}{f"::{item}" * bool(self.margin(k))}{taken} => {text[1]}{shown}')
         if name in ('tactic', 'error'):
             return self.put(k, end, GONE)
         if name not in PLAIN_ATTRIBUTES:
@@ -165,12 +287,13 @@ class Eraser(Text):
         """The text, laid out; it has the tokens that are kept, and no word of contracts."""
         if self.crate != given.EXPORTS:
             erase_says.document(self)
+        self.trim()
         kept = [self.new.get(k, token[1]) for k, token in enumerate(self.tokens)]
         out = ''.join(text + self.after.get(k, '') for k, text in enumerate(kept))
         out = re.sub(rf'\s*(?:{NO_CLAUSE}\s*)+(?={{)', ' ', out)
         out = re.sub(rf'\s*(?:{NO_CLAUSE}\s*)+(?=;)', '', out)
         out = re.sub(rf'(?m)^[ \t]*{GONE}[ \t{GONE}]*\n', '', out).replace(GONE, '')
-        out = re.sub(r'\{\n\n+', '{\n', re.sub(r'\n\n+(\s*\})', r'\n\1', re.sub(r'\n{3,}', '\n\n', out))).lstrip('\n')
+        out = re.sub(r'\{\n\n+', '{\n', re.sub(r'\n\n+(\s*\})', r'\n\1', re.sub(r'\n{3,}', '\n\n', out))).strip('\n') + '\n'
         if words(out) != [word for text in kept for word in words(re.sub(f'[{GONE}{NO_CLAUSE}]', '', text))]:
             raise Refused('the result has other tokens than the source without its ghost forms')
         for token, text in zip(self.tokens, kept):
@@ -179,16 +302,23 @@ class Eraser(Text):
                     self.refuse(token[2], f'a word of contracts is left: {word}')
         texts = ''.join(f'\n{RATTLE}::error_text!({name}, {", ".join(said)});\n' for name, said in self.errors.items())
         top = re.match(r'(?://![^\n]*\n)*\n?', out).end()
-        return f'{out[:top]}use {RATTLE}::prelude::*;\n{out[top:]}{texts}'
+        prelude = f'use {RATTLE}::prelude::*;\n' if PRELUDE[bool(self.by_hand)] & {*words(out)} else ''
+        return f'{HEADER.format(self.file)}{out[:top]}{prelude}{out[top:]}{texts}'
 
 
-def sources():
-    """The files that are erased: of each its crate, the path in that, and the text."""
-    for crate in given.CRATES:
+def sources(crates=given.CRATES):
+    """The files of these crates that are erased: of each its crate, the path in that, and the text."""
+    for crate in crates:
         source = REPOSITORY / 'crates' / crate / 'src'
         for path in sorted(file.relative_to(source) for file in source.rglob('*.rt')):
             if not any(f'{crate}/{path.with_suffix("")}' in names for names in given.UNERASED.values()):
                 yield crate, path, (source / path).read_text()
+
+
+def program():
+    """The same of the program, which is erased into an example."""
+    crate, module = given.SCHEDULE.split('/')
+    return [*sources(given.PROGRAM), (crate, Path(f'{module}.rt'), (REPOSITORY / 'crates' / crate / 'src' / f'{module}.rt').read_text())]
 
 
 def omitted(crate, path):
@@ -207,18 +337,42 @@ def replaced(file, text):
     return text
 
 
+def called_laws():
+    """The laws that code names, by `laws::NAME`: of all sources that aren't laws, without contracts."""
+    called = set()
+    for crate, path, text in sources():
+        if path.stem != 'laws':
+            code = [word for kind, word, _ in Text(text).tokens if kind not in ('clause', 'ghost', *SPACE)]
+            called |= {name for laws, sign, name in zip(code, code[1:], code[2:]) if (laws, sign) == ('laws', '::')}
+    return called
+
+
 def erased(said):
     """Each file of the result, by its path, with its text; what is refused is appended to `said`."""
-    modules = ''.join('#[cfg(feature = "c")]\n' * (name == given.EXPORTS) + f'pub mod {name};\n' for name in given.CRATES)
-    files, left = {OUT / 'mod.rs': TOP + modules}, {file for *_, found in given.REPLACED for file in found}
-    for crate, path, text in sources():
+    modules = ''.join('#[cfg(feature = "c")]\n#[allow(missing_docs)]\n' * (name == given.EXPORTS) + f'pub mod {name};\n' for name in given.CRATES)
+    files = {OUT / 'mod.rs': HEADER.format('crates') + TOP + FEATURES + modules, EXAMPLE / 'mod.rs': HEADER.format('crates') + TOP + PROGRAM}
+    left = {file for *_, found in given.REPLACED for file in found}
+    laws, of_crate, of_program, of_traits, gone = called_laws(), [*sources()], program(), set(), set()
+    traits = {name for *_, text in of_crate + of_program for name in re.findall(r'^(?:pub(?:\([^)]*\))? )?trait (\w+)', text, re.M)}
+    lawless = {Path(crate, path).parent for crate, path, text in of_crate
+               if path.stem == 'laws' and not laws & {*re.findall(r'^pub fn (\w+)', text, re.M)}}
+    for out, by_hand, (crate, path, text) in [(OUT, (), each) for each in of_crate] + [(EXAMPLE, given.BY_HAND, each) for each in of_program]:
         file = f'{crate}/{path.with_suffix("")}'
         left -= {file}
+        if path.stem == 'laws' and Path(crate, path).parent in lawless:
+            continue
         try:
-            eraser = Eraser(replaced(file, text), crate, omitted(crate, path), f'crates/{crate}/src/{path}')
-            files[OUT / crate / ('mod.rs' if path.name == 'lib.rt' else path.with_suffix('.rs'))] = eraser.run()
+            folder = Path(crate, path).parent if path.name == 'lib.rt' else Path(crate, path).with_suffix('')
+            left_out = omitted(crate, path) | ({'laws'} if folder in lawless else set())
+            eraser = Eraser(replaced(file, text), crate, left_out, f'crates/{crate}/src/{path}', laws if path.stem == 'laws' else None, traits, by_hand)
+            files[out / crate / ('mod.rs' if path.name == 'lib.rt' else path.with_suffix('.rs'))] = eraser.run()
+            gone |= {f'{file} {name}' for name in eraser.gone}
+            of_traits |= {eraser.name(k) for _, impl, k, *_ in eraser.functions if OF_TRAIT.search(impl)}
         except Refused as refused:
             said.append(f'{REPOSITORY / "crates" / crate / "src" / path}:{refused}')
+    for file, names in given.UNCALLED.items():
+        said += [f'tools/parts/erase_list.py: {file} has no function {name}' for name in names if f'{file} {name}' not in gone]
+        said += [f'tools/parts/erase_list.py: {name} is also the name of a function of a trait' for name in names if name in of_traits]
     said += [f'tools/parts/erase_list.py: no such file: {file}' for file in sorted(left)]
     return files
 
@@ -228,7 +382,7 @@ def main(arguments):
         print(RULES, end='')
         return 0
     said = []
-    files, old = erased(said), {file: file.read_text() for file in OUT.rglob('*') if file.is_file()}
+    files, old = erased(said), {file: file.read_text() for out in (OUT, EXAMPLE) for file in out.rglob('*') if file.is_file()}
     differ = [path for path in sorted(files.keys() | old.keys()) if files.get(path) != old.get(path)]
     if arguments == ['--check']:
         said += [f'{path} is not as tools/erase.py writes it: run python3 tools/erase.py' for path in differ]

@@ -15,24 +15,33 @@ from parts import erase_says
 PRELUDE = 'use crate::rattle::prelude::*;\n'
 
 
-def of(text, crate='net_tcp', omitted=()):
-    """The erased text, without the import that each has."""
-    erased = erase.Eraser(text, crate, omitted).run()
-    assert PRELUDE in erased, text
-    return erased.replace(PRELUDE, '', 1)
+def of(text, crate='net_tcp', omitted=(), file='crates/net_tcp/src/a.rt', **settings):
+    """The erased text, without the first line that each has, and the import of those that use it."""
+    erased = erase.Eraser(text, crate, omitted, file, **settings).run()
+    first, rest = erased.split('\n', 1)
+    assert f'{first}\n' == erase.HEADER.format(file), erased
+    names = erase.PRELUDE[bool(settings.get('by_hand'))]
+    assert (PRELUDE in rest) == any(word in erase.words(rest) for word in names), text
+    return rest.replace(PRELUDE, '', 1)
 
 
 # Pairs: a text, and what it becomes.
 GIVEN = [
     ('pub fn f(x: u8) -> u8\n    // A.\n    requires { x < 3 }\n    // B.\n    // C.\n    ensures a { result ≡ x }\n{\n    prove!(x < 3);\n    x\n}\n',
      'pub fn f(x: u8) -> u8 {\n    prove!(x < 3);\n    x\n}\n'),
-    # Brackets and quotes in logic are none of Rust's.
-    ("/// D.\n#[inline]\npub fn f<'a>(x: &'a [u8; 3]) -> char\n    ensures { x' ≡ \"}\" }\n{\n    '}'\n}\n",
+    # Quotes in logic are none of Rust's.
+    ("/// D.\n#[inline]\npub fn f<'a>(x: &'a [u8; 3]) -> char\n    ensures { x' ≡ y }\n{\n    '}'\n}\n",
      "/// D.\n#[inline]\npub fn f<'a>(x: &'a [u8; 3]) -> char {\n    '}'\n}\n"),
     # Paths.
-    ('use std::marker::{Model, PhantomData};\nuse net_ring::{A, B};\npub use crate::c::d;\n',
-     'use crate::rattle::std::marker::{Model, PhantomData};\nuse crate::proved::net_ring::{A, B};\n'
-     'pub use crate::proved::net_tcp::c::d;\n'),
+    ('use std::marker::{Model, PhantomData};\nuse net_ring::{A, B};\npub use crate::c::d;\n\nfn f(a: A, b: B) {}\n',
+     'use crate::rattle::std::marker::PhantomData;\nuse crate::proved::net_ring::{A, B};\n'
+     'pub use crate::proved::net_tcp::c::d;\n\nfn f(a: A, b: B) {}\n'),
+    # Imports that contracts alone name, but those of std, and what another crate has.
+    ('use std::marker::Model;\nuse std::mem;\nuse net_ring::{A, B, C};\nuse crate::c::D;\nuse super::E;\npub use net_ring::F;\n\n'
+     'fn f(a: A, c: C) -> bool\n    ensures { B ≡ D }\n{\n    true\n}\n',
+     'use crate::rattle::std::mem;\nuse crate::proved::net_ring::{A, C};\n\nfn f(a: A, c: C) -> bool {\n    true\n}\n'),
+    ('use net_ring::{A, B};\n\n/// B.\nfn f() -> A {\n    A // B\n}\n',
+     'use crate::proved::net_ring::A;\n\n/// B.\nfn f() -> A {\n    A // B\n}\n'),
     ('fn f() {\n    std::mem::swap(a, net_ring::b());\n    Self::c(a.crate_, b::std::c, a.std::<T>());\n}\n',
      'fn f() {\n    crate::rattle::std::mem::swap(a, crate::proved::net_ring::b());\n    Self::c(a.crate_, b::std::c, a.std::<T>());\n}\n'),
     ('/// [`f`](crate::a::f), [`g`](net_ring::g).\nfn f() {}\n',
@@ -41,12 +50,20 @@ GIVEN = [
     ('#[derive(Debug, Drop)]\nstruct A<H: Drop, G: Drop + Copy> {\n    ghost fits: { x },\n    a: H,\n}\n',
      '#[derive(Debug)]\nstruct A<H: Sized, G: Sized + Copy> {\n    a: H,\n}\n'),
     ('#[derive(Drop)]\nstruct A;\n', 'struct A;\n'),
-    ('struct A;\n\n/// M.\nimpl Model for A {\n    ghost use x.y;\n    ghost Value = { ℕ };\n}\n\nfn f() {}\n',
-     'struct A;\n\n/// M.\nimpl Model for A {\n}\n\nfn f() {}\n'),
+    ('struct A;\n\n/// M.\nimpl<T: Model> Model for A<T> {\n    ghost use x.y;\n    ghost Value = { ℕ };\n}\n\nfn f() {}\n',
+     'struct A;\n\nfn f() {}\n'),
     ('trait T {\n    /// X.\n    ghost x: { A } = { b };\n\n    ghost y: { C };\n\n    fn f(&self) -> [u8; 3]\n        ensures { ⊤ };\n}\n',
      'trait T {\n    fn f(&self) -> [u8; 3];\n}\n'),
-    ('impl<T: Drop> Drop for A<T> {\n    fn drop(self) {\n        close(self);\n    }\n}\n',
-     'impl<T: Sized> crate::rattle::Drop for A<T> {\n    fn drop(self) {\n        close(self);\n    }\n}\n'),
+    ('struct A;\n\n/// By hand.\nimpl<T: Drop> Drop for A<T> {\n    fn drop(self) {\n        let A { a, b: _ } = self;\n        drop(a);\n    }\n}\n\nfn f() {}\n',
+     'struct A;\n\nfn f() {}\n'),
+    # What a public function requires, and tests.
+    ('/// A.\n///\n/// # Requires\n///\n/// The sum of `x` and 1 fits, as\n/// `fits` tests.\n///\n/// B.\n#[track_caller]\npub fn f() {}\n',
+     '/// A.\n///\n/// # Panics\n///\n/// Panics unless the sum of `x` and 1 fits, as `fits` tests.\n///\n/// B.\n#[track_caller]\npub fn f() {}\n'),
+    ('/// # Requires\n///\n/// `x` is 1.\n#[track_caller]\npub fn f() {}\n\n/// # Requires\n///\n/// A.\npub fn g() {}\n',
+     '/// # Panics\n///\n/// Panics unless `x` is 1.\n#[track_caller]\npub fn f() {}\n\n/// # Requires\n///\n/// A.\npub fn g() {}\n'),
+    # A path after a range, and in a macro's definition.
+    ('fn f() {\n    0..crate::a::B;\n    0..=crate::a::B;\n    $crate::c\n}\n',
+     'fn f() {\n    0..crate::proved::net_tcp::a::B;\n    0..=crate::proved::net_tcp::a::B;\n    $crate::proved::net_tcp::c\n}\n'),
     ('impl Clone for A {\n    fn clone(&self) -> Result<A, E> {\n        count();\n        Ok(b)\n    }\n}\n',
      'impl crate::rattle::Clone for A {\n    fn clone(&self) -> Result<A, E> {\n        count();\n        Ok(b)\n    }\n}\n'),
     # A text in quotes, and a comment, is no bound, and no contract.
@@ -58,6 +75,8 @@ GIVEN = [
     ('#![tactic(auto)]\n#[tactic(auto, using(a::b))]\nfn f() {}\n', 'fn f() {}\n'),
     ('#[derive(Debug, Error)]\n#[error("no room")]\npub struct A;\n',
      '#[derive(Debug)]\npub struct A;\n\ncrate::rattle::error_text!(A, A => "no room");\n'),
+    ('#[derive(Error)]\npub enum A {\n    #[error("b {0}")]\n    B(u64),\n    #[error("c")]\n    C,\n}\n',
+     'pub enum A {\n    B(u64),\n    C,\n}\n\ncrate::rattle::error_text!(A, A::B(field) => "b {0}" (field), A::C => "c");\n'),
     ('#[error("z")]\npub struct Z;\n\n#[derive(Error)]\npub enum A {\n    /// B.\n    #[error("b")]\n    B,\n    #[error("c")]\n    C,\n}\n',
      'pub struct Z;\n\npub enum A {\n    /// B.\n    B,\n    C,\n}\n\ncrate::rattle::error_text!(Z, Z => "z");\n\n'
      'crate::rattle::error_text!(A, A::B => "b", A::C => "c");\n'),
@@ -72,11 +91,48 @@ STAYS = [
     'fn f(x: usize) -> usize {\n    prove!(bump(&mut x) <= 1000, "in any `usize`");\n    x\n}\n',
     'fn f(x: usize) -> usize {\n    laws::raise(&mut x);\n    x\n}\n',
     'impl Settles for A {\n    fn settle(&mut self) {}\n}\n',
-    'pub fn law() {}\npub mod laws;\nuse laws::b;\n',
+    'pub fn law() {}\npub mod laws;\nuse laws::b;\n\nfn f() {\n    b();\n}\n',
     'fn f() {\n    if a {\n        g();\n    } else {\n        put_header(&mut self.slots, at, size, header);\n    }\n}\n',
     'impl PartialEq for A {}\nimpl Default for A {\n    fn default() -> A {\n        A\n    }\n}\n',
     'fn f() {\n    g(E::Drop);\n}\n',
     'const _: () = prove!(size_of::<A>() == 0);\n',
+]
+
+# Pairs that differ in one thing, which Rust has otherwise than Rattle: the first is refused, with a part of what is said, and
+# the second isn't. Each first text, or one like it, was proved, and did something else in Rust.
+UNLIKE = [
+    ('a text or a comment', 'trait A {\n    fn f() -> u8\n        ensures { result < 9 -- less than "nine\n    }\n{ 3 }\n fn g(); const Q: char = { \'"\' }; }',
+     'trait A {\n    fn f() -> u8\n        // Less than "nine.\n        ensures { result < 9\n    }\n{ 3 }\n fn g(); const Q: char = { \'"\' }; }'),
+    ('a text or a comment', 'fn f() ensures { a ≡ b {- " -} + 1 } { \'"\'; }', 'fn f() ensures { a ≡ b - {a} + 1 } { \'"\'; }'),
+    ('a text or a comment', "fn f() ensures { result ≡ '{' } { } fn g() { } }", "fn f() ensures { result ≡ a' } { } fn g() { }"),
+    ('a text or a comment', 'fn f() ensures { a // }\n } { 1 }', 'fn f() ensures { a / b\n } { 1 }'),
+    ('a text or a comment', 'ghost use A.{b};\nghost x = { a -- {\n };', 'ghost use A.{b};\nghost x = { a - b\n };'),
+    ('a text or a comment', 'fn f() ensures { a ≡ codes "}" } { 1 }', 'fn f() ensures { a ≡ codes "read \\n" } { 1 }'),
+    ('a text or a comment', "fn f() ensures { a ≡ '\"' } { 1 } fn g() ensures { a ≡ '\"' } { 1 }", 'fn f() ensures { a ≡ "" } { 1 }'),
+    ('a text or a comment', 'fn f() ensures { a ≡ "\\\\n" } { 1 }', 'fn f() ensures { a ≡ "\\n" } { 1 }'),
+    ('inside of a function', 'fn f() {\n    fn g() ensures { a } { 1 }\n    g()\n}', 'fn f() {\n    g()\n}\nfn g() ensures { a } { 1 }'),
+    ('more than drop', 'impl Drop for A<\'_> {\n    fn drop(self) { *self.0 = 7; let A(_) = self; }\n}', 'impl Drop for A<\'_> {\n    fn drop(self) { let A(_) = self; }\n}'),
+    ('more than drop', 'impl Drop for A { fn drop(self) { close(self); } }', 'impl Drop for A { fn drop(self) { drop(self); } }'),
+    ('more than drop', 'impl Drop for A { fn drop(self) { let A { a } = self; a.close(); } }', 'impl Drop for A { fn drop(self) { match self { A::B(_) => {} A::C(a) => drop(a), } } }'),
+    ('more than drop', 'impl Drop for A { fn drop(self) { let A { a } = make(); drop(self); } }', 'impl Drop for A { fn drop(self) { let A { a } = self; drop(a); } }'),
+    ('more than drop', 'impl Drop for A { fn drop(self) { close (self); } }', 'impl Drop for A { fn drop(self) { drop (self); } }'),
+    ('in no path', 'use crate as root;', 'use crate::root;'),
+    ('in no path', 'use std as s;', 'use std::s;'),
+    ('in no path', 'use net_ring as s;', 'use net_ring::s;'),
+    ('in no path', 'use {crate};', 'use {crate::a};'),
+    ('unknown macro', 'fn f() { of!(a) }', 'fn f() { matches!(a, b) }'),
+    ('in no path', 'fn f() { prove!(crate) }', 'fn f() { prove!(crate::a) }'),
+    ('unknown macro', 'fn f() { module_path!().len() }', 'fn f() { a != (b) }'),
+    ('another meaning', 'macro_rules! a { () => { 3 } }', 'fn f() { prove![a] }'),
+    ('another meaning', 'fn f() { r.clone()?.is_ok() }', 'fn f() { r.cloned() }'),
+    ('another meaning', 'fn f() { Clone::clone(r) }', 'impl Clone for A {\n    fn clone(&self) -> Result<A, E> { Ok(A) }\n}'),
+    ('another meaning', 'fn f() -> usize { size_of::<A>() }', 'const _: () = prove!(size_of::<A>() == 0);'),
+    ('another meaning', 'fn f() -> usize { size_of::<&[u8]>() }', 'fn f() -> usize { 8 }'),
+    ('another meaning', 'fn f() -> usize { isize::MAX.unsigned_abs() }', 'fn f() -> usize { i32::MAX.unsigned_abs() }'),
+    ('another meaning', 'fn f() -> u32 { usize::BITS }', 'fn f() -> u32 { 64 }'),
+    ('another meaning', 'fn f() { Mul::mul(a, 2) }', 'fn f() { a * 2 }'),
+    ('another meaning', 'fn f() { <usize as Add>::add(a, 2) }', 'impl Add<A> for B { type Output = A; fn add(self, a: A) -> A { a } }'),
+    ('all names', 'use a::*;', 'use a::{b, c};'),
 ]
 
 # A text, and a part of what is said of it.
@@ -113,7 +169,11 @@ REFUSED = [
     ('fn f() { let x = requires { a: 1 }; }', 'no function'),
     ('fn f() { move || requires { x } { 1 } }', 'no function'),
     ('fn f() { g(); ghost x = { y }; h() requires { z }; }', 'no function'),
-    ('#[error("a {0}")] struct A;', 'not a text'),
+    ('#[error("a {1}")] struct A;', 'not a text'),
+    ('impl Model for A {\n    fn f() {}\n}\n', 'with members'),
+    ('/// # Requires\n///\n/// - A.\n#[track_caller]\npub fn f() {}\n', 'no sentence'),
+    ('/// # Requires\n/// A.\n#[track_caller]\npub fn f() {}\n', 'no sentence'),
+    ('use crate::a::{b as c, d};\nfn f() { d() }', 'by another name'),
 ]
 
 # Calls of a type, and what each returns; `more`, `of`, `take_one`, `asked`, `at`, `lends` and `kept` are not said as calls.
@@ -175,11 +235,12 @@ def said(text, **settings):
 
 
 def bodies():
-    """In the sources' functions nothing goes but ghost members and attributes, and nothing comes but what stands before a
+    """In the functions that stay nothing goes but ghost members and attributes, and nothing comes but what stands before a
     path: no statement, no call, no operator. Returns how many functions there are."""
-    count = 0
-    for crate, path, text in erase.sources():
-        eraser = erase.Eraser(text, crate)
+    count, laws = 0, erase.called_laws()
+    for crate, path, text in [*erase.sources(), *erase.program()]:
+        by_hand = erase.given.BY_HAND if crate in erase.given.PROGRAM or path.stem == 'schedule' else ()
+        eraser = erase.Eraser(text, crate, (), f'crates/{crate}/src/{path}', laws if path.stem == 'laws' else None, by_hand=by_hand)
         eraser.run()
         gone = set()
         for k, token in enumerate(eraser.tokens):
@@ -192,7 +253,7 @@ def bodies():
                 new = eraser.new.get(k, word)
                 assert k in gone or kind in ('ghost', *erase.SPACE) or new == word or (word, new) == ('Drop', 'Sized') or (
                     kind == 'word' and new.endswith(f'::{word}') and new.startswith('crate::') or
-                    (word, new) == ('crate', f'crate::proved::{crate}')), (path, word, new)
+                    word == 'crate' and new in (f'crate::proved::{crate}', f'crate::rattle::{crate}')), (path, word, new)
     return count
 
 
@@ -207,7 +268,7 @@ def replacements():
     assert not any(old.count(sign) != new.count(sign) for old, new, _ in given.TYPES for sign in '{};()!') and len(given.REPLACED) <= 20
     for name in [name for names in given.UNERASED.values() for name in names]:
         assert (erase.REPOSITORY / 'crates' / name.replace('/', '/src/', 1)).with_suffix('.rt').is_file(), name
-    kept, texts = given.REPLACED, {f'{crate}/{path.with_suffix("")}': text for crate, path, text in erase.sources()}
+    kept, texts = given.REPLACED, {f'{crate}/{path.with_suffix("")}': text for crate, path, text in [*erase.sources(), *erase.program()]}
     for old, new, files in kept:                  # a text that is there more or less often than its entry says
         for name, count in files.items():
             for other in (count + 1, count - 1):
@@ -217,6 +278,27 @@ def replacements():
     erase.erased(found)
     assert len(found) == 2 and '2 times, and not 3' in found[0] and 'no such file' in found[1], found
     given.REPLACED = kept
+
+
+def uncalled():
+    """Laws that code doesn't name, and functions of the list, go as a whole; what calls one isn't compiled, so it stays to be
+    refused by rustc. A name that a trait's function has isn't taken, and neither is a call."""
+    law = '//! L.\n\nuse crate::a::B;\n\n/// One.\npub fn one() {}\n\n/// Two.\npub fn two(b: &B)\n    ensures { ⊤ }\n{\n    b.g();\n}\n'
+    assert of(law, laws={'one'}) == '//! L.\n\n/// One.\npub fn one() {}\n'
+    assert of(law, laws={'two', 'x'}) == law.replace('/// One.\npub fn one() {}\n\n', '').replace(
+        'use crate', 'use crate::proved::net_tcp').replace('\n    ensures { ⊤ }\n{', ' {')
+    kept, erase.given.UNCALLED = erase.given.UNCALLED, {'net_tcp/a': ['f']}
+    text = '/// F.\n#[inline]\n    pub fn f(&self) -> u8 {\n        g()\n    }\n\n    '
+    for header in ('impl A', 'impl B for A', 'trait B'):
+        whole = f'{header} {{\n    {text}fn g(&self) {{\n        self.f();\n    }}\n}}\n'
+        assert of(whole) == (whole.replace(text, '') if header == 'impl A' else whole), (header, of(whole))
+        assert of(whole, file='crates/net_tcp/src/b.rt') == whole
+    erase.given.UNCALLED = {**kept, 'net_ring/ring_buffer': ['f'], 'net_ring/managed': ['len'], 'net_packets/head': ['next']}
+    found = []
+    erase.erased(found)
+    assert any('has no function f' in line for line in found) and any('next is also' in line for line in found), found
+    erase.given.UNCALLED = kept
+    assert erase.called_laws() >= {'members', 'is_usize'} and not erase.called_laws() & {'headline', 'schedules'}
 
 
 def own_checks():
@@ -232,9 +314,9 @@ def own_checks():
 
 def statuses():
     """`--check` ends with 1 if a file differs, is missing, or comes from no source; without it files are written."""
-    kept = erase.OUT, erase.erased
+    kept = erase.OUT, erase.EXAMPLE, erase.erased
     with tempfile.TemporaryDirectory() as folder, contextlib.redirect_stderr(io.StringIO()) as told:
-        erase.OUT = pathlib.Path(folder)
+        erase.OUT = erase.EXAMPLE = pathlib.Path(folder)
         one, two = erase.OUT / 'a/one.rs', erase.OUT / 'two.rs'
         erase.erased = lambda said: {one: 'fn a() {}\n', two: 'fn b() {}\n'}
         assert erase.main(['--check']) and not one.exists()
@@ -248,7 +330,7 @@ def statuses():
         assert sorted(erase.OUT.rglob('*.rs')) == [one, two]
         erase.erased = lambda said: said.append('refused') or {one: 'fn d() {}\n'}
         assert erase.main([]) and erase.main(['--check']) and one.read_text() == 'fn a() {}\n'
-    erase.OUT, erase.erased = kept
+    erase.OUT, erase.EXAMPLE, erase.erased = kept
 
 
 def guarantees():
@@ -274,6 +356,9 @@ def guarantees():
     types = '/// A.\n#[repr(C)]\npub struct A {\n    a: u8,\n}\n\n/// B.\nstruct B;\n\n'
     contract = 'impl A {\n    pub fn f()\n        ensures { ⊤ }\n    {\n        g()\n    }\n}\n'
     assert erase.Eraser(types + contract, 'net_tcp', (), 'a.rt').run().count('Contracts: `a.rt`.') == 1
+    kept, erase.given.SOURCES = erase.given.SOURCES, 'https://a.b/main'
+    assert 'Contracts: [`a.rt`](https://a.b/main/a.rt).' in erase.Eraser(types + contract, 'net_tcp', (), 'a.rt').run()
+    erase.given.SOURCES = kept
     assert 'Contracts' not in erase.Eraser(types, 'net_tcp', (), 'a.rt').run()
 
 
@@ -285,9 +370,22 @@ def main():
     for text, part in REFUSED:
         assert part in said(text), (text, part, said(text))
     assert all(said(f'fn f() {{\n    g();\n    {word}\n}}\n').startswith('3: ') for word in ('/* a */', 'x.tactic()', 'ghost { a }', 'ℕ'))
+    for part, text, right in UNLIKE:
+        assert part in said(text), (text, part, said(text))
+        of(right)
+        said(text, crate='net_bench_lib', by_hand=erase.given.BY_HAND)     # the program's text too
+    assert 'unknown macro' in said('fn f() { vec![a] }') and 'unknown macro' in said('fn f() { prove!(a) }', by_hand=('hex',))
+    assert 'in no path' in said('use hex as h;', by_hand=('hex',)) and of('use hex as h;\n\nfn f() { h() }\n')
     # Modules that aren't erased, and exports for C.
     assert [erase.omitted('net_ring', pathlib.Path(name)) for name in ('lib.rt', 'ring_buffer.rt')] == [set(), {'managed'}]
-    assert of('mod a;\nmod b;\npub use a::C;\nuse b::D;\n', omitted={'a'}) == 'mod b;\nuse b::D;\n'
+    assert of('mod a;\nmod b;\npub use a::C;\nuse b::D;\n\nfn f(d: D) {}\n', omitted={'a'}) == 'mod b;\nuse b::D;\n\nfn f(d: D) {}\n'
+    # A trait's methods are called without its name.
+    assert of('use crate::b::{D, E};\n', traits={'D'}) == 'use crate::proved::net_tcp::b::D;\n'
+    uncalled()
+    # The program: some crates are modules of what is by hand, and its prelude has other names.
+    paths = 'use crate::a::B;\nuse net_ring::C;\nuse hex::{D, E};\nuse std::mem;\n\nfn f(b: B, c: C) -> D {\n    b.is_sound()\n}\n'
+    assert of(paths, crate='net_bench_lib', by_hand=erase.given.BY_HAND) == paths.replace('use crate', 'use crate::proved::net_bench_lib') \
+        .replace('use net_ring', 'use crate::rattle::net_ring').replace('use hex::{D, E}', 'use crate::rattle::hex::D').replace('use std', 'use crate::rattle::std')
     export = '/// D.\n#[unsafe(no_mangle)]\npub extern "C" fn f(x: u8) -> u8 {\n    x\n}\n'
     assert of(export, crate='net_ffi') == '#[inline(always)]\npub fn f(x: u8) -> u8 {\n    x\n}\n'
     assert 'unknown attribute' in said(export)
@@ -297,7 +395,7 @@ def main():
     guarantees()
     told = (erase.REPOSITORY / 'docs/TRUST.md').read_text()
     assert erase.RULES in told, 'docs/TRUST.md has other rules than python3 tools/erase.py --rules'
-    print(f'{len(GIVEN)} texts erased, {len(STAYS)} stay, {len(REFUSED)} refused, {len(SAID)} clauses said, {len(UNSAID)} not; '
+    print(f'{len(GIVEN)} texts erased, {len(STAYS)} stay, {len(REFUSED)} refused, {len(UNLIKE)} pairs, {len(SAID)} clauses said, {len(UNSAID)} not; '
           f'{bodies()} functions of the sources keep each token of their bodies')
 
 

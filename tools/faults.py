@@ -39,7 +39,7 @@ ASKS = """
 static FAULT: core::sync::atomic::AtomicU32 = core::sync::atomic::AtomicU32::new(u32::MAX);
 extern "C" { fn getenv(name: *const u8) -> *const u8; }
 #[inline(never)]
-pub fn m(number: u32) -> bool {
+pub(crate) fn m(number: u32) -> bool {
     use core::sync::atomic::Ordering::Relaxed;
     if FAULT.load(Relaxed) == u32::MAX {
         let (mut found, mut at) = (u32::MAX - 1, unsafe { getenv(b"FAULT\\0".as_ptr()) });
@@ -50,7 +50,7 @@ pub fn m(number: u32) -> bool {
     FAULT.load(Relaxed) == number
 }
 #[inline(never)]
-pub fn mi<T: From<u8>>(number: u32) -> T { T::from(m(number) as u8) }
+pub(crate) fn mi<T: From<u8>>(number: u32) -> T { T::from(m(number) as u8) }
 """
 
 

@@ -419,7 +419,7 @@ def c_part(library, crate):
         lines += [f" * {row}".rstrip() for row in wrapped_text(c_text(text.splitlines(), library.structs), WIDTH - 3)]
         lines += [" *"]
     lines[-1] = " */"
-    numbers = zip(("MAJOR", "MINOR", "PATCH"), version.split("."))
+    numbers = zip(("MAJOR", "MINOR", "PATCH"), version.partition("-")[0].split("."))
     lines += ["#ifndef NET_BASE_H", "#define NET_BASE_H", "#include <stdbool.h>", "#include <stddef.h>", "#include <stdint.h>", ""]
     for name, number in numbers:
         lines += [f"/** The {name.lower()} number: until 1.0 names and structs may change with each minor one. */",

@@ -16,6 +16,7 @@ from pathlib import Path
 
 sys.dont_write_bytecode = True
 import widths
+from widths import called
 
 REPOSITORY = widths.REPOSITORY
 CALL = re.compile(r'^\s+[^=]+? = (?:move |copy )?(.+\)) -> .*// scope \d+ at src/proved/')
@@ -30,16 +31,6 @@ def without(text):
         kept += sign if not depth else ''
         depth -= sign == '>' and text[k - 1] != '-'
     return kept.replace('::::', '::').removesuffix('::')
-
-
-def called(text):
-    """The function of a call, without its arguments."""
-    depth = 0
-    for k, sign in enumerate(text):
-        depth += (sign == '<') - (sign == '>' and text[k - 1] != '-')
-        if sign == '(' and not depth:
-            return text[:k]
-    return text
 
 
 def name(path, own):

@@ -19,6 +19,9 @@ is one. Any other operation has a cover:
               an index that no slice has
     greatest  the body of `most`
     constant  a literal that has 32 bits
+    no bytes  a size that is compared with 0 when the text is compiled
+
+What isn't known is open: each value or call with a `usize` or an `isize` in its type, that is none of `FORMS` and `KNOWN`.
 
 The law `is_usize` is given a parameter, a field, a length, what a call returned, or a literal: of a sum it would state
 what is to be proved. No proof but those of `most` and of this law unfolds `shortfall`. With --all the operations that
@@ -43,7 +46,19 @@ PATH = r'(?:[a-z_]\w*|[A-Z][A-Z_]*)(?:\.\w+)*'
 SAFE = {'Sub', 'Div', 'Rem', 'Shr', 'BitAnd', 'BitOr', 'BitXor', 'call saturating_sub', 'call abs_diff'}
 OPERATORS = {'Add', 'Sub', 'Mul', 'Div', 'Rem', 'Shl', 'Shr', 'BitAnd', 'BitOr', 'BitXor', 'Not', 'Neg'}
 NARROW = {'u8', 'u16', 'u32', 'bool', 'char'}
-FLAGS = ['--emit=mir', '-Coverflow-checks=on', '-Zmir-opt-level=0', '-Zmir-include-spans=on', '-Awarnings']
+# What gives a `usize` of a value or a function that has one, and nothing new: all else that has one is an operation. Derived
+# hashes give a hasher the number of a variant.
+FORMS = re.compile(r'(?:copy|move|const|&|\(|\[|Len\(|PtrMetadata\(|discriminant\(|(?:Lt|Le|Gt|Ge|Eq|Ne)\(|[\w:]+(?:::)?(?:<.*>)?(?:::\w+)?(?: \{.*\}|\(.*\))?$)')
+KNOWN = re.compile(r"""<[iu]size\ as\ core::(?:cmp::Ord>::(?:min|max|cmp)|cmp::Partial(?:Ord|Eq)>::\w+|clone::Clone>::clone|default::Default>::default|hash::Hash>::hash.*)
+  | <.*\ as\ core::ops::(?:Index(?:Mut)?<.*>>::index(?:_mut)?|Try>::branch|FromResidual.*|Fn(?:Once|Mut)?<.*>>::call(?:_once|_mut)?)
+  | <core::ops::Range<usize>\ as\ core::iter::(?:IntoIterator>::into_iter|Iterator>::next)
+  | <core::iter::Filter<core::slice::Iter<.*>\ as\ core::iter::Iterator>::count
+  | <core::option::Option<.*>\ as\ core::(?:clone::Clone|default::Default)>::\w+
+  | core::(?:vec::Vec::<.*>::len|option::Option::<.*>::is_some|slice::<impl\ \[.*\]>::(?:len|get|first|iter|iter_mut|split_at)(?:::<.*>)?|mem::replace::<.*>|fmt::rt::Argument::<'_>::new_display::<usize>)
+""", re.X)
+OWN = re.compile(r'(?!core::)[a-z_]+\w*::|<.* as (?!core::)\w+::|<(?!core::)\w+::.* as '
+                 r'core::iter::(?:Iterator|DoubleEndedIterator)>::(?:next|next_back|size_hint)$')
+FLAGS = ['--emit=mir', '-Coverflow-checks=on', '-Zmir-opt-level=0', '-Zmir-include-spans=on', '-Ztrim-diagnostic-paths=no', '-Awarnings']
 
 
 class File:
@@ -97,6 +112,16 @@ class File:
         return re.match(r'\s*(?:if|while|for|loop|match|unsafe|\{|#\[)', self.code[start:])
 
 
+def called(text):
+    """The function of a call, without its arguments."""
+    depth = 0
+    for k, sign in enumerate(text):
+        depth += (sign == '<') - (sign == '>' and text[k - 1] != '-')
+        if sign == '(' and not depth:
+            return text[:k]
+    return text
+
+
 def plain(text):
     return re.sub(r'\s+', '', text)
 
@@ -132,7 +157,8 @@ class Reader:
             file = self.file(name)
             at = name, file.place(int(span[0]), int(span[1])), file.place(int(span[2]), int(span[3]))
             inner = re.match(r'\(?\(.*\.\d+: ([\w, ()]+)\)$', to)
-            kind = self.kind(inner[1] if inner else types.get(to, ''), value, types)
+            into = inner[1] if inner else types.get(to, '')
+            kind = self.kind(into, value, types) or self.unknown(into, value, ' -> ' in line)
             if kind:
                 self.operations[at, kind] = None
             for number in re.findall(r'const (\d+)_usize', value):
@@ -155,15 +181,34 @@ class Reader:
             return f'call {call[1] or call[2]}'
         if re.search(r'::(?:sum|product)::<usize>', value):
             return 'call sum'
+        if re.match(r'(?:move|copy|const) .*::<?impl isize>', value) or re.search(r'impl isize>::\w+', value):
+            return 'isize'
         sign = re.match(r'(\w+?)(?:WithOverflow|Unchecked)?\(', value)
         of_usize = into in ('usize', '(usize, bool)', 'isize', '(isize, bool)')
         return sign[1] if sign and sign[1] in OPERATORS and of_usize else None
+
+    @staticmethod
+    def unknown(into, value, is_call):
+        """What is done with a type that has a `usize` in it, or with one that isn't known, and isn't one of the known forms."""
+        value = re.sub(r'^(?:move|copy) (?=.*\))', '', value) if is_call else value
+        path = re.sub(r'\b(?:std|alloc)::', 'core::', called(value)) if is_call and value.endswith(')') else ''
+        if OWN.match(path):
+            return None
+        if re.match(r'<\w+ as core::ops::(?!Index|Fn|Deref|Try|FromResidual)|.*::(?:sum|product)::<', path):
+            return f'unknown {path}'               # of any type, so of a `usize` too
+        if into and not re.search(r'\b[iu]size\b', f'{into} {path}'):
+            return None
+        return None if (KNOWN.fullmatch(path) if path else FORMS.match(value)) else f'unknown {path or value}'
 
     # ---- covers
 
     def cover(self, at, kind):
         name, start, end = at
         file = self.file(name)
+        if kind.startswith('unknown core::mem::size_of::<') and re.match(r' == 0\)', file.code[end:]):
+            return 'no bytes'
+        if kind.startswith('unknown') or kind == 'isize':
+            return None
         text = re.sub(r'^\(([^()]*)\)$', r'\1', plain(file.code[start:end]))
         if kind in SAFE or kind == 'cast usize to u64':
             return 'no growth'

@@ -93,6 +93,26 @@ OPEN = [
     'usize::MAX',
     'usize::BITS as usize',
     'let c = usize::MAX - a; c',
+    # What isn't a form that is known, with a `usize` or an `isize` in its type.
+    'std::ops::Mul::mul(a.min(2147483648), 2)',
+    'std::ops::Add::add(b, 4294967295)',
+    '<usize as std::ops::Shl<u32>>::shl(a, 3)',
+    'let mut c = a; std::ops::AddAssign::add_assign(&mut c, b); c',
+    'isize::MAX.unsigned_abs()',
+    'isize::BITS as usize',
+    'std::mem::size_of::<usize>()',
+    'std::mem::size_of::<&[u8]>()',
+    'let f = usize::saturating_mul; f(a, b)',
+    'let f: fn(usize, usize) -> usize = std::ops::Add::add; f(a, b)',
+    '[a, b].iter().copied().fold(0, std::ops::Add::add)',
+    '(a..b).len() + 0',
+    '(a..b).map(|c| c).last().unwrap_or(b)',
+    'std::num::Wrapping(a).0.rotate_left(3)',
+    '"a text".len()',
+    'x.trailing_zeros().try_into().unwrap_or(0)',
+    'std::mem::align_of::<usize>()',
+    'xs.as_ptr() as usize',
+    '"7".parse::<usize>().unwrap_or(0)',
     # A bound on another branch, after a way that leaves, in a closure, or after the value was changed.
     f'let c = a + b; if x > 3 {{ prove!(c <= most(){BOUND} }} c',
     f'let mut c = a; if x > 3 {{ c = a + b; }} else {{ prove!(c <= most(){BOUND} }} c',
@@ -150,6 +170,8 @@ ITEMS = [
      'pub fn g(a: usize, b: usize) { take(moved(a.wrapping_neg(), b)); }', 0),
     (f'fn moved(by: usize, a: usize) -> usize {{ let c = by.wrapping_add(a); prove!(c <= most(){BOUND} c }}\n'
      'fn all(by: usize, a: usize) { take(moved(by, a)); }\npub fn g(a: usize, b: usize) { all(a.wrapping_neg(), b); }', 0),
+    ('fn plus<T: std::ops::Add<Output = T>>(a: T, b: T) -> T { a + b }\npub fn g(a: usize, b: usize) -> usize { plus(a, b) }', 1),
+    ('fn all<T: std::iter::Sum>(a: Vec<T>) -> T { a.into_iter().sum() }', 1),
     ('fn moved(by: usize) -> bool { by == 0 }\npub fn g(a: usize) -> bool { moved(a.wrapping_neg()) }', 1),
 ]
 

@@ -89,7 +89,7 @@ struct receiving {
     uint32_t initial;
 };
 
-static const struct net_base_timeout_bounds BOUNDS = {200000, 60000000, 1000};
+static const struct net_base_timeout_bounds BOUNDS = {200000, 60000000, 1000, 0};
 
 /* The numbers that calls of windows and timers take. */
 static struct net_base_sent_numbers numbers_of(const struct sending *it) {
@@ -114,7 +114,7 @@ static uint64_t send(
         .is_last = span.is_last,
         .size = span.contiguous};
     memcpy(segment.bytes, it->storage + span.from, span.contiguous);
-    net_base_retransmission_timer_sent(&it->timer, position, end, &numbers, now);
+    net_base_retransmission_timer_sent(&it->timer, &BOUNDS, position, end, &numbers, now);
     sent_again += position < numbers.sent;
     put(link, &segment, now);
     return end;
@@ -125,7 +125,8 @@ static void send_segments(struct sending *it, struct link *link, int64_t now) {
     uint64_t first, end, lost;
     must(net_base_finite_sender_first_number(&it->sender, &first), "first_number");
     must(net_base_finite_sender_numbers_end(&it->sender, &end), "numbers_end");
-    bool has_expired = net_base_retransmission_timer_expire(&it->timer, &BOUNDS, now);
+    bool has_expired =
+        net_base_retransmission_timer_expire(&it->timer, &BOUNDS, now) == NET_BASE_TIMEOUT;
     if (has_expired) {
         /* All is sent again, whatever blocks said (RFC 2018, section 8). */
         net_base_scoreboard_init(&it->scoreboard, first);
@@ -239,7 +240,7 @@ static void run(uint64_t first, const uint8_t *data, size_t size, bool is_slow) 
     must(net_base_finite_receiver_init(&to.receiver, first), "init");
     must(net_base_finite_sender_init(&from.sender, first), "init");
     net_base_scoreboard_init(&from.scoreboard, first);
-    net_base_retransmission_timer_init(&from.timer, 1000000);
+    net_base_retransmission_timer_init(&from.timer, 1000000, false);
     net_base_advertised_window_init(&to.announced, first);
     must(net_base_advertised_window_announce(&to.announced, SCALE, first, first + WINDOW, &field),
         "announce");

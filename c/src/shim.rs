@@ -656,9 +656,9 @@ pub extern "C" fn net_base_peer_window_acknowledgement_number(peer: Option<&Peer
 }
 
 #[unsafe(no_mangle)]
-pub extern "C" fn net_base_retransmission_timer_init(timer: Option<&mut retransmission::RetransmissionTimer>, timeout: u64) {
+pub extern "C" fn net_base_retransmission_timer_init(timer: Option<&mut retransmission::RetransmissionTimer>, timeout: u64, reports: bool) {
     let Some(timer) = timer else { return };
-    retransmission::net_base_retransmission_timer_init(timer, timeout)
+    retransmission::net_base_retransmission_timer_init(timer, timeout, reports)
 }
 
 #[unsafe(no_mangle)]
@@ -674,10 +674,11 @@ pub extern "C" fn net_base_retransmission_timer_stop(timer: Option<&mut retransm
 }
 
 #[unsafe(no_mangle)]
-pub extern "C" fn net_base_retransmission_timer_sent(timer: Option<&mut retransmission::RetransmissionTimer>, position: u64, end: u64, numbers: Option<&SentNumbers>, now: i64) {
+pub extern "C" fn net_base_retransmission_timer_sent(timer: Option<&mut retransmission::RetransmissionTimer>, bounds: Option<&retransmission::TimeoutBounds>, position: u64, end: u64, numbers: Option<&SentNumbers>, now: i64) {
     let Some(timer) = timer else { return };
+    let Some(bounds) = bounds else { return };
     let Some(numbers) = numbers else { return };
-    retransmission::net_base_retransmission_timer_sent(timer, position, end, numbers, now)
+    retransmission::net_base_retransmission_timer_sent(timer, bounds, position, end, numbers, now)
 }
 
 #[unsafe(no_mangle)]
@@ -696,9 +697,15 @@ pub extern "C" fn net_base_retransmission_timer_acknowledged(timer: Option<&mut 
 }
 
 #[unsafe(no_mangle)]
-pub extern "C" fn net_base_retransmission_timer_expire(timer: Option<&mut retransmission::RetransmissionTimer>, bounds: Option<&retransmission::TimeoutBounds>, now: i64) -> bool {
-    let Some(timer) = timer else { return false };
-    let Some(bounds) = bounds else { return false };
+pub extern "C" fn net_base_retransmission_timer_reported(timer: Option<&mut retransmission::RetransmissionTimer>, now: i64) {
+    let Some(timer) = timer else { return };
+    retransmission::net_base_retransmission_timer_reported(timer, now)
+}
+
+#[unsafe(no_mangle)]
+pub extern "C" fn net_base_retransmission_timer_expire(timer: Option<&mut retransmission::RetransmissionTimer>, bounds: Option<&retransmission::TimeoutBounds>, now: i64) -> refusals::Status {
+    let Some(timer) = timer else { return refusals::NET_BASE_REFUSED };
+    let Some(bounds) = bounds else { return refusals::NET_BASE_REFUSED };
     retransmission::net_base_retransmission_timer_expire(timer, bounds, now)
 }
 

@@ -1,10 +1,10 @@
 //! A file over datagrams that are lost, doubled and late, with both ends and a clock of its own: what is lost is sent again.
 use std::collections::BTreeMap;
 
-use net_base::finite::{FiniteReceiver, FiniteSender};
+use net_base::ends::{Acknowledged, Expired, SendingEnd};
+use net_base::finite::FiniteReceiver;
 use net_base::rand::Rand;
-use net_base::scoreboard::Scoreboard;
-use net_base::tcp::{LossRecovery, PeerWindow, RetransmissionTimer, TimeoutBounds};
+use net_base::tcp::{Announcement, TimeoutBounds};
 use net_base::time::{Duration, Instant};
 
 /// The most bytes of a datagram.
@@ -14,6 +14,8 @@ const BOUNDS: TimeoutBounds = TimeoutBounds {
     least: Duration::from_millis(50),
     most: Duration::from_secs(10),
     tick: Duration::from_micros(1),
+    // Each datagram is answered at once.
+    ack_delay: Duration::ZERO,
 };
 
 #[derive(Clone)]
@@ -43,88 +45,44 @@ impl Path {
     }
 }
 
-struct Source {
-    sender: FiniteSender<'static>,
-    scoreboard: Scoreboard<8>,
-    recovery: LossRecovery,
-    timer: RetransmissionTimer,
-    peer_window: PeerWindow,
-    /// How many positions may be in flight.
-    window: u64,
-}
-
-impl Source {
-    fn take(&mut self, next: u64, window_end: u64, runs: &[(u64, u64)], now: Instant) {
-        let numbers = self.sender.sent_numbers();
-        if !self.sender.acknowledge(next) {
-            return;
-        }
-        self.peer_window.open_to(window_end);
-        self.timer.acknowledged(BOUNDS, numbers, next, now);
-        self.scoreboard.acknowledge(next);
-        for &(start, end) in runs {
-            // What is reported in a run for which there is no room is sent again.
-            let _is_known = self.scoreboard.report(start, end, numbers.sent);
-        }
-        let begins = self.recovery.find_losses(self.sender.sent_numbers(), &self.scoreboard, SIZE);
-        self.window = if begins { self.window / 2 } else { self.window + 20 }.max(2 * SIZE as u64);
-    }
-
-    fn send(&mut self, now: Instant, path: &mut Path) {
-        let mut numbers = self.sender.sent_numbers();
-        let (first, end) = (numbers.first_unacknowledged, self.sender.numbers_end());
-        let mut limit = self.peer_window.send_limit(end);
-        if self.timer.expire(BOUNDS, now) {
-            self.recovery.lose_all(numbers);
-            if self.peer_window.is_probe_allowed(first, end) {
-                limit = first + 1;
-            }
-        }
-        while let Some((start, end)) =
-            self.recovery.next_segment(numbers, &self.scoreboard, limit, self.window, SIZE)
-        {
-            let (bytes, is_last) = self.sender.send_at(start, end);
-            // Fewer than asked for where the storage ends.
-            let end = start + bytes.len() as u64 + u64::from(is_last);
-            path.send(now, Datagram::Text(start, bytes.to_vec(), is_last));
-            self.recovery.sent(numbers, start..end);
-            self.timer.sent(start..end, numbers, now);
-            numbers = self.sender.sent_numbers();
-        }
-        if first < end {
-            self.timer.start(now);
-        }
-    }
-}
-
 fn main() {
     let mut random = Rand::new(1);
     let file: Vec<u8> = (0..200_000).map(|_| random.rand_u32() as u8).collect();
     let mut path = Path { random, count: 0, datagrams: BTreeMap::new() };
-    let mut source = Source {
-        sender: FiniteSender::new_at(vec![0; CAPACITY], 0),
-        scoreboard: Scoreboard::empty(),
-        recovery: LossRecovery::new(),
-        timer: RetransmissionTimer::default(),
-        peer_window: PeerWindow::new(),
-        window: 10 * SIZE as u64,
-    };
-    source.peer_window.open_to(CAPACITY as u64);
+    let mut sending = SendingEnd::<8>::new_at(vec![0; CAPACITY], 0, Duration::from_secs(1), BOUNDS);
+    sending.open(Announcement { seq: 0, ack: 0, window: CAPACITY as u64 }, SIZE, true);
+    // How many positions may be in flight.
+    let mut window = 10 * SIZE as u64;
     let mut receiver = FiniteReceiver::<8>::empty_at(vec![0; CAPACITY], 0);
     let (mut rest, mut read, mut now) = (&file[..], Vec::<u8>::new(), Instant::ZERO);
-    while !source.sender.is_closed_and_acknowledged() {
-        rest = &rest[source.sender.write(rest)..];
+    while !sending.is_done() {
+        rest = &rest[sending.write(rest)..];
         if rest.is_empty() {
-            source.sender.close();
+            sending.close();
         }
-        source.send(now, &mut path);
+        if sending.expired(now) == (Expired::Overdue { begins: true }) {
+            window = (window / 2).max(2 * SIZE as u64);
+        }
+        while let Some(it) = sending.next_segment(window, now) {
+            let bytes = [it.parts.0, it.parts.1].concat();
+            path.send(now, Datagram::Text(it.pos, bytes, it.is_last));
+        }
         // The next thing that happens: a datagram arrives, or the timer expires.
         let arrival = path.datagrams.first_key_value().map(|(&(at, _), _)| at);
-        now =
-            arrival.into_iter().chain(source.timer.expires_at()).min().expect("something happens");
+        now = arrival.into_iter().chain(sending.expires_at()).min().expect("something happens");
         while let Some(datagram) = path.datagrams.first_entry().filter(|it| it.key().0 <= now) {
             match datagram.remove() {
-                Datagram::Answer(next, end, runs) => source.take(next, end, &runs, now),
+                Datagram::Answer(next, end, runs) => {
+                    // The end never falls, so that it tells which of two answers is the older one.
+                    let it = Announcement { seq: end, ack: next, window: end - next };
+                    window = match sending.acknowledged(it, &runs, true, now) {
+                        Acknowledged::Taken { begins: true, .. } => {
+                            (window / 2).max(2 * SIZE as u64)
+                        }
+                        Acknowledged::Taken { .. } => window + 20,
+                        _ => window,
+                    };
+                }
                 Datagram::Text(pos, bytes, is_last) => {
                     // What is refused is sent again.
                     let _is_kept = receiver.keep(pos, &bytes, is_last);

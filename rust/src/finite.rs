@@ -58,7 +58,7 @@ impl<'a, const N: usize> FiniteReceiver<'a, N> {
     ///
     /// # Panics
     ///
-    /// If `first` is `u64::MAX`: no number is left for the end.
+    /// Panics if `first` is `u64::MAX`: no number is left for the end.
     #[must_use]
     pub fn empty_at<S: Into<ManagedSlice<'a, u8>>>(storage: S, first: u64) -> Self {
         FiniteReceiver::over_at(storage.into(), first)
@@ -70,7 +70,7 @@ impl<'a> FiniteSender<'a> {
     ///
     /// # Panics
     ///
-    /// If `first` is `u64::MAX`: no number is left for the end.
+    /// Panics if `first` is `u64::MAX`: no number is left for the end.
     #[must_use]
     pub fn new_at<S: Into<ManagedSlice<'a, u8>>>(storage: S, first: u64) -> Self {
         FiniteSender::over_at(storage.into(), first)

@@ -1,7 +1,7 @@
-//! smoltcp's `storage`, `time`, `rand`, and of `phy` capabilities, checksums and metadata, as proved text that rustc
-//! compiles: no heap, no `unsafe`, no dependencies.
+//! Rings, packet queues, the assembler and times with smoltcp's names, and both ends of a TCP stream: machine-checked Rust
+//! without a heap, `unsafe` or dependencies.
 //!
-//! Names, signatures and behaviour are those of [smoltcp](https://github.com/smoltcp-rs/smoltcp) 0.14.0, except where an
+//! Of smoltcp there are `storage`, `time`, `rand`, and of `phy` capabilities, checksums and metadata. Names, signatures and behaviour are those of [smoltcp](https://github.com/smoltcp-rs/smoltcp) 0.14.0, except where an
 //! item says otherwise. Beyond smoltcp there are [`receiver::Receiver`], which joins segments that come in any order to a
 //! stream, [`sender::Sender`], which stores bytes until they are acknowledged, the same for streams that end
 //! ([`finite`]), [`scoreboard::Scoreboard`], which says what to send again, [`sequence_number::SequenceNumber`], TCP's
@@ -46,7 +46,7 @@
 //! Overflow panics here in every build, unless an item says otherwise.
 #![no_std]
 #![forbid(unsafe_code)]
-#![deny(missing_docs)]
+#![deny(missing_docs, missing_debug_implementations, unnameable_types, unreachable_pub)]
 
 #[cfg(feature = "alloc")]
 extern crate alloc;
@@ -58,6 +58,7 @@ compile_error!("a `usize` has 32 or 64 bits");
 
 pub mod checksum;
 pub mod config;
+pub mod ends;
 #[cfg(test)]
 mod extremes;
 pub mod finite;

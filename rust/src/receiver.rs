@@ -1,19 +1,21 @@
 //! The receiver of one stream of bytes. (Not in smoltcp's lowest layer.)
 //!
-//! By hand: storage that is converted, what has 4 runs, and what is printed.
+//! By hand: storage that is converted, what has no `N`, and what is printed.
 use core::{fmt, iter};
 
+#[cfg(doc)]
+use crate::config::ASSEMBLER_MAX_SEGMENT_COUNT;
 use crate::managed::ManagedSlice;
-use crate::proved::net_receiver::HeldRunIter;
 use crate::proved::net_ring::Storage;
 use crate::storage::Listed;
 
 pub use crate::proved::net_receiver::{
-    HeldRuns, Kept, KeptBytes, NewestRunIter, Receiver, ReceiverOver,
+    HeldRunIter, HeldRuns, Kept, KeptBytes, NewestRunIter, Receiver, ReceiverOver,
 };
 
 impl<'a> Receiver<'a> {
-    /// Returns a receiver of a stream whose first byte has position 0, with room for 4 held runs.
+    /// Returns a receiver of a stream whose first byte has position 0, with room for [`ASSEMBLER_MAX_SEGMENT_COUNT`]
+    /// held runs.
     ///
     /// ```
     /// # use net_base::receiver::Receiver;
@@ -25,7 +27,8 @@ impl<'a> Receiver<'a> {
         Receiver::empty_at(storage, 0)
     }
 
-    /// Returns a receiver of a stream whose first byte has position `first`, with room for 4 held runs.
+    /// Returns a receiver of a stream whose first byte has position `first`, with room for
+    /// [`ASSEMBLER_MAX_SEGMENT_COUNT`] held runs.
     ///
     /// ```
     /// # use net_base::receiver::Receiver;
@@ -73,6 +76,12 @@ impl<S: Storage<u8>, const N: usize> fmt::Debug for ReceiverOver<S, N> {
             .field("window", &self.window())
             .field("held", &Listed(|| self.held()))
             .finish()
+    }
+}
+
+impl fmt::Debug for HeldRunIter<'_> {
+    fn fmt(&self, f: &mut fmt::Formatter) -> fmt::Result {
+        f.debug_list().entries(self.clone()).finish()
     }
 }
 

@@ -3,7 +3,7 @@
 //! smoltcp's lowest layer.)
 //!
 //! ```
-//! use net_base::tcp::{checksum, classify, is_valid, AdvertisedWindow, Announcement, Arrival, PeerWindow};
+//! use net_base::tcp::{checksum, classify, is_valid, AdvertisedWindow, Announcement, Arrival, Expiry, PeerWindow};
 //! use net_base::tcp::{RetransmissionTimeout, RetransmissionTimer, Segment, SentNumbers, TimeoutBounds};
 //! use net_base::tcp::Transmission;
 //! use net_base::time::{Duration, Instant};
@@ -34,26 +34,41 @@
 //! assert_eq!(timer.timeout(), Duration::from_millis(300));
 //! timer.expired(bounds);
 //! assert_eq!(timer.timeout(), Duration::from_millis(600));
-//! // Ten bytes are sent at 0, all but one are acknowledged after 100 ms, and that one isn't in time.
-//! let mut timer = RetransmissionTimer::default();
-//! timer.sent(0..10, SentNumbers { first_unacknowledged: 0, sent: 0 }, Instant::ZERO);
-//! let numbers = SentNumbers { first_unacknowledged: 0, sent: 10 };
-//! timer.acknowledged(bounds, numbers, 9, Instant::from_millis(100));
+//! // Three segments are sent at 0 to a peer that reports blocks, one is acknowledged after 100 ms, and the others aren't in
+//! // time: a probe is due after two more round trips, and the timeout passes when it would have passed without it.
+//! let mut timer = RetransmissionTimer::new(Duration::from_secs(1), true);
+//! for (from, to) in [(0, 10), (10, 20), (20, 30)] {
+//!     timer.sent(bounds, from..to, SentNumbers { first_unacknowledged: 0, sent: from }, Instant::ZERO);
+//! }
+//! let numbers = SentNumbers { first_unacknowledged: 0, sent: 30 };
+//! timer.acknowledged(bounds, numbers, 10, Instant::from_millis(100));
 //! assert_eq!(timer.timeout(), Duration::from_millis(300));
+//! assert_eq!(timer.expires_at(), Some(Instant::from_millis(300)));
+//! assert_eq!(timer.expire(bounds, Instant::from_millis(300)), Some(Expiry::Probe));
 //! assert_eq!(timer.expires_at(), Some(Instant::from_millis(400)));
-//! assert!(timer.expire(bounds, Instant::from_millis(400)));
+//! assert_eq!(timer.expire(bounds, Instant::from_millis(400)), Some(Expiry::Timeout));
 //! assert_eq!(timer.expires_at(), Some(Instant::from_millis(1_000)));
+//! assert_eq!(timer.timeouts(), 1);
 //! ```
 pub use crate::proved::net_numbers::SentNumbers;
-pub use crate::proved::net_recovery::LossRecovery;
+pub use crate::proved::net_recovery::{
+    is_duplicate_block, is_equal_acknowledgement, Answer, LossRecovery,
+};
 pub use crate::proved::net_tcp::{
     checksum, classify, is_acceptable, is_acknowledgement, is_valid, scale_for, scaled,
-    updated_checksum, AdvertisedWindow, Announcement, Arrival, PartsSum, PeerWindow,
+    updated_checksum, AdvertisedWindow, Announcement, Arrival, Expiry, PartsSum, PeerWindow,
     RetransmissionTimeout, RetransmissionTimer, RttEstimate, Segment, TimedSegment, TimeoutBounds,
-    Transmission, MAX_SCALE,
+    TimerParts, Transmission, MAX_SCALE,
 };
 
 use crate::time::Duration;
+
+/// No recovery is active, and nothing came twice.
+impl Default for LossRecovery {
+    fn default() -> Self {
+        LossRecovery::new()
+    }
+}
 
 /// Of a stream whose first number is 0.
 impl Default for AdvertisedWindow {
@@ -76,20 +91,22 @@ impl Default for RetransmissionTimeout {
     }
 }
 
-/// One that doesn't run, with a timeout of one second (RFC 6298, 2.1).
+/// One that doesn't run, with a timeout of one second (RFC 6298, 2.1), and a peer that reports no blocks: no probe is due.
 impl Default for RetransmissionTimer {
     fn default() -> Self {
-        RetransmissionTimer::new(Duration::from_secs(1))
+        RetransmissionTimer::new(Duration::from_secs(1), false)
     }
 }
 
-/// At least one second and at most 60, by a clock of milliseconds (RFC 6298, 2.4 and 2.5).
+/// At least one second and at most 60, by a clock of milliseconds (RFC 6298, 2.4 and 2.5), and an acknowledgement is delayed
+/// by 200 ms at most (RFC 8985, 7.2).
 impl Default for TimeoutBounds {
     fn default() -> Self {
         TimeoutBounds {
             least: Duration::from_secs(1),
             most: Duration::from_secs(60),
             tick: Duration::from_millis(1),
+            ack_delay: Duration::from_millis(200),
         }
     }
 }

@@ -89,7 +89,7 @@ fn a_scoreboard_and_a_buffer_of_fragments() {
     let mut timer = RetransmissionTimeout::default();
     assert!(timer.rtt().is_none());
     let [least, most, sample] = [1, 9_000, 800].map(Duration::from_micros);
-    timer.take_sample(TimeoutBounds { least, most, tick: least }, sample);
+    timer.take_sample(TimeoutBounds { least, most, tick: least, ack_delay: least }, sample);
     assert_eq!(timer.rtt().map(|it| it.srtt()), Some(sample));
     assert_eq!(timer.timeout(), Duration::from_micros(2_400));
 }

@@ -9,8 +9,8 @@ use net_base::storage::fragment_table::{accept, remove_expired, take_complete, F
 use net_base::storage::FragmentBuffer;
 use net_base::tcp::{
     checksum, classify, is_acceptable, is_acknowledgement, is_valid, scaled, updated_checksum,
-    AdvertisedWindow, Announcement, LossRecovery, PartsSum, PeerWindow, RetransmissionTimer,
-    Segment, TimeoutBounds, Transmission,
+    AdvertisedWindow, Announcement, Answer, Expiry, LossRecovery, PartsSum, PeerWindow,
+    RetransmissionTimer, Segment, TimeoutBounds, Transmission,
 };
 use net_base::time::{Duration, Instant};
 
@@ -155,7 +155,8 @@ fn senders() {
 fn windows_and_timers() {
     let mut draw = Draw(0x94d0_49bb_1331_11eb, 0);
     let (mut peer, mut advertised) = (PeerWindow::new(), AdvertisedWindow::new(0));
-    let (mut timer, mut sum) = (RetransmissionTimer::default(), PartsSum::new());
+    let (mut timer, mut sum) =
+        (RetransmissionTimer::new(Duration::from_secs(1), true), PartsSum::new());
     let bounds = TimeoutBounds::default();
     for _ in 0..calls() {
         let [first_unacknowledged, sent, seq, ack, window, len] = draw.numbers();
@@ -175,9 +176,14 @@ fn windows_and_timers() {
                     advertised.announce_in_steps(scale, seq.min(ack), end, len, sent as u16);
                 assert!(advertised.edge() >= seq.min(ack) && peer.usable(end) <= peer.edge());
             }
-            6 => timer.sent(seq..ack, numbers, draw.instant()),
+            6 => timer.sent(bounds, seq..ack, numbers, draw.instant()),
             7 => timer.acknowledged(bounds, numbers, ack, draw.instant()),
-            _ => assert!(!timer.expire(bounds, draw.instant()) || timer.timed().is_none()),
+            _ => {
+                let expiry = timer.expire(bounds, draw.instant());
+                assert!(expiry != Some(Expiry::Timeout) || timer.timed().is_none());
+                assert!(expiry != Some(Expiry::Timeout) || timer.timeouts() > 0);
+                timer.reported(draw.instant());
+            }
         }
         sum.add(draw.bytes(BYTES));
         assert!(sum.checksum() == 0 || !sum.is_valid());
@@ -274,17 +280,32 @@ fn recovery() {
     for _ in 0..calls() {
         let [first_unacknowledged, sent, start, end] = draw.numbers();
         let (numbers, size) = (SentNumbers { first_unacknowledged, sent }, draw.number() as usize);
-        match draw.below(6) {
+        match draw.below(11) {
             0 => {
                 board.reset_at(start);
                 draw.1 = start;
             }
             1 => assert!(board.report(start, end, sent).is_err() || start < end),
             2 => {
-                let _begins = recovery.find_losses(numbers, &board, size);
+                let (first, unsent) = (draw.number(), draw.number());
+                let (reports, is_equal) = (draw.below(2) == 0, draw.below(2) == 0);
+                let answer = Answer { first, unsent, reports, is_equal };
+                let _begins = recovery.find_losses(numbers, &board, size, answer);
+                let _unsent = recovery.unsent(numbers, &board);
             }
             3 => recovery.lose_all(numbers),
             4 => recovery.sent(numbers, start..end),
+            5 => recovery.probed(numbers, start),
+            9 => recovery.expect_reports(draw.below(2) == 0),
+            10 => {
+                let _begins = recovery.lose_dropped(numbers, &board);
+            }
+            6 => recovery.duplicated(numbers),
+            7 => {
+                let _begins = recovery.find_overdue(numbers, &board);
+                let probe = recovery.next_probe(numbers, &board, end, size);
+                assert!(probe.is_none_or(|(from, to)| from < to && to <= sent.max(end)));
+            }
             _ => {
                 let next = recovery.next_segment(numbers, &board, start, end, size);
                 assert!(next.is_none_or(|(from, to)| from < to && to <= start));

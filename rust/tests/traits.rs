@@ -114,19 +114,27 @@ fn machines() {
     );
     let bounds = TimeoutBounds::default();
     assert_eq!(
-        (bounds.least, bounds.most, bounds.tick),
-        (Duration::from_secs(1), Duration::from_secs(60), Duration::from_millis(1))
+        (bounds.least, bounds.most, bounds.tick, bounds.ack_delay),
+        (
+            Duration::from_secs(1),
+            Duration::from_secs(60),
+            Duration::from_millis(1),
+            Duration::from_millis(200)
+        )
     );
     let mut timeout = RetransmissionTimeout::default();
     timeout.acknowledged(bounds, Transmission::Repeated, Instant::ZERO);
     assert_eq!(timeout, RetransmissionTimeout::default());
-    assert_eq!(RetransmissionTimer::default(), RetransmissionTimer::new(Duration::from_secs(1)));
+    assert_eq!(
+        RetransmissionTimer::default(),
+        RetransmissionTimer::new(Duration::from_secs(1), false)
+    );
 }
 
 /// None is after the last one; and what a timer is made of makes the same.
 #[test]
 fn moments_of_timers() {
-    let mut timer = RetransmissionTimer::new(Duration::from_micros(7));
+    let mut timer = RetransmissionTimer::new(Duration::from_micros(7), true);
     assert_eq!((timer.expires_at(), timer.timeout()), (None, Duration::from_micros(7)));
     timer.start(Instant::from_micros(-5));
     assert_eq!(timer.expires_at(), Some(Instant::from_micros(2)));
@@ -134,7 +142,8 @@ fn moments_of_timers() {
     timer.start(Instant::from_micros(i64::MAX));
     assert_eq!(timer.expires_at(), Some(Instant::from_micros(i64::MAX)));
     let timeout = RetransmissionTimeout::from_parts(timer.rtt(), timer.timeout());
-    assert_eq!(RetransmissionTimer::from_parts(timeout, timer.expires_at(), timer.timed()), timer);
+    assert_eq!((timer.parts().timeout, timer.parts().ends_at), (timeout, timer.expires_at()));
+    assert_eq!(RetransmissionTimer::from_parts(timer.parts()), timer);
     let estimate = RttEstimate::from_scaled(u64::MAX, u64::MAX);
     assert_eq!(estimate.scaled(), (1 << 63, 1 << 62));
 }
@@ -198,39 +207,108 @@ mod streams {
     use net_base::receiver::Receiver;
     use net_base::sender::Sender;
     use net_base::storage::RingOver;
-    use std::io::{ErrorKind, Read, Write};
+    use std::fmt::Debug;
+    use std::io::{self, BufRead, ErrorKind, Read, Write};
+
+    /// Why a call is refused.
+    fn refusal<T: Debug>(result: io::Result<T>) -> ErrorKind {
+        result.expect_err("a refusal").kind()
+    }
+
+    /// What all readers do with `abcd`, which is queued and wraps, and then with nothing: all but one are refused then.
+    fn reads(mut reader: impl BufRead, at_end: Option<ErrorKind>) {
+        assert_eq!(reader.read(&mut []).unwrap(), 0);
+        assert_eq!(reader.fill_buf().unwrap(), b"ab");
+        reader.consume(1);
+        assert_eq!(reader.fill_buf().unwrap(), b"b");
+        let mut into = [0; 2];
+        reader.read_exact(&mut into).unwrap();
+        assert_eq!((&into, reader.fill_buf().unwrap()), (b"bc", &b"d"[..]));
+        let mut text = String::new();
+        let (line, text_after) = (reader.read_line(&mut text), "d");
+        assert_eq!((line.map_err(|error| error.kind()).err(), &text[..]), (at_end, text_after));
+        let (read, lent) = (reader.read(&mut into), reader.fill_buf().map(<[u8]>::len));
+        for result in [read, lent] {
+            assert_eq!(result.map_err(|error| error.kind()), at_end.map_or(Ok(0), Err));
+        }
+        assert_eq!(reader.read(&mut []).unwrap(), 0); // nothing is asked for: std's rule
+    }
 
     #[test]
     fn readers() {
-        let mut text = String::new();
-        let mut ring = RingOver::over([0u8; 8]);
-        assert_eq!(ring.enqueue_slice(b"abcd"), 4);
-        assert_eq!(Read::by_ref(&mut ring).take(3).read_to_string(&mut text).unwrap(), 3);
-        let (mut one, mut other) = ([0; 8], [0; 8]);
+        let mut ring = RingOver::over([0u8; 6]);
+        assert_eq!((ring.enqueue_slice(b"----ab"), ring.dequeue_slice(&mut [0; 4])), (6, 4));
+        assert_eq!(ring.enqueue_slice(b"cd"), 2);
+        reads(ring, Some(ErrorKind::WouldBlock));
+        let (mut one, mut other) = ([0; 6], [0; 6]);
         let mut receiver = Receiver::<4>::empty(&mut one[..]);
-        let mut finite = FiniteReceiver::<4>::empty_at(&mut other[..], 0);
-        assert!(receiver.segment(0, b"ef").is_ok() && finite.keep(0, b"gh", true).is_ok());
-        assert_eq!(receiver.read_to_string(&mut text).unwrap(), 2);
-        assert_eq!(finite.read_to_string(&mut text).unwrap(), 2);
-        assert_eq!((&text[..], ring.len(), finite.has_read_all()), ("abcefgh", 1, true));
+        assert!(receiver.segment(0, b"----ab").is_ok() && receiver.read(&mut [0; 4]) == 4);
+        assert!(receiver.segment(6, b"cd").is_ok());
+        reads(receiver, Some(ErrorKind::WouldBlock));
+        for is_last in [false, true] {
+            let mut finite = FiniteReceiver::<4>::empty_at(&mut other[..], 0);
+            assert!(finite.keep(0, b"----ab", false).is_ok() && finite.read(&mut [0; 4]) == 4);
+            assert!(finite.keep(6, b"cd", is_last).is_ok());
+            reads(finite, if is_last { None } else { Some(ErrorKind::WouldBlock) });
+        }
+    }
+
+    /// A text whose middle is missing isn't read as if it ended there, and what came isn't lost.
+    #[test]
+    fn a_part_is_missing() {
+        let mut storage = [0; 32];
+        let mut receiver = FiniteReceiver::<4>::empty_at(&mut storage[..], 0);
+        let (mut text, mut copied) = (String::new(), Vec::new());
+        assert_eq!(refusal(receiver.read_to_string(&mut text)), ErrorKind::WouldBlock);
+        assert!(receiver.keep(0, b"GET /pay?sum=10", false).is_ok());
+        assert!(receiver.keep(17, b"\n", true).is_ok()); // the end is known, and 15 and 16 are missing
+        assert_eq!(refusal(receiver.read_to_string(&mut text)), ErrorKind::WouldBlock);
+        assert_eq!(refusal(io::copy(&mut receiver, &mut copied)), ErrorKind::WouldBlock);
+        assert_eq!(refusal(receiver.read_exact(&mut [0])), ErrorKind::WouldBlock);
+        assert!(receiver.keep(15, b"00", false).is_ok() && !receiver.has_read_all());
+        assert_eq!(receiver.read_to_string(&mut text).unwrap(), 3);
+        assert_eq!((&text[..], receiver.has_read_all()), ("GET /pay?sum=1000\n", true));
+        assert_eq!(receiver.read_to_string(&mut text).unwrap(), 0);
+        // An end that comes without bytes.
+        receiver.reset_at(7);
+        assert_eq!(refusal(receiver.fill_buf().map(<[u8]>::len)), ErrorKind::WouldBlock);
+        assert!(receiver.keep(7, b"", true).is_ok());
+        assert!(receiver.fill_buf().unwrap().is_empty());
+        assert_eq!(receiver.lines().count(), 0);
     }
 
     #[test]
     fn writers() {
         let mut ring = RingOver::over([0u8; 4]);
         assert!(ring.write_all(b"abc").is_ok() && ring.flush().is_ok());
-        assert_eq!(ring.write_all(b"de").unwrap_err().kind(), ErrorKind::WriteZero);
+        assert_eq!(refusal(ring.write_all(b"de")), ErrorKind::WouldBlock);
+        assert_eq!(ring.write(b"").unwrap(), 0);
         assert_eq!(ring.as_slices(), (&b"abcd"[..], &b""[..]));
+        assert_eq!(RingOver::over([0u8; 0]).write(b"a").unwrap(), 0); // never, and not only for now
         let (mut one, mut other) = ([0; 4], [0; 4]);
         let (mut sender, mut finite) =
             (Sender::new(&mut one[..]), FiniteSender::new_at(&mut other[..], 0));
         for writer in [&mut sender as &mut dyn Write, &mut finite] {
             assert!(writer.write_all(b"abc").is_ok() && writer.flush().is_ok());
-            assert_eq!(writer.write(b"de").unwrap(), 1);
+            assert_eq!((writer.write(b"de").unwrap(), writer.write(b"").unwrap()), (1, 0));
+            assert_eq!(refusal(writer.write(b"e")), ErrorKind::WouldBlock);
         }
         assert_eq!(
-            (sender.peek_at(0, 9), finite.peek_at(1, 10)),
+            (sender.peek_at(0, 9), finite.send_at(1, 10)),
             (&b"abcd"[..], (&b"bcd"[..], false))
         );
+        // Room comes back with an acknowledgement, but not where a sender is closed.
+        assert!(sender.acknowledge(1) && finite.acknowledge(1));
+        assert_eq!((sender.write(b"e"), finite.write(b"e")), (1, 1));
+        finite.close();
+        assert_eq!(refusal(Write::write(&mut finite, b"f")), ErrorKind::BrokenPipe);
+        assert!(finite.acknowledge(4) && matches!(Write::write(&mut finite, b""), Ok(0)));
+        assert_eq!(refusal(Write::write(&mut finite, b"f")), ErrorKind::BrokenPipe);
+        // No position is left: nothing will be taken any more.
+        let mut last = Sender::new_at(&mut one[..], u64::MAX - 1);
+        assert_eq!((last.write(b"abc"), Write::write(&mut last, b"b").unwrap()), (1, 0));
+        assert_eq!(refusal(last.write_all(b"b")), ErrorKind::WriteZero);
+        let mut last = FiniteSender::new_at(&mut other[..], u64::MAX - 1);
+        assert_eq!(Write::write(&mut last, b"b").unwrap(), 0);
     }
 }

@@ -1,7 +1,13 @@
 """All that tools/erase.py knows by name: the modules that aren't erased, and what else Rust has in place of Rattle's text."""
+import re
 
 # The crates that are erased.
 CRATES = ['net_ring', 'net_packets', 'net_assembler', 'net_numbers', 'net_receiver', 'net_base', 'net_tcp', 'net_recovery', 'net_ffi']
+
+# The program, erased into an example: its library, and the module of the core that only it has. In it these crates are modules
+# of the example's `rattle.rs`.
+PROGRAM, SCHEDULE = ['net_bench_lib'], 'net_receiver/schedule'
+BY_HAND = ['net_ring', 'net_assembler', 'net_receiver', 'arrayvec', 'hex', 'memchr']
 
 # The modules of them that aren't, and why.
 UNERASED = {
@@ -11,11 +17,41 @@ UNERASED = {
     "Rust's has no `N`, as smoltcp's": ['net_assembler/assembler/new'],
     "Rust's tokens borrow their device, which Rattle's can't": [f'net_base/phy/{name}' for name in ('device', 'loopback', 'echo')],
     "in Rust it is core's": ['net_base/phy/non_zero'],
-    'only proofs want them': ['net_receiver/schedule', *(f'net_base/phy/{name}' for name in ('frame_lists', 'laws'))],
+    'only proofs want them': [*(f'net_base/phy/{name}' for name in ('frame_lists', 'laws')), 'net_bench_lib/laws'],
+    'the example `net_bench` alone has it': [SCHEDULE],
+    "in the example `net_bench` the words are Rust's": ['net_bench_lib/arguments'],
 }
+
+# Functions that nothing of Rust calls, by rustc's word: in Rattle laws, proofs and tests do.
+UNCALLED = {
+    'net_ring/ring_buffer': ['from_parts', 'into_parts'],
+    'net_assembler/assembler': ['from_parts', 'into_parts', 'parts', 'add_counted'],
+    'net_receiver/receiver': ['from_parts', 'is_sound'],
+    'net_receiver/schedule': ['replay', 'replay_core'],
+    **{f'net_receiver/{name}': ['from_parts', 'into_parts', 'is_sound']
+       for name in ('finite_receiver', 'scoreboard', 'sender')},
+    'net_receiver/finite_sender': ['from_parts', 'into_parts'],
+    'net_base/storage/fragments': ['from_parts', 'into_parts'],
+    'net_base/storage/fragments/head': ['exact'],
+}
+
+# Names that a `pub use` gives to other crates of Rattle, and that nothing of Rust has.
+UNNAMED = {'net_base/time': ['earlier'], 'net_assembler/lib': ['Turns'], 'net_bench_lib/lib': ['run']}
+
+# Where the repository's files are on the web, such as `https://..../blob/main`: a type's page then links its contracts. The
+# maintainers fill it in, with `repository` of rust/Cargo.toml.
+SOURCES = ''
 
 # The exports for C, which the shim of `c` calls: they are compiled with the feature `c` alone, and have no documentation.
 EXPORTS = 'net_ffi'
+
+# The macros that the text calls, and words before a negation, and those of the program; words of which Rust may say otherwise, or that are of a size, a
+# place or a width; operators, which are signs and no calls; and the one size that is read, which rustc compares with 0.
+MACROS = {'prove', 'write', 'matches', 'if', 'while', 'match', 'return', 'in', 'else'}, {'vec', 'write', 'writeln', 'if', 'while', 'match', 'return', 'in', 'else'}
+UNLIKE = {'macro_rules', 'size_of', 'size_of_val', 'align_of', 'align_of_val', 'type_name', 'type_name_of_val', 'TypeId',
+          'isize', 'BITS', 'Location'}
+OPERATORS = {f'{name}{end}' for name in 'Add Sub Mul Div Rem Shl Shr BitAnd BitOr BitXor'.split() for end in ('', 'Assign')} | {'Neg', 'Not'}
+NO_BYTES = re.compile(r'size_of::<\w+>\(\) == 0\);')
 
 RING, PACKETS, ASSEMBLER, PHY = 'net_ring/ring_buffer', 'net_packets/packet_buffer', 'net_assembler/assembler', 'net_base/phy'
 RECEIVER, FINITE, FRAGMENTS = 'net_receiver/receiver', 'net_receiver/finite_receiver', 'net_base/storage/fragments'
@@ -33,13 +69,15 @@ LIFETIMES = [
      "_with<'c, R, E, F: FnOnce(&mut H, &'c mut [u8]) -> Result<R, E>>(\n        &'c mut self,", {PACKETS: 1}),
 ]
 
-# These in attributes alone: what is printed is by hand; what can be cloned in Rust, where that isn't refused; features;
-# and fields that may be added.
+# These in attributes alone: what is printed is by hand, but for a ring's iterator; what can be cloned in Rust, where that
+# isn't refused; features; and fields that may be added.
 ATTRIBUTES = [
     ('#[derive(Debug)]\npub struct RingOver<', '#[derive(Clone)]\npub struct RingOver<', {RING: 1}),
     ('#[derive(Debug, Drop)]\npub struct PacketsOver<', '#[derive(Clone)]\npub struct PacketsOver<', {PACKETS: 1}),
     ('\npub struct ', '\n#[derive(Clone)]\npub struct ',
      {RECEIVER: 1, FINITE: 1, 'net_receiver/sender': 1, 'net_receiver/finite_sender': 1, FRAGMENTS: 1}),
+    ('#[derive(Drop)]\npub struct ', '#[derive(Clone)]\npub struct ', {ASSEMBLER: 2, 'net_receiver/held_runs': 1}),
+    ('pub struct Iter<', '#[derive(Debug)]\npub struct Iter<', {'net_ring/ring_buffer/iter': 1}),
     ('#[derive(Debug, Drop)]\npub struct Assembler<', 'pub struct Assembler<', {ASSEMBLER: 1}),
     ('    pub segmentation_off', '    #[cfg(feature = "segmentation-offload")]\n    pub segmentation_off', {PHY: 1}),
     ('pub struct PacketMeta ', '#[non_exhaustive]\npub struct PacketMeta ', {PHY: 1}),
@@ -50,11 +88,13 @@ ATTRIBUTES = [
 # These in types: what writes, the numbers of core, and how many runs there are where `N` isn't named.
 TYPES = [
     ('fn fmt<W: fmt::Write>(&self, f: &mut fmt::Formatter<W>)', "fn fmt(&self, f: &mut fmt::Formatter<'_>)",
-     {ASSEMBLER: 2, 'net_base/time/duration': 1, 'net_base/time/instant': 1}),
+     {ASSEMBLER: 2, 'net_base/time/duration': 1, 'net_base/time/instant': 1, 'net_bench_lib/stream/reply_lines': 2}),
     ('pub use non_zero::{NonZeroU16, NonZeroUsize};', 'pub use std::num::{NonZeroU16, NonZeroUsize};', {PHY: 1}),
     ("<'a, const N: usize> =", "<'a, const N: usize = ASSEMBLER_MAX_SEGMENT_COUNT> =",
      {ASSEMBLER: 1, 'net_receiver/held_runs': 1, FINITE: 1, RECEIVER: 1, FRAGMENTS: 1}),
     ('Assembler<const N: usize> {', 'Assembler<const N: usize = ASSEMBLER_MAX_SEGMENT_COUNT> {', {ASSEMBLER: 1}),
+    ('Assembler::new()', 'Assembler::empty()', {'net_bench_lib/asm': 1}),
+    ('Receiver::new_at(', 'Receiver::empty_at(', {'net_bench_lib/stream': 2}),
 ]
 
 REPLACED = LIFETIMES + ATTRIBUTES + TYPES

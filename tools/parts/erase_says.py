@@ -5,6 +5,7 @@ What a call returns by its contract is said as that call: `window self.new` as `
 """
 import re
 
+from parts import erase_list
 from parts.erase_tokens import Refused
 
 LEVELS = '↔', '→', '⊎', '×', '≡ ≢ ≤ <', '++ ∷', '+ -', '* / %', '^'         # the loosest first
@@ -110,6 +111,11 @@ def said(clause, begin=''):
     return (f'for each {names}: {sentence(read(text, held))}', CASE) if names else read(text, held)
 
 
+def place(file):
+    """A file of the repository, and where it is, if the list says so."""
+    return f'[`{file}`]({erase_list.SOURCES}/{file})' if erase_list.SOURCES else f'`{file}`'
+
+
 def document(eraser):
     """Adds lines to the documentation: of public functions the marked clauses, of public types the file with the contracts."""
     tokens, shown, calls = eraser.tokens, [], {}
@@ -146,4 +152,4 @@ def document(eraser):
         eraser.refuse(tokens[k][2], 'a mark of no clause that is shown')
     for item in re.finditer(r'^///[^\n]*(?=\n(?:#\[[^\n]*\n)*pub (?:struct|enum|trait)\b)', eraser.text, re.M) if shown else ():
         k = next(j for j, token in enumerate(tokens) if token[2] == item.start())
-        eraser.after[k] = eraser.after.get(k, '') + f'\n///\n/// Contracts: `{eraser.file}`.'
+        eraser.after[k] = eraser.after.get(k, '') + f'\n///\n/// Contracts: {place(eraser.file)}.'

@@ -8,7 +8,8 @@ TOKEN = re.compile(r"""
 """, re.X | re.S)
 CLAUSE = re.compile(r'(?:requires|ensures\*?)(?:\s+[a-z_]\w*)?\s*(?=\{)')
 GHOST = re.compile(r'ghost\s+(?:use\b[^;]*|[A-Za-z_]\w*\s*)(?=[=:;])')      # `= {..};`, `: {..};`, `: {..} = {..};`
-LOGIC = re.compile(r'"(?:\\.|[^"\\])*"|//[^\n]*|[(\[{)\]}]')       # in logic ' is part of names
+# In logic ' is part of names. Texts and comments are refused, but for texts of letters, spaces and line feeds.
+LOGIC = re.compile(r'(?<!\')"(?:[a-z ]|\\n)*"(?!\')|[(\[{)\]}]|"|--|//|\'[(\[{)\]}]')
 OPEN, CLOSE, SPACE = '([{', ')]}', ('space', 'doc', 'note')
 
 
@@ -36,9 +37,13 @@ class Text:
         """The end of the bracket of logic that opens at i."""
         opened = []
         for m in LOGIC.finditer(self.text, i):
+            if m.group()[0] == m.group()[-1] == '"' != m.group():
+                continue
+            if m.group() not in OPEN + CLOSE or self.text.startswith('{-', m.start()):
+                self.refuse(m.start(), 'a text or a comment in logic')
             if m.group() in OPEN:
                 opened.append(CLOSE[OPEN.index(m.group())])
-            elif m.group() in CLOSE and opened.pop() != m.group():
+            elif opened.pop() != m.group():
                 self.refuse(m.start(), 'another bracket is open')
             if not opened:
                 return m.end()
@@ -72,6 +77,10 @@ class Text:
         while self.tokens[k][0] in SPACE:
             k += 1
         return k
+
+    def before(self, k):
+        """The last token before k that isn't space or a comment."""
+        return next((self.tokens[j][1] for j in range(k - 1, -1, -1) if self.tokens[j][0] not in SPACE), '')
 
     def group(self, k):
         """The token after the bracket that opens at k."""

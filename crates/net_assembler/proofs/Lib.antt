@@ -6,3 +6,4 @@ pub mod SoundHeads
 pub mod Holes
 pub mod Moves
 pub mod Calls
+pub mod Searches

@@ -6,11 +6,15 @@
 --     holes s      the missing ranges below the end of the last run
 --     lies_in p run      whether p is in a run
 --     first_missing s p, front s, IsFirstMissing s p n      the first missing position, and the front
+--     EndsHole s p end      where the missing range ends that p is in
+--     IsEnd s n      n is the position after the last one
+--     present_count s p n, missing_count s p n      how many of n positions are present, or missing
 --     shift_down s m, shift_up s n, runs_shifted_up n rs      sets and runs, counted from elsewhere
 --     are_same s t      whether two sets are one
 use Rattle.std.specs.Prelude.{◌||◌, ◌≡◌, ℕ, zero, suc, ◌+◌, ◌-◌, ◌<◌, ◌≤◌, max, Bool, cond, not, ◌&&◌, ◌==◌, List, []}
 use Rattle.std.specs.Prelude.{◌∷◌, ◌++◌, map, filter, length, nat_le, nat_lt, nat_eq, IsTrue, IsFalse, All, AllPairs}
-use Rattle.std.specs.Prelude.{count_by}
+use Rattle.std.specs.Prelude.{count_by, Option, Some, None}
+use Rattle.std.specs.Int.{from_bool}
 use Rattle.std.specs.List.{range_with_len}
 use Rattle.std.specs.Ordering.{nat_cmp}
 use Rattle.std.specs.Cmp.Lexicographic.{pointwise}
@@ -115,6 +119,27 @@ pub record IsFirstMissing (s : Positions) (p n : ℕ) : Type 0 where
   pub from : p ≤ n
   pub missing : IsFalse (contains s n)
   pub present : (q : ℕ) → p ≤ q → q < n → IsTrue (contains s q)
+
+-- the range of missing positions that p is in ends at `end`, before a position of s; or no position of s is after p
+abbrev pub EndsHole : Positions → ℕ → Option ℕ → Type 0
+EndsHole s p (Some end) =
+    (p < end) × IsTrue (contains s end) × ((q : ℕ) → p ≤ q → q < end → IsFalse (contains s q))
+EndsHole s p None = (q : ℕ) → p ≤ q → IsFalse (contains s q)
+
+-- n is above each position of s, and 0 or the end of the last one
+pub record IsEnd (s : Positions) (n : ℕ) : Type 0 where
+  pub above : (p : ℕ) → IsTrue (contains s p) → p < n
+  pub reached : 0 < n → IsTrue (contains s (n - 1))
+
+-- how many of the n positions from p on are in s
+abbrev pub present_count : Positions → ℕ → ℕ → ℕ
+present_count s p zero = 0
+present_count s p (suc n) = from_bool (contains s p) + present_count s (p + 1) n
+
+-- and how many aren't
+abbrev pub missing_count : Positions → ℕ → ℕ → ℕ
+missing_count s p zero = 0
+missing_count s p (suc n) = from_bool (not (contains s p)) + missing_count s (p + 1) n
 
 -- p - m for each p in s with p >= m
 unfoldable pub shift_down : Positions → ℕ → Positions

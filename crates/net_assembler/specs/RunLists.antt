@@ -1,5 +1,6 @@
 -- Lists of runs (start, end), end not included, and the sets of positions that they represent.
 --     AreRuns rs      runs that rise, with a hole between neighbours
+--     SplitsRuns rs p n      n of them start at or before p
 --     run_positions rs, set_of_runs rs      their positions, as a list and as a set
 --     runs_shifted_down m rs, StartsAtZero rs, FitsFrom n rs      how runs are counted
 --     AreUsize rs      that each start and end is a number of `usize`
@@ -30,6 +31,12 @@ IsRising low (r ∷ rs) = (low ≤ r.0) × (r.0 < r.1) × IsRising (r.1 + 1) rs
 -- runs that rise, with a hole between neighbours; the first may begin at 0
 abbrev pub AreRuns : List (ℕ × ℕ) → Type 0
 AreRuns rs = IsRising 0 rs
+
+-- the first n of the runs start at or before p, and the others after it
+pub record SplitsRuns (rs : List (ℕ × ℕ)) (p n : ℕ) : Type 0 where
+  pub few : n ≤ length rs
+  pub before : (k : ℕ) → k < n → start_at rs k ≤ p
+  pub after : (k : ℕ) → n ≤ k → k < length rs → p < start_at rs k
 
 -- the positions of a list of runs
 abbrev pub run_positions : List (ℕ × ℕ) → List ℕ

@@ -85,6 +85,7 @@ impl<const N: usize> Assembler<N> {
     /// ```
     ///
     /// A program in which `N` is 0 does not compile.
+    #[must_use]
     pub const fn empty() -> Self
         requires { 1 ≤ N }
         ensures empty { result ≡ nothing }
@@ -164,6 +165,7 @@ impl<const N: usize> Assembler<N> {
     /// assert_eq!(assembler.add(0, 3), Ok(()));
     /// assert_eq!(assembler.peek_front(), 3);
     /// ```
+    #[must_use]
     pub fn peek_front(&self) -> usize
         ensures { result ≡ front self.now }
     {
@@ -178,6 +180,7 @@ impl<const N: usize> Assembler<N> {
     /// assert_eq!(assembler.add(5, 0), Ok(()));
     /// assert!(assembler.is_empty());
     /// ```
+    #[must_use]
     pub fn is_empty(&self) -> bool
         ensures { IsTrue result ↔ (self.now ≡ nothing) }
     {
@@ -185,6 +188,7 @@ impl<const N: usize> Assembler<N> {
     }
 
     /// Returns how many maximal runs there are, without a loop. smoltcp has no such call.
+    #[must_use]
     pub fn run_count(&self) -> usize
         ensures count { result ≡ runs self.now }
         ensures bound { result ≤ N }
@@ -195,6 +199,7 @@ impl<const N: usize> Assembler<N> {
     /// Returns whether `offset + size` fits `usize`, which all calls that add a range require.
     /// smoltcp has no such call; there such a sum overflows.
     #[inline]
+    #[must_use]
     pub fn fits(offset: usize, size: usize) -> bool
         ensures { IsTrue result ↔ RangeFits offset size }
     {
@@ -402,6 +407,7 @@ impl<const N: usize> Assembler<N> {
     /// assert_eq!((assembler.add(5, 1), assembler.add(0, 3)), (Ok(()), Ok(())));
     /// assert!(assembler.iter_data().eq([(0, 3), (5, 6)]));
     /// ```
+    #[must_use]
     pub fn iter_data(&self) -> IterData<'_, N>
         ensures runs { result ≡ maximal_runs self.now }
         // Guarantee.
@@ -422,6 +428,7 @@ impl<const N: usize> Assembler<N> {
     /// assert_eq!((assembler.add(5, 1), assembler.add(0, 3)), (Ok(()), Ok(())));
     /// assert_eq!((assembler.run_at(1), assembler.run_at(2)), (Some((5, 6)), None));
     /// ```
+    #[must_use]
     pub fn run_at(&self, k: usize) -> Option<(usize, usize)>
         ensures run { result ≡ slice_get (maximal_runs self.now) k }
         ensures some { IfSome result (λ r. r.0 < r.1) }
@@ -437,6 +444,7 @@ impl<const N: usize> Assembler<N> {
     /// assert_eq!(assembler.add(5, 1), Ok(()));
     /// assert!(assembler.contains(5) && !assembler.contains(6));
     /// ```
+    #[must_use]
     pub fn contains(&self, position: usize) -> bool
         ensures { result ≡ contains self.now position }
     {
@@ -452,6 +460,7 @@ impl<const N: usize> Assembler<N> {
     /// assert_eq!((assembler.add(5, 1), assembler.add(2, 2)), (Ok(()), Ok(())));
     /// assert!(assembler.holes().eq([(0, 2), (4, 5)]));
     /// ```
+    #[must_use]
     pub fn holes(&self) -> HoleIter<'_>
         ensures holes { result ≡ holes self.now }
         ensures bound { length result ≤ N }
@@ -462,6 +471,7 @@ impl<const N: usize> Assembler<N> {
     /// Returns the hole with number `k`, counted from 0 in rising order, as (start, end), the end not
     /// included; `None` exactly if there are no more than `k`. Holes are the missing ranges below
     /// the end of the last run, such as those that a sender sends again. smoltcp has no such call.
+    #[must_use]
     pub fn hole_at(&self, k: usize) -> Option<(usize, usize)>
         ensures hole { result ≡ slice_get (holes self.now) k }
         ensures some { IfSome result (λ h. h.0 < h.1) }

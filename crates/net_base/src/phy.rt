@@ -69,6 +69,7 @@ impl Checksum {
     /// # use net_base::phy::Checksum;
     /// assert!(Checksum::Rx.rx() && !Checksum::Tx.rx());
     /// ```
+    #[must_use]
     pub fn rx(&self) -> bool
         ensures { result ≡ is_verified self.now }
     {
@@ -81,6 +82,7 @@ impl Checksum {
     /// # use net_base::phy::Checksum;
     /// assert!(Checksum::Tx.tx() && !Checksum::Rx.tx());
     /// ```
+    #[must_use]
     pub fn tx(&self) -> bool
         ensures { result ≡ is_computed self.now }
     {
@@ -118,6 +120,7 @@ impl ChecksumCapabilities {
     /// # use net_base::phy::ChecksumCapabilities;
     /// assert!(!ChecksumCapabilities::ignored().tcp.rx());
     /// ```
+    #[must_use]
     pub fn ignored() -> ChecksumCapabilities
         ensures { result ≡ no_checksums }
     {
@@ -166,6 +169,7 @@ impl DeviceCapabilities {
     /// # use net_base::phy::DeviceCapabilities;
     /// assert!(!DeviceCapabilities::default().has_ip_mtu());
     /// ```
+    #[must_use]
     pub fn has_ip_mtu(&self) -> bool
         ensures { IsTrue result ↔ HasIpMtu self.now }
     {
@@ -190,6 +194,7 @@ impl DeviceCapabilities {
     ///
     /// The MTU has room for the medium's header, as `has_ip_mtu` tests.
     #[track_caller]
+    #[must_use]
     pub fn ip_mtu(&self) -> usize
         requires has_ip_mtu { HasIpMtu self.now }
         ensures { result ≡ ip_mtu_of self.now }
@@ -210,6 +215,7 @@ impl DeviceCapabilities {
     /// capabilities.max_transmission_unit = 34;
     /// assert!(capabilities.fits_ip_header(20) && !capabilities.fits_ip_header(24));
     /// ```
+    #[must_use]
     pub fn fits_ip_header(&self, ip_header_len: usize) -> bool
         ensures { IsTrue result ↔ FitsIpHeader self.now ip_header_len }
     {
@@ -231,6 +237,7 @@ impl DeviceCapabilities {
     ///
     /// The MTU has room for the medium's header and this one, as `fits_ip_header` tests.
     #[track_caller]
+    #[must_use]
     pub fn max_ipv4_fragment_size(&self, ip_header_len: usize) -> usize
         requires fits_ip_header { FitsIpHeader self.now ip_header_len }
         ensures { result ≡ fragment_size_of self.now ip_header_len }

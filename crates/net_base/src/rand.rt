@@ -51,6 +51,7 @@ impl Rand {
     /// # use net_base::rand::Rand;
     /// assert_eq!(Rand::new(7).rand_u32(), Rand::new(7).rand_u32());
     /// ```
+    #[must_use]
     pub const fn new(seed: u64) -> Rand
         ensures { result ≡ seed }
     {
@@ -58,6 +59,7 @@ impl Rand {
     }
 
     /// Returns the state: `Rand::new` of it goes on where this generator is. smoltcp has no such call.
+    #[must_use]
     pub fn state(&self) -> u64
         ensures { result ≡ self.now }
     {

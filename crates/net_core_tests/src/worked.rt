@@ -8,6 +8,7 @@
 //! The tests of devices have no table: they are functions of `base`.
 
 mod assembler;
+mod assembler_rows;
 mod packets;
 mod random;
 mod receiver;

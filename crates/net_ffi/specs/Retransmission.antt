@@ -1,14 +1,16 @@
 -- The timeout and the timer of C, whose flags are numbers beside theirs.
 --     rtt_of e, bounds_of b, timeout_of t, timer_of t      what those of C represent
 --     numbers_of e, timeout_fields t, timer_fields t      those of C that represent these: 0 and 1 as flags, and 0 where there is nothing
---     with_expiry f e, with_timed f s      C's timer with another expiry, or another timed segment
-use Rattle.std.specs.Prelude.{ℕ, ℤ, pos, Option, Some, None, is_some, if◌then◌else◌, nat_eq, unwrap_or}
+--     due_of e      the number of what is due
+use Rattle.std.specs.Prelude.{ℕ, ℤ, pos, Option, Some, None, is_some, if◌then◌else◌, nat_eq, unwrap_or, not}
 use Rattle.net_tcp.specs.Estimate.{Estimate}
-use Rattle.net_tcp.specs.Retransmission.{within}
+use Rattle.net_tcp.specs.Retransmission.{within, expires_at}
 use Rattle.net_tcp.specs.declared.retransmission.TimeoutBounds.{TimeoutBounds as Bounds}
 use Rattle.net_tcp.specs.declared.retransmission.RetransmissionTimeout.{RetransmissionTimeout as Timeout}
 use Rattle.net_tcp.specs.declared.retransmission_timer.RetransmissionTimer.{RetransmissionTimer as Timer}
 use Rattle.net_tcp.specs.declared.retransmission_timer.TimedSegment.{TimedSegment}
+use Rattle.net_tcp.specs.declared.retransmission_timer.Expiry.{Expiry}
+use Rattle.net_tcp.specs.declared.retransmission_timer.Expiry.TheVariants.{Probe, Timeout as Passed}
 use Rattle.net_ffi.specs.declared.retransmission.RttEstimate.{RttEstimate}
 use Rattle.net_ffi.specs.declared.retransmission.TimeoutBounds.{TimeoutBounds}
 use Rattle.net_ffi.specs.declared.retransmission.RetransmissionTimeout.{RetransmissionTimeout}
@@ -19,7 +21,7 @@ abbrev pub rtt_of : RttEstimate → Estimate
 rtt_of e = within e.srtt_8 e.rttvar_4
 
 abbrev pub bounds_of : TimeoutBounds → Bounds
-bounds_of b = record { least = b.least; most = b.most; tick = b.tick }
+bounds_of b = record { least = b.least; most = b.most; tick = b.tick; ack_delay = b.ack_delay }
 
 abbrev pub timeout_of : RetransmissionTimeout → Timeout
 timeout_of t = record {
@@ -30,8 +32,14 @@ timeout_of t = record {
 abbrev pub timer_of : RetransmissionTimer → Timer
 timer_of t = record {
   timeout = timeout_of t.timeout;
-  expires_at = if nat_eq t.is_running 0 then None else Some t.expiry;
+  ends_at = if nat_eq t.is_running 0 then None else Some t.ends_at;
+  probe_at = t.probe_at;
+  wait = t.wait;
+  is_alone = not (nat_eq t.is_alone 0);
   timed = if nat_eq t.is_timing 0 then None else Some (record { pos = t.timed; since = t.timed_since });
+  last = t.last;
+  timeouts = t.timeouts;
+  reports = not (nat_eq t.reports 0);
 }
 
 abbrev pub numbers_of : Option Estimate → RttEstimate
@@ -53,18 +61,25 @@ abbrev pub since_of : Option TimedSegment → ℤ
 since_of None = pos 0
 since_of (Some s) = s.since
 
-abbrev pub with_expiry : RetransmissionTimer → Option ℤ → RetransmissionTimer
-with_expiry f e = record f { expiry = unwrap_or e (pos 0); is_running = if is_some e then 1 else 0 }
-
-abbrev pub with_timed : RetransmissionTimer → Option TimedSegment → RetransmissionTimer
-with_timed f s = record f { timed = pos_of s; timed_since = since_of s; is_timing = if is_some s then 1 else 0 }
+-- 0 if nothing is, 11 and 12 for a probe and for the timeout
+abbrev pub due_of : Option Expiry → ℕ
+due_of None = 0
+due_of (Some Probe) = 11
+due_of (Some Passed) = 12
 
 abbrev pub timer_fields : Timer → RetransmissionTimer
 timer_fields t = record {
   timeout = timeout_fields t.timeout;
-  expiry = unwrap_or t.expires_at (pos 0);
-  is_running = if is_some t.expires_at then 1 else 0;
+  expiry = unwrap_or (expires_at t) (pos 0);
+  ends_at = unwrap_or t.ends_at (pos 0);
+  probe_at = t.probe_at;
+  wait = t.wait;
+  is_running = if is_some t.ends_at then 1 else 0;
+  is_alone = if t.is_alone then 1 else 0;
   timed = pos_of t.timed;
   timed_since = since_of t.timed;
   is_timing = if is_some t.timed then 1 else 0;
+  last = t.last;
+  timeouts = t.timeouts;
+  reports = if t.reports then 1 else 0;
 }

@@ -46,6 +46,12 @@ pub const NET_BASE_IGNORE: Status = 9;
 /// The peer has reset the connection.
 pub const NET_BASE_RESET: Status = 10;
 
+/// No answer has come in time: find what is overdue, and send a probe if nothing of it may be sent.
+pub const NET_BASE_PROBE: Status = 11;
+
+/// The timeout has passed: all that was sent and isn't acknowledged is lost.
+pub const NET_BASE_TIMEOUT: Status = 12;
+
 /// States each number of this module: callers may be compiled with it.
 pub fn numbers()
     ensures done { NET_BASE_DONE ≡ 0 }
@@ -59,6 +65,8 @@ pub fn numbers()
     ensures answer { NET_BASE_ANSWER ≡ 8 }
     ensures ignore { NET_BASE_IGNORE ≡ 9 }
     ensures reset { NET_BASE_RESET ≡ 10 }
+    ensures probe { NET_BASE_PROBE ≡ 11 }
+    ensures timeout { NET_BASE_TIMEOUT ≡ 12 }
 {}
 
 /// In place of a length, an index or a count: what was passed is nonsense, or there is none.

@@ -1,17 +1,20 @@
 //! The time until a retransmission (RFC 6298), and its timer, with the one segment that is timed for a sample. Lengths
 //! of time are in microseconds, and so are moments, of one clock.
 //!
-//! A timer of zeros is new: there was no sample, the timer doesn't run, no segment is timed, and the timeout is 1 second,
-//! which the RFC begins with. A call writes the fields that it changes: 0 where there is nothing, and 0 or 1 in a flag.
-ghost use Rattle.std.specs.Prelude.{◌≡◌, ◌&&◌, ◌≤◌, pos, unwrap_or, is_some, is_none, IsTrue, IsFalse, if◌then◌else◌};
-ghost use Rattle.net_tcp.specs.Retransmission.{new_timer, started, stopped, after_sending, with_sample};
-ghost use Rattle.net_tcp.specs.Retransmission.{after_acknowledged, has_expired, after_expiry};
+//! A timer of zeros is new, of a peer that reports no blocks: there was no sample, the timer doesn't run, no segment is
+//! timed, and the timeout is 1 second, which the RFC begins with. A call that changes anything writes all fields: 0 where
+//! there is nothing, and 0 or 1 in a flag.
+ghost use Rattle.std.specs.Prelude.{◌≡◌, ◌≤◌, pos, unwrap_or, is_some, IsTrue, IsFalse, if◌then◌else◌};
+ghost use Rattle.std.specs.Prelude.{Option, Some, None, not, nat_eq};
+ghost use Rattle.net_tcp.specs.Retransmission.{new_timer, started, stopped, after_sending, with_sample, after_report};
+ghost use Rattle.net_tcp.specs.Retransmission.{after_acknowledged, has_expired, after_expiry, expiry};
 ghost use Rattle.net_ffi.specs.Retransmission.{rtt_of, bounds_of, timeout_of, timer_of, timeout_fields, timer_fields};
-ghost use Rattle.net_ffi.specs.Retransmission.{pos_of, since_of, with_expiry, with_timed};
+ghost use Rattle.net_ffi.specs.Retransmission.{pos_of, since_of, due_of};
 
+use crate::refusals::{NET_BASE_DONE, NET_BASE_PROBE, NET_BASE_TIMEOUT, Status};
 use net_base::time::{Duration, Instant};
 use net_numbers::SentNumbers;
-use net_tcp::TimedSegment;
+use net_tcp::{Expiry, TimedSegment, TimerParts};
 
 /// What a timeout of 0 counts as: 1 second.
 const FIRST_TIMEOUT: u64 = 1_000_000;
@@ -26,7 +29,8 @@ pub struct RttEstimate {
     pub rttvar_4: u64,
 }
 
-/// The bounds of a timeout, and the tick of the clock that the samples are read from.
+/// The bounds of a timeout, the tick of the clock that the samples are read from, and how long a peer delays an
+/// acknowledgement.
 #[repr(C)]
 #[derive(Copy, Clone, Debug)]
 pub struct TimeoutBounds {
@@ -36,6 +40,8 @@ pub struct TimeoutBounds {
     pub most: u64,
     /// The time between two ticks of the clock.
     pub tick: u64,
+    /// The longest time for which the peer delays the acknowledgement of one segment: 200,000 for TCP.
+    pub ack_delay: u64,
 }
 
 /// The time until a retransmission.
@@ -56,16 +62,30 @@ pub struct RetransmissionTimeout {
 pub struct RetransmissionTimer {
     /// The timeout.
     pub timeout: RetransmissionTimeout,
-    /// When it expires, while it runs.
+    /// When it expires, while it runs: the earlier of the next two. It is written, and not read.
     pub expiry: i64,
+    /// When the timeout passes, while it runs.
+    pub ends_at: i64,
+    /// When a probe is due, if that is earlier.
+    pub probe_at: i64,
+    /// How long the probe has waited then.
+    pub wait: u64,
     /// Not 0 while it runs.
     pub is_running: u64,
+    /// Not 0 while the probe waits for an acknowledgement that may be delayed.
+    pub is_alone: u64,
     /// The position of the timed segment, if there is one.
     pub timed: u64,
     /// When that was sent.
     pub timed_since: i64,
     /// Not 0 while a segment is timed.
     pub is_timing: u64,
+    /// Where the last segment begins that had something new.
+    pub last: u64,
+    /// How often the timeout has passed since anything new was acknowledged or reported.
+    pub timeouts: u64,
+    /// Not 0 if the peer reports blocks: else no probe is due.
+    pub reports: u64,
 }
 
 /// Returns the bounds.
@@ -77,6 +97,7 @@ fn bounds_from(bounds: &TimeoutBounds) -> net_tcp::TimeoutBounds
         least: Duration::from_micros(bounds.least),
         most: Duration::from_micros(bounds.most),
         tick: Duration::from_micros(bounds.tick),
+        ack_delay: Duration::from_micros(bounds.ack_delay),
     }
 }
 
@@ -140,10 +161,10 @@ fn fields_of_timeout(
 fn timer_from(fields: &RetransmissionTimer) -> net_tcp::RetransmissionTimer
     ensures { result ≡ timer_of fields.now }
 {
-    let expires_at = if fields.is_running == 0 {
+    let ends_at = if fields.is_running == 0 {
         None
     } else {
-        Some(Instant::from_micros(fields.expiry))
+        Some(Instant::from_micros(fields.ends_at))
     };
     let timed = if fields.is_timing == 0 {
         None
@@ -153,7 +174,17 @@ fn timer_from(fields: &RetransmissionTimer) -> net_tcp::RetransmissionTimer
             since: Instant::from_micros(fields.timed_since),
         })
     };
-    net_tcp::RetransmissionTimer::from_parts(timeout_from(fields.timeout), expires_at, timed)
+    net_tcp::RetransmissionTimer::from_parts(TimerParts {
+        timeout: timeout_from(fields.timeout),
+        ends_at,
+        probe_at: Instant::from_micros(fields.probe_at),
+        wait: Duration::from_micros(fields.wait),
+        is_alone: fields.is_alone != 0,
+        timed,
+        last: fields.last,
+        timeouts: fields.timeouts,
+        reports: fields.reports != 0,
+    })
 }
 
 /// Returns a moment, or 0 if there is none.
@@ -189,92 +220,163 @@ fn sent_at(segment: Option<TimedSegment>) -> i64
     }
 }
 
+/// When the timeout passes, and whether the timer runs.
+#[derive(Copy, Clone, Debug)]
+struct Running {
+    at: i64,
+    is_running: u64,
+}
+
+/// The segment that is timed, and whether there is one.
+#[derive(Copy, Clone, Debug)]
+struct Timing {
+    pos: u64,
+    since: i64,
+    is_timing: u64,
+}
+
+/// Returns a flag's number.
+#[inline(always)]
+fn flag_of(flag: bool) -> u64
+    ensures value { result ≡ (if flag then 1 else 0) }
+    ensures same { not (nat_eq result 0) ≡ flag }
+{
+    u64::from(flag)
+}
+
+/// Returns the fields of a moment that there may be.
+#[inline(always)]
+fn running_of(ends_at: Option<Instant>) -> Running
+    ensures value { result ≡ record { at = unwrap_or ends_at (pos 0); is_running = if is_some ends_at then 1 else 0 } }
+    ensures same { (if nat_eq result.is_running 0 then None else Some result.at) ≡ ends_at }
+{
+    Running {
+        at: moment_of(ends_at),
+        is_running: u64::from(ends_at.is_some()),
+    }
+}
+
+/// Returns the fields of a segment that there may be.
+#[inline(always)]
+fn timing_of(timed: Option<TimedSegment>) -> Timing
+    ensures value { result ≡ record {
+      pos = pos_of timed;
+      since = since_of timed;
+      is_timing = if is_some timed then 1 else 0;
+    } }
+    ensures same { (if nat_eq result.is_timing 0 then None
+        else Some (record { pos = result.pos; since = result.since })) ≡ timed }
+{
+    Timing {
+        pos: position_of(timed),
+        since: sent_at(timed),
+        is_timing: u64::from(timed.is_some()),
+    }
+}
+
 /// Returns the fields of a timer, which represent it.
 #[inline(always)]
 fn fields_of_timer(timer: net_tcp::RetransmissionTimer) -> RetransmissionTimer
     ensures value { result ≡ timer_fields timer }
     ensures same { 1 ≤ timer.timeout.timeout → timer_of result ≡ timer }
 {
-    let (expires_at, timed) = (timer.expires_at(), timer.timed());
+    let parts = timer.parts();
+    let running = running_of(parts.ends_at);
+    let timing = timing_of(parts.timed);
     RetransmissionTimer {
-        timeout: fields_of_timeout(timer.rtt(), timer.timeout()),
-        expiry: moment_of(expires_at),
-        is_running: u64::from(expires_at.is_some()),
-        timed: position_of(timed),
-        timed_since: sent_at(timed),
-        is_timing: u64::from(timed.is_some()),
+        timeout: fields_of_timeout(parts.timeout.rtt(), parts.timeout.timeout()),
+        expiry: moment_of(timer.expires_at()),
+        ends_at: running.at,
+        probe_at: parts.probe_at.total_micros(),
+        wait: parts.wait.total_micros(),
+        is_running: running.is_running,
+        is_alone: flag_of(parts.is_alone),
+        timed: timing.pos,
+        timed_since: timing.since,
+        is_timing: timing.is_timing,
+        last: parts.last,
+        timeouts: parts.timeouts,
+        reports: flag_of(parts.reports),
     }
 }
 
-/// Writes when the timer expires, if at all, and nothing else.
+/// Returns the number of what is due.
 #[inline(always)]
-fn set_expiry(fields: &mut RetransmissionTimer, at: Option<Instant>)
-    ensures value { fields.new ≡ with_expiry fields.old at }
-    ensures same { timer_of fields.new ≡ record (timer_of fields.old) { expires_at = at } }
+fn number_of(expiry: Option<Expiry>) -> Status
+    ensures { result ≡ due_of expiry }
 {
-    fields.expiry = moment_of(at);
-    fields.is_running = u64::from(at.is_some());
-}
-
-/// Writes the timed segment, if there is one, and nothing else.
-#[inline(always)]
-fn set_timed(fields: &mut RetransmissionTimer, segment: Option<TimedSegment>)
-    ensures value { fields.new ≡ with_timed fields.old segment }
-    ensures same { timer_of fields.new ≡ record (timer_of fields.old) { timed = segment } }
-{
-    fields.timed = position_of(segment);
-    fields.timed_since = sent_at(segment);
-    fields.is_timing = u64::from(segment.is_some());
+    match expiry {
+        None => NET_BASE_DONE,
+        Some(Expiry::Probe) => NET_BASE_PROBE,
+        Some(Expiry::Timeout) => NET_BASE_TIMEOUT,
+    }
 }
 
 /// Makes `timer` a timer that doesn't run, with a timeout before any sample. 0 counts as 1 second, which the RFC has.
+/// `reports` says whether the peer reports blocks (SACK): if not, no probe is ever due.
 #[unsafe(no_mangle)]
-pub extern "C" fn net_base_retransmission_timer_init(timer: &mut RetransmissionTimer, timeout: u64)
-    ensures { timer.new ≡ timer_fields (new_timer timeout) }
+pub extern "C" fn net_base_retransmission_timer_init(
+    timer: &mut RetransmissionTimer,
+    timeout: u64,
+    reports: bool,
+)
+    ensures { timer.new ≡ timer_fields (new_timer timeout reports) }
 {
-    *timer = fields_of_timer(net_tcp::RetransmissionTimer::new(Duration::from_micros(timeout)));
+    *timer = fields_of_timer(net_tcp::RetransmissionTimer::new(
+        Duration::from_micros(timeout),
+        reports,
+    ));
 }
 
-/// Starts the timer, unless it runs: it expires the timeout from `now` on, at `INT64_MAX` if that is above it.
+/// Starts the timer, unless it runs, where nothing is on the way: it expires the timeout from `now` on, at `INT64_MAX` if
+/// that is above it, and no probe is due.
 #[unsafe(no_mangle)]
 pub extern "C" fn net_base_retransmission_timer_start(timer: &mut RetransmissionTimer, now: i64)
-    ensures { timer.new ≡ with_expiry timer.old (started now (timer_of timer.old)).expires_at }
+    ensures { timer.new ≡ timer_fields (started now (timer_of timer.old)) }
 {
     let mut it = timer_from(timer);
     it.start(Instant::from_micros(now));
-    set_expiry(timer, it.expires_at());
+    *timer = fields_of_timer(it);
 }
 
 /// Stops the timer. A segment that is timed stays so.
 #[unsafe(no_mangle)]
 pub extern "C" fn net_base_retransmission_timer_stop(timer: &mut RetransmissionTimer)
-    ensures { timer.new ≡ with_expiry timer.old (stopped (timer_of timer.old)).expires_at }
+    ensures { timer.new ≡ timer_fields (stopped (timer_of timer.old)) }
 {
     let mut it = timer_from(timer);
     it.stop();
-    set_expiry(timer, it.expires_at());
+    *timer = fields_of_timer(it);
 }
 
-/// Takes notice that the positions from `position` on and below `end` are sent `now`, and starts the timer, unless it
-/// runs. `numbers` are the sender's before that. Nothing changes if there are no positions.
+/// Takes notice that the segment with the positions from `position` on and below `end` is sent `now`, and starts the timer,
+/// unless it runs. `numbers` are the sender's before that. Nothing changes if there are no positions.
 ///
 /// If no segment is timed, one of which nothing was sent before is then. One that was timed is no longer if it is sent
 /// again: which of the copies an acknowledgement is for is not known (Karn).
+///
+/// Where nothing else is on the way, the probe waits longer by `ack_delay`. The second segment that has something new
+/// brings it to two round trips from `now`.
 #[unsafe(no_mangle)]
 pub extern "C" fn net_base_retransmission_timer_sent(
     timer: &mut RetransmissionTimer,
+    bounds: &TimeoutBounds,
     position: u64,
     end: u64,
     numbers: &SentNumbers,
     now: i64,
 )
-    ensures { let after = after_sending position end numbers.now.sent now (timer_of timer.old) in
-        timer.new ≡ with_timed (with_expiry timer.old after.expires_at) after.timed }
+    ensures { timer.new ≡ timer_fields (after_sending (bounds_of bounds.now) position end
+        numbers.now.first_unacknowledged numbers.now.sent now (timer_of timer.old)) }
 {
     let mut it = timer_from(timer);
-    it.sent(position..end, *numbers, Instant::from_micros(now));
-    set_expiry(timer, it.expires_at());
-    set_timed(timer, it.timed());
+    it.sent(
+        bounds_from(bounds),
+        position..end,
+        *numbers,
+        Instant::from_micros(now),
+    );
+    *timer = fields_of_timer(it);
 }
 
 /// Takes the sample of the timed segment, if there is one, since it has arrived:
@@ -285,13 +387,8 @@ pub extern "C" fn net_base_retransmission_timer_take_sample(
     bounds: &TimeoutBounds,
     now: i64,
 )
-    ensures taken { IsTrue (is_some (timer_of timer.old).timed) →
-        timer.new ≡ timer_fields (with_sample (bounds_of bounds.now) now (timer_of timer.old)) }
-    ensures unchanged { IsFalse (is_some (timer_of timer.old).timed) → timer.new ≡ timer.old }
+    ensures { timer.new ≡ timer_fields (with_sample (bounds_of bounds.now) now (timer_of timer.old)) }
 {
-    if timer.is_timing == 0 {
-        return;
-    }
     let mut it = timer_from(timer);
     it.take_sample(bounds_from(bounds), Instant::from_micros(now));
     *timer = fields_of_timer(it);
@@ -299,7 +396,7 @@ pub extern "C" fn net_base_retransmission_timer_take_sample(
 
 /// Takes an acknowledgement of all positions below `next`: the sample of the timed segment, if that is below; then, if
 /// it acknowledges something new, it stops the timer if all that was sent is below `next`, and otherwise starts it
-/// again. A repeated acknowledgement does neither.
+/// again. A repeated acknowledgement does neither. One of what was never sent changes nothing.
 ///
 /// `numbers` are the sender's before it takes the acknowledgement.
 #[unsafe(no_mangle)]
@@ -310,10 +407,8 @@ pub extern "C" fn net_base_retransmission_timer_acknowledged(
     next: u64,
     now: i64,
 )
-    ensures state { let after = after_acknowledged (bounds_of bounds.now)
-        numbers.now.first_unacknowledged numbers.now.sent next now (timer_of timer.old) in
-        timer.new ≡ (if is_some (timer_of timer.old).timed && is_none after.timed then timer_fields after
-        else with_expiry timer.old after.expires_at) }
+    ensures { timer.new ≡ timer_fields (after_acknowledged (bounds_of bounds.now)
+        numbers.now.first_unacknowledged numbers.now.sent next now (timer_of timer.old)) }
 {
     let mut it = timer_from(timer);
     it.acknowledged(
@@ -322,32 +417,39 @@ pub extern "C" fn net_base_retransmission_timer_acknowledged(
         next,
         Instant::from_micros(now),
     );
-    // The timeout changes by a sample alone, which ends the timing.
-    if timer.is_timing != 0 && it.timed().is_none() {
-        *timer = fields_of_timer(it);
-    } else {
-        set_expiry(timer, it.expires_at());
-    }
+    *timer = fields_of_timer(it);
 }
 
-/// If the timer has expired, doubles the timeout within the bounds, starts it again, and times no segment any longer.
-/// Returns whether it had: then the first segment that isn't acknowledged is to be sent again. Otherwise nothing
-/// changes.
+/// Takes notice that a block has reported what wasn't known: a timer that runs is started again. A peer that reports
+/// delays no acknowledgement.
+#[unsafe(no_mangle)]
+pub extern "C" fn net_base_retransmission_timer_reported(timer: &mut RetransmissionTimer, now: i64)
+    ensures { timer.new ≡ timer_fields (after_report now (timer_of timer.old)) }
+{
+    let mut it = timer_from(timer);
+    it.reported(Instant::from_micros(now));
+    *timer = fields_of_timer(it);
+}
+
+/// Returns what is due: `NET_BASE_DONE` if nothing is, and then nothing changes; `NET_BASE_PROBE` where no answer has come:
+/// the next probe waits twice as long, and the timeout passes when it would have passed; and `NET_BASE_TIMEOUT` where that
+/// has: then it is doubled within the bounds, the timer starts again, no segment is timed any longer, and no probe is due
+/// until something new is acknowledged or reported.
 #[unsafe(no_mangle)]
 pub extern "C" fn net_base_retransmission_timer_expire(
     timer: &mut RetransmissionTimer,
     bounds: &TimeoutBounds,
     now: i64,
-) -> bool
-    ensures result { result ≡ has_expired (timer_of timer.old) now }
-    ensures state { IsTrue result →
+) -> Status
+    ensures result { result ≡ due_of (expiry (timer_of timer.old) now) }
+    ensures state { IsTrue (has_expired (timer_of timer.old) now) →
         timer.new ≡ timer_fields (after_expiry (bounds_of bounds.now) now (timer_of timer.old)) }
-    ensures unchanged { IsFalse result → timer.new ≡ timer.old }
+    ensures unchanged { IsFalse (has_expired (timer_of timer.old) now) → timer.new ≡ timer.old }
 {
     let mut it = timer_from(timer);
-    if !it.expire(bounds_from(bounds), Instant::from_micros(now)) {
-        return false;
+    let expiry = it.expire(bounds_from(bounds), Instant::from_micros(now));
+    if expiry.is_some() {
+        *timer = fields_of_timer(it);
     }
-    *timer = fields_of_timer(it);
-    true
+    number_of(expiry)
 }

@@ -108,6 +108,7 @@ impl<H, M: Storage<PacketMetadata<H>>, B: Storage<u8>> PacketsOver<H, M, B> {
     /// assert!(!queue.is_empty());
     /// ```
     #[inline]
+    #[must_use]
     pub fn is_empty(&self) -> bool
         ensures empty { IsTrue result ↔ (contents self.now ≡ []) }
         ensures packets { result ≡ (length self.now.packets == 0) }
@@ -128,6 +129,7 @@ impl<H, M: Storage<PacketMetadata<H>>, B: Storage<u8>> PacketsOver<H, M, B> {
     /// ```
     #[tactic(auto, using(crate::proofs::HeadParts::is_full))]
     #[inline]
+    #[must_use]
     pub fn is_full(&self) -> bool
         ensures { result ≡ (self.now.slot_count - slots_used self.now.packets == 0) }
     {
@@ -145,6 +147,7 @@ impl<H, M: Storage<PacketMetadata<H>>, B: Storage<u8>> PacketsOver<H, M, B> {
     /// assert!(queue.has_room(13) && !queue.has_room(14));
     /// ```
     #[inline]
+    #[must_use]
     pub fn has_room(&self, size: usize) -> bool
         ensures { IsTrue result ↔ IsSome (placement self.now size) }
     {
@@ -160,6 +163,7 @@ impl<H, M: Storage<PacketMetadata<H>>, B: Storage<u8>> PacketsOver<H, M, B> {
     /// assert_eq!(PacketBuffer::new(&mut slots[..], &mut bytes[..]).packet_capacity(), 4);
     /// ```
     #[inline]
+    #[must_use]
     pub fn packet_capacity(&self) -> usize
         ensures { result ≡ self.now.slot_count }
     {
@@ -175,6 +179,7 @@ impl<H, M: Storage<PacketMetadata<H>>, B: Storage<u8>> PacketsOver<H, M, B> {
     /// assert_eq!(PacketBuffer::new(&mut slots[..], &mut bytes[..]).payload_capacity(), 16);
     /// ```
     #[inline]
+    #[must_use]
     pub fn payload_capacity(&self) -> usize
         ensures { result ≡ length self.now.storage }
     {
@@ -193,6 +198,7 @@ impl<H, M: Storage<PacketMetadata<H>>, B: Storage<u8>> PacketsOver<H, M, B> {
     /// assert_eq!(queue.payload_bytes_count(), 3);
     /// ```
     #[inline]
+    #[must_use]
     pub fn payload_bytes_count(&self) -> usize
         ensures { result ≡ bytes_used self.now.packets }
     {
@@ -212,6 +218,7 @@ impl<H, M: Storage<PacketMetadata<H>>, B: Storage<u8>> PacketsOver<H, M, B> {
     /// ```
     #[tactic(auto, using(crate::proofs::HeadParts::slots_count))]
     #[inline]
+    #[must_use]
     pub fn slots_used(&self) -> usize
         ensures { result ≡ slots_used self.now.packets }
     {
@@ -229,6 +236,7 @@ impl<H, M: Storage<PacketMetadata<H>>, B: Storage<u8>> PacketsOver<H, M, B> {
     /// assert!(queue.enqueue(3, ()).is_ok());
     /// assert_eq!(queue.len(), 1);
     /// ```
+    #[must_use]
     pub fn len(&self) -> usize
         ensures contents { result ≡ length (contents self.now) }
         ensures packets { result ≡ length self.now.packets }

@@ -1,7 +1,5 @@
 //! Requests for memory that are refused, each in turn.
-use super::long_inputs::long_reply;
 use crate::assertions::{assert_count, assert_holds};
-use crate::serving::words_of;
 use net_bench_lib::{BenchError, Mode, run};
 use net_testing::{NEVER, Refusing, Sink, Source, refuse_each};
 use std::alloc::{AllocError, Global};
@@ -62,6 +60,15 @@ static SCRIPTS: [Script; 4] = [
         &[b"kept 1 queued 1 sack -\n", b"differs\n"],
     ),
 ];
+
+/// Returns the words of a command line.
+fn words_of(alloc: Global, line: &str) -> Result<Vec<String>, AllocError> {
+    let mut words = Vec::new(alloc);
+    for word in line.split(' ') {
+        words.push(String::from_str(alloc, word)?)?;
+    }
+    Ok(words)
+}
 
 /// Returns whether these bytes are the first replies, whole ones.
 fn are_replies(bytes: &[u8], replies: &[&[u8]]) -> bool {
@@ -148,6 +155,34 @@ fn most_bytes(
     let outcome = run(&memory, mode, &mut Source::new(input), &mut sink);
     let is_whole = outcome.is_ok() && sink.bytes.len() == length;
     Ok(is_whole.then_some(memory.most()))
+}
+
+/// Returns a line of `length` bytes, a command if it has bytes.
+fn line_of(alloc: Global, length: usize) -> Result<Vec<u8>, AllocError> {
+    let mut line = Vec::new(alloc);
+    line.push(b'w')?;
+    if length > 1 {
+        line.push(b' ')?;
+    }
+    line.resize(length, b'6')?;
+    line.push(b'\n')?;
+    Ok(line)
+}
+
+/// Returns lines that fill a ring of 65,536 bytes and read all of it, and what is written for them.
+fn long_reply(alloc: Global) -> Result<(Vec<u8>, Vec<u8>), AllocError> {
+    let mut input = Vec::new(alloc);
+    let mut output = Vec::new(alloc);
+    for _ in 0..64 {
+        input.extend_from_slice(&line_of(alloc, 2050)?)?;
+        output.extend_from_slice(b"took 1024\n")?;
+    }
+    input.extend_from_slice(b"r 65536\n")?;
+    output.extend_from_slice(b"read ")?;
+    let length = output.len().saturating_add(131072);
+    output.resize(length, b'6')?;
+    output.push(b'\n')?;
+    Ok((input, output))
 }
 
 /// Returns segments of 1,000 bytes each that fill a receiver of 64,000, and a read of all, `times`

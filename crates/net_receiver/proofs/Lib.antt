@@ -10,3 +10,5 @@ pub mod NewestRuns
 pub mod Scoreboards
 pub mod FiniteReceivers
 pub mod Senders
+pub mod BoardSearches
+pub mod HeldSearches

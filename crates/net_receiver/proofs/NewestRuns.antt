@@ -361,6 +361,17 @@ module _ (s : Positions) where
               (found.0, found.1, found.2, at-front ps (starts s) found.0 found.1 (omega (arith, found.2, slice_get_within ps b p is)) found.3, found.4);
         }
 
+-- where k runs are listed, no other is
+full_with : (k : ℕ) (s : Positions) (listed : Runs) (p : ℕ) → length listed ≡ k → with_run k s listed p ≡ listed
+full_with k s listed p full = elim (cases_Bool (list_any (lies_in p) listed)) [
+  | inl on ↦ cond-true _ _ _ on
+  | inr off ↦ cond-false _ _ _ off ∙ take-append-le k listed (option_to_list (run_at s p)) (omega (arith, full)) ∙ take_all k listed (omega (arith, full))
+]
+
+pub full_list : (k : ℕ) (s : Positions) (listed : Runs) (ps : List ℕ) → length listed ≡ k → runs_of k s listed ps ≡ listed
+full_list k s listed [] full = refl
+full_list k s listed (p ∷ ps) full = ap (λ l. runs_of k s l ps) (full_with k s listed p full) ∙ full_list k s listed ps full
+
 pub newest_runs_are_listed : NewestRunsAreListed
 newest_runs_are_listed k s ps =
     newest_are s (are_maximal_runs s).maximal (λ p held. by p ((are_maximal_runs s).complete p held)) k ps

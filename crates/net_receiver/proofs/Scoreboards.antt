@@ -30,46 +30,10 @@ use Rattle.net_assembler.proofs.ShiftedRuns.{length-up}
 use Rattle.net_receiver.specs.declared.scoreboard_head.ScoreboardHead.{ScoreboardHead}
 use Rattle.net_receiver.proofs.Sets.{IsShiftedUp, runs_shifted, begins_above, ends_below, ends_within}
 
--- ---- The maximal runs of a set as a list of ranges: which positions they have, and where the next hole is.
+-- ---- The maximal runs of a set as a list of ranges: which positions they have.
 -- whether a position is in one of the ranges
 abbrev pub is_in_run : List (ℕ × ℕ) → ℕ → Bool
 is_in_run ranges p = list_any (lies_in p) ranges
-
--- how many positions from p on are in the first of the ranges that has p; 0 if none has it
-abbrev pub count_from : List (ℕ × ℕ) → ℕ → ℕ
-count_from [] p = 0
-count_from (range ∷ ranges) p = if lies_in p range then range.1 - p else count_from ranges p
-
--- the least of the limit and of the starts above p
-abbrev pub next_start : List (ℕ × ℕ) → ℕ → ℕ → ℕ
-next_start [] p limit = limit
-next_start (range ∷ ranges) p limit = next_start ranges p (if nat_lt p range.0 then min range.0 limit else limit)
-
--- the greatest of p and of the ends
-abbrev pub greatest_end : List (ℕ × ℕ) → ℕ → ℕ
-greatest_end [] p = p
-greatest_end (range ∷ ranges) p = greatest_end ranges (max p range.1)
-
--- the next range begins no higher than the limit
-next_within : (ranges : List (ℕ × ℕ)) (p limit : ℕ) → next_start ranges p limit ≤ limit
-next_within [] p limit = omega arith
-next_within (range ∷ ranges) p limit =
-    let others = next_within ranges p (cond (nat_lt p range.0) (min range.0 limit) limit) in grind (arith, nat_tests)
-
--- between p and it no position is in a range, if p isn't
-next_between : (ranges : List (ℕ × ℕ)) (p limit q : ℕ) → is_in_run ranges p ≡ false → p ≤ q →
-    q < next_start ranges p limit → is_in_run ranges q ≡ false
-next_between [] p limit q none from to = refl
-next_between (range ∷ ranges) p limit q none from to =
-    let next = cond (nat_lt p range.0) (min range.0 limit) limit in
-    let below = next_within ranges p next in
-    let others = next_between ranges p next q in
-    grind (arith, nat_tests)
-
--- each position that is spared is in a range
-count_inside : (ranges : List (ℕ × ℕ)) (p q : ℕ) → p ≤ q → q < p + count_from ranges p → is_in_run ranges q ≡ true
-count_inside [] p q from to = absurd (omega arith)
-count_inside (range ∷ ranges) p q from to = let others = count_inside ranges p q in grind (arith, nat_tests)
 
 -- ---- of some maximal runs
 -- their positions are in the set
@@ -80,81 +44,17 @@ inside s (r ∷ rs) p all h =
     let others = inside s rs p (All-tail (IsMaximalRun s) r rs all) in
     grind (arith, nat_tests)
 
--- and the end of one is not
-ended : (s : Positions) (rs : List (ℕ × ℕ)) (p : ℕ) → All (IsMaximalRun s) rs → is_in_run rs p ≡ true → contains s (p + count_from rs p) ≡ false
-ended s [] p all h = absurd (cc)
-ended s (r ∷ rs) p all h =
-    let here = (All-head (IsMaximalRun s) r rs all).ended in
-    let place : p < r.1 → p + (r.1 - p) ≡ r.1 = λ below. omega arith in
-    let others = ended s rs p (All-tail (IsMaximalRun s) r rs all) in
-    grind (arith, nat_tests)
-
--- the least start above p, where it is below the limit, is a position of one
-start_inside : (s : Positions) (rs : List (ℕ × ℕ)) (p limit : ℕ) → All (IsMaximalRun s) rs → next_start rs p limit < limit →
-    is_in_run rs (next_start rs p limit) ≡ true
-start_inside s [] p limit all h = absurd (omega arith)
-start_inside s (r ∷ rs) p limit all h =
-    let some = (All-head (IsMaximalRun s) r rs all).some in
-    let others = start_inside s rs p in
-    let within = next_within rs p in
-    let rest = All-tail (IsMaximalRun s) r rs all in
-    grind (arith, nat_tests)
-
--- and it is not below p
-start_from : (rs : List (ℕ × ℕ)) (p limit : ℕ) → p ≤ limit → p ≤ next_start rs p limit
-start_from [] p limit h = h
-start_from (r ∷ rs) p limit h = let others = start_from rs p in grind (arith, nat_tests)
-
 -- ---- of all of them
 any_counted : (rs : List (ℕ × ℕ)) (p : ℕ) → count_by (lies_in p) rs ≡ 1 → is_in_run rs p ≡ true
 any_counted [] p h = absurd (omega arith)
 any_counted (r ∷ rs) p h = let others = any_counted rs p in grind (arith, nat_tests)
 
-outside : (s : Positions) (p : ℕ) → is_in_run (maximal_runs s) p ≡ false → contains s p ≡ false
-outside s p h = grind (arith, nat_tests, common_steps, are_maximal_runs, any_counted)
-
 -- each position of the set is one of theirs
 pub in_run : (s : Positions) (p : ℕ) → contains s p ≡ true → is_in_run (maximal_runs s) p ≡ true
 in_run s p h = grind (arith, nat_tests, common_steps, are_maximal_runs, any_counted)
 
-none_counted : (rs : List (ℕ × ℕ)) (p : ℕ) → is_in_run rs p ≡ false → count_from rs p ≡ 0
-none_counted [] p h = refl
-none_counted (r ∷ rs) p h = let others = none_counted rs p in grind (arith, nat_tests)
-
 pub not_in_run : (s : Positions) (p : ℕ) → contains s p ≡ false → is_in_run (maximal_runs s) p ≡ false
 not_in_run s p h = grind (arith, nat_tests, inside, are_maximal_runs)
-
--- the first position from p on that is missing in a set
-pub missing_is : (s : Positions) (p : ℕ) → p + count_from (maximal_runs s) p ≡ first_missing s p
-missing_is s p =
-    let rs = maximal_runs s in
-    let all = (are_maximal_runs s).maximal in
-    let end = p + count_from rs p in
-    either (cases_Bool (is_in_run rs p))
-    (λ on. sym (first_missing-is s p end (omega arith) (ended s rs p all on) (λ q low high. inside s rs q all (count_inside rs p q low high))))
-    (λ off.
-    let none = none_counted rs p off in
-    let here : p ≡ end = omega arith in
-    sym (first_missing-is s p end (omega arith) (subst (λ e. contains s e ≡ false) here (outside s p off)) (λ q low high. absurd (omega arith))))
-
--- the hole from there on
-pub next_hole_is : (s : Positions) (p limit start end : ℕ) → start ≡ min (first_missing s p) limit →
-    end ≡ next_start (maximal_runs s) start limit → IsNextHole s p limit start end
-next_hole_is s p limit start end from to =
-    let rs = maximal_runs s in
-    let all = (are_maximal_runs s).maximal in
-    record {
-      begins = from;
-      order = omega (arith, start_from rs start limit (omega arith));
-      within = omega (arith, next_within rs start limit);
-      missing = λ q low high.
-          let some : start < limit = omega (arith, next_within rs start limit) in
-          let at : first_missing s p ≡ start = omega arith in
-          let free = subst (λ e. contains s e ≡ false) at (first_missing-misses s p) in
-          outside s q (next_between rs start limit q (not_in_run s start free) low (omega arith));
-      ended = λ below.
-          subst (λ e. contains s e ≡ true) (sym to) (inside s rs (next_start rs start limit) all (start_inside s rs start limit all (omega arith)));
-    }
 
 -- ---- Scoreboards as a base and offsets.
 -- a membership, as a test of numbers
@@ -229,30 +129,6 @@ module _ (b : ℕ) (s : Positions) (begins : contains s 0 ≡ false) where
 
   pub beyond_board : beyond (board b s) ≡ shift_up s b
   beyond_board = λ i. shift_up (offsets_board i) (front_board i)
-
-  -- the first missing position
-  pub missing_beyond : (p : ℕ) → first_missing (board b s) p ≡ first_missing (shift_up s b) (max p b)
-  missing_beyond p =
-      let from = max p b in
-      let e = first_missing (shift_up s b) from in
-      let least = first_missing-le (shift_up s b) from in
-      let misses = first_missing-misses (shift_up s b) from in
-      let has = first_missing-has (shift_up s b) from in
-      first_missing-is (board b s) p e (omega (arith, least)) (grind (arith, boards))
-      (λ q low high. let h = has q in grind (arith, boards))
-
-  pub hole_beyond : (p limit start end : ℕ) → IsNextHole (shift_up s b) (max p b) limit start end → IsNextHole (board b s) p limit start end
-  hole_beyond p limit start end hole =
-      let same = missing_beyond p in
-      let least = first_missing-le (shift_up s b) (max p b) in
-      let from = hole.begins in
-      record {
-        begins = from ∙ ap (λ e. min e limit) (sym same);
-        order = hole.order;
-        within = hole.within;
-        missing = λ q low high. let none = hole.missing q low high in grind (arith, boards);
-        ended = λ below. let some = hole.ended below in grind (arith, boards);
-      }
 
 -- a range beyond the base
 pub with_range_beyond : (b : ℕ) (s : Positions) (o n : ℕ) → b ≤ o → board b (with_range s (o - b) n) ≡ with_range (board b s) o n
@@ -344,42 +220,6 @@ module _ (b : ℕ) (s : Positions) (next count n : ℕ) (one rest : Positions) (
       (λ none. omega (arith, none, word))
 
 -- ---- the end
--- the greatest end of some maximal runs is above each of their positions, and reached
-greatest_from : (rs : List (ℕ × ℕ)) (e : ℕ) → e ≤ greatest_end rs e
-greatest_from [] e = omega arith
-greatest_from (r ∷ rs) e = let others = greatest_from rs (max e r.1) in omega (arith, others)
-
-above_all : (rs : List (ℕ × ℕ)) (e p : ℕ) → is_in_run rs p ≡ true → p < greatest_end rs e
-above_all [] e p h = absurd (cc)
-above_all (r ∷ rs) e p h =
-    let others = above_all rs (max e r.1) p in
-    let from = greatest_from rs (max e r.1) in
-    grind (arith, nat_tests)
-
-reached_by : (s : Positions) (rs : List (ℕ × ℕ)) (e : ℕ) → All (IsMaximalRun s) rs → (0 < e → contains s (e - 1) ≡ true) →
-    0 < greatest_end rs e → contains s (greatest_end rs e - 1) ≡ true
-reached_by s [] e all before h = before h
-reached_by s (r ∷ rs) e all before h =
-    let run = All-head (IsMaximalRun s) r rs all in
-    let some = run.some in
-    let last = run.inside (r.1 - 1) (omega (arith, some)) (omega (arith, some)) in
-    reached_by s rs (max e r.1) (All-tail (IsMaximalRun s) r rs all)
-    (λ positive.
-    either (cases_lt r.1 e)
-    (λ l. let same : e ≡ max e r.1 = omega (arith, l) in subst (λ (k : ℕ). contains s (k - 1) ≡ true) same (before (omega (arith, l))))
-    (λ l. let same : r.1 ≡ max e r.1 = omega (arith, l) in subst (λ (k : ℕ). contains s (k - 1) ≡ true) same last))
-    h
-
--- the greatest end of the maximal runs is that of the set
-pub end_is : (s : Positions) (n : ℕ) → n ≡ greatest_end (maximal_runs s) 0 → IsEnd s n
-end_is s n is =
-    let all = (are_maximal_runs s).maximal in
-    record {
-      above = λ p has. let l = above_all (maximal_runs s) 0 p (in_run s p has) in omega (arith, is, l);
-      reached = λ some.
-          subst (λ (k : ℕ). contains s (k - 1) ≡ true) (sym is)
-          (reached_by s (maximal_runs s) 0 all (λ h. absurd (omega (arith, h))) (omega (arith, is, some)));
-    }
 
 pub end_beyond : (b : ℕ) (s : Positions) (n : ℕ) → IsEnd s n → IsEnd (board b s) (b + n)
 end_beyond b s n end = record {
@@ -480,7 +320,7 @@ sound_positions h rs sound word =
 
 -- ---- Up to where what isn't reported is lost, run by run.
 -- runs that begin above p are all above it
-all_above : (low p : ℕ) (rs : List (ℕ × ℕ)) → IsRising low rs → p < low → runs_above rs p ≡ rs
+pub all_above : (low p : ℕ) (rs : List (ℕ × ℕ)) → IsRising low rs → p < low → runs_above rs p ≡ rs
 all_above low p [] h l = refl
 all_above low p (r ∷ rs) h l =
     let rest = all_above (r.1 + 1) p rs h.2 (omega (arith, h.0, h.1, l)) in
@@ -497,7 +337,7 @@ fewer (r ∷ rs) p =
     (grind (arith, nat_tests), grind (arith, nat_tests))
 
 -- fewer runs tell less
-tells_less : (d n : ℕ) (rs : List (ℕ × ℕ)) (p : ℕ) → tell_loss d n rs ≡ false → tell_loss d n (runs_above rs p) ≡ false
+pub tells_less : (d n : ℕ) (rs : List (ℕ × ℕ)) (p : ℕ) → tell_loss d n rs ≡ false → tell_loss d n (runs_above rs p) ≡ false
 tells_less d n rs p h = grind (arith, nat_tests, fewer)
 
 -- what the code counts tells it or not: most is the product, or as large as a number of 64 bits is
@@ -511,40 +351,6 @@ many_tell d n count bytes most rs e e' product which = elim which [
   | inl many ↦ grind (arith, nat_tests)
   | inr more ↦ (let exact = product more in grind (arith, nat_tests))
 ]
-
--- the limit so far, where the rest of all runs is left: what is below it is lost, and from it on the rest alone counts
-pub record IsBoundSoFar (d n : ℕ) (all rest : List (ℕ × ℕ)) (limit : ℕ) : Type 0 where
-  pub lost : (p : ℕ) → p < limit → tell_loss d n (runs_above all p) ≡ true
-  pub others : (p : ℕ) → limit ≤ p → runs_above all p ≡ runs_above rest p
-  pub rising : IsRising limit rest
-
-pub no_bound : (d n : ℕ) (s : Positions) → IsBoundSoFar d n (maximal_runs s) (maximal_runs s) 0
-no_bound d n s = record { lost = λ p l. absurd (omega (arith, l)); others = λ p l. refl; rising = rising-maximal_runs s }
-
-module _ (d n : ℕ) (all : List (ℕ × ℕ)) (r : ℕ × ℕ) (rest : List (ℕ × ℕ)) (limit : ℕ) (so_far : IsBoundSoFar d n all (r ∷ rest) limit) where
-  -- the run and those after it tell a loss
-  pub further : tell_loss d n (r ∷ rest) ≡ true → IsBoundSoFar d n all rest r.0
-  further tells =
-      let low = so_far.rising.0 in
-      let some = so_far.rising.1 in
-      record {
-        lost = λ p l. elim (cases_lt p limit) [
-          | inl before ↦ so_far.lost p before
-          | inr from ↦ ap (tell_loss d n) (so_far.others p from ∙ all_above r.0 p (r ∷ rest) (omega arith, some, so_far.rising.2) l) ∙ tells
-        ];
-        others = λ p l. so_far.others p (omega (arith, l, low)) ∙ (let here : nat_lt p r.0 ≡ false = grind (arith, nat_tests) in grind (arith, nat_tests));
-        rising = rising_from r.0 (r.1 + 1) rest (omega (arith, some)) so_far.rising.2;
-      }
-
-  -- or they don't, and the limit is right
-  pub bound_stops : tell_loss d n (r ∷ rest) ≡ false → (p : ℕ) → (p < limit) ↔ IsTrue (tell_loss d n (runs_above all p))
-  bound_stops few p = (
-    so_far.lost p,
-    λ lost. elim (cases_lt p limit) [
-      | inl before ↦ before
-      | inr from ↦ absurd (both_ways _ (ap (tell_loss d n) (so_far.others p from) ∙ tells_less d n (r ∷ rest) p few) lost)
-    ],
-  )
 
 -- there is one such limit
 pub one_bound : (d n : ℕ) (s : Positions) (a b : ℕ) → IsLossBound d n s a → IsLossBound d n s b → a ≡ b
@@ -630,32 +436,15 @@ sizes_usize h rs sound some =
     let few = sizes_few top (set_of h rs) (λ p has. let l = position_fits h rs sound p has in omega (arith, l)) in
     omega (arith, few, some)
 
--- the first position that isn't reported
-pub missing_found : (b : ℕ) (s : Positions) → contains s 0 ≡ false → (p : ℕ) →
-    first_missing (board b s) p ≡ max p b + count_from (maximal_runs (beyond (board b s))) (max p b)
-missing_found b s begins p =
-    missing_beyond b s begins p ∙ sym (missing_is (shift_up s b) (max p b))
-    ∙ ap (λ t. max p b + count_from (maximal_runs t) (max p b)) (sym (beyond_board b s begins))
-
--- the next range that isn't reported
-pub hole_found : (b : ℕ) (s : Positions) → contains s 0 ≡ false → (p limit start end : ℕ) →
-    start ≡ min (first_missing (board b s) p) limit → end ≡ next_start (maximal_runs (beyond (board b s))) start limit →
-    IsNextHole (board b s) p limit start end
-hole_found b s begins p limit start end from to =
-    let missing = missing_beyond b s begins p in
-    hole_beyond b s begins p limit start end
-    (next_hole_is (shift_up s b) (max p b) limit start end (from ∙ ap (λ e. min e limit) missing)
-    (to ∙ ap (λ t. next_start (maximal_runs t) start limit) (beyond_board b s begins)))
-
 pub ruleset fronts = (front_board, no_front, front_none, board_below, board_from, position_fits)
 
 pub ruleset empties = (empty_board, unused_board, no_board, contains-nothing)
 
-pub ruleset ends = (end_is, end_beyond)
+pub ruleset ends = (end_beyond)
 
 pub ruleset counts = (sizes_usize, number_beyond)
 
-pub ruleset missing_runs = (runs_beyond, runs_fit, missing_found, hole_found)
+pub ruleset missing_runs = (runs_beyond, runs_fit)
 
 pub ruleset heads = (fronts, empties, ends, counts, missing_runs, nat_tests)
 

@@ -21,6 +21,7 @@ use Rattle.std.specs.Prelude.{◌||◌, max, nat_le, nat_lt, Bool, if◌then◌e
 use Rattle.net_assembler.specs.Assembler.{MakesTooManyRuns}
 use Rattle.net_assembler.specs.Positions.{Positions, contains, first_missing, front, maximal_runs, with_range}
 use Rattle.net_assembler.specs.Positions.{shift_up, shift_down, lies_in}
+pub use Rattle.net_assembler.specs.Positions.{IsEnd}
 use Rattle.net_assembler.specs.RunLists.{set_of, HasSoundRuns, IsRising}
 use Rattle.net_receiver.specs.ReceiverState.{EndBelow}
 use Rattle.net_receiver.specs.SequenceNumbers.{IsNamed}
@@ -79,11 +80,6 @@ pub record IsSoundScoreboard (n : ℕ) (s : Positions) : Type 0 where
 abbrev pub sizes : List (ℕ × ℕ) → ℕ
 sizes [] = 0
 sizes (r ∷ rs) = (r.1 - r.0) + sizes rs
-
--- n is above each position of s, and 0 or the end of the last one
-pub record IsEnd (s : Positions) (n : ℕ) : Type 0 where
-  pub above : (p : ℕ) → IsTrue (contains s p) → p < n
-  pub reached : 0 < n → IsTrue (contains s (n - 1))
 
 -- the range begins at the first position from p on that is missing in s, and ends before the next one that
 -- is in s; the limit bounds both, so that the range is empty, and at the limit, if none is missing below it

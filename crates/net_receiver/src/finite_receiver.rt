@@ -84,7 +84,7 @@ impl<S: Storage<u8>, const N: usize> FiniteReceiverOver<S, N> {
     ///
     /// # Requires
     ///
-    /// `first` is not the greatest number of 64 bits: an end there would have no number after it.
+    /// `first` is below `u64::MAX`: an end there would have no number after it.
     #[must_use]
     #[track_caller]
     pub const fn over_at(storage: S, first: u64) -> Self
@@ -168,7 +168,7 @@ impl<S: Storage<u8>, const N: usize> FiniteReceiverOver<S, N> {
     ///
     /// # Requires
     ///
-    /// `first` is not the greatest number of 64 bits: an end there would have no number after it.
+    /// `first` is below `u64::MAX`: an end there would have no number after it.
     #[track_caller]
     pub fn reset_at(&mut self, first: u64)
         requires { first < no_end }

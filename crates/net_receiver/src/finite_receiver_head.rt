@@ -92,7 +92,7 @@ impl FiniteReceiverHead {
     ///
     /// # Requires
     ///
-    /// `first` is not the greatest number of 64 bits: an end there would have no number after it.
+    /// `first` is below `u64::MAX`: an end there would have no number after it.
     pub const fn new(first: u64) -> Self
         requires { first < no_end }
         ensures sound { (capacity : ℕ) (runs : List (ℕ × ℕ)) → HasSoundFinite result capacity runs }

@@ -73,7 +73,7 @@ impl<S: Storage<u8>> FiniteSenderOver<S> {
     ///
     /// # Requires
     ///
-    /// `first` is not the greatest number of 64 bits: the end has a number after it.
+    /// `first` is below `u64::MAX`: an end there would have no number after it.
     #[must_use]
     #[track_caller]
     pub const fn over_at(storage: S, first: u64) -> Self
@@ -123,7 +123,7 @@ impl<S: Storage<u8>> FiniteSenderOver<S> {
     ///
     /// # Requires
     ///
-    /// `first` is not the greatest number of 64 bits: an end there would have no number after it.
+    /// `first` is below `u64::MAX`: an end there would have no number after it.
     #[track_caller]
     pub fn reset_at(&mut self, first: u64)
         requires { first < no_end }
@@ -172,11 +172,13 @@ impl<S: Storage<u8>> FiniteSenderOver<S> {
     /// ```
     #[must_use]
     pub fn sent_numbers(&self) -> SentNumbers
-        ensures { result ≡ record {
+        ensures value { result ≡ record {
           first_unacknowledged = first_number self.now;
           sent = self.now.sent;
         } }
+        ensures sound { IsSoundSent self.now }
     {
+        self.is_sound();
         SentNumbers {
             first_unacknowledged: self.first_number(),
             sent: self.sent(),
@@ -207,7 +209,7 @@ impl<S: Storage<u8>> FiniteSenderOver<S> {
         self.storage.count()
     }
 
-    /// Returns the window: how many bytes `write` would take. None once the sender is closed. A number
+    /// Returns the window: how many bytes `write` would take: 0 once the sender is closed. A number
     /// is kept for the end.
     #[must_use]
     pub fn window(&self) -> usize

@@ -18,7 +18,7 @@ ghost use Rattle.net_ring.specs.RingHead.{IsSound as IsSoundPlace, ring_at};
 ghost use Rattle.net_receiver.specs.NewestRuns.{newest_runs, with_starts, run_at, with_run};
 
 use crate::held_runs::{HeldRun, HeldRunIter, is_listed, remember};
-use crate::kept::{Kept, KeptBytes};
+use crate::kept::KeptBytes;
 use net_assembler::width::most;
 use net_assembler::{AssemblerHead, Run, TooManyHolesError};
 use net_ring::RingHead;
@@ -146,49 +146,9 @@ impl ReceiverHead {
         end as u64 <= limit
     }
 
-    /// Keeps the bytes of a segment that are in the free window, as `keep` does, and lists the
-    /// first three held runs.
-    ///
-    /// # Requires
-    ///
-    /// Head, storage and runs are sound, as `is_sound` tests, and the segment ends within 64 bits,
-    /// as `ReceiverOver::fits` tests.
-    #[inline(always)]
-    pub(crate) fn segment(
-        &mut self,
-        storage: &mut [u8],
-        runs: &mut [Run],
-        pos: u64,
-        bytes: &[u8],
-    ) -> Result<Kept, TooManyHolesError>
-        requires sound { HasSoundParts self.old (length storage.old) runs.old }
-        requires fits { pos + length bytes.now < 2 ^ 64 }
-        ensures sound { HasSoundParts self.new (length storage.new) runs.new }
-        ensures state { let v = receiver_of self.old storage.old runs.old in
-            receiver_of self.new storage.new runs.new ≡ state_after v
-            (verdict (length runs.old) v (piece pos bytes.now)) }
-        ensures stored { let v = receiver_of self.old storage.old runs.old in
-            storage.new ≡ storage_after self.old storage.old
-            (verdict (length runs.old) v (piece pos bytes.now)) }
-        ensures value { let v = receiver_of self.old storage.old runs.old in
-            result ≡ segment_result v
-            (verdict (length runs.old) v (piece pos bytes.now)) }
-        ensures unchanged { OnErr result ((self.new ≡ self.old) × (storage.new ≡ storage.old)
-            × (runs.new ≡ runs.old)) }
-        ensures canonical { IsCanonical self.old.held → IsCanonical self.new.held }
-    {
-        let bytes = self.keep(storage, runs, pos, bytes)?;
-        let sack = self.first_runs(runs);
-        Ok(Kept {
-            kept: bytes.kept,
-            queued: bytes.queued,
-            sack,
-        })
-    }
-
     /// Returns the first three held runs.
     #[inline(always)]
-    fn first_runs(&self, runs: &[Run]) -> [Option<(u64, u64)>; 3]
+    pub(crate) fn first_runs(&self, runs: &[Run]) -> [Option<(u64, u64)>; 3]
         requires { HasSoundHeld self.now runs.now }
         ensures { result ≡ first_three (maximal_runs (held_at self.now runs.now)) }
     {
@@ -461,8 +421,7 @@ impl ReceiverHead {
     /// the beginning of `recent`, as many as there is room for. The caller sets `recent` to zeros
     /// before the first call, and doesn't change it afterwards. It is enough if `recent` and `into`
     /// have as many elements in each call as the longest acknowledgement has SACK blocks; a shorter
-    /// one has the first of them. RFC 2018, section 4, wants this order. The time grows with the
-    /// number of runs times the number of runs and of elements of `recent` together.
+    /// one has the first of them. RFC 2018, section 4, wants this order. Each run that is listed is found by a search.
     ///
     /// # Requires
     ///
@@ -500,6 +459,9 @@ impl ReceiverHead {
             count = self.list_run(runs, recent[i], into, count);
         }
         for (start, _) in self.held(runs) {
+            if count == into.len() {
+                return count;
+            }
             count = self.list_run(runs, start, into, count);
         }
         count
@@ -534,12 +496,25 @@ impl ReceiverHead {
         requires { HasSoundHeld self.now runs.now }
         ensures { result ≡ run_at (held_at self.now runs.now) position }
     {
-        for (start, end) in self.held(runs) {
-            if start <= position && position < end {
-                return Some((start, end));
-            }
+        let next = self.next();
+        if position < next {
+            return None;
         }
-        None
+        let offset = (position - next).min(most() as u64) as usize;
+        let count = self.held.runs_by(runs, offset);
+        if count == 0 {
+            return None;
+        }
+        match self.held.run_at(runs, count - 1) {
+            Some((start, end)) => {
+                if offset < end {
+                    Some((next + start as u64, next + end as u64))
+                } else {
+                    None
+                }
+            }
+            None => None,
+        }
     }
 
     /// Returns how many bytes of a segment of `len` bytes at `position` would be new, where the

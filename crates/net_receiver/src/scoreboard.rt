@@ -2,8 +2,8 @@
 #![tactic(auto, using(crate::proofs::Scoreboards::scoreboards))]
 
 ghost use Rattle.std.specs.Prelude.{◌≡◌, ◌↔◌, ◌-◌, ◌<◌, ◌≤◌, ℕ, length, Err, OnOk, OnErr};
-ghost use Rattle.net_assembler.specs.Positions.{contains, first_missing, front, maximal_runs, nothing, positions};
-ghost use Rattle.net_assembler.specs.Positions.{with_range};
+ghost use Rattle.net_assembler.specs.Positions.{contains, first_missing, front, maximal_runs, missing_count};
+ghost use Rattle.net_assembler.specs.Positions.{nothing, positions, with_range};
 ghost use Rattle.net_assembler.specs.RunLists.{IsCanonical};
 ghost use Rattle.net_receiver.specs.{IsHole, IsLossBound, HasNoRoom, IsBlock, IsEnd, IsReport, IsSoundBoard, beyond};
 ghost use Rattle.net_receiver.specs.{IsSoundScoreboard, reported_by};
@@ -307,6 +307,22 @@ impl<const N: usize> Scoreboard<N> {
         ensures { result ≡ first_missing self.now pos }
     {
         self.head.first_missing(&self.runs, pos)
+    }
+
+    /// Returns how many positions from `start` on and below `end` weren't reported.
+    ///
+    /// ```
+    /// # use net_base::scoreboard::Scoreboard;
+    /// # let mut scoreboard = Scoreboard::<4>::empty();
+    /// assert_eq!((scoreboard.report(5, 9, 20), scoreboard.report(12, 20, 20)), (Ok(()), Ok(())));
+    /// assert_eq!(scoreboard.missing_between(6, 15), 3);
+    /// ```
+    #[must_use]
+    pub fn missing_between(&self, start: u64, end: u64) -> u64
+        ensures count { result ≡ missing_count self.now start (end - start) }
+        ensures few { result ≤ end - start }
+    {
+        self.head.missing_between(&self.runs, start, end)
     }
 
     /// Returns the next range that wasn't reported, as a start and an end, the end not included: it

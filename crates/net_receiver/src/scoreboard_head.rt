@@ -1,11 +1,11 @@
 //! A scoreboard in parts: a head, and runs that are kept elsewhere.
 #![tactic(auto, using(crate::proofs::Scoreboards::heads))]
 
-ghost use Rattle.std.specs.Prelude.{◌≡◌, ◌↔◌, ◌-◌, ◌≤◌, List, ℕ, length, min, nat_lt, IsTrue, Err, OnOk, OnErr};
-ghost use Rattle.std.specs.Prelude.{if◌then◌else◌};
-ghost use Rattle.net_assembler.specs.Positions.{contains, first_missing, front, maximal_runs, nothing, positions};
-ghost use Rattle.net_assembler.specs.Positions.{with_range};
-ghost use Rattle.net_assembler.specs.RunLists.{HasSoundRuns, IsCanonical, set_of};
+ghost use Rattle.std.specs.Prelude.{◌≡◌, ◌↔◌, ◌-◌, ◌≤◌, ◌^◌, List, ℕ, length, min, IsTrue, Err, OnOk, OnErr};
+ghost use Rattle.net_assembler.specs.Positions.{contains, first_missing, front, maximal_runs, missing_count};
+ghost use Rattle.net_assembler.specs.Positions.{nothing, positions, with_range};
+ghost use Rattle.net_assembler.specs.RunLists.{IsCanonical};
+ghost use Rattle.net_assembler.specs.Width.{shortfall};
 ghost use Rattle.net_receiver.specs.Scoreboards.{HasNoRoom, IsEnd, IsNextHole, IsReport, IsSoundBoard, beyond};
 ghost use Rattle.net_receiver.specs.Scoreboards.{reported_by, IsLossBound};
 ghost use Rattle.net_receiver.specs.NewHeads.{scoreboard_head};
@@ -93,7 +93,7 @@ impl ScoreboardHead {
         if self.reported.peek_front(runs) != 0 {
             return false;
         }
-        highest_offset(&self.reported, runs) as u64 <= u64::MAX - self.base
+        self.reported.end(runs) as u64 <= u64::MAX - self.base
     }
 
     /// Reports the positions from `start` on and below `end`, as a SACK block of an acknowledgement
@@ -223,7 +223,7 @@ impl ScoreboardHead {
         requires { IsSoundBoard self.now runs.now }
         ensures { IsEnd (reported_by self.now runs.now) result }
     {
-        self.base + highest_offset(&self.reported, runs) as u64
+        self.base + self.reported.end(runs) as u64
     }
 
     /// Returns how many positions were reported beyond the first one that wasn't, which is `base`.
@@ -253,12 +253,35 @@ impl ScoreboardHead {
         ensures { result ≡ first_missing (reported_by self.now runs.now) pos }
     {
         let from = pos.max(self.base);
-        for (start, end) in self.reported(runs) {
-            if start <= from && from < end {
-                return end;
-            }
-        }
-        from
+        let missing = self.reported.first_missing(runs, self.offset_of(from));
+        from.max(self.base + missing as u64)
+    }
+
+    /// Returns how many positions from `start` on and below `end` weren't reported. It looks only at runs that start
+    /// below `end` and at the one before them, which it finds by a search.
+    ///
+    /// # Requires
+    ///
+    /// The scoreboard is sound with the runs.
+    pub fn missing_between(&self, runs: &[Run], start: u64, end: u64) -> u64
+        requires { IsSoundBoard self.now runs.now }
+        ensures count { result ≡ missing_count (reported_by self.now runs.now) start (end - start) }
+        ensures few { result ≤ end - start }
+    {
+        let from = start.max(self.base);
+        let reported = self
+            .reported
+            .count_between(runs, self.offset_of(from), self.offset_of(end));
+        end.saturating_sub(from) - reported as u64
+    }
+
+    /// Returns the offset of a position, 0 if it is below `base`, and the greatest `usize` if the offset is above
+    /// that: no position is reported there.
+    #[inline(always)]
+    fn offset_of(&self, pos: u64) -> usize
+        ensures { result ≡ min (pos - self.now.base) (2 ^ 64 - 1 - shortfall) }
+    {
+        pos.saturating_sub(self.base).min(most() as u64) as usize
     }
 
     /// Returns the position below which all that wasn't reported is lost, by the rule of RFC 6675,
@@ -276,18 +299,20 @@ impl ScoreboardHead {
         ensures { IsLossBound duplicates segment_size (reported_by self.now runs.now) result }
     {
         let most = (duplicates.saturating_sub(1) as u64).saturating_mul(segment_size as u64);
-        let mut count = self.reported.used;
-        let mut bytes = self.count_beyond(runs) as u64;
-        let mut limit = 0;
-        for (start, end) in self.reported(runs) {
-            if count < duplicates.max(1) && bytes <= most {
-                return limit;
+        let used = self.reported.used;
+        let enough = duplicates.max(1);
+        let mut bytes = 0;
+        // From the last run down, and no more of them than are enough.
+        for above in 0..used.min(enough) {
+            let Some((start, end)) = self.reported.run_at(runs, used - 1 - above) else {
+                return 0;
+            };
+            bytes += (end - start) as u64;
+            if above + 1 == enough || bytes > most {
+                return self.base + start as u64;
             }
-            limit = start;
-            count = count.saturating_sub(1);
-            bytes = bytes.saturating_sub(end - start);
         }
-        limit
+        0
     }
 
     /// Returns the next range that wasn't reported, as a start and an end: it begins at the first
@@ -302,12 +327,13 @@ impl ScoreboardHead {
         requires { IsSoundBoard self.now runs.now }
         ensures { IsNextHole (reported_by self.now runs.now) pos limit result.0 result.1 }
     {
-        let start = self.first_missing(runs, pos).min(limit);
-        let mut end = limit;
-        for (from, _to) in self.reported(runs) {
-            end = nearer(start, from, end);
+        let from = pos.max(self.base);
+        let (start, end) = self.reported.next_hole(runs, self.offset_of(from));
+        let start = from.max(self.base + start as u64).min(limit);
+        match end {
+            Some(end) => (start, limit.min(self.base + end as u64)),
+            None => (start, limit),
         }
-        (start, end)
     }
 }
 
@@ -317,26 +343,4 @@ fn is_report(first: u64, start: u64, end: u64, sent: u64) -> bool
     ensures { IsTrue result ↔ IsReport first sent start end }
 {
     start < end && end <= sent && (start <= first || end - first <= u64::from(u32::MAX))
-}
-
-/// Returns the end of the last run; 0 if there is none.
-fn highest_offset(reported: &AssemblerHead, runs: &[Run]) -> usize
-    requires { HasSoundRuns reported.now runs.now }
-    ensures { IsEnd (set_of reported.now runs.now) result }
-{
-    let mut end = 0;
-    for (_start, to) in reported.iter_data(runs) {
-        end = to.max(end);
-    }
-    end
-}
-
-/// Returns the lesser of two positions if the first is above `pos`, and otherwise the second.
-fn nearer(pos: u64, start: u64, nearest: u64) -> u64
-    ensures { result ≡ (if nat_lt pos start then min start nearest else nearest) }
-{
-    if start <= pos {
-        return nearest;
-    }
-    start.min(nearest)
 }

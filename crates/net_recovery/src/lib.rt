@@ -2,6 +2,11 @@
 //! numbers and the scoreboard.
 #![tactic(auto)]
 
+pub mod duplicate_block;
+pub mod equal_acknowledgement;
+pub mod laws;
 pub mod loss_recovery;
 
-pub use loss_recovery::LossRecovery;
+pub use duplicate_block::is_duplicate_block;
+pub use equal_acknowledgement::is_equal_acknowledgement;
+pub use loss_recovery::{Answer, LossRecovery};

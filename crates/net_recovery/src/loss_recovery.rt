@@ -1,36 +1,68 @@
 //! What a sender sends next where segments are lost.
 ghost use Rattle.std.specs.Prelude.{◌≡◌, ℕ, ◌+◌, ◌<◌, ◌≤◌, ◌-◌, ◌&&◌, min, max, Option, IfSome, not, nat_lt};
-ghost use Rattle.net_receiver.specs.Scoreboards.{IsHole, IsLossBound};
-ghost use Rattle.net_receiver.specs.Scoreboards.{IsEnd};
-ghost use Rattle.net_recovery.specs.LossRecovery.{new_recovery, begun, is_active, after_report, after_sending};
-ghost use Rattle.net_recovery.specs.LossRecovery.{missing_count, in_flight, unsent, resumed, next_range, next_segment};
+ghost use Rattle.std.specs.Prelude.{IsTrue, IsFalse, is_some, if◌then◌else◌};
+ghost use Rattle.net_receiver.specs.Scoreboards.{IsHole, IsLossBound, IsEnd};
+ghost use Rattle.net_assembler.specs.Positions.{contains};
+ghost use Rattle.net_recovery.specs.LossRecovery.{new_recovery, forgotten, begun, is_active, is_answered};
+ghost use Rattle.net_recovery.specs.LossRecovery.{with_pass, with_mark, later, overtaken, after_pass, after_losses};
+ghost use Rattle.net_recovery.specs.LossRecovery.{after_report, found, after_silence};
+ghost use Rattle.net_recovery.specs.LossRecovery.{after_sending, after_duplicate, was_sent_again, in_flight};
+ghost use Rattle.net_recovery.specs.LossRecovery.{unsent_lost, after_hearing, withdrawn, after_arrival, blind_lost};
+ghost use Rattle.net_recovery.specs.LossRecovery.{most_later, heard_of, after_copy, after_answer, ordered};
+ghost use Rattle.net_recovery.specs.LossRecovery.{unsent, next_range, next_segment, resumed, gone_on, begins_at};
 
 use net_numbers::SentNumbers;
 use net_receiver::Scoreboard;
 use std::ops::Range;
 
-/// How many runs above a position tell that it is lost (RFC 6675's DupThresh).
+/// How many segments above a position tell that it is lost, as long as nothing came twice (RFC 6675's DupThresh).
 const DUPLICATES: usize = 3;
 
-/// What a sender of TCP sends next where segments are lost, by rules 1 to 3 of RFC 6675's `NextSeg`: first what is
-/// lost, then what was never sent, and last what may be lost. Its rule 4, a rescue retransmission, isn't here.
+/// The most that `duplicated` makes of it.
+const MOST_DUPLICATES: usize = 1024;
+
+/// What an acknowledgement answers, for `LossRecovery::find_losses`.
+#[derive(Copy, Clone, Debug, PartialEq, Eq)]
+pub struct Answer {
+    /// The first number that wasn't acknowledged before it.
+    pub first: u64,
+    /// What `LossRecovery::unsent` said before it.
+    pub unsent: u64,
+    /// Whether a block of it reports what wasn't known.
+    pub reports: bool,
+    /// Whether it is an equal one, as `is_equal_acknowledgement` says: something has arrived, it doesn't say where.
+    pub is_equal: bool,
+}
+
+/// What a sender of TCP sends next where segments are lost: first what is lost, then what was never sent.
 ///
-/// It knows no bytes: it reads the sender's numbers, the scoreboard, and a limit, which the peer's window
+/// It knows no bytes and no time: it reads the sender's numbers, the scoreboard, and a limit, which the peer's window
 /// sets. A recovery begins when a loss is found or when the timer has expired, and lasts until all is
 /// acknowledged that was sent by then. How large the congestion window is, and when it is halved, is the
 /// caller's choice. smoltcp has no such type: its TCP socket sends again from the first unacknowledged
 /// position on.
 ///
+/// What was sent for the first time is lost by RFC 6675's rule, whose threshold rises where reordering made a sender
+/// send for nothing. What was sent again is lost by the order of sending, as RFC 8985 has it, without a time for each
+/// segment: it is sent again in passes, each from the lowest position on, and if enough of what was sent after a pass
+/// has been reported, all is lost that was sent before and is missing. Where no answer comes, a probe asks for one; an answer to it
+/// tells the same. Where what was lost arrives without having been sent again, finding it lost was wrong: what wasn't sent
+/// again isn't lost then, and the threshold rises (after a timeout that is RFC 5682's F-RTO).
+///
+/// Of a peer that reports nothing, the third equal acknowledgement loses the first segment, and in a recovery each one
+/// of something new the next (RFC 5681, RFC 6582). An equal one tells that a segment has arrived, so one less is in flight.
+///
 /// ```
 /// use net_base::scoreboard::Scoreboard;
-/// use net_base::tcp::{LossRecovery, SentNumbers};
+/// use net_base::tcp::{Answer, LossRecovery, SentNumbers};
 ///
 /// // Of 800 bytes in segments of 100, all sent, those from 100 to 399 were reported.
 /// let numbers = SentNumbers { first_unacknowledged: 0, sent: 800 };
 /// let mut scoreboard = Scoreboard::<4>::empty();
 /// assert_eq!(scoreboard.report(100, 400, 800), Ok(()));
 /// let mut recovery = LossRecovery::new();
-/// assert!(recovery.find_losses(numbers, &scoreboard, 100));
+/// let answer = Answer { first: 0, unsent: 0, reports: true, is_equal: false };
+/// assert!(recovery.find_losses(numbers, &scoreboard, 100, answer));
 /// // The first segment is lost. The peer's window ends at 1000, and 500 bytes may be in flight.
 /// let next = recovery.next_segment(numbers, &scoreboard, 1000, 500, 100);
 /// assert_eq!(next, Some((0, 100)));
@@ -39,22 +71,40 @@ const DUPLICATES: usize = 3;
 /// assert_eq!(recovery.in_flight(numbers, &scoreboard), 500);
 /// assert_eq!(recovery.next_segment(numbers, &scoreboard, 1000, 500, 100), None);
 /// assert_eq!(recovery.next_segment(numbers, &scoreboard, 1000, 600, 100), Some((800, 900)));
+/// // No answer comes: a probe asks for one, and when it is answered, the first segment is lost again.
+/// assert!(!recovery.find_overdue(numbers, &scoreboard));
+/// assert_eq!(recovery.next_probe(numbers, &scoreboard, 800, 100), Some((0, 100)));
 /// ```
-#[derive(Copy, Clone, Debug, Default, PartialEq, Eq, Hash)]
+#[derive(Copy, Clone, Debug, PartialEq, Eq, Hash)]
 pub struct LossRecovery {
     // It lasts until all positions below this one are acknowledged.
     until: u64,
     // What is below this position and isn't reported is lost.
     lost: u64,
-    // What is lost below this position was sent again.
+    // What is lost below this position was sent again in this pass.
     again: u64,
-    // The number after the last one that was sent, when the recovery began, or something was last sent again or found
-    // lost again.
+    // What is lost from `turn` on and below `resume` was sent again before this pass, which leaves it out. All that was
+    // sent again below `resume` was sent before what was sent again from there on.
+    turn: u64,
+    resume: u64,
+    // The number after the last one that was sent when `resume` was set, and how many positions were sent again from
+    // `resume` on since then.
     sent: u64,
+    later: u64,
+    // Where the probe begins that wasn't answered.
+    probe: Option<u64>,
+    // The number after the last one that was sent when the probe was.
+    asked: u64,
+    // Whether the peer doesn't report what has arrived, and how many positions have that it doesn't.
+    is_blind: bool,
+    unknown: u64,
+    // How many segments above a position tell that it is lost, and until which number is acknowledged that stays so.
+    duplicates: usize,
+    round: u64,
 }
 
 impl LossRecovery {
-    /// Returns that no recovery is active.
+    /// Returns that no recovery is active, and nothing came twice.
     #[must_use]
     pub const fn new() -> Self
         ensures { result ≡ new_recovery }
@@ -63,7 +113,16 @@ impl LossRecovery {
             until: 0,
             lost: 0,
             again: 0,
+            turn: 0,
+            resume: 0,
             sent: 0,
+            later: 0,
+            probe: None,
+            asked: 0,
+            is_blind: false,
+            unknown: 0,
+            duplicates: DUPLICATES,
+            round: 0,
         }
     }
 
@@ -75,10 +134,77 @@ impl LossRecovery {
         numbers.first_unacknowledged < self.until
     }
 
-    /// Finds what is lost, by the rule of RFC 6675, section 4, as `Scoreboard::lost_below` says it for 3 runs.
-    /// Call it after each acknowledgement, with the sender's numbers after it, once the scoreboard has it. What was
-    /// sent again is lost again once a position is reported more than two segments above all that was sent when
-    /// something was last sent again.
+    /// Returns how many segments above a position tell that it is lost: 3 at first.
+    #[must_use]
+    pub fn duplicates(&self) -> usize
+        ensures { result ≡ self.now.duplicates }
+    {
+        self.duplicates
+    }
+
+    /// Takes notice that the peer reports what it has already (RFC 2883): something was sent again for nothing. From
+    /// now on twice as many segments above a position tell that it is lost, up to 1024. Once that has happened, nothing changes until
+    /// all is acknowledged that was sent by then: a round trip makes it twice as many once.
+    pub fn duplicated(&mut self, numbers: SentNumbers)
+        ensures { self.new ≡ after_duplicate numbers.first_unacknowledged numbers.sent self.old }
+    {
+        if numbers.first_unacknowledged < self.round {
+            return;
+        }
+        self.duplicates = self.duplicates.saturating_mul(2).min(MOST_DUPLICATES);
+        self.round = numbers.sent;
+    }
+
+    /// Takes notice whether the peer reports what arrives, as its SYN says: until it does, or an equal acknowledgement
+    /// reports nothing.
+    pub fn expect_reports(&mut self, reports: bool)
+        ensures { self.new ≡ record self.old { is_blind = not reports; unknown = 0 } }
+    {
+        self.is_blind = !reports;
+        self.unknown = 0;
+    }
+
+    /// Returns whether the peer reports nothing: then no probe is answered, and none is to be sent.
+    #[must_use]
+    pub fn is_blind(&self) -> bool
+        ensures { result ≡ self.now.is_blind }
+    {
+        self.is_blind
+    }
+
+    /// Returns how many positions are lost and weren't sent again. `find_losses` wants it as it was before the
+    /// acknowledgement.
+    #[must_use]
+    pub fn unsent<const N: usize>(&self, numbers: SentNumbers, scoreboard: &Scoreboard<N>) -> u64
+        ensures { result ≡ (if is_active self.now numbers.first_unacknowledged
+            then unsent_lost self.now numbers.first_unacknowledged scoreboard.now else 0) }
+    {
+        if self.is_active(numbers) {
+            self.unsent_lost(numbers, scoreboard)
+        } else {
+            0
+        }
+    }
+
+    fn unsent_lost<const N: usize>(&self, numbers: SentNumbers, scoreboard: &Scoreboard<N>) -> u64
+        ensures { result ≡ unsent_lost self.now numbers.first_unacknowledged scoreboard.now }
+    {
+        let from = self.again.max(numbers.first_unacknowledged);
+        let of_pass = scoreboard.missing_between(from, self.turn.min(self.lost));
+        let others = scoreboard.missing_between(from.max(self.resume), self.lost);
+        of_pass.saturating_add(others)
+    }
+
+    /// Finds what is lost. Call it after each acknowledgement, with the sender's numbers after it, once the scoreboard
+    /// has it, and with what it answers.
+    ///
+    /// What was sent once is lost as `Scoreboard::lost_below` says for as many segments as `duplicates` has. What was
+    /// sent before a pass is lost, and what was sent again in it again, once more than `duplicates() - 1` segments are reported of
+    /// what was sent after it. Once a probe is answered, all that was sent before it, and isn't reported, is lost. If what was lost
+    /// and wasn't sent again has arrived, it wasn't: nothing that wasn't sent again is lost, and it is as if something came
+    /// twice, as `duplicated` says. If the peer reports nothing, the first segment is lost after `duplicates` equal
+    /// acknowledgements, and in a recovery where something new is acknowledged. An equal one of what a recovery lasted for
+    /// answers a copy: it counts as a report of what came twice.
     ///
     /// Returns whether this call begins a recovery: then halve the congestion window.
     pub fn find_losses<const N: usize>(
@@ -86,67 +212,436 @@ impl LossRecovery {
         numbers: SentNumbers,
         scoreboard: &Scoreboard<N>,
         segment_size: usize,
+        answer: Answer,
     ) -> bool
-        ensures state { (lost highest : ℕ) → IsLossBound 3 segment_size scoreboard.now lost →
+        ensures state { (lost highest : ℕ) → let r = after_answer segment_size answer.first
+            numbers.first_unacknowledged numbers.sent answer.reports answer.is_equal answer.unsent scoreboard.now self.old in
+            IsLossBound r.duplicates segment_size scoreboard.now lost →
             IsEnd scoreboard.now highest → self.new ≡ after_report segment_size
-            numbers.first_unacknowledged numbers.sent lost highest self.old }
-        ensures begins { (lost : ℕ) → IsLossBound 3 segment_size scoreboard.now lost →
-            result ≡ (not (is_active self.old numbers.first_unacknowledged)
-            && nat_lt numbers.first_unacknowledged lost) }
+            numbers.first_unacknowledged numbers.sent scoreboard.now
+            (max lost (blind_lost segment_size answer.first numbers.first_unacknowledged numbers.sent r)) highest r }
+        ensures begins { (lost highest : ℕ) → let r = after_answer segment_size answer.first
+            numbers.first_unacknowledged numbers.sent answer.reports answer.is_equal answer.unsent scoreboard.now self.old in
+            IsLossBound r.duplicates segment_size scoreboard.now lost →
+            IsEnd scoreboard.now highest → result ≡ (not (is_active r numbers.first_unacknowledged)
+            && nat_lt numbers.first_unacknowledged (found scoreboard.now
+            (max lost (blind_lost segment_size answer.first numbers.first_unacknowledged numbers.sent r)) highest r)) }
     {
-        let lost = scoreboard.lost_below(DUPLICATES, segment_size);
-        if !self.is_active(numbers) {
-            let begins = numbers.first_unacknowledged < lost;
-            if begins {
-                self.begin(numbers, lost);
-            }
-            return begins;
-        }
-        self.lost = self.lost.max(lost);
-        let sent_after = scoreboard.highest_reported().saturating_sub(self.sent);
-        if sent_after > (segment_size as u64).saturating_mul(2) {
-            self.again = numbers.first_unacknowledged;
-            self.sent = numbers.sent;
-        }
-        false
+        self.take(numbers, scoreboard, segment_size, answer);
+        self.find(numbers, scoreboard, segment_size, answer.first)
     }
 
-    /// Begins a recovery in which all that was sent and isn't reported is lost, as when the timer has expired.
-    pub fn lose_all(&mut self, numbers: SentNumbers)
-        ensures { self.new ≡ begun numbers.first_unacknowledged numbers.sent numbers.sent }
+    /// Takes what an acknowledgement answers.
+    fn take<const N: usize>(
+        &mut self,
+        numbers: SentNumbers,
+        scoreboard: &Scoreboard<N>,
+        segment_size: usize,
+        answer: Answer,
+    )
+        ensures { self.new ≡ after_answer segment_size answer.first numbers.first_unacknowledged numbers.sent
+            answer.reports answer.is_equal answer.unsent scoreboard.now self.old }
     {
+        self.take_copy(numbers, answer);
+        self.hear(numbers, segment_size, answer);
+        self.take_arrival(numbers, scoreboard, answer.unsent);
+    }
+
+    /// Takes an equal acknowledgement of all that was sent before a recovery as a report of what came twice: it answers a copy.
+    fn take_copy(&mut self, numbers: SentNumbers, answer: Answer)
+        ensures { self.new ≡ after_copy numbers.first_unacknowledged numbers.sent answer.reports answer.is_equal self.old }
+    {
+        if answer.is_equal && !answer.reports && numbers.first_unacknowledged == self.until {
+            self.duplicated(numbers);
+        }
+    }
+
+    /// Takes notice whether the peer reports, and of what has arrived that it doesn't.
+    fn hear(&mut self, numbers: SentNumbers, segment_size: usize, answer: Answer)
+        ensures { self.new ≡ after_hearing segment_size answer.first numbers.first_unacknowledged numbers.sent
+            answer.reports answer.is_equal self.old }
+    {
+        let size = segment_size as u64;
+        let first = numbers.first_unacknowledged;
+        let end = if self.is_active(numbers) {
+            self.until
+        } else {
+            numbers.sent
+        };
+        let known = first.saturating_sub(answer.first).saturating_sub(size);
+        let most = end.saturating_sub(first).saturating_sub(size);
+        let unknown = self.heard_of(size, answer.reports, answer.is_equal && first != self.until);
+        self.unknown = unknown.saturating_sub(known).min(most);
+        self.is_blind = !answer.reports && (answer.is_equal || self.is_blind);
+    }
+
+    fn heard_of(&self, size: u64, reports: bool, is_equal: bool) -> u64
+        ensures { result ≡ heard_of size reports is_equal self.now }
+    {
+        if reports {
+            0
+        } else if is_equal {
+            self.unknown.saturating_add(size)
+        } else {
+            self.unknown
+        }
+    }
+
+    /// Loses nothing that wasn't sent again, if such a thing has arrived.
+    fn take_arrival<const N: usize>(
+        &mut self,
+        numbers: SentNumbers,
+        scoreboard: &Scoreboard<N>,
+        unsent: u64,
+    )
+        ensures { self.new ≡ after_arrival unsent numbers.first_unacknowledged numbers.sent scoreboard.now self.old }
+    {
+        if !self.is_blind && self.unsent_lost(numbers, scoreboard) < unsent {
+            self.withdraw();
+            self.duplicated(numbers);
+        }
+    }
+
+    /// What is lost and wasn't sent again isn't lost.
+    fn withdraw(&mut self)
+        ensures { self.new ≡ withdrawn self.old }
+    {
+        self.turn = self.again;
+        self.lost = self.lost.min(self.again.max(self.resume));
+    }
+
+    /// Finds what is lost by what was reported, or heard of.
+    fn find<const N: usize>(
+        &mut self,
+        numbers: SentNumbers,
+        scoreboard: &Scoreboard<N>,
+        segment_size: usize,
+        before: u64,
+    ) -> bool
+        ensures state { (lost highest : ℕ) → IsLossBound self.old.duplicates segment_size scoreboard.now lost →
+            IsEnd scoreboard.now highest → self.new ≡ after_report segment_size
+            numbers.first_unacknowledged numbers.sent scoreboard.now
+            (max lost (blind_lost segment_size before numbers.first_unacknowledged numbers.sent self.old)) highest self.old }
+        ensures begins { (lost highest : ℕ) → IsLossBound self.old.duplicates segment_size scoreboard.now lost →
+            IsEnd scoreboard.now highest → result ≡ (not (is_active self.old numbers.first_unacknowledged)
+            && nat_lt numbers.first_unacknowledged (found scoreboard.now
+            (max lost (blind_lost segment_size before numbers.first_unacknowledged numbers.sent self.old)) highest self.old)) }
+    {
+        let highest = scoreboard.highest_reported();
+        let lost = scoreboard.lost_below(self.duplicates, segment_size);
+        let blind = self.blind_lost(numbers, segment_size, before);
+        self.take_losses(numbers, scoreboard, segment_size, lost.max(blind), highest)
+    }
+
+    /// Returns below which position all is lost, if the peer reports nothing.
+    fn blind_lost(&self, numbers: SentNumbers, segment_size: usize, before: u64) -> u64
+        ensures { result ≡ blind_lost segment_size before numbers.first_unacknowledged numbers.sent self.now }
+    {
+        let first = numbers.first_unacknowledged;
+        let is_lost = if self.is_active(numbers) {
+            before < first
+        } else {
+            self.most_later(segment_size) < self.unknown
+        };
+        if self.is_blind && is_lost {
+            numbers.sent.min(first.saturating_add(segment_size as u64))
+        } else {
+            0
+        }
+    }
+
+    /// Returns how much of what was sent later may have arrived before something is lost.
+    fn most_later(&self, segment_size: usize) -> u64
+        ensures { result ≡ most_later segment_size self.now }
+    {
+        (self.duplicates.saturating_sub(1) as u64).saturating_mul(segment_size as u64)
+    }
+
+    /// Finds what is lost, by the scoreboard's two limits.
+    fn take_losses<const N: usize>(
+        &mut self,
+        numbers: SentNumbers,
+        scoreboard: &Scoreboard<N>,
+        segment_size: usize,
+        lost: u64,
+        highest: u64,
+    ) -> bool
+        ensures state { self.new ≡ after_report segment_size
+            numbers.first_unacknowledged numbers.sent scoreboard.now lost highest self.old }
+        ensures begins { result ≡ (not (is_active self.old numbers.first_unacknowledged)
+            && nat_lt numbers.first_unacknowledged (found scoreboard.now lost highest self.old)) }
+    {
+        if self.is_answered(scoreboard) {
+            self.probe = None;
+            let asked = if self.is_blind { 0 } else { self.asked };
+            return self.lose(
+                numbers,
+                scoreboard,
+                segment_size,
+                lost.max(highest).max(asked),
+                true,
+            );
+        }
+        self.lose(numbers, scoreboard, segment_size, lost, false)
+    }
+
+    /// Loses what is below a position, and what was overtaken.
+    fn lose<const N: usize>(
+        &mut self,
+        numbers: SentNumbers,
+        scoreboard: &Scoreboard<N>,
+        segment_size: usize,
+        lost: u64,
+        is_answered: bool,
+    ) -> bool
+        ensures state { self.new ≡ after_losses segment_size
+            numbers.first_unacknowledged numbers.sent scoreboard.now lost is_answered self.old }
+        ensures begins { result ≡ (not (is_active self.old numbers.first_unacknowledged)
+            && nat_lt numbers.first_unacknowledged lost) }
+    {
+        if self.is_active(numbers) {
+            self.lost = self.lost.max(lost);
+            self.end_pass(numbers, scoreboard, segment_size, is_answered);
+            return false;
+        }
+        let begins = numbers.first_unacknowledged < lost;
+        if begins {
+            self.begin(numbers, lost);
+        }
+        begins
+    }
+
+    /// Begins a pass, if what was sent again is lost again.
+    fn end_pass<const N: usize>(
+        &mut self,
+        numbers: SentNumbers,
+        scoreboard: &Scoreboard<N>,
+        segment_size: usize,
+        is_answered: bool,
+    )
+        ensures { self.new ≡ after_pass segment_size
+            numbers.first_unacknowledged numbers.sent scoreboard.now is_answered self.old }
+    {
+        if is_answered {
+            self.pass(numbers, self.again.max(self.resume));
+        } else if scoreboard.missing_between(numbers.first_unacknowledged, self.resume) == 0 {
+            self.mark(numbers);
+        } else if self.is_overtaken(numbers, scoreboard, segment_size) {
+            self.lose_earlier();
+            self.pass(numbers, self.resume);
+        }
+    }
+
+    /// Loses what was sent before the pass, if the peer would have reported it.
+    fn lose_earlier(&mut self)
+        ensures { self.new ≡ ordered self.old }
+    {
+        if !self.is_blind {
+            self.lost = self.lost.max(self.sent);
+        }
+    }
+
+    /// Returns whether enough is reported of what was sent after a pass.
+    fn is_overtaken<const N: usize>(
+        &self,
+        numbers: SentNumbers,
+        scoreboard: &Scoreboard<N>,
+        segment_size: usize,
+    ) -> bool
+        ensures { result ≡ overtaken segment_size scoreboard.now numbers.sent self.now }
+    {
+        self.most_later(segment_size) < self.reported_later(numbers, scoreboard)
+    }
+
+    /// Returns whether the probe was reported.
+    fn is_answered<const N: usize>(&self, scoreboard: &Scoreboard<N>) -> bool
+        ensures { result ≡ is_answered scoreboard.now self.now.probe }
+    {
+        match self.probe {
+            Some(start) => scoreboard.contains(start),
+            None => false,
+        }
+    }
+
+    /// Returns how many positions are reported of what was sent after a pass.
+    fn reported_later<const N: usize>(
+        &self,
+        numbers: SentNumbers,
+        scoreboard: &Scoreboard<N>,
+    ) -> u64
+        ensures { result ≡ later scoreboard.now numbers.sent self.now }
+    {
+        let again = scoreboard.missing_between(self.resume, self.again);
+        let first = scoreboard.missing_between(self.sent, numbers.sent);
+        let all = self
+            .later
+            .saturating_add(numbers.sent.saturating_sub(self.sent));
+        all.saturating_sub(again).saturating_sub(first)
+    }
+
+    /// Begins a pass up to a position: what was sent again from there on stays sent again.
+    fn pass(&mut self, numbers: SentNumbers, turn: u64)
+        ensures { self.new ≡ with_pass numbers.first_unacknowledged numbers.sent turn self.old }
+    {
+        self.turn = turn;
+        self.mark(numbers);
+        self.again = numbers.first_unacknowledged;
+    }
+
+    /// Counts what is sent from now on as sent later than all that was sent again.
+    fn mark(&mut self, numbers: SentNumbers)
+        ensures { self.new ≡ with_mark numbers.sent self.old }
+    {
+        self.resume = self.again.max(self.resume);
+        self.sent = numbers.sent;
+        self.later = 0;
+    }
+
+    /// Finds what is lost where the timer's probe is due: all below the highest position that was reported, since
+    /// nothing was for two round trips. Then send as `next_segment` says; if that sends nothing, `next_probe`.
+    ///
+    /// Returns whether this call begins a recovery: then halve the congestion window.
+    pub fn find_overdue<const N: usize>(
+        &mut self,
+        numbers: SentNumbers,
+        scoreboard: &Scoreboard<N>,
+    ) -> bool
+        ensures state { (highest : ℕ) → IsEnd scoreboard.now highest →
+            self.new ≡ after_silence numbers.first_unacknowledged numbers.sent highest self.old }
+        ensures begins { (highest : ℕ) → IsEnd scoreboard.now highest →
+            result ≡ (not (is_active self.old numbers.first_unacknowledged)
+            && nat_lt numbers.first_unacknowledged highest) }
+    {
+        let lost = scoreboard.highest_reported();
+        if self.is_active(numbers) {
+            self.lost = self.lost.max(lost);
+            return false;
+        }
+        let begins = numbers.first_unacknowledged < lost;
+        if begins {
+            self.begin(numbers, lost);
+        }
+        begins
+    }
+
+    /// Returns what a probe sends below `limit`, whatever is in flight: in a recovery the first segment that isn't
+    /// reported, else a new one, and if the limit allows none, the last one. A `segment_size` of 0 counts as 1. Call
+    /// `probed` once it is sent.
+    #[must_use]
+    pub fn next_probe<const N: usize>(
+        &self,
+        numbers: SentNumbers,
+        scoreboard: &Scoreboard<N>,
+        limit: u64,
+        segment_size: usize,
+    ) -> Option<(u64, u64)>
+        ensures progress { numbers.first_unacknowledged < min numbers.sent limit →
+            IsFalse (contains scoreboard.now numbers.first_unacknowledged) → IsTrue (is_some result) }
+        ensures within { IfSome result (λ g. (g.0 < g.1) × (g.1 ≤ limit) × (g.1 ≤ g.0 + max 1 segment_size)) }
+        ensures unreported { IfSome result (λ g. (p : ℕ) → g.0 ≤ p → p < g.1 → p < numbers.sent →
+            IsFalse (contains scoreboard.now p)) }
+        ensures after { numbers.first_unacknowledged ≤ numbers.sent →
+            IfSome result (λ g. numbers.first_unacknowledged ≤ g.0) }
+    {
+        let size = segment_size.max(1) as u64;
+        let (first, sent) = (numbers.first_unacknowledged, numbers.sent);
+        let highest = scoreboard.highest_reported();
+        let end = sent.min(limit);
+        if !self.is_active(numbers) && highest < sent {
+            if sent < limit {
+                return Some((sent, limit.min(sent.saturating_add(size))));
+            }
+            let start = first.max(highest).max(end.saturating_sub(size));
+            if start < end {
+                return Some((start, end));
+            }
+        }
+        match scoreboard.next_hole(first, end) {
+            Some((start, end)) => Some((start, end.min(start.saturating_add(size)))),
+            None => None,
+        }
+    }
+
+    /// Takes notice that a probe is sent, whose first position is `start`. `numbers` are the sender's before that.
+    pub fn probed(&mut self, numbers: SentNumbers, start: u64)
+        ensures { self.new ≡ record self.old { probe = Option.Some start; asked = numbers.sent } }
+    {
+        self.probe = Some(start);
+        self.asked = numbers.sent;
+    }
+
+    /// Begins a recovery where the peer has dropped what it had reported: it acknowledges up to a number that was reported
+    /// (RFC 2018, section 8). All below the highest position that was reported is lost. Call it before the
+    /// scoreboard begins again.
+    ///
+    /// Returns whether none lasted: then halve the congestion window.
+    pub fn lose_dropped<const N: usize>(
+        &mut self,
+        numbers: SentNumbers,
+        scoreboard: &Scoreboard<N>,
+    ) -> bool
+        ensures state { (highest : ℕ) → IsEnd scoreboard.now highest → self.new ≡ begun numbers.first_unacknowledged
+            numbers.sent (max self.old.lost highest) self.old }
+        ensures begins { result ≡ not (is_active self.old numbers.first_unacknowledged) }
+    {
+        let begins = !self.is_active(numbers);
+        let lost = self.lost.max(scoreboard.highest_reported());
+        self.begin(numbers, lost);
+        begins
+    }
+
+    /// Begins a recovery in which all that was sent and isn't reported is lost, as when the timer has expired. Three
+    /// segments above a position tell again that it is lost.
+    pub fn lose_all(&mut self, numbers: SentNumbers)
+        ensures { self.new ≡ begun numbers.first_unacknowledged numbers.sent numbers.sent (forgotten self.old) }
+    {
+        self.duplicates = DUPLICATES;
+        self.unknown = 0;
         self.begin(numbers, numbers.sent);
     }
 
     fn begin(&mut self, numbers: SentNumbers, lost: u64)
-        ensures { self.new ≡ begun numbers.first_unacknowledged numbers.sent lost }
+        ensures { self.new ≡ begun numbers.first_unacknowledged numbers.sent lost self.old }
     {
         *self = LossRecovery {
             until: numbers.sent,
             lost,
             again: numbers.first_unacknowledged,
+            turn: numbers.first_unacknowledged,
+            resume: numbers.first_unacknowledged,
             sent: numbers.sent,
+            later: 0,
+            probe: None,
+            asked: 0,
+            is_blind: self.is_blind,
+            unknown: self.unknown,
+            duplicates: self.duplicates,
+            round: self.round,
         };
     }
 
     /// Returns how many positions may be in flight: of those which were sent and aren't reported, the ones that
-    /// aren't lost or were sent again. RFC 6675's pipe counts twice what was sent again and isn't lost.
+    /// aren't lost or were sent again, less those that have arrived and the peer doesn't report.
     #[must_use]
     pub fn in_flight<const N: usize>(&self, numbers: SentNumbers, scoreboard: &Scoreboard<N>) -> u64
         ensures { result ≡ in_flight self.now numbers.first_unacknowledged numbers.sent scoreboard.now }
     {
         let first = numbers.first_unacknowledged;
+        let all = scoreboard
+            .missing_between(first, numbers.sent)
+            .saturating_sub(self.unknown);
         if !self.is_active(numbers) {
-            return missing_between(scoreboard, first, numbers.sent);
+            return all;
         }
-        let sent_again = missing_between(scoreboard, first, self.again.min(self.lost));
-        sent_again + missing_between(scoreboard, self.lost.max(first), numbers.sent)
+        let from = self.again.max(first);
+        let of_pass = scoreboard.missing_between(from, self.turn.min(self.lost));
+        let others = scoreboard.missing_between(from.max(self.resume), self.lost);
+        all.saturating_sub(of_pass).saturating_sub(others)
     }
 
     /// Returns what to send next, as a start and an end, the end not included, at most a segment. In a
-    /// recovery that is what is lost and wasn't sent again; else what was never sent; else what is below a
-    /// reported position and wasn't sent again. Outside of one it is what was never sent. It is below `limit`, as `PeerWindow::send_limit` returns it. A `segment_size` of 0
-    /// counts as 1.
+    /// recovery that is what is lost and wasn't sent again; else what was never sent. Outside of one it is what was never sent.
+    /// It is below `limit`, as `PeerWindow::send_limit` returns it. A `segment_size` of 0 counts as 1.
     ///
     /// `None` if there is nothing to send, or if with a whole segment more than `window` positions, the
     /// congestion window, would be in flight. The first unacknowledged number is sent whatever is in flight.
@@ -159,18 +654,26 @@ impl LossRecovery {
         window: u64,
         segment_size: usize,
     ) -> Option<(u64, u64)>
-        ensures next { (highest : ℕ) (lost below : Option (ℕ × ℕ)) → let first = numbers.first_unacknowledged in
-            let from = resumed self.now first in
-            IsEnd scoreboard.now highest → IsHole scoreboard.now from (min self.now.lost limit) lost →
-            IsHole scoreboard.now from (min highest limit) below →
+        ensures next { (lost others : Option (ℕ × ℕ)) → let first = numbers.first_unacknowledged in
+            IsHole scoreboard.now (resumed self.now first) (min (min self.now.turn self.now.lost) limit) lost →
+            IsHole scoreboard.now (gone_on self.now first) (min self.now.lost limit) others →
             result ≡ next_segment first (in_flight self.now first numbers.sent scoreboard.now) window
-            (max 1 segment_size) (next_range self.now first numbers.sent limit lost below) }
+            (max 1 segment_size) (next_range self.now first numbers.sent limit lost others) }
         // Guarantee.
         ensures within { IfSome result (λ segment. (segment.0 < segment.1) × (segment.1 ≤ limit)
             × (segment.1 ≤ segment.0 + max 1 segment_size)) }
         ensures room { IfSome result (λ segment. numbers.first_unacknowledged < segment.0 →
             in_flight self.now numbers.first_unacknowledged numbers.sent scoreboard.now
             + (segment.1 - segment.0) ≤ window) }
+        ensures once { IfSome result (λ segment. (p : ℕ) → segment.0 ≤ p → p < segment.1 → p < numbers.sent →
+            IsFalse (contains scoreboard.now p) × IsFalse (was_sent_again self.now numbers.first_unacknowledged p)) }
+        ensures progress { let first = numbers.first_unacknowledged in IsTrue (is_active self.now first) →
+            IsFalse (was_sent_again self.now first first) → first < min self.now.lost limit →
+            IsFalse (contains scoreboard.now first) → IsTrue (begins_at first result) }
+        ensures begins { let first = numbers.first_unacknowledged in IsFalse (is_active self.now first) →
+            first ≡ numbers.sent → first < limit → IsTrue (begins_at first result) }
+        ensures after { numbers.first_unacknowledged ≤ numbers.sent →
+            IfSome result (λ segment. numbers.first_unacknowledged ≤ segment.0) }
     {
         let Some((start, end)) = self.next_range(numbers, scoreboard, limit) else {
             return None;
@@ -192,24 +695,32 @@ impl LossRecovery {
         scoreboard: &Scoreboard<N>,
         limit: u64,
     ) -> Option<(u64, u64)>
-        ensures next { (highest : ℕ) (lost below : Option (ℕ × ℕ)) → let first = numbers.first_unacknowledged in
-            let from = resumed self.now first in
-            IsEnd scoreboard.now highest → IsHole scoreboard.now from (min self.now.lost limit) lost →
-            IsHole scoreboard.now from (min highest limit) below →
-            result ≡ next_range self.now first numbers.sent limit lost below }
+        ensures next { (lost others : Option (ℕ × ℕ)) → let first = numbers.first_unacknowledged in
+            IsHole scoreboard.now (resumed self.now first) (min (min self.now.turn self.now.lost) limit) lost →
+            IsHole scoreboard.now (gone_on self.now first) (min self.now.lost limit) others →
+            result ≡ next_range self.now first numbers.sent limit lost others }
         ensures within { IfSome result (λ range. (range.0 < range.1) × (range.1 ≤ limit)) }
+        ensures once { IfSome result (λ range. (p : ℕ) → range.0 ≤ p → p < range.1 → p < numbers.sent →
+            IsFalse (contains scoreboard.now p) × IsFalse (was_sent_again self.now numbers.first_unacknowledged p)) }
+        ensures progress { let first = numbers.first_unacknowledged in IsTrue (is_active self.now first) →
+            IsFalse (was_sent_again self.now first first) → first < min self.now.lost limit →
+            IsFalse (contains scoreboard.now first) → IsTrue (begins_at first result) }
+        ensures begins { let first = numbers.first_unacknowledged in IsFalse (is_active self.now first) →
+            first ≡ numbers.sent → first < limit → IsTrue (begins_at first result) }
+        ensures after { numbers.first_unacknowledged ≤ numbers.sent →
+            IfSome result (λ range. numbers.first_unacknowledged ≤ range.0) }
     {
         if !self.is_active(numbers) {
             return unsent(numbers.sent, limit);
         }
         let from = self.again.max(numbers.first_unacknowledged);
-        if let Some(hole) = scoreboard.next_hole(from, self.lost.min(limit)) {
+        if let Some(hole) = scoreboard.next_hole(from, self.turn.min(self.lost).min(limit)) {
             return Some(hole);
         }
-        if let Some(range) = unsent(numbers.sent, limit) {
-            return Some(range);
+        if let Some(hole) = scoreboard.next_hole(from.max(self.resume), self.lost.min(limit)) {
+            return Some(hole);
         }
-        scoreboard.next_hole(from, scoreboard.highest_reported().min(limit))
+        unsent(numbers.sent, limit)
     }
 
     /// Takes notice that these positions are sent now: those of `next_segment`, or fewer from its start on. All
@@ -221,7 +732,11 @@ impl LossRecovery {
     {
         if self.is_active(numbers) && positions.start < positions.end.min(numbers.sent) {
             self.again = self.again.max(positions.end);
-            self.sent = numbers.sent;
+            if self.resume <= numbers.first_unacknowledged {
+                self.mark(numbers);
+            } else if self.resume <= positions.start {
+                self.later = self.later.saturating_add(positions.end - positions.start);
+            }
         }
     }
 }
@@ -235,18 +750,4 @@ fn unsent(sent: u64, limit: u64) -> Option<(u64, u64)>
     } else {
         None
     }
-}
-
-/// Returns how many positions between two of them weren't reported.
-fn missing_between<const N: usize>(scoreboard: &Scoreboard<N>, start: u64, end: u64) -> u64
-    ensures count { result ≡ missing_count scoreboard.now start (end - start) }
-    ensures few { result ≤ end - start }
-{
-    let mut count = 0;
-    let mut from = start;
-    while let Some((hole_start, hole_end)) = scoreboard.next_hole(from, end) {
-        count += hole_end - hole_start;
-        from = hole_end;
-    }
-    count
 }

@@ -272,6 +272,7 @@ impl<'a, T> ManagedSlice<'a, T> {
     ghost use Rattle.net_ring.specs.ManagedLends.{lends_elements};
 
     /// Returns how many elements the storage has.
+    #[must_use]
     pub fn len(&self) -> usize
         ensures { result ≡ length (elements self.now) }
     {
@@ -279,6 +280,7 @@ impl<'a, T> ManagedSlice<'a, T> {
     }
 
     /// Shows all elements.
+    #[must_use]
     pub fn as_slice(&self) -> &[T]
         ensures { result.now ≡ elements self.now }
     {

@@ -184,6 +184,7 @@ impl<T, S: Storage<T>> RingOver<T, S> {
     /// assert_eq!(RingBuffer::new(&mut storage[..]).capacity(), 4);
     /// ```
     #[inline]
+    #[must_use]
     pub fn capacity(&self) -> usize
         ensures capacity { result ≡ capacity self.now }
         ensures well_formed { IsWellFormed self.now }
@@ -225,6 +226,7 @@ impl<T, S: Storage<T>> RingOver<T, S> {
     /// assert_eq!(ring.len(), 3);
     /// ```
     #[inline]
+    #[must_use]
     pub fn len(&self) -> usize
         ensures count { result ≡ self.now.count }
         ensures queue { result ≡ length (queue self.now) }
@@ -243,6 +245,7 @@ impl<T, S: Storage<T>> RingOver<T, S> {
     /// assert_eq!(ring.window(), 1);
     /// ```
     #[inline]
+    #[must_use]
     pub fn window(&self) -> usize
         ensures window { result ≡ window self.now }
         ensures spare { result ≡ length (spare self.now) }
@@ -264,6 +267,7 @@ impl<T, S: Storage<T>> RingOver<T, S> {
     /// ring.dequeue_allocated(2);
     /// assert_eq!((ring.window(), ring.contiguous_window()), (3, 1));
     /// ```
+    #[must_use]
     pub fn contiguous_window(&self) -> usize
         ensures count { result ≡ contiguous_window self.now }
         ensures within { (result ≤ window self.now)
@@ -280,6 +284,7 @@ impl<T, S: Storage<T>> RingOver<T, S> {
     /// assert!(RingBuffer::new(&mut storage[..]).is_empty());
     /// ```
     #[inline]
+    #[must_use]
     pub fn is_empty(&self) -> bool
         ensures count { result ≡ (self.now.count == 0) }
         ensures none_queued { IsTrue result ↔ (queue self.now ≡ []) }
@@ -296,6 +301,7 @@ impl<T, S: Storage<T>> RingOver<T, S> {
     /// assert!(RingBuffer::new(&mut storage[..]).is_full());
     /// ```
     #[inline]
+    #[must_use]
     pub fn is_full(&self) -> bool
         ensures room { result ≡ (window self.now == 0) }
         ensures none_spare { IsTrue result ↔ (spare self.now ≡ []) }
@@ -815,6 +821,7 @@ impl<T, S: Storage<T>> RingOver<T, S> {
 
     /// Returns the length of what `get_unallocated` lends. smoltcp has no such call. A caller needs it,
     /// since a ring can't be asked anything while a part of it is lent.
+    #[must_use]
     pub fn contiguous_unallocated(&self, offset: usize, size: usize) -> usize
         ensures count { result ≡ contiguous_unallocated self.now offset size }
         ensures within { (result ≤ size) × (result ≤ window self.now - offset) }
@@ -921,6 +928,7 @@ impl<T, S: Storage<T>> RingOver<T, S> {
 
     /// Returns the length of what `get_allocated` shows and `get_allocated_mut` lends, as
     /// [`contiguous_unallocated`](RingOver::contiguous_unallocated) does. smoltcp has no such call.
+    #[must_use]
     pub fn contiguous_allocated(&self, offset: usize, size: usize) -> usize
         ensures count { result ≡ contiguous_allocated self.now offset size }
         ensures within { (result ≤ size) × (result ≤ self.now.count - offset) }
@@ -1070,6 +1078,7 @@ impl<T, S: Storage<T>> RingOver<T, S> {
     /// assert_eq!(ring.as_slices(), (&b"cd"[..], &b"ef"[..]));
     /// ```
     #[tactic(auto, using(crate::proofs::RingFacts::cut_parts))]
+    #[must_use]
     pub fn as_slices(&self) -> (&[T], &[T])
         // Guarantee.
         ensures queue { result.0.now ++ result.1.now ≡ queue self.now }
@@ -1110,6 +1119,7 @@ impl<T, S: Storage<T>> RingOver<T, S> {
     /// assert_eq!(ring.enqueue_slice(b"def"), 3);
     /// assert!(ring.iter().eq(b"cdef") && ring.iter().rev().eq(b"fedc"));
     /// ```
+    #[must_use]
     pub fn iter(&self) -> Iter<'_, T>
         ensures queue { result ≡ queue self.now }
         ensures count { length result ≡ self.now.count }
@@ -1127,6 +1137,7 @@ impl<T, S: Storage<T>> RingOver<T, S> {
     /// assert_eq!(ring.enqueue_slice(b"abc"), 3);
     /// assert_eq!((ring.get(0), ring.get(2), ring.get(3)), (Some(&b'a'), Some(&b'c'), None));
     /// ```
+    #[must_use]
     pub fn get(&self, index: usize) -> Option<&T>
         ensures value { option_copied result ≡ slice_get (queue self.now) index }
         ensures some { IsSome result ↔ (index < self.now.count) }
@@ -1145,6 +1156,7 @@ impl<T, S: Storage<T>> RingOver<T, S> {
     /// assert_eq!(ring.enqueue_slice(b"abc"), 3);
     /// assert_eq!(ring.front(), Some(&b'a'));
     /// ```
+    #[must_use]
     pub fn front(&self) -> Option<&T>
         ensures value { option_copied result ≡ slice_get (queue self.now) 0 }
         ensures some { IsSome result ↔ (0 < self.now.count) }
@@ -1166,6 +1178,7 @@ impl<T, S: Storage<T>> RingOver<T, S> {
     /// assert_eq!(ring.enqueue_slice(b"abc"), 3);
     /// assert_eq!(ring.back(), Some(&b'c'));
     /// ```
+    #[must_use]
     pub fn back(&self) -> Option<&T>
         ensures value { option_copied result
             ≡ slice_get (queue self.now) (length (queue self.now) - 1) }

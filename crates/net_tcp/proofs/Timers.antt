@@ -1,19 +1,22 @@
 -- Equal samples settle an estimate, and a timeout that passes again and again doubles up to the most; why a timed
--- position was sent once, and why and until when the timer runs.
+-- position was sent once, why and until when the timer runs, and when it expires.
 use Rattle.std.proofs.Common.{◌≡◌, ℕ, zero, suc, ◌+◌, ◌-◌, ◌*◌, ◌/◌, ◌^◌, ◌≤◌, min, inl, inr, refl, sym, ap, ◌∙◌}
-use Rattle.std.proofs.Common.{subst, arith, rules, suc-add, zero-add, List, [], ◌∷◌}
-use Rattle.std.specs.Prelude.{◌⊎◌, Some, IsTrue, IsFalse, All}
+use Rattle.std.proofs.Common.{subst, arith, rules, suc-add, zero-add, List, [], ◌∷◌, true, false}
+use Rattle.std.specs.Prelude.{◌⊎◌, Some, IsTrue, IsFalse, All, Bool, ℤ, ◌&&◌, nat_le, nat_lt, max, if◌then◌else◌}
 use Rattle.std.specs.Fn.{iterate}
 use Rattle.std.proofs.Math.Nat.{pow-suc}
 use Rattle.std.proofs.lemmas.Nat.{pow_pos, mul-le}
 use Rattle.std.proofs.lemmas.Bool.{cases_lt}
 use Rattle.std.proofs.lemmas.List.Elements.{All-head, All-tail}
 use Rattle.net_tcp.specs.Estimate.{Estimate}
-use Rattle.net_tcp.specs.Retransmission.{next_estimate, doubled, IsSettled, Event, Sends, Acknowledges, Reports}
+use Rattle.net_tcp.specs.Retransmission.{next_estimate, doubled, IsSettled, Event, Sends, Acknowledges, Reports, Samples}
 use Rattle.net_tcp.specs.Retransmission.{Looks, Starts, Stops, Connection, opened, after_event, after_events}
 use Rattle.net_tcp.specs.Retransmission.{sends_over, runs, IsNoStart, IsNoStop, IsUnacknowledged, IsEnd, IsMove}
+use Rattle.net_tcp.specs.Retransmission.{IsUntil, expires_at, expiry, lasting, running, timed_after, after_sending, arms, due_after}
 use Rattle.net_tcp.specs.declared.retransmission.TimeoutBounds.{TimeoutBounds}
 use Rattle.net_tcp.specs.declared.retransmission_timer.TimedSegment.{TimedSegment}
+use Rattle.net_tcp.specs.declared.retransmission_timer.RetransmissionTimer.{RetransmissionTimer}
+use Rattle.net_tcp.specs.declared.retransmission_timer.Expiry.TheVariants.{Probe}
 
 -- ---- the timeout
 -- two runs in a row
@@ -86,13 +89,51 @@ pub record IsKept (c : Connection) : Type 0 where
   pub fresh : (pos : ℕ) → c.sent ≤ pos → sends_over pos c.log ≡ []
   pub once : (s : TimedSegment) → c.timer.timed ≡ Some s → sends_over s.pos c.log ≡ (s.pos, s.since) ∷ []
 
-begins : (t first : ℕ) → IsKept (opened t first)
-begins t first = record { fresh = λ pos h. refl; once = search rules }
+begins : (t : ℕ) (says : Bool) (first : ℕ) → IsKept (opened t says first)
+begins t says first = record { fresh = λ pos h. refl; once = search rules }
+
+abbrev Once : Connection → Type 0
+Once c = (s : TimedSegment) → c.timer.timed ≡ Some s → sends_over s.pos c.log ≡ (s.pos, s.since) ∷ []
+
+once_by : (g : Bool) (c d : Connection) → (g ≡ true → Once d) → Once c → Once (if g then d else c)
+once_by true c d taken kept = taken refl
+once_by false c d taken kept = kept
+
+-- what starts a timer times nothing
+sent_timed : (delay : ℕ) (alone new : Bool) (pos : ℕ) (now : ℤ) (t : RetransmissionTimer) →
+    (lasting new pos (running delay alone new now t)).timed ≡ t.timed
+sent_timed delay alone new pos now t = search rules
+
+right_of : (a b : Bool) → (a && b) ≡ true → b ≡ true
+right_of a b both = search rules
+
+once_at : (c : Connection) (t : RetransmissionTimer) (pos end : ℕ) (now : ℤ) → IsKept c → t.timed ≡ c.timer.timed →
+    nat_lt pos end ≡ true → (s : TimedSegment) →
+    (if nat_lt pos end then timed_after pos end c.sent now t else c.timer).timed ≡ Some s →
+    sends_over s.pos ((pos, end, now) ∷ c.log) ≡ (s.pos, s.since) ∷ []
+once_at c t pos end now is same some = search rules
+
+once_sent : (b : TimeoutBounds) (c : Connection) (pos end : ℕ) (now : ℤ) → IsKept c →
+    Once (after_event b c (Sends pos end now))
+once_sent b c pos end now is = once_by (nat_le c.first pos && nat_lt pos end) c
+    (record {
+      timer = after_sending b pos end c.first c.sent now c.timer;
+      first = c.first;
+      sent = max c.sent end;
+      log = (pos, end, now) ∷ c.log;
+      due = due_after (arms c (Sends pos end now)) now c.timer c.due;
+    })
+    (λ g. once_at c
+    (lasting (nat_lt c.sent end) pos (running b.ack_delay (nat_le c.sent c.first) (nat_lt c.sent end) now c.timer)) pos end now is
+    (sent_timed b.ack_delay (nat_le c.sent c.first) (nat_lt c.sent end) pos now c.timer)
+    (right_of (nat_le c.first pos) (nat_lt pos end) g))
+    is.once
 
 stays : (b : TimeoutBounds) (c : Connection) (e : Event) → IsKept c → IsKept (after_event b c e)
-stays b c (Sends pos end now) is = record { fresh = search rules; once = search rules }
+stays b c (Sends pos end now) is = record { fresh = search rules; once = once_sent b c pos end now is }
 stays b c (Acknowledges next now) is = record { fresh = search rules; once = search rules }
 stays b c (Reports now) is = record { fresh = search rules; once = search rules }
+stays b c (Samples now) is = record { fresh = search rules; once = search rules }
 stays b c (Looks now) is = record { fresh = search rules; once = search rules }
 stays b c (Starts now) is = record { fresh = search rules; once = search rules }
 stays b c Stops is = record { fresh = search rules; once = search rules }
@@ -101,10 +142,10 @@ all_stay : (b : TimeoutBounds) (c : Connection) (es : List Event) → IsKept c �
 all_stay b c [] is = is
 all_stay b c (e ∷ es) is = all_stay b (after_event b c e) es (stays b c e is)
 
-pub timed_is_sent_once : (b : TimeoutBounds) (t first : ℕ) (es : List Event) →
-    let c = after_events b (opened t first) es in
+pub timed_is_sent_once : (b : TimeoutBounds) (t : ℕ) (says : Bool) (first : ℕ) (es : List Event) →
+    let c = after_events b (opened t says first) es in
     (s : TimedSegment) → c.timer.timed ≡ Some s → sends_over s.pos c.log ≡ (s.pos, s.since) ∷ []
-timed_is_sent_once b t first es = (all_stay b (opened t first) es (begins t first)).once
+timed_is_sent_once b t says first es = (all_stay b (opened t says first) es (begins t says first)).once
 
 -- a timer that isn't stopped runs on
 abbrev Runs : Connection → Type 0
@@ -114,6 +155,7 @@ runs_on : (b : TimeoutBounds) (c : Connection) (e : Event) → IsNoStop e → Ru
 runs_on b c (Sends pos end now) free is = search rules
 runs_on b c (Acknowledges next now) free is = search rules
 runs_on b c (Reports now) free is = search rules
+runs_on b c (Samples now) free is = search rules
 runs_on b c (Looks now) free is = search rules
 runs_on b c (Starts now) free is = search rules
 runs_on b c Stops free is = absurd free
@@ -123,9 +165,9 @@ all_run b c [] free is = is
 all_run b c (e ∷ es) free is = all_run b (after_event b c e) es (All-tail IsNoStop e es free)
     (runs_on b c e (All-head IsNoStop e es free) is)
 
-pub runs_while_unacknowledged : (b : TimeoutBounds) (t first : ℕ) (es : List Event) → All IsNoStop es →
-    Runs (after_events b (opened t first) es)
-runs_while_unacknowledged b t first es free = all_run b (opened t first) es free (search rules)
+pub runs_while_unacknowledged : (b : TimeoutBounds) (t : ℕ) (says : Bool) (first : ℕ) (es : List Event) → All IsNoStop es →
+    Runs (after_events b (opened t says first) es)
+runs_while_unacknowledged b t says first es free = all_run b (opened t says first) es free (search rules)
 
 -- one that isn't started rests
 abbrev Rests : Connection → Type 0
@@ -135,6 +177,7 @@ rests_on : (b : TimeoutBounds) (c : Connection) (e : Event) → IsNoStart e → 
 rests_on b c (Sends pos end now) free is = search rules
 rests_on b c (Acknowledges next now) free is = search rules
 rests_on b c (Reports now) free is = search rules
+rests_on b c (Samples now) free is = search rules
 rests_on b c (Looks now) free is = search rules
 rests_on b c (Starts now) free is = absurd free
 rests_on b c Stops free is = search rules
@@ -145,27 +188,80 @@ all_rest b c [] free is = is
 all_rest b c (e ∷ es) free is = all_rest b (after_event b c e) es (All-tail IsNoStart e es free)
     (rests_on b c e (All-head IsNoStart e es free) is)
 
-pub rests_unless_started : (b : TimeoutBounds) (t first : ℕ) (es : List Event) → All IsNoStart es →
-    Rests (after_events b (opened t first) es)
-rests_unless_started b t first es free = all_rest b (opened t first) es free (search rules)
+pub rests_unless_started : (b : TimeoutBounds) (t : ℕ) (says : Bool) (first : ℕ) (es : List Event) → All IsNoStart es →
+    Rests (after_events b (opened t says first) es)
+rests_unless_started b t says first es free = all_rest b (opened t says first) es free (search rules)
 
 pub runs_to_an_end : (b : TimeoutBounds) (c : Connection) (e : Event) → IsTrue (runs c) →
     IsFalse (runs (after_event b c e)) → IsEnd c e
 runs_to_an_end b c (Sends pos end now) on free = search rules
 runs_to_an_end b c (Acknowledges next now) on free = search rules
 runs_to_an_end b c (Reports now) on free = search rules
+runs_to_an_end b c (Samples now) on free = search rules
 runs_to_an_end b c (Looks now) on free = search rules
 runs_to_an_end b c (Starts now) on free = search rules
 runs_to_an_end b c Stops on free = tt
 
-pub expiry_moves_by : (b : TimeoutBounds) (c : Connection) (e : Event) → IsTrue (runs c) →
-    ((after_event b c e).timer.expires_at ≡ c.timer.expires_at) ⊎ IsMove c e
-expiry_moves_by b c (Sends pos end now) on = search rules
-expiry_moves_by b c (Acknowledges next now) on = search rules
-expiry_moves_by b c (Reports now) on = search rules
-expiry_moves_by b c (Looks now) on = search rules
-expiry_moves_by b c (Starts now) on = search rules
-expiry_moves_by b c Stops on = inr tt
+pub end_moves_by : (b : TimeoutBounds) (c : Connection) (e : Event) → IsTrue (runs c) →
+    ((after_event b c e).timer.ends_at ≡ c.timer.ends_at) ⊎ IsMove c e
+end_moves_by b c (Sends pos end now) on = search rules
+end_moves_by b c (Acknowledges next now) on = search rules
+end_moves_by b c (Reports now) on = inr tt
+end_moves_by b c (Samples now) on = search rules
+end_moves_by b c (Looks now) on = search rules
+end_moves_by b c (Starts now) on = search rules
+end_moves_by b c Stops on = inr tt
+
+-- the timeout passes when the last event that armed the timer said
+abbrev Armed : Connection → Type 0
+Armed c = IsTrue (runs c) → c.timer.ends_at ≡ Some c.due
+
+armed_on : (b : TimeoutBounds) (c : Connection) (e : Event) → Armed c → Armed (after_event b c e)
+armed_on b c (Sends pos end now) is = search rules
+armed_on b c (Acknowledges next now) is = search rules
+armed_on b c (Reports now) is = search rules
+armed_on b c (Samples now) is = search rules
+armed_on b c (Looks now) is = search rules
+armed_on b c (Starts now) is = search rules
+armed_on b c Stops is = search rules
+
+all_armed : (b : TimeoutBounds) (c : Connection) (es : List Event) → Armed c → Armed (after_events b c es)
+all_armed b c [] is = is
+all_armed b c (e ∷ es) is = all_armed b (after_event b c e) es (armed_on b c e is)
+
+pub ends_as_armed : (b : TimeoutBounds) (t : ℕ) (says : Bool) (first : ℕ) (es : List Event) →
+    Armed (after_events b (opened t says first) es)
+ends_as_armed b t says first es = all_armed b (opened t says first) es (search rules)
+
+within_due : (c : Connection) → Armed c → IsUntil c.due (expires_at c.timer)
+within_due c is = search rules
+
+pub expires_until : (b : TimeoutBounds) (t : ℕ) (says : Bool) (first : ℕ) (es : List Event) →
+    let c = after_events b (opened t says first) es in IsUntil c.due (expires_at c.timer)
+expires_until b t says first es =
+    within_due (after_events b (opened t says first) es) (ends_as_armed b t says first es)
+
+-- a peer that reports no blocks is sent no probe
+reports_on : (b : TimeoutBounds) (c : Connection) (e : Event) → (after_event b c e).timer.reports ≡ c.timer.reports
+reports_on b c (Sends pos end now) = search rules
+reports_on b c (Acknowledges next now) = search rules
+reports_on b c (Reports now) = search rules
+reports_on b c (Samples now) = search rules
+reports_on b c (Looks now) = search rules
+reports_on b c (Starts now) = search rules
+reports_on b c Stops = refl
+
+all_report : (b : TimeoutBounds) (c : Connection) (es : List Event) → (after_events b c es).timer.reports ≡ c.timer.reports
+all_report b c [] = refl
+all_report b c (e ∷ es) = all_report b (after_event b c e) es ∙ reports_on b c e
+
+no_probe : (t : RetransmissionTimer) (now : ℤ) → t.reports ≡ false → expiry t now ≡ Some Probe → ⊥
+no_probe t now none is = search rules
+
+pub is_silent : (b : TimeoutBounds) (t first : ℕ) (es : List Event) (now : ℤ) →
+    let c = after_events b (opened t false first) es in expiry c.timer now ≡ Some Probe → ⊥
+is_silent b t first es now = no_probe (after_events b (opened t false first) es).timer now
+    (all_report b (opened t false first) es)
 
 -- what closes the goals of laws
 pub ruleset timeouts = (equal_samples_settle, doubles_to_the_most)
@@ -175,5 +271,8 @@ pub ruleset timers = (
   runs_while_unacknowledged,
   rests_unless_started,
   runs_to_an_end,
-  expiry_moves_by,
+  end_moves_by,
+  ends_as_armed,
+  expires_until,
+  is_silent,
 )

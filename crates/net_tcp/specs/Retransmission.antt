@@ -6,21 +6,30 @@
 --     doubled b t      the timeout after it passed
 --     after_acknowledgement b sent now t      what an acknowledgement leaves
 --     IsSettled r e      SRTT is the sample r, and RTTVAR less than a microsecond
---     restarted now t, started now t, stopped t      it runs from now on; the same unless it runs; it doesn't run
+--     first_wait e, allowance delay alone      how long the first probe waits, and how much longer if a segment is alone
+--     restarted delay alone now t, waiting now t, started now t, stopped t      it runs from now on; so without a probe; that
+--         unless it runs; it doesn't run
+--     running delay alone new now t, hastened now t      it runs where something is sent; a probe is due two round trips from now
 --     times t from to      whether a segment is timed whose position is from `from` on and below `to`
 --     untimed t      none is
---     after_sending, with_sample, after_acknowledged, after_expiry      what the calls leave
+--     after_sending, with_sample, after_acknowledged, after_report, after_expiry      what the calls leave
+--     expires_at t, expiry t now      when something is due, and what
+--     probed now t, timed_out b now t      what a probe leaves, and a timeout
 --     Event, Connection, after_event, after_events      what happens to a connection, and what that leaves
+--     arms c e      whether that sets the moment at which the timeout passes
 use Rattle.std.specs.Prelude.{◌≡◌, ℕ, ℤ, ◌+◌, ◌-◌, ◌*◌, ◌/◌, ◌^◌, ◌<◌, ◌≤◌, min, max, Option, Some, None, is_none}
-use Rattle.std.specs.Prelude.{is_some, Bool, false, ◌&&◌, nat_lt, nat_le, int_le, IsTrue, if◌then◌else◌, List, []}
-use Rattle.std.specs.Prelude.{◌∷◌, filter, map}
+use Rattle.std.specs.Prelude.{is_some, Bool, true, false, ◌&&◌, nat_lt, nat_le, int_le, int_lt, IsTrue, IsFalse, if◌then◌else◌, List}
+use Rattle.std.specs.Prelude.{[], ◌∷◌, filter, map, pos as whole}
 use Rattle.net_base.specs.Time.{elapsed, moment_after}
 use Rattle.net_tcp.specs.Estimate.{Estimate}
 use Rattle.net_tcp.specs.declared.retransmission.TimeoutBounds.{TimeoutBounds}
 use Rattle.net_tcp.specs.declared.retransmission.RetransmissionTimeout.{RetransmissionTimeout}
 use Rattle.net_tcp.specs.declared.retransmission.Transmission.{Transmission}
 use Rattle.net_tcp.specs.declared.retransmission.Transmission.TheVariants.{Once, Repeated}
+use Rattle.net_tcp.specs.declared.retransmission_timer.Expiry.{Expiry}
+use Rattle.net_tcp.specs.declared.retransmission_timer.Expiry.TheVariants.{Probe, Timeout}
 use Rattle.net_tcp.specs.declared.retransmission_timer.TimedSegment.{TimedSegment}
+use Rattle.net_tcp.specs.declared.retransmission_timer.TimerParts.{TimerParts}
 use Rattle.net_tcp.specs.declared.retransmission_timer.RetransmissionTimer.{RetransmissionTimer}
 
 -- ---- the timeout
@@ -72,18 +81,95 @@ abbrev pub IsSettled : ℕ → Estimate → Type 0
 IsSettled r e = (e.srtt_8 / 8 ≡ r) × (e.rttvar_4 < 4)
 
 -- ---- the timer
--- it doesn't run, and no segment is timed
-abbrev pub new_timer : ℕ → RetransmissionTimer
-new_timer t = record { timeout = before_samples t; expires_at = None; timed = None }
+-- no probe is due
+abbrev pub no_wait : ℕ
+no_wait = 2 ^ 64 - 1
 
-abbrev pub restarted : ℤ → RetransmissionTimer → RetransmissionTimer
-restarted now t = record t { expires_at = Some (moment_after now t.timeout.timeout) }
+-- two round trips, but for the least time; without a sample there is no probe
+abbrev pub first_wait : Option Estimate → ℕ
+first_wait None = no_wait
+first_wait (Some e) = max (min (2 * (e.srtt_8 / 8)) (2 ^ 64 - 1)) 2000
+
+-- how long the acknowledgement of one segment alone may be delayed
+abbrev pub allowance : ℕ → Bool → ℕ
+allowance delay alone = if alone then delay else 0
+
+abbrev pub timer_of : TimerParts → RetransmissionTimer
+timer_of p = record {
+  timeout = p.timeout;
+  ends_at = p.ends_at;
+  probe_at = p.probe_at;
+  wait = p.wait;
+  is_alone = p.is_alone;
+  timed = p.timed;
+  last = p.last;
+  timeouts = p.timeouts;
+  reports = p.reports;
+}
+
+abbrev pub parts_of : RetransmissionTimer → TimerParts
+parts_of t = record {
+  timeout = t.timeout;
+  ends_at = t.ends_at;
+  probe_at = t.probe_at;
+  wait = t.wait;
+  is_alone = t.is_alone;
+  timed = t.timed;
+  last = t.last;
+  timeouts = t.timeouts;
+  reports = t.reports;
+}
+
+-- it doesn't run, and no segment is timed
+abbrev pub new_timer : ℕ → Bool → RetransmissionTimer
+new_timer t reports = record {
+  timeout = before_samples t;
+  ends_at = None;
+  probe_at = whole 0;
+  wait = 0;
+  is_alone = false;
+  timed = None;
+  last = 0;
+  timeouts = 0;
+  reports = reports;
+}
+
+-- the timeout from now on it ends; a probe is due two round trips from now on, and later if one segment is alone
+abbrev pub restarted : ℕ → Bool → ℤ → RetransmissionTimer → RetransmissionTimer
+restarted delay alone now t = record t {
+  ends_at = Some (moment_after now t.timeout.timeout);
+  wait = min (first_wait t.timeout.estimate + allowance delay alone) (2 ^ 64 - 1);
+  probe_at = moment_after now (min (first_wait t.timeout.estimate + allowance delay alone) (2 ^ 64 - 1));
+  is_alone = alone;
+}
+
+-- the same without a probe
+abbrev pub waiting : ℤ → RetransmissionTimer → RetransmissionTimer
+waiting now t = record t {
+  ends_at = Some (moment_after now t.timeout.timeout);
+  wait = no_wait;
+  probe_at = moment_after now no_wait;
+  is_alone = false;
+}
 
 abbrev pub started : ℤ → RetransmissionTimer → RetransmissionTimer
-started now t = if is_none t.expires_at then restarted now t else t
+started now t = if is_none t.ends_at then waiting now t else t
+
+-- a probe is due two round trips from now on, and the timeout stays
+abbrev pub hastened : ℤ → RetransmissionTimer → RetransmissionTimer
+hastened now t = record t {
+  wait = first_wait t.timeout.estimate;
+  probe_at = moment_after now (first_wait t.timeout.estimate);
+  is_alone = false;
+}
+
+-- where something is sent: it starts, unless it runs; then what is new brings the probe of a segment alone
+abbrev pub running : ℕ → Bool → Bool → ℤ → RetransmissionTimer → RetransmissionTimer
+running delay alone new now t = if is_none t.ends_at then restarted delay alone now t
+    else (if t.is_alone && new then hastened now t else t)
 
 abbrev pub stopped : RetransmissionTimer → RetransmissionTimer
-stopped t = record t { expires_at = None }
+stopped t = record t { ends_at = None }
 
 abbrev pub is_between : ℕ → ℕ → Option TimedSegment → Bool
 is_between from to None = false
@@ -101,9 +187,17 @@ timed_after pos end sent now t =
     if times t pos end then untimed t
     else (if is_none t.timed && nat_le sent pos then record t { timed = Some (record { pos = pos; since = now }) } else t)
 
--- (5.1): where something is sent, the timer is started
-abbrev pub after_sending : ℕ → ℕ → ℕ → ℤ → RetransmissionTimer → RetransmissionTimer
-after_sending pos end sent now t = if nat_lt pos end then timed_after pos end sent now (started now t) else t
+-- where the last segment begins that has something new
+abbrev pub lasting : Bool → ℕ → RetransmissionTimer → RetransmissionTimer
+lasting new pos t = record t { last = if new then pos else t.last }
+
+-- (5.1): where something is sent, the timer is started. It is alone if nothing was on the way
+abbrev pub after_sending : TimeoutBounds → ℕ → ℕ → ℕ → ℕ → ℤ → RetransmissionTimer → RetransmissionTimer
+after_sending b pos end first sent now t =
+    if nat_lt pos end
+    then timed_after pos end sent now
+    (lasting (nat_lt sent end) pos (running b.ack_delay (nat_le sent first) (nat_lt sent end) now t))
+    else t
 
 -- a segment that was sent once has arrived
 abbrev pub with_sample_of : TimeoutBounds → ℤ → Option TimedSegment → RetransmissionTimer → RetransmissionTimer
@@ -114,66 +208,146 @@ with_sample_of b now (Some s) t = untimed (record t { timeout = after_sample b (
 abbrev pub with_sample : TimeoutBounds → ℤ → RetransmissionTimer → RetransmissionTimer
 with_sample b now t = with_sample_of b now t.timed t
 
--- where anything new is acknowledged, (5.2): if all that was sent is, the timer is stopped; (5.3): else it is started
--- again
+-- so has it if it is below that
+abbrev pub sampled_below : TimeoutBounds → ℕ → ℤ → RetransmissionTimer → RetransmissionTimer
+sampled_below b next now t = if times t 0 next then with_sample b now t else t
+
+-- an answer came: no timeout in a row
+abbrev pub answered : RetransmissionTimer → RetransmissionTimer
+answered t = record t { timeouts = 0 }
+
+-- anything new is acknowledged, (5.2): if all that was sent is, the timer is stopped; (5.3): else it is started again; one
+-- segment is alone if no later one had something new
+abbrev pub after_news : ℕ → ℕ → ℕ → ℤ → RetransmissionTimer → RetransmissionTimer
+after_news delay sent next now t =
+    if nat_le sent next then stopped (answered t) else restarted delay (nat_le t.last next) now (answered t)
+
+-- what was never sent isn't acknowledged: nothing changes
 abbrev pub after_acknowledged : TimeoutBounds → ℕ → ℕ → ℕ → ℤ → RetransmissionTimer → RetransmissionTimer
 after_acknowledged b first sent next now t =
-    let s = if times t 0 next then with_sample b now t else t in
-    if nat_lt first next then (if nat_le sent next then stopped s else restarted now s) else s
+    if nat_lt sent next then t
+    else (let s = sampled_below b next now t in
+    if nat_lt first next then after_news b.ack_delay sent next now s else s)
+
+-- where anything new is reported, it is started again, if it runs
+abbrev pub after_report : ℤ → RetransmissionTimer → RetransmissionTimer
+after_report now t = if is_some t.ends_at then restarted 0 false now (answered t) else answered t
+
+-- a probe is due if the peer can answer it, and the timeout doesn't pass before
+abbrev pub earlier : RetransmissionTimer → ℤ → ℤ
+earlier t end = if t.reports && int_lt t.probe_at end then t.probe_at else end
+
+abbrev pub expires_from : RetransmissionTimer → Option ℤ → Option ℤ
+expires_from t None = None
+expires_from t (Some end) = Some (earlier t end)
+
+abbrev pub expires_at : RetransmissionTimer → Option ℤ
+expires_at t = expires_from t t.ends_at
 
 abbrev pub is_due : ℤ → Option ℤ → Bool
 is_due now None = false
 is_due now (Some at) = int_le at now
 
 abbrev pub has_expired : RetransmissionTimer → ℤ → Bool
-has_expired t now = is_due now t.expires_at
+has_expired t now = is_due now (expires_at t)
 
--- (5.5), (5.6): where it has expired, the timeout is doubled, and it is started again. What was on the way is sent
--- again, so no segment is timed
+-- the timeout has passed
+abbrev pub has_ended : RetransmissionTimer → ℤ → Bool
+has_ended t now = is_due now t.ends_at
+
+abbrev pub expiry : RetransmissionTimer → ℤ → Option Expiry
+expiry t now = if has_expired t now then (if has_ended t now then Some Timeout else Some Probe) else None
+
+-- a probe doubles only the wait for the next one
+abbrev pub probed : ℤ → RetransmissionTimer → RetransmissionTimer
+probed now t = record t {
+  wait = min (2 * t.wait) (2 ^ 64 - 1);
+  probe_at = moment_after now (min (2 * t.wait) (2 ^ 64 - 1));
+}
+
+-- (5.5), (5.6): where the timeout has passed, it is doubled, and the timer is started again. What was on the way is
+-- sent again, so no segment is timed
+abbrev pub timed_out : TimeoutBounds → ℤ → RetransmissionTimer → RetransmissionTimer
+timed_out b now t = waiting now (record t {
+  timeout = record t.timeout { timeout = doubled b t.timeout.timeout };
+  timed = None;
+  timeouts = min (t.timeouts + 1) (2 ^ 64 - 1);
+})
+
 abbrev pub after_expiry : TimeoutBounds → ℤ → RetransmissionTimer → RetransmissionTimer
 after_expiry b now t =
-    if has_expired t now
-    then restarted now (untimed (record t { timeout = record t.timeout { timeout = doubled b t.timeout.timeout } }))
-    else t
+    if has_expired t now then (if has_ended t now then timed_out b now t else probed now t) else t
 
 -- ---- a connection
--- positions from one on and below another are sent, an acknowledgement comes, the timed segment is reported, the timer
--- is looked at, or started where something else is waited for, each at a moment; and it is stopped
+-- positions from one on and below another are sent, an acknowledgement comes, whatever it says, something new is
+-- reported, the timed segment is, the timer is looked at, or started where something else is waited for, each at a
+-- moment; and it is stopped
 pub data Event : Type 0 where
   Sends : ℕ → ℕ → ℤ → Event
   Acknowledges : ℕ → ℤ → Event
   Reports : ℤ → Event
+  Samples : ℤ → Event
   Looks : ℤ → Event
   Starts : ℤ → Event
   Stops : Event
 
--- the first position that isn't acknowledged, the one after the last that was sent, and each range that was sent, as
--- its positions and its moment
+-- the first position that isn't acknowledged, the one after the last that was sent, each range that was sent, as
+-- its positions and its moment; and the timeout after the last event that armed the timer
 pub record Connection : Type 0 where
   pub timer : RetransmissionTimer
   pub first : ℕ
   pub sent : ℕ
   pub log : List (ℕ × ℕ × ℤ)
+  pub due : ℤ
 
-abbrev pub opened : ℕ → ℕ → Connection
-opened t first = record { timer = new_timer t; first = first; sent = first; log = [] }
+abbrev pub opened : ℕ → Bool → ℕ → Connection
+opened t reports first =
+    record { timer = new_timer t reports; first = first; sent = first; log = []; due = whole 0 }
+
+-- what arms a timer: sending and a start where it doesn't run, what is new where something stays on the way, and that the
+-- timeout has passed. A probe doesn't
+abbrev pub arms : Connection → Event → Bool
+arms c (Sends pos end now) = nat_le c.first pos && nat_lt pos end && is_none c.timer.ends_at
+arms c (Acknowledges next now) = nat_lt c.first next && nat_lt next c.sent
+arms c (Reports now) = is_some c.timer.ends_at
+arms c (Looks now) = has_ended c.timer now
+arms c (Starts now) = is_none c.timer.ends_at
+arms c _ = false
+
+-- the timeout after that
+abbrev pub due_after : Bool → ℤ → RetransmissionTimer → ℤ → ℤ
+due_after arms now t due = if arms then moment_after now t.timeout.timeout else due
 
 -- nothing that is acknowledged is sent, and nothing is acknowledged that wasn't sent
 abbrev pub after_event : TimeoutBounds → Connection → Event → Connection
 after_event b c (Sends pos end now) =
     if nat_le c.first pos && nat_lt pos end
     then record {
-      timer = after_sending pos end c.sent now c.timer;
+      timer = after_sending b pos end c.first c.sent now c.timer;
       first = c.first;
       sent = max c.sent end;
       log = (pos, end, now) ∷ c.log;
+      due = due_after (arms c (Sends pos end now)) now c.timer c.due;
     } else c
 after_event b c (Acknowledges next now) =
-    if nat_le next c.sent
-    then record c { timer = after_acknowledged b c.first c.sent next now c.timer; first = max c.first next } else c
-after_event b c (Reports now) = record c { timer = with_sample b now c.timer }
-after_event b c (Looks now) = record c { timer = after_expiry b now c.timer }
-after_event b c (Starts now) = record c { timer = started now c.timer }
+    let t = after_acknowledged b c.first c.sent next now c.timer in record c {
+      timer = t;
+      first = if nat_le next c.sent then max c.first next else c.first;
+      due = due_after (arms c (Acknowledges next now)) now t c.due;
+    }
+after_event b c (Reports now) = record c {
+  timer = after_report now c.timer;
+  due = due_after (arms c (Reports now)) now c.timer c.due;
+}
+after_event b c (Samples now) = record c { timer = with_sample b now c.timer }
+after_event b c (Looks now) = record c {
+  timer = after_expiry b now c.timer;
+  due = due_after (arms c (Looks now)) now (after_expiry b now c.timer) c.due;
+}
+after_event b c (Starts now) = record c {
+  timer = started now c.timer;
+  due = due_after (arms c (Starts now)) now c.timer c.due;
+}
 after_event b c Stops = record c { timer = stopped c.timer }
 
 abbrev pub after_events : TimeoutBounds → Connection → List Event → Connection
@@ -185,7 +359,12 @@ abbrev pub sends_over : ℕ → List (ℕ × ℕ × ℤ) → List (ℕ × ℤ)
 sends_over pos log = map (λ r. (r.0, r.2)) (filter (λ r. nat_le r.0 pos && nat_lt pos r.1) log)
 
 abbrev pub runs : Connection → Bool
-runs c = is_some c.timer.expires_at
+runs c = is_some c.timer.ends_at
+
+-- it doesn't expire after that moment
+abbrev pub IsUntil : ℤ → Option ℤ → Type 0
+IsUntil due None = Unit {0}
+IsUntil due (Some at) = IsTrue (int_le at due)
 
 abbrev pub IsUnacknowledged : Connection → Type 0
 IsUnacknowledged c = c.first < c.sent
@@ -204,9 +383,10 @@ IsEnd c (Acknowledges next now) = IsUnacknowledged c × (next ≡ c.sent)
 IsEnd c Stops = Unit {0}
 IsEnd c _ = ⊥
 
--- the moment at which a timer that runs expires is moved by an expiry and by what is new, or it is stopped
+-- the moment at which the timeout of a timer that runs passes is moved by that and by what is new, or it is stopped
 abbrev pub IsMove : Connection → Event → Type 0
 IsMove c (Acknowledges next now) = (c.first < next) × (next ≤ c.sent)
-IsMove c (Looks now) = IsTrue (has_expired c.timer now)
+IsMove c (Reports now) = Unit {0}
+IsMove c (Looks now) = IsTrue (has_ended c.timer now)
 IsMove c Stops = Unit {0}
 IsMove c _ = ⊥

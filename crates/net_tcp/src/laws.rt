@@ -1,6 +1,6 @@
 //! Laws of the machines. No function here changes anything: its contract is the law.
 ghost use Rattle.std.specs.Prelude.{◌≡◌, ℕ, ◌+◌, ◌-◌, ◌*◌, ◌^◌, ◌<◌, ◌≤◌, ◌⊎◌, IfSome, IsTrue, IsFalse, min, max};
-ghost use Rattle.std.specs.Prelude.{◌/◌, List, [], ◌∷◌, ◌++◌, All, Some};
+ghost use Rattle.std.specs.Prelude.{◌/◌, List, [], ◌∷◌, ◌++◌, All, Some, Bool, ℤ, false};
 ghost use Rattle.std.specs.Fn.{iterate};
 ghost use Rattle.net_base.specs.Time.{IsLength};
 ghost use Rattle.net_tcp.specs.InternetChecksum.{carried_sum, folded, internet_checksum, word_bytes, word_sum};
@@ -12,10 +12,11 @@ ghost use Rattle.net_tcp.specs.Windows.{IsFromNoLater};
 ghost use Rattle.net_tcp.specs.Estimate.{Estimate, IsSmall};
 ghost use Rattle.net_tcp.specs.Retransmission.{next_estimate, distance, doubled, IsSettled, Event, Connection};
 ghost use Rattle.net_tcp.specs.Retransmission.{opened, after_event, after_events, runs, sends_over, IsNoStart};
-ghost use Rattle.net_tcp.specs.Retransmission.{IsNoStop, IsUnacknowledged, IsEnd, IsMove};
+ghost use Rattle.net_tcp.specs.Retransmission.{IsNoStop, IsUnacknowledged, IsEnd, IsMove, IsUntil, expires_at, expiry};
 ghost use Rattle.net_tcp.specs.declared.peer_window.PeerWindow.{PeerWindow};
 ghost use Rattle.net_tcp.specs.declared.retransmission.TimeoutBounds.{TimeoutBounds};
 ghost use Rattle.net_tcp.specs.declared.retransmission_timer.TimedSegment.{TimedSegment};
+ghost use Rattle.net_tcp.specs.declared.retransmission_timer.Expiry.TheVariants.{Probe};
 
 use crate::retransmission::{RetransmissionTimeout, RttEstimate};
 use crate::retransmission_timer::RetransmissionTimer;
@@ -161,21 +162,29 @@ pub fn timeouts()
 /// timed position was sent once, as the first of a range, at the moment that its sample is counted from; unless
 /// it is stopped, the timer runs while something that was sent isn't acknowledged; and unless it is started, only
 /// then. A timer that runs, whatever started it, runs until it is stopped, or until all that was sent is
-/// acknowledged, if some of it wasn't before; and only an expiry, and what acknowledges something
-/// new, moves the moment at which it expires.
+/// acknowledged, if some of it wasn't before; and only the timeout, and what acknowledges or reports something
+/// new, moves the moment at which the timeout passes. So that is the timeout after the last event that armed the timer,
+/// whatever probes were sent, and the timer expires no later. A timer whose peer reports no blocks has no probe.
 #[tactic(auto, using(crate::proofs::Timers::timers))]
 pub fn timers()
-    ensures once { (b : TimeoutBounds) (t first : ℕ) (es : List Event) →
-        let c = after_events b (opened t first) es in
+    ensures once { (b : TimeoutBounds) (t : ℕ) (says : Bool) (first : ℕ) (es : List Event) →
+        let c = after_events b (opened t says first) es in
         (s : TimedSegment) → c.timer.timed ≡ Some s → sends_over s.pos c.log ≡ (s.pos, s.since) ∷ [] }
-    ensures runs { (b : TimeoutBounds) (t first : ℕ) (es : List Event) → All IsNoStop es →
-        let c = after_events b (opened t first) es in IsUnacknowledged c → IsTrue (runs c) }
-    ensures rests { (b : TimeoutBounds) (t first : ℕ) (es : List Event) → All IsNoStart es →
-        let c = after_events b (opened t first) es in IsTrue (runs c) → IsUnacknowledged c }
+    ensures runs { (b : TimeoutBounds) (t : ℕ) (says : Bool) (first : ℕ) (es : List Event) → All IsNoStop es →
+        let c = after_events b (opened t says first) es in IsUnacknowledged c → IsTrue (runs c) }
+    ensures rests { (b : TimeoutBounds) (t : ℕ) (says : Bool) (first : ℕ) (es : List Event) → All IsNoStart es →
+        let c = after_events b (opened t says first) es in IsTrue (runs c) → IsUnacknowledged c }
     ensures ends { (b : TimeoutBounds) (c : Connection) (e : Event) → IsTrue (runs c) →
         IsFalse (runs (after_event b c e)) → IsEnd c e }
     ensures moves { (b : TimeoutBounds) (c : Connection) (e : Event) → IsTrue (runs c) →
-        ((after_event b c e).timer.expires_at ≡ c.timer.expires_at) ⊎ IsMove c e }
+        ((after_event b c e).timer.ends_at ≡ c.timer.ends_at) ⊎ IsMove c e }
+    ensures armed { (b : TimeoutBounds) (t : ℕ) (says : Bool) (first : ℕ) (es : List Event) →
+        let c = after_events b (opened t says first) es in
+        IsTrue (runs c) → c.timer.ends_at ≡ Some c.due }
+    ensures until { (b : TimeoutBounds) (t : ℕ) (says : Bool) (first : ℕ) (es : List Event) →
+        let c = after_events b (opened t says first) es in IsUntil c.due (expires_at c.timer) }
+    ensures silent { (b : TimeoutBounds) (t first : ℕ) (es : List Event) (now : ℤ) →
+        let c = after_events b (opened t false first) es in expiry c.timer now ≡ Some Probe → ⊥ }
 {}
 
 /// States that the edge of what a sender was told is not beyond what the receiver promised, now or

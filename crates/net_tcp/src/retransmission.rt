@@ -29,7 +29,8 @@ impl Model for RttEstimate {
     ghost inverse = { λ e. record { srtt_8 = e.srtt_8; rttvar_4 = e.rttvar_4 } };
 }
 
-/// The bounds of a timeout, and the tick of the clock that the samples are read from.
+/// The bounds of a timeout, the tick of the clock that the samples are read from, and how long a peer delays an
+/// acknowledgement.
 #[derive(Copy, Clone, Debug, PartialEq, Eq, Hash)]
 pub struct TimeoutBounds {
     /// The least timeout.
@@ -38,6 +39,9 @@ pub struct TimeoutBounds {
     pub most: Duration,
     /// The time between two ticks of the clock.
     pub tick: Duration,
+    /// The longest time for which the peer delays the acknowledgement of one segment: 200 ms for TCP (RFC 8985, 7.2), and
+    /// 25 ms for QUIC, unless its peer says another.
+    pub ack_delay: Duration,
 }
 
 /// When an acknowledged segment was sent. A segment that was sent again gives no sample: which of

@@ -1,13 +1,26 @@
 //! The timer of retransmissions.
 ghost use Rattle.std.specs.Prelude.{◌≡◌};
-ghost use Rattle.net_tcp.specs.Retransmission.{new_timer, restarted, started, stopped, times, timed_after};
-ghost use Rattle.net_tcp.specs.Retransmission.{after_sending, with_sample, after_acknowledged, has_expired};
-ghost use Rattle.net_tcp.specs.Retransmission.{after_expiry};
+ghost use Rattle.net_tcp.specs.Retransmission.{new_timer, restarted, started, stopped, times, timed_after, hastened};
+ghost use Rattle.net_tcp.specs.Retransmission.{after_sending, with_sample, after_acknowledged, has_expired, has_ended};
+ghost use Rattle.net_tcp.specs.Retransmission.{after_report, after_expiry, expiry, expires_at, first_wait, allowance};
+ghost use Rattle.net_tcp.specs.Retransmission.{timer_of, parts_of, running, probed, timed_out, waiting, after_news, sampled_below};
 
 use crate::retransmission::{RetransmissionTimeout, RttEstimate, TimeoutBounds};
 use net_base::time::{Duration, Instant};
 use net_numbers::SentNumbers;
 use std::ops::Range;
+
+/// The least time without an answer after which a probe is sent, in microseconds.
+const LEAST_WAIT: u64 = 2_000;
+
+/// What is due where a timer has expired.
+#[derive(Copy, Clone, Debug, PartialEq, Eq, Hash)]
+pub enum Expiry {
+    /// A probe: nothing is known to be lost, and the timeout passes when it would have passed.
+    Probe,
+    /// A retransmission: all that was sent and isn't acknowledged is lost. The timeout has doubled.
+    Timeout,
+}
 
 /// A segment that is timed: it was sent once.
 #[derive(Copy, Clone, Debug, PartialEq, Eq, Hash)]
@@ -18,8 +31,38 @@ pub struct TimedSegment {
     pub since: Instant,
 }
 
+/// All that a timer knows.
+#[derive(Copy, Clone, Debug, PartialEq, Eq, Hash)]
+pub struct TimerParts {
+    /// The timeout.
+    pub timeout: RetransmissionTimeout,
+    /// When the timeout passes, while the timer runs.
+    pub ends_at: Option<Instant>,
+    /// When a probe is due, if the timer runs and that is earlier.
+    pub probe_at: Instant,
+    /// How long the probe has waited then. The next one waits twice that.
+    pub wait: Duration,
+    /// Whether it waits for an acknowledgement that may be delayed.
+    pub is_alone: bool,
+    /// The segment that is timed, if there is one.
+    pub timed: Option<TimedSegment>,
+    /// Where the last segment begins that had something new.
+    pub last: u64,
+    /// How often the timeout has passed since anything new was acknowledged or reported.
+    pub timeouts: u64,
+    /// Whether the peer reports blocks.
+    pub reports: bool,
+}
+
 /// The timer of retransmissions, by the rules of RFC 6298, section 5, and the one segment that is timed
 /// for a sample.
+///
+/// It has two deadlines. The timeout passes where nothing new was acknowledged or reported for its length, whatever
+/// probes are sent. A probe is due before that or not at all: where nothing new was acknowledged or reported for two
+/// round trips (RFC 8985, section 7), and again after twice that time (RFC 9002, section 6.2). Before the first sample
+/// there is none, nor after a timeout until something new is acknowledged or reported, nor if the peer reports no blocks:
+/// it couldn't answer. Where at most one segment is on the way, its acknowledgement may be delayed, and a probe waits
+/// longer by `ack_delay`, until a second segment is sent.
 ///
 /// Positions and calls are those of a sender. The timer runs while something that was sent isn't
 /// acknowledged; `start` also starts it where something else is waited for, as a window that opens. Then it
@@ -27,36 +70,71 @@ pub struct TimedSegment {
 #[derive(Copy, Clone, Debug, PartialEq, Eq, Hash)]
 pub struct RetransmissionTimer {
     timeout: RetransmissionTimeout,
-    expires_at: Option<Instant>,
+    ends_at: Option<Instant>,
+    // The rest as in `TimerParts`.
+    probe_at: Instant,
+    wait: Duration,
+    is_alone: bool,
     timed: Option<TimedSegment>,
+    last: u64,
+    timeouts: u64,
+    reports: bool,
 }
 
 impl RetransmissionTimer {
-    /// Returns a timer that doesn't run, with a timeout before any sample. The RFC has 1 second.
+    /// Returns a timer that doesn't run, with a timeout before any sample, which the RFC has as 1 second. `reports` says
+    /// whether the peer reports blocks (SACK): if not, no probe is ever due.
     #[must_use]
-    pub const fn new(timeout: Duration) -> Self
-        ensures { result ≡ new_timer timeout }
+    pub const fn new(timeout: Duration, reports: bool) -> Self
+        ensures { result ≡ new_timer timeout reports }
     {
         RetransmissionTimer {
             timeout: RetransmissionTimeout::new(timeout),
-            expires_at: None,
+            ends_at: None,
+            probe_at: Instant::ZERO,
+            wait: Duration::ZERO,
+            is_alone: false,
             timed: None,
+            last: 0,
+            timeouts: 0,
+            reports,
         }
     }
 
-    /// Returns a timer with this timeout, which expires then, if at all, and times this segment, if any.
+    /// Returns the timer of these parts.
     #[must_use]
-    pub const fn from_parts(
-        timeout: RetransmissionTimeout,
-        expires_at: Option<Instant>,
-        timed: Option<TimedSegment>,
-    ) -> Self
-        ensures { result ≡ record { timeout = timeout; expires_at = expires_at; timed = timed } }
+    pub const fn from_parts(parts: TimerParts) -> Self
+        ensures { result ≡ timer_of parts }
     {
         RetransmissionTimer {
-            timeout,
-            expires_at,
-            timed,
+            timeout: parts.timeout,
+            ends_at: parts.ends_at,
+            probe_at: parts.probe_at,
+            wait: parts.wait,
+            is_alone: parts.is_alone,
+            timed: parts.timed,
+            last: parts.last,
+            timeouts: parts.timeouts,
+            reports: parts.reports,
+        }
+    }
+
+    /// Returns its parts.
+    #[must_use]
+    pub const fn parts(&self) -> TimerParts
+        ensures value { result ≡ parts_of self.now }
+        ensures same { timer_of result ≡ self.now }
+    {
+        TimerParts {
+            timeout: self.timeout,
+            ends_at: self.ends_at,
+            probe_at: self.probe_at,
+            wait: self.wait,
+            is_alone: self.is_alone,
+            timed: self.timed,
+            last: self.last,
+            timeouts: self.timeouts,
+            reports: self.reports,
         }
     }
 
@@ -76,12 +154,22 @@ impl RetransmissionTimer {
         self.timeout.rtt()
     }
 
-    /// Returns when it expires, if it runs.
+    /// Returns when it expires, if it runs: when the timeout passes, or a probe is due before that.
     #[must_use]
     pub fn expires_at(&self) -> Option<Instant>
-        ensures { result ≡ self.now.expires_at }
+        ensures { result ≡ expires_at self.now }
     {
-        self.expires_at
+        match self.ends_at {
+            Some(end) => {
+                let at = if self.reports && self.probe_at < end {
+                    self.probe_at
+                } else {
+                    end
+                };
+                Some(at)
+            }
+            None => None,
+        }
     }
 
     /// Returns the segment that is timed, if there is one.
@@ -92,12 +180,22 @@ impl RetransmissionTimer {
         self.timed
     }
 
-    /// Starts the timer, unless it runs: the timeout from `now` on it expires.
+    /// Returns how often the timeout has passed in a row, without anything new that was acknowledged or reported in
+    /// between: enough of them, and the peer is gone. Those at a window that is shut count too, though each is answered.
+    #[must_use]
+    pub fn timeouts(&self) -> u64
+        ensures { result ≡ self.now.timeouts }
+    {
+        self.timeouts
+    }
+
+    /// Starts the timer, unless it runs, where nothing is on the way: the timeout from `now` on it expires, and no
+    /// probe is due.
     pub fn start(&mut self, now: Instant)
         ensures { self.new ≡ started now self.old }
     {
-        if self.expires_at.is_none() {
-            self.restart(now);
+        if self.ends_at.is_none() {
+            self.wait_for_timeout(now);
         }
     }
 
@@ -105,22 +203,57 @@ impl RetransmissionTimer {
     pub fn stop(&mut self)
         ensures { self.new ≡ stopped self.old }
     {
-        self.expires_at = None;
+        self.ends_at = None;
     }
 
-    /// Takes notice that these positions are sent `now`, and starts the timer, unless it runs. `numbers`
+    /// Takes notice that the segment with these positions is sent `now`, and starts the timer, unless it runs. `numbers`
     /// are the sender's before that. Nothing changes if there are no positions.
     ///
     /// If no segment is timed, one of which nothing was sent before is then. One that was timed is no
     /// longer if it is sent again: which of the copies an acknowledgement is for is not known (Karn).
-    pub fn sent(&mut self, positions: Range<u64>, numbers: SentNumbers, now: Instant)
-        ensures { self.new ≡ after_sending positions.start positions.end numbers.sent now self.old }
+    ///
+    /// Where nothing else is on the way, the probe waits longer by `ack_delay`. The second segment that has something new
+    /// brings it to two round trips from `now`.
+    pub fn sent(
+        &mut self,
+        bounds: TimeoutBounds,
+        positions: Range<u64>,
+        numbers: SentNumbers,
+        now: Instant,
+    )
+        ensures { self.new ≡ after_sending bounds positions.start positions.end
+            numbers.first_unacknowledged numbers.sent now self.old }
     {
         if positions.start >= positions.end {
             return;
         }
-        self.start(now);
+        let is_new = numbers.sent < positions.end;
+        let is_alone = numbers.sent <= numbers.first_unacknowledged;
+        self.run(bounds.ack_delay, is_alone, is_new, now);
+        if is_new {
+            self.last = positions.start;
+        }
         self.time(positions.start, positions.end, numbers.sent, now);
+    }
+
+    /// Starts the timer, unless it runs: then a second segment that `is_new` brings the probe of one that was alone.
+    fn run(&mut self, ack_delay: Duration, is_alone: bool, is_new: bool, now: Instant)
+        ensures { self.new ≡ running ack_delay is_alone is_new now self.old }
+    {
+        if self.ends_at.is_none() {
+            self.restart(ack_delay, is_alone, now);
+        } else if self.is_alone && is_new {
+            self.hasten(now);
+        }
+    }
+
+    /// Has a probe due two round trips from now on.
+    fn hasten(&mut self, now: Instant)
+        ensures { self.new ≡ hastened now self.old }
+    {
+        self.wait = first_wait(self.timeout.rtt());
+        self.probe_at = now.saturating_add(self.wait);
+        self.is_alone = false;
     }
 
     /// Times a range that is sent now, or no longer times one that is in it.
@@ -152,7 +285,8 @@ impl RetransmissionTimer {
     /// Takes an acknowledgement of all positions below `next`: the sample of the timed segment, if that
     /// is below; then, if it acknowledges something new, it stops the timer if all that was sent is below
     /// `next`, and otherwise starts it again. A repeated
-    /// acknowledgement does neither, also if nothing is on the way and `start` began the timer.
+    /// acknowledgement does neither, also if nothing is on the way and `start` began the timer. One of what was never
+    /// sent changes nothing.
     ///
     /// `numbers` are the sender's before it takes the acknowledgement.
     pub fn acknowledged(
@@ -165,50 +299,130 @@ impl RetransmissionTimer {
         ensures { self.new ≡ after_acknowledged bounds
             numbers.first_unacknowledged numbers.sent next now self.old }
     {
-        if self.times(0, next) {
-            self.take_sample(bounds, now);
+        if numbers.sent < next {
+            return;
         }
+        let ack_delay = bounds.ack_delay;
+        self.sample_below(bounds, next, now);
         if next <= numbers.first_unacknowledged {
             return;
         }
-        if numbers.sent <= next {
-            self.stop();
-        } else {
-            self.restart(now);
+        self.take_news(ack_delay, numbers.sent, next, now);
+    }
+
+    /// Takes the sample of the timed segment, if that is below `next`.
+    fn sample_below(&mut self, bounds: TimeoutBounds, next: u64, now: Instant)
+        ensures { self.new ≡ sampled_below bounds next now self.old }
+    {
+        if self.times(0, next) {
+            self.take_sample(bounds, now);
         }
     }
 
-    /// If the timer has expired, doubles the timeout within the bounds, starts it again, and times no
-    /// segment any longer. Returns whether it had: then the first segment that isn't acknowledged is
-    /// to be sent again. Otherwise nothing changes.
-    pub fn expire(&mut self, bounds: TimeoutBounds, now: Instant) -> bool
-        ensures result { result ≡ has_expired self.old now }
+    /// Takes an acknowledgement of something new, below `next`.
+    fn take_news(&mut self, ack_delay: Duration, sent: u64, next: u64, now: Instant)
+        ensures { self.new ≡ after_news ack_delay sent next now self.old }
+    {
+        let is_alone = self.last <= next;
+        self.timeouts = 0;
+        if sent <= next {
+            self.stop();
+        } else {
+            self.restart(ack_delay, is_alone, now);
+        }
+    }
+
+    /// Takes notice that a block has reported what wasn't known: a timer that runs is started again. A peer that reports
+    /// delays no acknowledgement.
+    pub fn reported(&mut self, now: Instant)
+        ensures { self.new ≡ after_report now self.old }
+    {
+        self.timeouts = 0;
+        if self.ends_at.is_some() {
+            self.restart(Duration::ZERO, false, now);
+        }
+    }
+
+    /// If the timer has expired, returns what is due; otherwise nothing changes.
+    ///
+    /// After a probe the next one waits twice as long, and the timeout passes when it would have passed. After the timeout
+    /// that is doubled within the bounds, and the timer starts again; no segment is timed any longer, and no probe is due
+    /// until something new is acknowledged or reported.
+    pub fn expire(&mut self, bounds: TimeoutBounds, now: Instant) -> Option<Expiry>
+        ensures result { result ≡ expiry self.old now }
         ensures state { self.new ≡ after_expiry bounds now self.old }
     {
         if !self.has_expired(now) {
-            return false;
+            return None;
         }
+        if self.has_ended(now) {
+            self.time_out(bounds, now);
+            return Some(Expiry::Timeout);
+        }
+        self.probe(now);
+        Some(Expiry::Probe)
+    }
+
+    /// Doubles the timeout, and starts the timer again.
+    fn time_out(&mut self, bounds: TimeoutBounds, now: Instant)
+        ensures { self.new ≡ timed_out bounds now self.old }
+    {
         self.timeout.expired(bounds);
         self.timed = None;
-        self.restart(now);
-        true
+        self.timeouts = self.timeouts.saturating_add(1);
+        self.wait_for_timeout(now);
+    }
+
+    /// Has the next probe wait twice as long.
+    fn probe(&mut self, now: Instant)
+        ensures { self.new ≡ probed now self.old }
+    {
+        self.wait = self.wait.saturating_mul(2);
+        self.probe_at = now.saturating_add(self.wait);
     }
 
     /// Returns whether it runs, and it is time.
     fn has_expired(&self, now: Instant) -> bool
         ensures { result ≡ has_expired self.now now }
     {
-        match self.expires_at {
+        match self.expires_at() {
             Some(at) => at <= now,
             None => false,
         }
     }
 
-    /// Starts the timer, whether it runs or not.
-    fn restart(&mut self, now: Instant)
-        ensures { self.new ≡ restarted now self.old }
+    /// Returns whether it runs, and the timeout has passed.
+    fn has_ended(&self, now: Instant) -> bool
+        ensures { result ≡ has_ended self.now now }
     {
-        self.expires_at = Some(now.saturating_add(self.timeout.timeout()));
+        match self.ends_at {
+            Some(at) => at <= now,
+            None => false,
+        }
+    }
+
+    /// Starts the timer, whether it runs or not. At most one segment is on the way if one `is_alone`.
+    fn restart(&mut self, ack_delay: Duration, is_alone: bool, now: Instant)
+        ensures { self.new ≡ restarted ack_delay is_alone now self.old }
+    {
+        let wait = first_wait(self.timeout.rtt());
+        self.ends_at = Some(now.saturating_add(self.timeout.timeout()));
+        self.wait = Duration::from_micros(
+            wait.total_micros()
+                .saturating_add(allowance(ack_delay, is_alone)),
+        );
+        self.probe_at = now.saturating_add(self.wait);
+        self.is_alone = is_alone;
+    }
+
+    /// Starts the timer without a probe.
+    fn wait_for_timeout(&mut self, now: Instant)
+        ensures { self.new ≡ waiting now self.old }
+    {
+        self.ends_at = Some(now.saturating_add(self.timeout.timeout()));
+        self.wait = Duration::MAX;
+        self.probe_at = now.saturating_add(Duration::MAX);
+        self.is_alone = false;
     }
 
     /// Returns whether the timed segment is at `from` or above, and below `to`.
@@ -219,5 +433,34 @@ impl RetransmissionTimer {
             Some(segment) => from <= segment.pos && segment.pos < to,
             None => false,
         }
+    }
+}
+
+/// Returns how long the acknowledgement of a segment that is alone may be delayed, in microseconds.
+fn allowance(ack_delay: Duration, is_alone: bool) -> u64
+    ensures { result ≡ allowance ack_delay is_alone }
+{
+    if is_alone {
+        ack_delay.total_micros()
+    } else {
+        0
+    }
+}
+
+/// Returns how long the first probe waits: two round trips, but for the least time; without a sample there is none.
+fn first_wait(estimate: Option<RttEstimate>) -> Duration
+    ensures { result ≡ first_wait estimate }
+{
+    match estimate {
+        Some(estimate) => {
+            Duration::from_micros(
+                estimate
+                    .srtt()
+                    .total_micros()
+                    .saturating_mul(2)
+                    .max(LEAST_WAIT),
+            )
+        }
+        None => Duration::MAX,
     }
 }

@@ -8,11 +8,12 @@ use crate::channel::Fates;
 /// microseconds; `runs` the receiver's bound of held runs; `capacity` the bytes of each buffer;
 /// `rest` how long the reader rests after it has read, in microseconds; `seconds` how long a run may
 /// take.
-const NUMBERS: [(&str, u64, u64); 9] = [
+const NUMBERS: [(&str, u64, u64); 10] = [
     ("lost", 0, 10_000),
     ("doubled", 0, 10_000),
     ("delayed", 0, 10_000),
     ("delay", 2_000, 1_000_000),
+    ("latency", 0, 1_000_000),
     ("seed", 1, u64::MAX),
     ("runs", 32, 32),
     ("capacity", 0x4_0000, 1 << 30),
@@ -53,20 +54,21 @@ impl Settings {
             let number = value.parse().ok().filter(|number| *number <= NUMBERS[at].2);
             numbers[at] = number.ok_or(format!("{word}: not a number up to {}", NUMBERS[at].2))?;
         }
-        let [lost, doubled, delayed, longest_delay, seed, runs, capacity, rest, seconds] = numbers;
+        let [lost, doubled, delayed, longest_delay, latency, seed, runs, capacity, rest, seconds] =
+            numbers;
         if ![4, 8, 16, 32].contains(&runs) {
             return Err(format!("runs={runs}: not 4, 8, 16 or 32"));
         }
         if capacity == 0 {
             return Err("capacity=0: no room for a byte".into());
         }
-        let [lost, doubled, delayed, longest_delay] =
-            [lost, doubled, delayed, longest_delay].map(|number| number as u32);
+        let [lost, doubled, delayed, longest_delay, latency] =
+            [lost, doubled, delayed, longest_delay, latency].map(|number| number as u32);
         Ok(Settings {
             incoming,
             source: source.clone(),
             target: target.clone(),
-            fates: Fates { lost, doubled, delayed, longest_delay },
+            fates: Fates { lost, doubled, delayed, longest_delay, latency },
             seed,
             runs,
             capacity: capacity as usize,

@@ -1,13 +1,16 @@
 //! By hand, of a buffer of fragments: storage that is converted, and what is printed.
 use core::fmt;
 
+use super::fragment_table::FragmentSlot;
 use super::{FragmentBuffer, FragmentsOver};
+#[cfg(doc)]
+use crate::config::ASSEMBLER_MAX_SEGMENT_COUNT;
 use crate::managed::ManagedSlice;
 use crate::proved::net_ring::Storage;
 use crate::time::Instant;
 
 impl<'a> FragmentBuffer<'a> {
-    /// Returns a buffer with no byte, which has room for 4 runs.
+    /// Returns a buffer with no byte, which has room for [`ASSEMBLER_MAX_SEGMENT_COUNT`] runs.
     ///
     /// ```
     /// # use net_base::storage::FragmentBuffer;
@@ -33,6 +36,15 @@ impl<'a, const N: usize> FragmentBuffer<'a, N> {
     #[must_use]
     pub fn empty<S: Into<ManagedSlice<'a, u8>>>(storage: S, expires_at: Instant) -> Self {
         FragmentBuffer::over(storage.into(), expires_at)
+    }
+}
+
+impl<K: fmt::Debug, B: Storage<u8>, const N: usize> fmt::Debug for FragmentSlot<K, B, N> {
+    fn fmt(&self, f: &mut fmt::Formatter) -> fmt::Result {
+        f.debug_struct("FragmentSlot")
+            .field("key", &self.key)
+            .field("buffer", &self.buffer)
+            .finish()
     }
 }
 

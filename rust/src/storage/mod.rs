@@ -10,10 +10,11 @@ mod streams;
 
 use core::fmt;
 
-pub use crate::proved::net_assembler::{Assembler, TooManyHolesError};
+pub use crate::proved::net_assembler::{Assembler, HoleIter, IterData, RunIter, TooManyHolesError};
 pub use crate::proved::net_base::storage::fragments::table as fragment_table;
 pub use crate::proved::net_base::storage::{FragmentBuffer, FragmentError, FragmentsOver};
 pub use crate::proved::net_packets::{PacketBuffer, PacketMetadata, PacketsOver};
+pub use crate::proved::net_ring::ring_buffer::Iter;
 pub use crate::proved::net_ring::{Empty, Full, Resettable, RingBuffer, RingOver, Storage};
 
 impl From<TooManyHolesError> for FragmentError {

@@ -1,33 +1,114 @@
-//! Rings, receivers and senders as std's readers and writers: as many bytes as there are, or as there is room for, which may
-//! be none.
-use std::io::{Read, Result, Write};
+//! By hand: rings, receivers and senders as std's readers and writers.
+//!
+//! To std `Ok(0)` of a reader is the end, and of a writer that nothing will be taken any more. Where nothing is there yet,
+//! or no room is left for now, a call here is therefore refused as [`WouldBlock`](ErrorKind::WouldBlock).
+use std::io::{BufRead, Error, ErrorKind, Read, Result, Write};
 
 use super::{RingOver, Storage};
 use crate::finite::{FiniteReceiverOver, FiniteSenderOver};
 use crate::receiver::ReceiverOver;
 use crate::sender::SenderOver;
 
+/// How many bytes a call moved, unless it moved none though it was asked to, and may move some later.
+fn moved(count: usize, asked: usize, is_for_now: bool) -> Result<usize> {
+    if count == 0 && asked != 0 && is_for_now {
+        return Err(Error::from(ErrorKind::WouldBlock));
+    }
+    Ok(count)
+}
+
+/// The bytes that a call lends, unless there are none, and some may come later.
+fn lent(bytes: &[u8], is_for_now: bool) -> Result<&[u8]> {
+    moved(bytes.len(), 1, is_for_now).map(|_count| bytes)
+}
+
+/// Reads what is queued. An empty ring is refused as [`ErrorKind::WouldBlock`]: a queue has no end, and more may be enqueued.
+/// So `read_to_end` appends all that is queued, and then is refused; `dequeue_slice` isn't.
 impl<S: Storage<u8>> Read for RingOver<u8, S> {
     fn read(&mut self, into: &mut [u8]) -> Result<usize> {
-        Ok(self.dequeue_slice(into))
+        moved(self.dequeue_slice(into), into.len(), true)
     }
 }
 
+/// Lends the contiguous part of what is queued. An empty ring is refused as [`ErrorKind::WouldBlock`].
+impl<S: Storage<u8>> BufRead for RingOver<u8, S> {
+    fn fill_buf(&mut self) -> Result<&[u8]> {
+        lent(self.get_allocated(0, usize::MAX), true)
+    }
+
+    /// # Panics
+    ///
+    /// Panics if fewer than `count` bytes are queued.
+    fn consume(&mut self, count: usize) {
+        self.dequeue_allocated(count);
+    }
+}
+
+/// Reads what is queued. Where nothing is it is refused as [`ErrorKind::WouldBlock`]: this stream doesn't end. One that does is a
+/// [`FiniteReceiver`](crate::finite::FiniteReceiver).
 impl<S: Storage<u8>, const N: usize> Read for ReceiverOver<S, N> {
     fn read(&mut self, into: &mut [u8]) -> Result<usize> {
-        Ok(ReceiverOver::read(self, into))
+        moved(ReceiverOver::read(self, into), into.len(), true)
     }
 }
 
+/// Lends the contiguous part of what is queued. Where nothing is it is refused as [`ErrorKind::WouldBlock`].
+impl<S: Storage<u8>, const N: usize> BufRead for ReceiverOver<S, N> {
+    fn fill_buf(&mut self) -> Result<&[u8]> {
+        lent(self.peek(0, usize::MAX), true)
+    }
+
+    /// # Panics
+    ///
+    /// Panics if fewer than `count` bytes are queued.
+    fn consume(&mut self, count: usize) {
+        self.remove(count);
+    }
+}
+
+/// Reads what is queued. Where nothing is, that is the end, `Ok(0)`, if all bytes were read, as
+/// [`has_read_all`](FiniteReceiverOver::has_read_all) tests; otherwise it is refused as [`ErrorKind::WouldBlock`].
+///
+/// ```
+/// use net_base::finite::FiniteReceiver;
+/// use std::io::{ErrorKind, Read};
+///
+/// let mut storage = [0u8; 32];
+/// let mut receiver = FiniteReceiver::<4>::empty_at(&mut storage[..], 0);
+/// assert!(receiver.keep(0, b"sum=10", false).is_ok());
+/// let mut text = String::new();
+/// let refused = receiver.read_to_string(&mut text).unwrap_err();
+/// assert_eq!((refused.kind(), text.as_str()), (ErrorKind::WouldBlock, "sum=10"));
+/// assert!(receiver.keep(6, b"00", true).is_ok());
+/// assert_eq!((receiver.read_to_string(&mut text).unwrap(), text.as_str()), (2, "sum=1000"));
+/// ```
 impl<S: Storage<u8>, const N: usize> Read for FiniteReceiverOver<S, N> {
     fn read(&mut self, into: &mut [u8]) -> Result<usize> {
-        Ok(FiniteReceiverOver::read(self, into))
+        let count = FiniteReceiverOver::read(self, into);
+        moved(count, into.len(), !self.has_read_all())
     }
 }
 
+/// Lends the contiguous part of what is queued. Where nothing is, that is the end, an empty slice, if all bytes were read;
+/// otherwise it is refused as [`ErrorKind::WouldBlock`].
+impl<S: Storage<u8>, const N: usize> BufRead for FiniteReceiverOver<S, N> {
+    fn fill_buf(&mut self) -> Result<&[u8]> {
+        lent(self.receiver().peek(0, usize::MAX), !self.has_read_all())
+    }
+
+    /// # Panics
+    ///
+    /// Panics if fewer than `count` bytes are queued.
+    fn consume(&mut self, count: usize) {
+        self.remove(count);
+    }
+}
+
+/// Enqueues as many bytes as there is room for. A full ring is refused as [`ErrorKind::WouldBlock`]; one without storage takes
+/// nothing ever, which is `Ok(0)`.
 impl<S: Storage<u8>> Write for RingOver<u8, S> {
     fn write(&mut self, bytes: &[u8]) -> Result<usize> {
-        Ok(self.enqueue_slice(bytes))
+        moved(self.enqueue_slice(bytes), bytes.len(), self.capacity() != 0)
     }
 
     fn flush(&mut self) -> Result<()> {
@@ -35,9 +116,12 @@ impl<S: Storage<u8>> Write for RingOver<u8, S> {
     }
 }
 
+/// Takes as many bytes as there is room for. A full sender is refused as [`ErrorKind::WouldBlock`]; one without storage, or of
+/// whose positions none is left, takes nothing ever, which is `Ok(0)`. `flush` doesn't wait for acknowledgements.
 impl<S: Storage<u8>> Write for SenderOver<S> {
     fn write(&mut self, bytes: &[u8]) -> Result<usize> {
-        Ok(SenderOver::write(self, bytes))
+        let is_full = !self.is_empty() && self.len() == self.capacity();
+        moved(SenderOver::write(self, bytes), bytes.len(), is_full)
     }
 
     fn flush(&mut self) -> Result<()> {
@@ -45,9 +129,16 @@ impl<S: Storage<u8>> Write for SenderOver<S> {
     }
 }
 
+/// Takes as many bytes as there is room for. A closed sender is refused as [`ErrorKind::BrokenPipe`], and a full one as
+/// [`ErrorKind::WouldBlock`]; one without storage, or of whose positions none is left, takes nothing ever, which is `Ok(0)`.
+/// `flush` doesn't wait for acknowledgements.
 impl<S: Storage<u8>> Write for FiniteSenderOver<S> {
     fn write(&mut self, bytes: &[u8]) -> Result<usize> {
-        Ok(FiniteSenderOver::write(self, bytes))
+        if self.is_closed() && !bytes.is_empty() {
+            return Err(Error::from(ErrorKind::BrokenPipe));
+        }
+        let is_full = !self.is_empty() && self.len() == self.capacity();
+        moved(FiniteSenderOver::write(self, bytes), bytes.len(), is_full)
     }
 
     fn flush(&mut self) -> Result<()> {

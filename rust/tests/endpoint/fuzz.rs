@@ -83,7 +83,7 @@ impl Model {
     /// The number that the endpoint acknowledges.
     fn next(&self) -> i64 {
         let first = (1u64 << 32) + u64::from(PEER) + 1;
-        (self.talk.endpoint.receiver.acknowledged() - first) as i64
+        (self.talk.endpoint.receiving.receiver().acknowledged() - first) as i64
     }
 
     /// Judges a packet of the endpoint.
@@ -111,7 +111,7 @@ impl Model {
         let promised = self.next() + (i64::from(packet.window) << self.scales.0);
         assert!(packet.window == 0 || promised <= self.read + self.capacity, "no such room");
         self.promised = self.promised.max(promised);
-        let held = self.talk.endpoint.receiver.receiver().held();
+        let held = self.talk.endpoint.receiving.receiver().receiver().held();
         let first = (1u64 << 32) + u64::from(PEER) + 1;
         let held = held.map(|run| ((run.0 - first) as u32, (run.1 - first) as u32));
         let held = held.collect::<Vec<_>>();
@@ -169,7 +169,7 @@ impl Model {
             0 => at == next || next < at && at < self.promised,
             _ => first < end,
         };
-        let held = self.talk.endpoint.receiver.receiver().queued();
+        let held = self.talk.endpoint.receiving.receiver().receiver().queued();
         let said = self.talk.say(&packet);
         let is_reset = has(RST) && at == next && !was_closed;
         let is_probe = self.promised <= next && at == next && len > 0;
@@ -188,7 +188,11 @@ impl Model {
         self.judge_all(&said);
         assert_eq!(self.talk.endpoint.state == State::Reset, is_reset);
         if !is_taken {
-            assert_eq!(self.talk.endpoint.receiver.receiver().queued(), held, "text that isn't acceptable");
+            assert_eq!(
+                self.talk.endpoint.receiving.receiver().receiver().queued(),
+                held,
+                "text that isn't acceptable"
+            );
             let is_silent = has(RST) && (!is_acceptable || at == next)
                 || (is_acceptable || is_probe) && !has(RST | SYN | ACK);
             assert_eq!(said.len(), usize::from(!is_silent), "{packet:?}");
@@ -205,7 +209,7 @@ impl Model {
             assert_eq!(*found, byte(0, self.read + place as i64));
         }
         self.read += bytes.len() as i64;
-        let receiver = &self.talk.endpoint.receiver;
+        let receiver = self.talk.endpoint.receiving.receiver();
         let first = (1u64 << 32) + u64::from(PEER) + 1;
         let end = receiver.end().map(|end| (end - first) as i64);
         assert!(self.end.is_none() || self.end == end, "a known end stays");
@@ -215,10 +219,10 @@ impl Model {
     }
 
     fn write(&mut self) {
-        let room = self.talk.endpoint.sender.window() as i64;
+        let room = self.talk.endpoint.sending.window() as i64;
         let count = self.any([1, 100, 5_000, 100_000]).min(room);
         let bytes = (self.written..self.written + count).map(|at| byte(1, at)).collect::<Vec<_>>();
-        assert_eq!(self.talk.endpoint.sender.write(&bytes) as i64, count);
+        assert_eq!(self.talk.endpoint.sending.write(&bytes) as i64, count);
         self.written += count;
         if self.below(50) == 0 {
             self.talk.endpoint.close();
@@ -227,13 +231,13 @@ impl Model {
     }
 
     fn wait(&mut self) {
-        let timer = self.talk.endpoint.timer.expires_at().map(|timer| timer - self.talk.now);
+        let timer = self.talk.endpoint.sending.expires_at().map(|timer| timer - self.talk.now);
         let rest = timer.map_or(0, |timer| timer.total_micros());
         let micros = self.any([0, 0, 1, 1_000, rest as i64]) as u64;
         let said = self.talk.wait(micros);
         self.judge_all(&said);
         let waits = self.acked < self.written + i64::from(self.closed);
-        assert!(self.talk.endpoint.timer.expires_at().is_some() || !waits, "nothing wakes it");
+        assert!(self.talk.endpoint.sending.expires_at().is_some() || !waits, "nothing wakes it");
     }
 }
 

@@ -49,11 +49,11 @@ impl<const N: usize> End<N> {
         }
         let mut into = [0; 4096];
         let reads = reads_at.map_or(*written == text.len(), |at| at <= now);
-        while reads && !endpoint.receiver.receiver().is_empty() {
-            let count = endpoint.receiver.read(&mut into);
+        while reads && !endpoint.receiving.receiver().receiver().is_empty() {
+            let count = endpoint.receiving.read(&mut into);
             read.extend(&into[..count]);
         }
-        *written += endpoint.sender.write(&text[*written..]);
+        *written += endpoint.sending.write(&text[*written..]);
         if *written == text.len() {
             endpoint.close();
         }
@@ -64,7 +64,7 @@ impl<const N: usize> End<N> {
     fn next(&self, now: Instant) -> Option<Instant> {
         let reads_at = self.reads_at.filter(|at| *at > now);
         self.endpoint
-            .timer
+            .sending
             .expires_at()
             .into_iter()
             .chain(self.channel.next())
@@ -112,13 +112,16 @@ fn run_ends<const N: usize>(mut a: End<N>, mut b: End<N>) -> (u64, u64) {
         assert!(is_in_time, "not done: {} and {} bytes read", a.read.len(), b.read.len());
     }
     assert!(a.read == b.text && b.read == a.text, "another text");
-    assert!(a.endpoint.receiver.has_read_all() && b.endpoint.receiver.has_read_all());
+    assert!(
+        a.endpoint.receiving.receiver().has_read_all()
+            && b.endpoint.receiving.receiver().has_read_all()
+    );
     let again = a.endpoint.counts.sent_again + b.endpoint.counts.sent_again;
     ((now - BEGUN).total_millis(), again)
 }
 
 fn fates(lost: u32, others: u32) -> Fates {
-    Fates { lost, doubled: others, delayed: 3 * others, longest_delay: 20_000 }
+    Fates { lost, doubled: others, delayed: 3 * others, longest_delay: 20_000, latency: 0 }
 }
 
 #[test]

@@ -232,13 +232,27 @@ impl<const N: usize> Talk<N> {
 
     /// Waits for the timer, and returns after how many microseconds it ended, and what is sent.
     pub fn expire(&mut self) -> (u64, Vec<Packet>) {
-        let micros = (self.endpoint.timer.expires_at().expect("a timer") - self.now).total_micros();
+        let micros =
+            (self.endpoint.sending.expires_at().expect("a timer") - self.now).total_micros();
         (micros, self.wait(micros))
+    }
+
+    /// Waits for probes, and then for the timeout: how long all that takes, and what is sent then.
+    pub fn time_out(&mut self) -> (u64, Vec<Packet>) {
+        let mut micros = 0;
+        loop {
+            let before = self.endpoint.counts.timeouts;
+            let (more, said) = self.expire();
+            micros += more;
+            if self.endpoint.counts.timeouts > before || self.endpoint.state != State::Open {
+                return (micros, said);
+            }
+        }
     }
 
     pub fn read(&mut self, most: usize) -> Vec<u8> {
         let mut into = vec![0; most];
-        let count = self.endpoint.receiver.read(&mut into);
+        let count = self.endpoint.receiving.read(&mut into);
         into.truncate(count);
         into
     }

@@ -134,7 +134,7 @@ fn handshakes() {
     assert_eq!(challenge(&talk.say(&answer), 0).at(), 0);
     assert_eq!(talk.endpoint.state, State::Open);
     // The window of a SYN has no scale.
-    assert_eq!(talk.endpoint.sender.write(&[5; 1_000]), 1_000);
+    assert_eq!(talk.endpoint.sending.write(&[5; 1_000]), 1_000);
     assert_eq!(talk.wait(0)[0].payload, [5; 100]);
     let mut talk = Talk::<4>::new(false, 100);
     talk.say(&Packet { flags: RST | ACK, ..answer });
@@ -188,7 +188,7 @@ fn old_acknowledgements() {
     // The greatest window that was announced has 0x10000 bytes.
     let mut talk = Talk::<4>::open(64, OPTIONS);
     challenge(&talk.say(&peer(0, 0u32.wrapping_sub(0x1_0001)).text(b"X")), 0);
-    assert!(talk.endpoint.receiver.receiver().is_empty());
+    assert!(talk.endpoint.receiving.receiver().receiver().is_empty());
     talk.say(&peer(0, 0u32.wrapping_sub(0x1_0000)).text(b"abc"));
     assert_eq!(talk.read(9), b"abc");
     // A greater one was announced.
@@ -236,7 +236,7 @@ fn what_is_not_acceptable() {
     // Old text, text beyond the window, and what was never sent is acknowledged: answered, not kept.
     for packet in [peer(0, 0).text(b"XYZ"), peer(64, 0).text(b"X"), peer(6, 1).text(b"X")] {
         challenge(&talk.say(&packet), 6);
-        assert_eq!(talk.endpoint.receiver.receiver().queued(), 6);
+        assert_eq!(talk.endpoint.receiving.receiver().receiver().queued(), 6);
     }
     // Without the flag ACK nothing is taken, and nothing is answered.
     assert_eq!(talk.say(&Packet { flags: 0, ..peer(6, 0).text(b"X") }), []);
@@ -293,11 +293,14 @@ fn the_end() {
     let mut talk = Talk::<4>::open(64, OPTIONS);
     challenge(&talk.say(&peer(0, 0).text(b"abc").with(FIN)), 4);
     assert_eq!(talk.read(9), b"abc");
-    assert!(talk.endpoint.receiver.has_read_all());
+    assert!(talk.endpoint.receiving.receiver().has_read_all());
     // Text after it isn't kept, and an end elsewhere is refused.
     for packet in [peer(4, 0).text(b"xyz"), peer(3, 0).text(b"xyz"), peer(4, 0).with(FIN)] {
         challenge(&talk.say(&packet), 4);
-        assert!(talk.endpoint.receiver.has_read_all() && talk.endpoint.receiver.receiver().is_empty());
+        assert!(
+            talk.endpoint.receiving.receiver().has_read_all()
+                && talk.endpoint.receiving.receiver().receiver().is_empty()
+        );
     }
     let mut talk = Talk::<4>::open(64, OPTIONS);
     challenge(&talk.say(&peer(6, 0).with(FIN)), 0);
@@ -305,7 +308,7 @@ fn the_end() {
     challenge(&talk.say(&peer(5, 0).with(FIN)), 0);
     challenge(&talk.say(&peer(0, 0).text(b"abc")), 7);
     assert_eq!(talk.read(9), b"abcdef");
-    assert!(talk.endpoint.receiver.has_read_all());
+    assert!(talk.endpoint.receiving.receiver().has_read_all());
     let mut talk = Talk::<4>::open(1, OPTIONS);
     challenge(&talk.say(&peer(0, 0).text(b"a").with(FIN)), 2);
     // The acknowledgement of the endpoint's own FIN is acceptable, though nothing was read.
@@ -339,7 +342,7 @@ fn windows_open_and_close() {
                         edge = edge.max(announced);
                     }
                 }
-                let free = capacity - talk.endpoint.receiver.receiver().queued();
+                let free = capacity - talk.endpoint.receiving.receiver().receiver().queued();
                 assert!(free < 1 << scale || options.is_empty(), "{free} of {capacity} unused");
                 read += talk.read(capacity).len() as u32;
                 let update = talk.wait(0);
@@ -352,14 +355,16 @@ fn windows_open_and_close() {
     // At a shut window a segment at the first missing byte acknowledges, and is answered; its text isn't
     // taken. One a byte further acknowledges nothing.
     let mut talk = Talk::<4>::open(64, OPTIONS);
-    assert_eq!(talk.endpoint.sender.write(&[5; 10]), 10);
+    assert_eq!(talk.endpoint.sending.write(&[5; 10]), 10);
     assert_eq!(talk.wait(0)[0].payload, [5; 10]);
     talk.say(&peer(0, 0).text(&[7; 64]));
     assert_eq!(challenge(&talk.wait(0), 64).window, 0);
     assert_eq!(challenge(&talk.say(&peer(65, 10).text(b"x")), 64).window, 0);
-    assert!(talk.endpoint.timer.expires_at().is_some());
+    assert!(talk.endpoint.sending.expires_at().is_some());
     assert_eq!(challenge(&talk.say(&peer(64, 10).text(b"x")), 64).window, 0);
-    assert!(talk.endpoint.timer.expires_at().is_none() && talk.endpoint.sender.is_empty());
+    assert!(
+        talk.endpoint.sending.expires_at().is_none() && talk.endpoint.sending.flight_size() == 0
+    );
     assert_eq!(talk.read(100), [7; 64]);
     // A few bytes that are read are no reason for an update, nor do they move the edge.
     let mut talk = Talk::<4>::open(4_000, OPTIONS);
@@ -370,4 +375,14 @@ fn windows_open_and_close() {
     assert_eq!(challenge(&talk.say(&peer(1_500, 0).text(b"x")), 1_400).window, 2_600);
     talk.read(100);
     assert_eq!(talk.wait(0), []);
+}
+
+/// The timer of the SYN stops with the handshake: later it would pass for a loss.
+#[test]
+fn the_timer_of_a_handshake_is_no_loss() {
+    let mut talk = Talk::<4>::open(1 << 16, OPTIONS);
+    assert_eq!(talk.endpoint.sending.expires_at(), None);
+    assert_eq!(talk.wait(2_000_000), []);
+    assert_eq!(talk.endpoint.sending.write(&[5; 20_000]), 20_000);
+    assert_eq!(talk.wait(0).iter().filter(|said| said.payload.len() == 1000).count(), 10);
 }

@@ -25,7 +25,7 @@ fn talk(count: usize) -> Talk<4> {
 }
 
 fn write(talk: &mut Talk<4>, from: usize, to: usize) {
-    assert_eq!(talk.endpoint.sender.write(&text(from, to)), to - from);
+    assert_eq!(talk.endpoint.sending.write(&text(from, to)), to - from);
 }
 
 #[test]
@@ -65,7 +65,7 @@ fn the_peer_s_window() {
     assert_eq!(talk.wait(0), []);
     // A window that shrinks is obeyed: nothing new, and nothing again above its edge.
     talk.say(&peer(10, 1001).window(25));
-    assert_eq!(places(&talk.expire().1), [(1001, 100)]);
+    assert_eq!(places(&talk.time_out().1), [(1001, 100)]);
     // A number that was never sent takes no window. The answer's own number is not above the edge.
     assert_eq!(places(&talk.say(&peer(11, 3002).window(5_000))), [(1101, 0)]);
     assert_eq!(talk.wait(0), []);
@@ -78,7 +78,7 @@ fn a_window_that_is_shut() {
     assert_eq!(talk.wait(0), []);
     // One byte asks, again and again, each time after twice as long.
     for micros in [300_000, 600_000, 1_200_000] {
-        let (after, said) = talk.expire();
+        let (after, said) = talk.time_out();
         assert_eq!((after, places(&said)), (micros, vec![(1, 1)]));
         assert_eq!(talk.say(&peer(1, 1).window(0)), []);
     }
@@ -89,7 +89,7 @@ fn a_window_that_is_shut() {
     assert_eq!(said.iter().map(|said| said.payload.len()).sum::<usize>(), 9_000);
     // It may be shut while much is on the way; then a byte asks too.
     talk.say(&peer(2, 3001).window(0));
-    assert_eq!(places(&talk.expire().1), [(3001, 1)]);
+    assert_eq!(places(&talk.time_out().1), [(3001, 1)]);
     talk.say(&peer(2, 3002).window(250));
     assert_eq!(places(&talk.wait(0)), [(3002, 1000)]);
 }
@@ -105,14 +105,14 @@ fn timeouts() {
     assert_eq!(places(&talk.wait(0)), [(2, 1000), (1002, 1)]);
     let mut timeout = 340_000;
     for _time in 0..9 {
-        let (after, said) = talk.expire();
+        let (after, said) = talk.time_out();
         assert_eq!((after, places(&said)), (timeout, vec![(2, 1000)]));
         timeout = (2 * timeout).min(60_000_000);
     }
     // By Karn's rule what was sent twice is no sample, and the timeout stays.
     talk.say(&peer(0, 1002));
     assert_eq!(places(&talk.wait(0)), [(1002, 1)]);
-    let (after, said) = talk.expire();
+    let (after, said) = talk.time_out();
     assert_eq!((after, places(&said)), (60_000_000, vec![(1002, 1)]));
     // What was sent once is: 118.75 and 60.625 after 180 ms again.
     talk.say(&peer(0, 1003));
@@ -122,17 +122,19 @@ fn timeouts() {
     talk.say(&peer(0, 1004));
     write(&mut talk, 1_004, 1_005);
     talk.wait(0);
-    assert_eq!(talk.expire().0, 361_250);
+    assert_eq!(talk.time_out().0, 361_250);
     // What acknowledges more starts the timer again, now with 250 ms; what doesn't, does not.
     let mut other = self::talk(3_000);
     assert_eq!((other.wait(0).len(), other.wait(100_000)), (3, vec![]));
     other.say(&peer(0, 1001));
     assert_eq!(other.wait(50_000), []);
     other.say(&peer(0, 1001));
-    assert_eq!(other.expire().0, 200_000);
+    // A probe is due two round trips after what was new, and the timeout passes where it was.
+    assert_eq!(other.expire().0, 150_000);
+    assert_eq!(other.time_out().0, 50_000);
     // Nothing is on the way: no timer. And 200 ms at least.
     talk.say(&peer(0, 1005));
-    assert_eq!(talk.endpoint.timer.expires_at(), None);
+    assert_eq!(talk.endpoint.sending.expires_at(), None);
     for at in 1_005..1_060 {
         write(&mut talk, at, at + 1);
         talk.wait(0);
@@ -141,7 +143,7 @@ fn timeouts() {
     }
     write(&mut talk, 1_060, 1_061);
     talk.wait(0);
-    assert_eq!(talk.expire().0, 200_000);
+    assert_eq!(talk.time_out().0, 200_000);
 }
 
 #[test]
@@ -180,7 +182,7 @@ fn losses_are_found_in_time() {
     // The peer acknowledges a part of what it reported: it has dropped the rest, and all is sent.
     talk.say(&peer(0, 1).report(&[(5_001, 7_001)]));
     talk.say(&peer(0, 6_001));
-    assert_eq!(places(&talk.expire().1), [(6_001, 1000)]);
+    assert_eq!(places(&talk.time_out().1), [(6_001, 1000)]);
 }
 
 #[test]
@@ -193,14 +195,14 @@ fn congestion() {
     talk.say(&peer(0, 3001));
     assert_eq!(talk.wait(0).len(), 4);
     // After a timeout one segment, and slow start.
-    assert_eq!(places(&talk.expire().1), [(3001, 1000)]);
+    assert_eq!(places(&talk.time_out().1), [(3001, 1000)]);
     talk.say(&peer(0, 4001));
     assert_eq!(places(&talk.wait(0)), [(4001, 1000), (5001, 1000)]);
     // A loss halves the window, once for all that is on the way; then it grows by a segment for each
     // window that is acknowledged, and the next loss halves it again.
     let mut talk = self::talk(60_000);
     talk.wait(0);
-    talk.say(&peer(0, 1).report(&[(1001, 2001), (3001, 6001)]));
+    talk.say(&peer(0, 1).report(&[(1001, 6001)]));
     assert_eq!(places(&talk.wait(0)), [(1, 1000)]);
     talk.say(&peer(0, 10_001));
     assert_eq!(talk.wait(0).len(), 6);
@@ -218,28 +220,25 @@ fn congestion() {
 fn the_own_end() {
     let mut talk = talk(1_000);
     talk.endpoint.close();
-    assert_eq!(talk.endpoint.sender.write(b"x"), 0);
+    assert_eq!(talk.endpoint.sending.write(b"x"), 0);
     let said = talk.wait(0);
     assert_eq!(places(&said), [(1, 1000), (1001, 0)]);
     assert_eq!((said[0].flags, said[1].flags), (ACK, ACK | FIN));
     // Its number is reported and acknowledged as a byte's is.
     talk.say(&peer(0, 1).report(&[(1001, 1002)]));
-    assert_eq!(places(&talk.expire().1), [(1, 1000)]);
+    assert_eq!(places(&talk.time_out().1), [(1, 1000)]);
     talk.say(&peer(0, 1001));
-    assert!(!talk.endpoint.sender.is_closed_and_acknowledged());
+    assert!(!talk.endpoint.sending.is_done());
     talk.say(&peer(0, 1002));
-    assert!(
-        talk.endpoint.sender.is_closed_and_acknowledged()
-            && talk.endpoint.timer.expires_at().is_none()
-    );
+    assert!(talk.endpoint.sending.is_done() && talk.endpoint.sending.expires_at().is_none());
     // It is sent again like text, and with the last bytes where the segment has room.
     let mut talk = self::talk(999);
     talk.endpoint.close();
     let said = talk.wait(0);
     assert_eq!((places(&said), said[0].flags), (vec![(1, 999)], ACK | FIN));
-    assert_eq!(places(&talk.expire().1), [(1, 999)]);
+    assert_eq!(places(&talk.time_out().1), [(1, 999)]);
     talk.say(&peer(0, 1000));
-    let (_after, said) = talk.expire();
+    let (_after, said) = talk.time_out();
     assert_eq!((places(&said), said[0].flags), (vec![(1000, 0)], ACK | FIN));
     // The window has no room for it.
     let mut talk = self::talk(1_000);

@@ -3,7 +3,7 @@ use crate::scoreboard::{answer, range};
 use crate::show::truth;
 use crate::{Call, Subject};
 use net_base::scoreboard::Scoreboard;
-use net_base::tcp::{LossRecovery, SentNumbers};
+use net_base::tcp::{Answer, LossRecovery, SentNumbers};
 
 struct Sending<const N: usize> {
     recovery: LossRecovery,
@@ -40,9 +40,23 @@ impl<const N: usize> Subject for Sending<N> {
                 board.acknowledge(one);
             }
             "find_losses" => {
-                return truth(recovery.find_losses(*numbers, board, *segment_size)).to_string()
+                let [reports, is_equal] = [2, 3].map(|at| call.at(at) == 1);
+                let answer = Answer { first: one, unsent: two, reports, is_equal };
+                return truth(recovery.find_losses(*numbers, board, *segment_size, answer))
+                    .to_string();
             }
             "lose_all" => recovery.lose_all(*numbers),
+            "probed" => recovery.probed(*numbers, one),
+            "expect_reports" => recovery.expect_reports(one == 1),
+            "unsent" => return recovery.unsent(*numbers, board).to_string(),
+            "lose_dropped" => {
+                let begins = recovery.lose_dropped(*numbers, board);
+                board.reset_at(numbers.first_unacknowledged);
+                return truth(begins).to_string();
+            }
+            "duplicated" => recovery.duplicated(*numbers),
+            "find_overdue" => return truth(recovery.find_overdue(*numbers, board)).to_string(),
+            "next_probe" => return range(recovery.next_probe(*numbers, board, one, *segment_size)),
             "next_segment" => {
                 return range(recovery.next_segment(*numbers, board, one, two, *segment_size))
             }
@@ -55,6 +69,6 @@ impl<const N: usize> Subject for Sending<N> {
     fn show(&mut self) -> String {
         let Sending { recovery, numbers, board, .. } = self;
         let in_flight = recovery.in_flight(*numbers, board);
-        format!("{} {in_flight}", truth(recovery.is_active(*numbers)))
+        format!("{} {in_flight} {}", truth(recovery.is_active(*numbers)), recovery.duplicates())
     }
 }

@@ -128,5 +128,5 @@ fn estimate(estimate: RttEstimate) -> String {
 
 fn bounds(least: u64, most: u64, tick: u64) -> TimeoutBounds {
     let [least, most, tick] = [least, most, tick].map(Duration::from_micros);
-    TimeoutBounds { least, most, tick }
+    TimeoutBounds { least, most, tick, ack_delay: Duration::ZERO }
 }

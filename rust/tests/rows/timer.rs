@@ -1,7 +1,6 @@
 //! Timers of retransmissions.
-use crate::show::truth;
 use crate::{Call, Subject};
-use net_base::tcp::{RetransmissionTimer, SentNumbers, TimeoutBounds};
+use net_base::tcp::{Expiry, RetransmissionTimer, SentNumbers, TimeoutBounds};
 use net_base::time::{Duration, Instant};
 
 /// A timer, and the bounds of its timeout.
@@ -13,11 +12,12 @@ pub struct Timer {
 impl Timer {
     pub fn new(first: &Call) -> Self {
         Timer {
-            timer: RetransmissionTimer::new(Duration::from_micros(first.at(0))),
+            timer: RetransmissionTimer::new(Duration::from_micros(first.at(0)), first.at(4) == 1),
             bounds: TimeoutBounds {
                 least: Duration::from_micros(first.at(1)),
                 most: Duration::from_micros(first.at(2)),
                 tick: Duration::from_micros(1),
+                ack_delay: Duration::from_micros(first.at(3)),
             },
         }
     }
@@ -26,32 +26,39 @@ impl Timer {
 impl Subject for Timer {
     fn make(&mut self, call: &Call) -> String {
         let (timer, bounds) = (&mut self.timer, self.bounds);
-        let [one, two, three, four] = [0, 1, 2, 3].map(|index| call.at(index));
+        let [one, two, three, four, five] = [0, 1, 2, 3, 4].map(|index| call.at(index));
         match call.name {
             "start" => timer.start(moment(one)),
             "stop" => timer.stop(),
-            "sent" => timer.sent(
-                one..two,
-                SentNumbers { first_unacknowledged: 0, sent: three },
-                moment(four),
-            ),
+            "sent" => {
+                let numbers = SentNumbers { first_unacknowledged: three, sent: four };
+                timer.sent(bounds, one..two, numbers, moment(five))
+            }
             "take_sample" => timer.take_sample(bounds, moment(one)),
             "acknowledged" => {
                 let numbers = SentNumbers { first_unacknowledged: one, sent: two };
                 timer.acknowledged(bounds, numbers, three, moment(four))
             }
-            "expire" => return truth(timer.expire(bounds, moment(one))).to_string(),
+            "reported" => timer.reported(moment(one)),
+            "expire" => {
+                return match timer.expire(bounds, moment(one)) {
+                    None => "none",
+                    Some(Expiry::Probe) => "probe",
+                    Some(Expiry::Timeout) => "timeout",
+                }
+                .to_string()
+            }
             name => panic!("no call {name}"),
         }
         "done".to_string()
     }
 
-    /// The timeout, when it expires and the timed position, or a dash where there is none.
+    /// The timeout, when it expires and the timed position, or a dash where there is none; and the timeouts in a row.
     fn show(&mut self) -> String {
         let timer = &self.timer;
         let expiry = timer.expires_at().map_or("-".to_string(), |it| it.total_micros().to_string());
         let timed = timer.timed().map_or("-".to_string(), |it| it.pos.to_string());
-        format!("{} {expiry} {timed}", timer.timeout().total_micros())
+        format!("{} {expiry} {timed} {}", timer.timeout().total_micros(), timer.timeouts())
     }
 }
 

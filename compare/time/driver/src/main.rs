@@ -139,7 +139,14 @@ fn print(group: &str, name: &str, numbers: &[f64]) {
 
 /// Times a row over all placements: nanoseconds a call of smoltcp and of the port, the ratios of port and smoltcp,
 /// and those of smoltcp's placements with one another.
-fn time(group: &str, row: &Row, ports: &[Workload], originals: &[Workload], samples: usize, nanoseconds: f64) {
+fn time(
+    group: &str,
+    row: &Row,
+    ports: &[Workload],
+    originals: &[Workload],
+    samples: usize,
+    nanoseconds: f64,
+) {
     let sides = [ports, originals].concat();
     let (times, calls) = times(row, &sides, samples, nanoseconds);
     let (first, all) = (ports.len(), sides.len());

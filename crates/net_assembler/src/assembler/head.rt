@@ -9,10 +9,11 @@ ghost use Rattle.net_assembler.specs.Assembler.{MakesTooManyRuns};
 ghost use Rattle.std.specs.List.{slice_get};
 ghost use Rattle.net_assembler.specs.AssemblerLaws.{Adds, AddsThenRemovesFront, RemovesFront};
 ghost use Rattle.net_assembler.specs.Heads.{AddsInPlace, FrontEnds, StartsInRuns, StartsLast};
-ghost use Rattle.net_assembler.specs.Positions.{RangeFits, are_same, contains, front, holes, holes_before};
-ghost use Rattle.net_assembler.specs.Positions.{maximal_runs, nothing, runs as run_count};
-ghost use Rattle.net_assembler.specs.Positions.{shift_down};
+ghost use Rattle.net_assembler.specs.Positions.{EndsHole, IsEnd, RangeFits, are_same, contains, first_missing, front};
+ghost use Rattle.net_assembler.specs.Positions.{holes, holes_before, maximal_runs, nothing, present_count};
+ghost use Rattle.net_assembler.specs.Positions.{runs as run_count, shift_down};
 ghost use Rattle.net_assembler.specs.RunLists.{AreRuns, AreUsize, FitsFrom, HasSoundRuns, IsCanonical, IsRising};
+ghost use Rattle.net_assembler.specs.RunLists.{SplitsRuns};
 ghost use Rattle.net_assembler.specs.RunLists.{end_at, runs_of, runs_shifted_down, runs_wrapped};
 ghost use Rattle.net_assembler.specs.RunLists.{set_of, set_of_runs, start_at, used_runs, wrapped_run};
 ghost use Rattle.net_assembler.specs.Turns.{TurnsWithin, binary_digits};
@@ -265,7 +266,7 @@ impl AssemblerHead {
         }
         // The last run that starts by then is cut, or ends by then; those before it end by then.
         let by = count - self.first_start;
-        let met = runs_starting_by(runs, self.used, 1, by);
+        let met = runs_starting_by(runs, self.used, 1, by, &mut Turns::new());
         let last = met - 1;
         let end = end_of(runs, last);
         if end <= by {
@@ -372,6 +373,117 @@ impl AssemblerHead {
         ensures { result ≡ contains (set_of self.now runs.now) position }
     {
         position >= self.first_start && holds(&runs[..self.used], position - self.first_start)
+    }
+
+    /// Returns how many maximal runs start at or before `position`. It looks at as many runs as the number of
+    /// runs has binary digits.
+    ///
+    /// # Requires
+    ///
+    /// The head is sound with the runs, as `is_sound` tests.
+    #[inline(never)]
+    pub fn runs_by(&self, runs: &[Run], position: usize) -> usize
+        requires { HasSoundRuns self.now runs.now }
+        ensures { SplitsRuns (maximal_runs (set_of self.now runs.now)) position result }
+    {
+        if position < self.first_start {
+            return 0;
+        }
+        let mut turns = Turns::new();
+        let offset = position - self.first_start;
+        let count = runs_starting_by(runs, self.used, 0, offset, &mut turns);
+        turns.were_a_search(runs);
+        count
+    }
+
+    /// Returns the position after the last one that is present; 0 if none is.
+    ///
+    /// # Requires
+    ///
+    /// The head is sound with the runs, as `is_sound` tests.
+    pub fn end(&self, runs: &[Run]) -> usize
+        requires { HasSoundRuns self.now runs.now }
+        ensures { IsEnd (set_of self.now runs.now) result }
+    {
+        self.end_of_first(runs, self.used)
+    }
+
+    /// Returns the first missing position from `position` on.
+    ///
+    /// # Requires
+    ///
+    /// The head is sound with the runs, as `is_sound` tests.
+    pub fn first_missing(&self, runs: &[Run], position: usize) -> usize
+        requires { HasSoundRuns self.now runs.now }
+        ensures { result ≡ first_missing (set_of self.now runs.now) position }
+    {
+        position.max(self.end_of_first(runs, self.runs_by(runs, position)))
+    }
+
+    /// Returns the first missing position from `position` on, and the end of the missing range that begins
+    /// there, the end not included: `None` if no later position is present.
+    ///
+    /// # Requires
+    ///
+    /// The head is sound with the runs, as `is_sound` tests.
+    pub fn next_hole(&self, runs: &[Run], position: usize) -> (usize, Option<usize>)
+        requires { HasSoundRuns self.now runs.now }
+        ensures begins { result.0 ≡ first_missing (set_of self.now runs.now) position }
+        ensures ends { EndsHole (set_of self.now runs.now) result.0 result.1 }
+    {
+        let count = self.runs_by(runs, position);
+        let start = position.max(self.end_of_first(runs, count));
+        if count == self.used {
+            return (start, None);
+        }
+        let end = self.first_start + start_of(runs, count);
+        prove!(end <= most(), "in any `usize`");
+        (start, Some(end))
+    }
+
+    /// Returns how many positions from `start` on and below `end` are present. It looks only at runs that start
+    /// below `end` and at the one before them, which it finds by a search.
+    ///
+    /// # Requires
+    ///
+    /// The head is sound with the runs, as `is_sound` tests.
+    pub fn count_between(&self, runs: &[Run], start: usize, end: usize) -> usize
+        requires { HasSoundRuns self.now runs.now }
+        ensures { result ≡ present_count (set_of self.now runs.now) start (end - start) }
+    {
+        let mut turns = Turns::new();
+        let from = start.saturating_sub(self.first_start);
+        let to = end.saturating_sub(self.first_start);
+        let first = runs_starting_by(runs, self.used, 0, from, &mut turns).saturating_sub(1);
+        let mut count = 0;
+        for k in first..self.used {
+            let start = start_of(runs, k);
+            turns.step();
+            if start >= to {
+                turns.were_a_search_and_a_pass(runs);
+                return count;
+            }
+            count += end_of(runs, k).min(to).saturating_sub(start.max(from));
+            prove!(count <= most(), "in any `usize`");
+        }
+        turns.were_a_search_and_a_pass(runs);
+        count
+    }
+
+    /// Returns where the last of the first `count` runs ends; 0 if `count` is 0.
+    #[inline(always)]
+    fn end_of_first(&self, runs: &[Run], count: usize) -> usize
+        requires sound { HasSoundRuns self.now runs.now }
+        requires count { count ≤ self.now.used }
+        ensures none { count ≡ 0 → result ≡ 0 }
+        ensures some { 0 < count → result ≡ self.now.first_start + end_at runs.now (count - 1) }
+    {
+        if count == 0 {
+            return 0;
+        }
+        let end = self.first_start + end_of(runs, count - 1);
+        prove!(end <= most(), "in any `usize`");
+        end
     }
 
     /// Returns the holes as (start, end), the end not included, in rising order.
@@ -818,7 +930,7 @@ fn runs_ending_before(runs: &[Run], used: usize, offset: usize, turns: &mut Turn
 
 /// Returns how many of the `used` runs start at or before `end`, but at least `from`.
 #[inline(always)]
-fn runs_starting_by(runs: &[Run], used: usize, from: usize, end: usize) -> usize
+fn runs_starting_by(runs: &[Run], used: usize, from: usize, end: usize, turns: &mut Turns) -> usize
     requires used { used ≤ length runs.now }
     requires runs { AreRuns (take used runs.now) }
     requires from { from ≤ used }
@@ -826,6 +938,8 @@ fn runs_starting_by(runs: &[Run], used: usize, from: usize, end: usize) -> usize
     ensures within { result ≤ used }
     ensures before { (k : ℕ) → from ≤ k → k < result → start_at runs.now k ≤ end }
     ensures after { (k : ℕ) → result ≤ k → k < used → end < start_at runs.now k }
+    ensures looks { (b : ℕ) → used < 2 ^ b → turns.new.0 ≤ turns.old.0 + b }
+    ensures moves { turns.new.1 ≡ turns.old.1 }
 {
     let mut low = from;
     let mut high = used;
@@ -838,6 +952,7 @@ fn runs_starting_by(runs: &[Run], used: usize, from: usize, end: usize) -> usize
             high = middle;
         }
         prove!(low <= high, "in any `usize`");
+        turns.look();
     }
     low
 }
@@ -941,6 +1056,6 @@ fn holds(runs: &[Run], position: usize) -> bool
     requires fits { FitsFrom 0 runs.now }
     ensures { result ≡ contains (set_of_runs runs.now) position }
 {
-    let count = runs_starting_by(runs, runs.len(), 0, position);
+    let count = runs_starting_by(runs, runs.len(), 0, position, &mut Turns::new());
     count > 0 && position < end_of(runs, count - 1)
 }

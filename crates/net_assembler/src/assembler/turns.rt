@@ -1,6 +1,8 @@
 //! Counts of iterations, which only contracts see.
-ghost use Rattle.std.specs.Prelude.{◌≡◌, ◌+◌};
+ghost use Rattle.std.specs.Prelude.{◌≡◌, ◌+◌, ◌≤◌, length};
+ghost use Rattle.net_assembler.specs.Turns.{binary_digits};
 
+use super::run::Run;
 use std::marker::Model;
 use std::mem;
 use std::snapshot::Snapshot;
@@ -61,6 +63,23 @@ impl Turns {
     {
         let before = mem::replace(&mut self.moves, Snapshot::of(&Count::Zero));
         self.moves = Snapshot::of(&Count::Next(before));
+    }
+
+    /// States that a call over these runs was a search: it looked at as many as their number has binary digits. It
+    /// does nothing.
+    #[inline(always)]
+    pub(crate) fn were_a_search(&self, runs: &[Run])
+        requires { self.now.0 + self.now.1 ≤ binary_digits (length runs.now) }
+    {
+        let _ = runs;
+    }
+
+    /// States that it was a search and one pass. It does nothing.
+    #[inline(always)]
+    pub(crate) fn were_a_search_and_a_pass(&self, runs: &[Run])
+        requires { self.now.0 + self.now.1 ≤ binary_digits (length runs.now) + length runs.now }
+    {
+        let _ = runs;
     }
 }
 

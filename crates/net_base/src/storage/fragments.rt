@@ -139,6 +139,7 @@ impl<B: Storage<u8>, const N: usize> FragmentsOver<B, N> {
     /// # let mut bytes = [0u8; 8];
     /// assert_eq!(FragmentBuffer::new(&mut bytes[..], Instant::ZERO).capacity(), 8);
     /// ```
+    #[must_use]
     pub fn capacity(&self) -> usize
         ensures { result ≡ length self.now.bytes }
     {
@@ -156,6 +157,7 @@ impl<B: Storage<u8>, const N: usize> FragmentsOver<B, N> {
     /// assert!(buffer.add(2, b"").is_ok() && buffer.is_empty());
     /// assert!(buffer.add(2, b"c").is_ok() && !buffer.is_empty());
     /// ```
+    #[must_use]
     pub fn is_empty(&self) -> bool
         ensures { IsTrue result ↔ (self.now.present ≡ nothing) }
     {
@@ -172,6 +174,7 @@ impl<B: Storage<u8>, const N: usize> FragmentsOver<B, N> {
     /// let buffer = FragmentBuffer::new(&mut bytes[..], Instant::from_millis(5));
     /// assert_eq!(buffer.expires_at(), Instant::from_millis(5));
     /// ```
+    #[must_use]
     pub fn expires_at(&self) -> Instant
         ensures { result ≡ self.now.expires_at }
     {
@@ -308,6 +311,7 @@ impl<B: Storage<u8>, const N: usize> FragmentsOver<B, N> {
     }
 
     /// Returns the packet's size, once it is known. smoltcp has no such call.
+    #[must_use]
     pub fn total_size(&self) -> Option<usize>
         ensures size { result ≡ self.now.total }
         ensures room { limit_of self.now ≤ length self.now.bytes }
@@ -321,6 +325,7 @@ impl<B: Storage<u8>, const N: usize> FragmentsOver<B, N> {
     ///
     /// It is asked before `add`, by callers who refuse a packet whose fragments overlap (RFC 5722). A
     /// fragment that arrives twice overlaps too: to allow that, ask `differs`. smoltcp has no such call.
+    #[must_use]
     pub fn overlaps(&self, offset: usize, len: usize) -> bool
         ensures { IsTrue result ↔ Meets self.now.present offset len }
     {
@@ -343,6 +348,7 @@ impl<B: Storage<u8>, const N: usize> FragmentsOver<B, N> {
     /// assert!(buffer.differs(3, b"De") && !buffer.differs(4, b"De"));
     /// # Ok::<(), FragmentError>(())
     /// ```
+    #[must_use]
     pub fn differs(&self, offset: usize, data: &[u8]) -> bool
         ensures { IsTrue result ↔ Differs self.now offset «data».now }
     {
@@ -364,6 +370,7 @@ impl<B: Storage<u8>, const N: usize> FragmentsOver<B, N> {
     /// assert_eq!(buffer.assemble(), Some(&b"abc"[..]));
     /// # Ok::<(), FragmentError>(())
     /// ```
+    #[must_use]
     pub fn assemble(&self) -> Option<&[u8]>
         ensures complete { IsSome result ↔ ((size : ℕ) × IsComplete self.now size) }
         ensures bytes { IfSome result
@@ -385,6 +392,7 @@ impl<B: Storage<u8>, const N: usize> FragmentsOver<B, N> {
     /// assert!(!buffer.is_expired(Instant::from_millis(5)));
     /// assert!(buffer.is_expired(Instant::from_micros(5_001)));
     /// ```
+    #[must_use]
     pub fn is_expired(&self, now: Instant) -> bool
         ensures { IsTrue result ↔ (self.now.expires_at <ℤ now) }
     {

@@ -63,6 +63,7 @@ impl Duration {
     /// assert_eq!(Duration::from_micros(1_500).total_millis(), 1);
     /// ```
     #[inline]
+    #[must_use]
     pub const fn from_micros(micros: u64) -> Duration
         ensures { result ≡ micros }
     {
@@ -71,6 +72,7 @@ impl Duration {
 
     /// Returns whether the value fits; precondition of `from_millis`.
     #[inline]
+    #[must_use]
     pub const fn fits_millis(millis: u64) -> bool
         ensures { IsTrue result ↔ IsLength (millis * 1_000) }
     {
@@ -89,6 +91,7 @@ impl Duration {
     /// The microseconds fit 64 bits, as `fits_millis` tests.
     #[inline]
     #[track_caller]
+    #[must_use]
     pub const fn from_millis(millis: u64) -> Duration
         requires fits_millis { IsLength (millis * 1_000) }
         ensures { result ≡ millis * 1_000 }
@@ -104,6 +107,7 @@ impl Duration {
 
     /// Returns whether the value fits; precondition of `from_secs`.
     #[inline]
+    #[must_use]
     pub const fn fits_secs(secs: u64) -> bool
         ensures { IsTrue result ↔ IsLength (secs * 1_000_000) }
     {
@@ -122,6 +126,7 @@ impl Duration {
     /// The microseconds fit 64 bits, as `fits_secs` tests.
     #[inline]
     #[track_caller]
+    #[must_use]
     pub const fn from_secs(secs: u64) -> Duration
         requires fits_secs { IsLength (secs * 1_000_000) }
         ensures { result ≡ secs * 1_000_000 }
@@ -139,6 +144,7 @@ impl Duration {
     /// assert_eq!(Duration::from_millis(4_934).millis(), 934);
     /// ```
     #[inline]
+    #[must_use]
     pub const fn millis(&self) -> u64
         ensures { result ≡ length_millis self.now }
     {
@@ -152,6 +158,7 @@ impl Duration {
     /// assert_eq!(Duration::from_millis(4_934).micros(), 934_000);
     /// ```
     #[inline]
+    #[must_use]
     pub const fn micros(&self) -> u64
         ensures { result ≡ self.now % 1_000_000 }
     {
@@ -165,6 +172,7 @@ impl Duration {
     /// assert_eq!(Duration::from_millis(4_934).secs(), 4);
     /// ```
     #[inline]
+    #[must_use]
     pub const fn secs(&self) -> u64
         ensures { result ≡ self.now / 1_000_000 }
     {
@@ -178,6 +186,7 @@ impl Duration {
     /// assert_eq!(Duration::from_micros(4_934).total_millis(), 4);
     /// ```
     #[inline]
+    #[must_use]
     pub const fn total_millis(&self) -> u64
         ensures { result ≡ self.now / 1_000 }
     {
@@ -191,6 +200,7 @@ impl Duration {
     /// assert_eq!(Duration::from_millis(4).total_micros(), 4_000);
     /// ```
     #[inline]
+    #[must_use]
     pub const fn total_micros(&self) -> u64
         ensures { result ≡ self.now }
     {
@@ -198,6 +208,7 @@ impl Duration {
     }
 
     /// Returns whether the value fits; precondition of `from_core`.
+    #[must_use]
     pub fn fits_core(duration: std::time::Duration) -> bool
         ensures { IsTrue result ↔ IsLength (as_nanos duration / 1_000) }
     {
@@ -211,6 +222,7 @@ impl Duration {
     ///
     /// So many microseconds fit 64 bits, as `fits_core` tests.
     #[track_caller]
+    #[must_use]
     pub fn from_core(duration: std::time::Duration) -> Duration
         requires fits_core { IsLength (as_nanos duration / 1_000) }
         ensures { result ≡ as_nanos duration / 1_000 }
@@ -226,6 +238,7 @@ impl Duration {
 
     /// Returns whether the sum fits; precondition of `+` and `+=`.
     #[inline]
+    #[must_use]
     pub fn can_add(&self, duration: Duration) -> bool
         ensures { IsTrue result ↔ IsLength (self.now + duration) }
     {
@@ -234,6 +247,7 @@ impl Duration {
 
     /// Returns whether the difference isn't below 0; precondition of `-` and `-=`.
     #[inline]
+    #[must_use]
     pub fn can_sub(&self, duration: Duration) -> bool
         ensures { IsTrue result ↔ (duration ≤ self.now) }
     {
@@ -242,6 +256,7 @@ impl Duration {
 
     /// Returns whether the product fits; precondition of `*` and `*=`.
     #[inline]
+    #[must_use]
     pub fn can_mul(&self, factor: u32) -> bool
         ensures { IsTrue result ↔ IsLength (self.now * factor) }
     {
@@ -315,6 +330,7 @@ impl Duration {
     /// assert_eq!(Duration::MAX.saturating_add(Duration::from_micros(1)), Duration::MAX);
     /// ```
     #[inline]
+    #[must_use]
     pub fn saturating_add(self, rhs: Duration) -> Duration
         ensures { result ≡ min (self + rhs) (2 ^ 64 - 1) }
     {
@@ -328,6 +344,7 @@ impl Duration {
     /// assert_eq!(Duration::ZERO.saturating_sub(Duration::from_micros(1)), Duration::ZERO);
     /// ```
     #[inline]
+    #[must_use]
     pub fn saturating_sub(self, rhs: Duration) -> Duration
         ensures { result ≡ self - rhs }
     {
@@ -346,6 +363,7 @@ impl Duration {
     /// assert_eq!(Duration::MAX.saturating_mul(2), Duration::MAX);
     /// ```
     #[inline]
+    #[must_use]
     pub fn saturating_mul(self, rhs: u32) -> Duration
         ensures { result ≡ min (self * rhs) (2 ^ 64 - 1) }
     {

@@ -58,6 +58,7 @@ impl Instant {
     /// assert_eq!(LATER, Instant::from_micros(1_500));
     /// ```
     #[inline]
+    #[must_use]
     pub const fn from_micros_const(micros: i64) -> Instant
         ensures { result ≡ micros }
     {
@@ -66,6 +67,7 @@ impl Instant {
 
     /// Returns whether the value fits; precondition of `from_millis`.
     #[inline]
+    #[must_use]
     pub const fn fits_millis(millis: i64) -> bool
         ensures { IsTrue result ↔ IsMoment (millis *ℤ pos 1_000) }
     {
@@ -85,6 +87,7 @@ impl Instant {
     /// So many microseconds fit 64 bits with a sign, as `fits_millis` tests.
     #[inline]
     #[track_caller]
+    #[must_use]
     pub const fn from_millis_const(millis: i64) -> Instant
         requires fits_millis { IsMoment (millis *ℤ pos 1_000) }
         ensures { result ≡ millis *ℤ pos 1_000 }
@@ -100,6 +103,7 @@ impl Instant {
 
     /// Returns whether the value fits; precondition of `from_secs`.
     #[inline]
+    #[must_use]
     pub const fn fits_secs(secs: i64) -> bool
         ensures { IsTrue result ↔ IsMoment (secs *ℤ pos 1_000_000) }
     {
@@ -119,6 +123,7 @@ impl Instant {
     /// So many microseconds fit 64 bits with a sign, as `fits_secs` tests.
     #[inline]
     #[track_caller]
+    #[must_use]
     pub const fn from_secs_const(secs: i64) -> Instant
         requires fits_secs { IsMoment (secs *ℤ pos 1_000_000) }
         ensures { result ≡ secs *ℤ pos 1_000_000 }
@@ -136,6 +141,7 @@ impl Instant {
     /// assert_eq!(Instant::from_millis(5_674).millis(), 674);
     /// ```
     #[inline]
+    #[must_use]
     pub const fn millis(&self) -> i64
         ensures { result ≡ moment_millis self.now }
     {
@@ -149,6 +155,7 @@ impl Instant {
     /// assert_eq!(Instant::from_millis(5_674).micros(), 674_000);
     /// ```
     #[inline]
+    #[must_use]
     pub const fn micros(&self) -> i64
         ensures { result ≡ moment_micros self.now }
     {
@@ -162,6 +169,7 @@ impl Instant {
     /// assert_eq!(Instant::from_millis(5_674).secs(), 5);
     /// ```
     #[inline]
+    #[must_use]
     pub const fn secs(&self) -> i64
         ensures { result ≡ moment_secs self.now }
     {
@@ -175,6 +183,7 @@ impl Instant {
     /// assert_eq!(Instant::from_micros(5_674).total_millis(), 5);
     /// ```
     #[inline]
+    #[must_use]
     pub const fn total_millis(&self) -> i64
         ensures { result ≡ int_div self.now (pos 1_000) }
     {
@@ -188,6 +197,7 @@ impl Instant {
     /// assert_eq!(Instant::from_millis(5).total_micros(), 5_000);
     /// ```
     #[inline]
+    #[must_use]
     pub const fn total_micros(&self) -> i64
         ensures { result ≡ self.now }
     {
@@ -196,6 +206,7 @@ impl Instant {
 
     /// Returns whether the sum fits: whether `+` and `+=` don't saturate.
     #[inline]
+    #[must_use]
     pub fn can_add(&self, duration: Duration) -> bool
         ensures { IsTrue result ↔ IsMoment (self.now +ℤ pos duration) }
     {
@@ -204,6 +215,7 @@ impl Instant {
 
     /// Returns whether the difference fits: whether `-` and `-=` don't saturate.
     #[inline]
+    #[must_use]
     pub fn can_sub(&self, duration: Duration) -> bool
         ensures { IsTrue result ↔ IsMoment (self.now -ℤ pos duration) }
     {
@@ -218,6 +230,7 @@ impl Instant {
     /// assert_eq!(last.checked_add(Duration::from_micros(1)), None);
     /// ```
     #[inline]
+    #[must_use]
     pub fn checked_add(&self, duration: Duration) -> Option<Instant>
         ensures { SomeIff result (IsMoment (self.now +ℤ pos duration)) (self.now +ℤ pos duration) }
     {
@@ -235,6 +248,7 @@ impl Instant {
     /// assert_eq!(first.checked_sub(Duration::from_micros(1)), None);
     /// ```
     #[inline]
+    #[must_use]
     pub fn checked_sub(&self, duration: Duration) -> Option<Instant>
         ensures { SomeIff result (IsMoment (self.now -ℤ pos duration)) (self.now -ℤ pos duration) }
     {
@@ -257,6 +271,7 @@ impl Instant {
     /// assert_eq!(moment, Instant::from_micros(i64::MAX));
     /// ```
     #[inline]
+    #[must_use]
     pub fn saturating_add(&self, duration: Duration) -> Instant
         ensures exact { IsMoment (self.now +ℤ pos duration) → result ≡ self.now +ℤ pos duration }
         ensures last { (IsMoment (self.now +ℤ pos duration) → ⊥) → result ≡ pos (2 ^ 63 - 1) }
@@ -277,6 +292,7 @@ impl Instant {
     /// assert_eq!(moment, Instant::from_micros(i64::MIN));
     /// ```
     #[inline]
+    #[must_use]
     pub fn saturating_sub(&self, duration: Duration) -> Instant
         ensures exact { IsMoment (self.now -ℤ pos duration) → result ≡ self.now -ℤ pos duration }
         ensures first { (IsMoment (self.now -ℤ pos duration) → ⊥) → result ≡ negsuc (2 ^ 63 - 1) }
@@ -297,6 +313,7 @@ impl Instant {
     /// assert_eq!(sent.saturating_duration_since(answered), Duration::ZERO);
     /// ```
     #[inline]
+    #[must_use]
     pub fn saturating_duration_since(&self, earlier: Instant) -> Duration
         ensures { result ≡ elapsed self.now earlier }
     {

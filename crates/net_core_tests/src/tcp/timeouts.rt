@@ -9,6 +9,7 @@ fn bounds() -> TimeoutBounds {
         least: Duration::from_micros(1_000_000),
         most: Duration::from_micros(60_000_000),
         tick: Duration::from_micros(1),
+        ack_delay: Duration::from_micros(200_000),
     }
 }
 

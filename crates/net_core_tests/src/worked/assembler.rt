@@ -1,13 +1,18 @@
 //! Rows of assemblers of 1, 4 and 32 runs.
+ghost use Rattle.std.specs.Prelude.{◌≤◌};
+
 use crate::assertions::assert_holds;
-use net_assembler::Assembler;
+use crate::worked::assembler_rows::{ROWS_0, ROWS_1, ROWS_2};
+use net_assembler::{Assembler, Turns};
 use std::fmt::{self, Write};
 
 /// A call with its answer, or what is then seen.
 #[derive(Clone, Copy, Drop)]
-enum Step {
+pub enum Step {
     /// `add` of an offset and a size, and whether it is accepted.
     Add(usize, usize, bool),
+    /// The same of `add_counted`.
+    AddCounted(usize, usize, bool),
     /// As many `add` as there may be runs, each of three positions: at 10, 20 and so on.
     Fill,
     /// `add_then_remove_front` of an offset and a size, and the length that is removed, unless it is refused.
@@ -18,229 +23,33 @@ enum Step {
     Runs(&'static [(usize, usize)]),
     /// The run of a number, as `run_at` answers it.
     RunAt(usize, Option<(usize, usize)>),
+    /// The hole of a number, as `hole_at` answers it.
+    HoleAt(usize, Option<(usize, usize)>),
+    /// How many holes there are.
+    Holes(usize),
+    /// Whether a position is in the set.
+    Contains(usize, bool),
+    /// Whether a range of an offset and a size fits.
+    Fits(usize, usize, bool),
+    /// `shift` of a count.
+    Shift(usize),
+    /// `clear`.
+    Clear,
+    /// A clone is made.
+    Keep,
+    /// Whether the assembler equals the clone.
+    Equals(bool),
     /// The text.
     Text(&'static str),
 }
 
-use Step::{Add, AddThenRemove, Fill, Remove, RunAt, Runs, Text};
+use Step::{
+    Add, AddCounted, AddThenRemove, Clear, Contains, Equals, Fill, Fits, HoleAt, Holes, Keep,
+    Remove, RunAt, Runs, Shift, Text,
+};
 
 /// A name, how many runs there may be, and the steps on a new assembler.
-type Row = (&'static str, usize, &'static [Step]);
-
-/// Ranges that touch and overlap what is there.
-static JOINED: [Row; 12] = [
-    (
-        "test_partial_add_front",
-        4,
-        &[Add(4, 8, true), Add(0, 4, true), Runs(&[(0, 12)])],
-    ),
-    (
-        "test_partial_add_back",
-        4,
-        &[Add(4, 8, true), Add(12, 4, true), Runs(&[(4, 16)])],
-    ),
-    (
-        "test_partial_add_front_overlap",
-        4,
-        &[Add(4, 8, true), Add(0, 8, true), Runs(&[(0, 12)])],
-    ),
-    (
-        "test_partial_add_front_overlap_split",
-        4,
-        &[Add(4, 8, true), Add(2, 6, true), Runs(&[(2, 12)])],
-    ),
-    (
-        "test_partial_add_back_overlap",
-        4,
-        &[Add(4, 8, true), Add(8, 8, true), Runs(&[(4, 16)])],
-    ),
-    (
-        "test_partial_add_back_overlap_split",
-        4,
-        &[Add(4, 8, true), Add(10, 4, true), Runs(&[(4, 14)])],
-    ),
-    (
-        "test_partial_add_both_overlap",
-        4,
-        &[Add(4, 8, true), Add(0, 16, true), Runs(&[(0, 16)])],
-    ),
-    (
-        "test_partial_add_both_overlap_split",
-        4,
-        &[Add(4, 8, true), Add(2, 12, true), Runs(&[(2, 14)])],
-    ),
-    (
-        "test_join_two",
-        4,
-        &[
-            Add(10, 10, true),
-            Add(50, 10, true),
-            Add(15, 40, true),
-            Runs(&[(10, 60)]),
-        ],
-    ),
-    (
-        "test_join_two_overlong",
-        4,
-        &[
-            Add(50, 10, true),
-            Add(10, 10, true),
-            Add(15, 60, true),
-            Runs(&[(10, 75)]),
-        ],
-    ),
-    (
-        "test_issue_694",
-        4,
-        &[
-            Add(0, 1, true),
-            Add(2, 1, true),
-            Add(1, 1, true),
-            Runs(&[(0, 3)]),
-        ],
-    ),
-    (
-        "test_shrink_next_hole",
-        4,
-        &[
-            Add(100, 10, true),
-            Add(50, 10, true),
-            Add(40, 30, true),
-            Text("[ (40) 30 (30) 10 ]"),
-            Runs(&[(40, 70), (100, 110)]),
-        ],
-    ),
-];
-
-/// Fronts that are removed, ranges that are refused, and what is shown.
-static REMOVED: [Row; 17] = [
-    (
-        "test_rejected_add_keeps_state",
-        4,
-        &[
-            Fill,
-            Add(1, 3, false),
-            Runs(&[(10, 13), (20, 23), (30, 33), (40, 43)]),
-        ],
-    ),
-    (
-        "a_rejected_add_of_thirty_two",
-        32,
-        &[
-            Fill,
-            Add(1, 3, false),
-            RunAt(0, Some((10, 13))),
-            RunAt(31, Some((320, 323))),
-        ],
-    ),
-    (
-        "test_add_then_remove_front_at_front_full",
-        4,
-        &[Fill, AddThenRemove(1, 3, None), RunAt(0, Some((10, 13)))],
-    ),
-    (
-        "a_full_front_of_thirty_two",
-        32,
-        &[Fill, AddThenRemove(1, 3, None), RunAt(31, Some((320, 323)))],
-    ),
-    (
-        "test_add_then_remove_front_at_front_full_offset_0",
-        4,
-        &[
-            Fill,
-            AddThenRemove(0, 3, Some(3)),
-            Runs(&[(7, 10), (17, 20), (27, 30), (37, 40)]),
-        ],
-    ),
-    (
-        "test_add_then_remove_front",
-        4,
-        &[
-            Add(50, 10, true),
-            AddThenRemove(10, 10, Some(0)),
-            Runs(&[(10, 20), (50, 60)]),
-        ],
-    ),
-    (
-        "test_add_then_remove_front_at_front",
-        4,
-        &[
-            Add(50, 10, true),
-            AddThenRemove(0, 10, Some(10)),
-            Runs(&[(40, 50)]),
-        ],
-    ),
-    (
-        "test_add_then_remove_front_at_front_touch",
-        4,
-        &[
-            Add(50, 10, true),
-            AddThenRemove(0, 50, Some(60)),
-            Text("[ ]"),
-            Runs(&[]),
-        ],
-    ),
-    (
-        "nothing_is_added_and_the_front_removed",
-        4,
-        &[Add(0, 4, true), AddThenRemove(0, 0, Some(4)), Runs(&[])],
-    ),
-    (
-        "a_front_at_the_highest_positions",
-        1,
-        &[
-            Add(18446744073709551613, 2, true),
-            Add(0, 1, false),
-            AddThenRemove(0, 1, Some(1)),
-            Text("[ (18446744073709551612) 2 ]"),
-        ],
-    ),
-    (
-        "test_trailing_data_remove_front",
-        4,
-        &[Add(0, 4, true), Add(8, 4, true), Remove(4), Runs(&[(4, 8)])],
-    ),
-    (
-        "test_boundary_case_remove_front",
-        4,
-        &[
-            Add(0, 2, true),
-            Add(3, 1, true),
-            Add(5, 1, true),
-            Add(7, 1, true),
-            Remove(2),
-            Runs(&[(1, 2), (3, 4), (5, 6)]),
-        ],
-    ),
-    ("test_empty_remove_front", 4, &[Remove(0)]),
-    (
-        "test_iter_three_split",
-        4,
-        &[
-            Add(2, 6, true),
-            Add(10, 1, true),
-            Add(13, 2, true),
-            Runs(&[(2, 8), (10, 11), (13, 15)]),
-        ],
-    ),
-    (
-        "runs_by_their_numbers",
-        4,
-        &[
-            Add(2, 6, true),
-            Add(10, 1, true),
-            RunAt(0, Some((2, 8))),
-            RunAt(1, Some((10, 11))),
-            RunAt(2, None),
-        ],
-    ),
-    (
-        "the_text_of_a_hole_and_data",
-        4,
-        &[Add(4, 8, true), Text("[ (4) 8 ]")],
-    ),
-    ("an_empty_text", 4, &[Text("[ ]")]),
-];
+pub type Row = (&'static str, usize, &'static [Step]);
 
 /// A text that is compared piece by piece.
 #[derive(Drop)]
@@ -310,23 +119,70 @@ fn removes<const N: usize>(
     assembler.add_then_remove_front(offset, size).ok()
 }
 
-/// Does a step, and returns whether it has the answer that it must have.
-fn answers<const N: usize>(assembler: &mut Assembler<N>, step: &Step) -> bool {
+/// The same of `add_counted`.
+fn adds_counted<const N: usize>(assembler: &mut Assembler<N>, offset: usize, size: usize) -> bool {
+    Assembler::<N>::fits(offset, size)
+        && assembler
+            .add_counted(offset, size, &mut Turns::new())
+            .is_ok()
+}
+
+/// Counts the holes.
+fn count_holes<const N: usize>(assembler: &Assembler<N>) -> usize {
+    let mut count = 0usize;
+    for _hole in assembler.holes() {
+        count = count.saturating_add(1);
+    }
+    count
+}
+
+/// Does a step that changes the assembler, and returns whether it has the answer that it must have.
+fn changes<const N: usize>(assembler: &mut Assembler<N>, step: &Step) -> bool {
     match step {
         Add(offset, size, accepted) => adds(assembler, *offset, *size) == *accepted,
+        AddCounted(offset, size, accepted) => adds_counted(assembler, *offset, *size) == *accepted,
         Fill => fills(assembler),
         AddThenRemove(offset, size, removed) => removes(assembler, *offset, *size) == *removed,
         Remove(removed) => assembler.remove_front() == *removed,
+        Shift(count) => {
+            assembler.shift(*count);
+            true
+        }
+        Clear => {
+            assembler.clear();
+            true
+        }
+        _ => false,
+    }
+}
+
+/// Returns whether a question has the answer that it must have.
+fn answers<const N: usize>(assembler: &Assembler<N>, kept: &Assembler<N>, step: &Step) -> bool {
+    match step {
         Runs(runs) => has_runs(assembler, runs),
         RunAt(number, run) => assembler.run_at(*number) == *run,
+        HoleAt(number, hole) => assembler.hole_at(*number) == *hole,
+        Holes(count) => count_holes(assembler) == *count,
+        Contains(position, is_in) => assembler.contains(*position) == *is_in,
+        Fits(offset, size, fits) => Assembler::<N>::fits(*offset, *size) == *fits,
+        Equals(is_same) => (*assembler == *kept) == *is_same,
         Text(text) => has_text(assembler, text),
+        _ => false,
     }
 }
 
 /// Does the steps on a new assembler, and returns the number of the first that has another answer.
-fn goes<const N: usize>(assembler: &mut Assembler<N>, steps: &[Step]) -> Option<usize> {
+fn goes<const N: usize>(assembler: &mut Assembler<N>, steps: &[Step]) -> Option<usize>
+    requires { 1 ≤ N }
+{
+    let mut kept = Assembler::<N>::empty();
     for (number, step) in steps.iter().enumerate() {
-        if !answers(assembler, step) {
+        if let Keep = step {
+            match assembler.clone() {
+                Ok(same) => kept = same,
+                Err(_) => return Some(number),
+            }
+        } else if !answers(assembler, &kept, step) && !changes(assembler, step) {
             return Some(number);
         }
     }
@@ -345,15 +201,22 @@ fn is_row(most: usize, steps: &[Step]) -> bool {
 }
 
 #[test]
-fn ranges_join(rt: HostRuntime) {
-    for (name, most, steps) in &JOINED {
+fn first_rows(rt: HostRuntime) {
+    for (name, most, steps) in &ROWS_0 {
         assert_holds(&rt, is_row(*most, steps), (name, *most));
     }
 }
 
 #[test]
-fn fronts_are_removed_and_ranges_refused(rt: HostRuntime) {
-    for (name, most, steps) in &REMOVED {
+fn second_rows(rt: HostRuntime) {
+    for (name, most, steps) in &ROWS_1 {
+        assert_holds(&rt, is_row(*most, steps), (name, *most));
+    }
+}
+
+#[test]
+fn third_rows(rt: HostRuntime) {
+    for (name, most, steps) in &ROWS_2 {
         assert_holds(&rt, is_row(*most, steps), (name, *most));
     }
 }

@@ -104,8 +104,8 @@ pub extern "C" fn net_base_receiver_peek_slice(
 /// beginning of `recent`, as many as there is room for. The caller sets `recent` to zeros before
 /// the first call, and doesn't change it afterwards. It is enough if `recent` and `into` have as
 /// many elements in each call as the longest acknowledgement has SACK blocks; a shorter one has the
-/// first of them. RFC 2018, section 4, wants this order. The time grows with the number of runs
-/// times the number of runs and of elements of `recent` together.
+/// first of them. RFC 2018, section 4, wants this order. Each run that is listed is found by a
+/// search.
 ///
 /// It is refused if `next` doesn't fit 64 bits, or `held.used` is above `runs.len()`:
 /// `NET_BASE_NONE`, and nothing changes.

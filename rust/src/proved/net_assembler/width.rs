@@ -1,6 +1,6 @@
+// Written by tools/erase.py from crates/net_assembler/src/width.rt: a change here would be lost.
 //! The greatest `usize`. No other function, but one law, knows how many bits a `usize` has.
 
-use crate::rattle::prelude::*;
 /// Returns the greatest `usize`, which has at least 32 bits.
 #[inline(always)]
 pub const fn most() -> usize {

@@ -1,4 +1,4 @@
-use crate::rattle::prelude::*;
+// Written by tools/erase.py from crates/net_ffi/src/finite_receiver.rt: a change here would be lost.
 use crate::proved::net_ffi::receiver::{KeptCounts, has_next, is_plausible};
 use crate::proved::net_ffi::refusals::{
     NET_BASE_DONE, NET_BASE_OTHER_END, NET_BASE_REFUSED, NET_BASE_TOO_MANY_RUNS, Status,

@@ -1,4 +1,4 @@
-use crate::rattle::prelude::*;
+// Written by tools/erase.py from crates/net_ffi/src/lib.rt: a change here would be lost.
 pub mod finite_receiver;
 pub mod fragments;
 pub mod heads;

@@ -1,4 +1,4 @@
-use crate::rattle::prelude::*;
+// Written by tools/erase.py from crates/net_ffi/src/receiver.rt: a change here would be lost.
 use crate::proved::net_ffi::refusals::refused_held_run;
 use crate::proved::net_assembler::Run;
 use crate::proved::net_receiver::{HeldRun, ReceiverHead};

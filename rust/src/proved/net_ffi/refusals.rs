@@ -1,4 +1,4 @@
-use crate::rattle::prelude::*;
+// Written by tools/erase.py from crates/net_ffi/src/refusals.rt: a change here would be lost.
 use crate::proved::net_ffi::results::{FrontLength, Hole, SegmentSpan};
 use crate::proved::net_assembler::Run;
 use crate::proved::net_assembler::width::most;
@@ -28,6 +28,10 @@ pub const NET_BASE_ANSWER: Status = 8;
 pub const NET_BASE_IGNORE: Status = 9;
 
 pub const NET_BASE_RESET: Status = 10;
+
+pub const NET_BASE_PROBE: Status = 11;
+
+pub const NET_BASE_TIMEOUT: Status = 12;
 
 pub fn numbers() {}
 

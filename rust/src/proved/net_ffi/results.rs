@@ -1,4 +1,4 @@
-use crate::rattle::prelude::*;
+// Written by tools/erase.py from crates/net_ffi/src/results.rt: a change here would be lost.
 use crate::proved::net_ffi::refusals::{
     NET_BASE_ACKNOWLEDGEMENT_ONLY, NET_BASE_ANSWER, NET_BASE_DONE, NET_BASE_IGNORE,
     NET_BASE_OTHER_SIZE, NET_BASE_REFUSED, NET_BASE_RESET, NET_BASE_TAKE, NET_BASE_TOO_LONG,

@@ -1,7 +1,8 @@
-use crate::rattle::prelude::*;
+// Written by tools/erase.py from crates/net_ffi/src/retransmission.rt: a change here would be lost.
+use crate::proved::net_ffi::refusals::{NET_BASE_DONE, NET_BASE_PROBE, NET_BASE_TIMEOUT, Status};
 use crate::proved::net_base::time::{Duration, Instant};
 use crate::proved::net_numbers::SentNumbers;
-use crate::proved::net_tcp::TimedSegment;
+use crate::proved::net_tcp::{Expiry, TimedSegment, TimerParts};
 
 const FIRST_TIMEOUT: u64 = 1_000_000;
 
@@ -18,6 +19,7 @@ pub struct TimeoutBounds {
     pub least: u64,
     pub most: u64,
     pub tick: u64,
+    pub ack_delay: u64,
 }
 
 #[repr(C)]
@@ -33,10 +35,17 @@ pub struct RetransmissionTimeout {
 pub struct RetransmissionTimer {
     pub timeout: RetransmissionTimeout,
     pub expiry: i64,
+    pub ends_at: i64,
+    pub probe_at: i64,
+    pub wait: u64,
     pub is_running: u64,
+    pub is_alone: u64,
     pub timed: u64,
     pub timed_since: i64,
     pub is_timing: u64,
+    pub last: u64,
+    pub timeouts: u64,
+    pub reports: u64,
 }
 
 #[inline(always)]
@@ -45,6 +54,7 @@ fn bounds_from(bounds: &TimeoutBounds) -> crate::proved::net_tcp::TimeoutBounds 
         least: Duration::from_micros(bounds.least),
         most: Duration::from_micros(bounds.most),
         tick: Duration::from_micros(bounds.tick),
+        ack_delay: Duration::from_micros(bounds.ack_delay),
     }
 }
 
@@ -95,10 +105,10 @@ fn fields_of_timeout(
 
 #[inline(always)]
 fn timer_from(fields: &RetransmissionTimer) -> crate::proved::net_tcp::RetransmissionTimer {
-    let expires_at = if fields.is_running == 0 {
+    let ends_at = if fields.is_running == 0 {
         None
     } else {
-        Some(Instant::from_micros(fields.expiry))
+        Some(Instant::from_micros(fields.ends_at))
     };
     let timed = if fields.is_timing == 0 {
         None
@@ -108,7 +118,17 @@ fn timer_from(fields: &RetransmissionTimer) -> crate::proved::net_tcp::Retransmi
             since: Instant::from_micros(fields.timed_since),
         })
     };
-    crate::proved::net_tcp::RetransmissionTimer::from_parts(timeout_from(fields.timeout), expires_at, timed)
+    crate::proved::net_tcp::RetransmissionTimer::from_parts(TimerParts {
+        timeout: timeout_from(fields.timeout),
+        ends_at,
+        probe_at: Instant::from_micros(fields.probe_at),
+        wait: Duration::from_micros(fields.wait),
+        is_alone: fields.is_alone != 0,
+        timed,
+        last: fields.last,
+        timeouts: fields.timeouts,
+        reports: fields.reports != 0,
+    })
 }
 
 #[inline(always)]
@@ -135,63 +155,115 @@ fn sent_at(segment: Option<TimedSegment>) -> i64 {
     }
 }
 
+#[derive(Copy, Clone, Debug)]
+struct Running {
+    at: i64,
+    is_running: u64,
+}
+
+#[derive(Copy, Clone, Debug)]
+struct Timing {
+    pos: u64,
+    since: i64,
+    is_timing: u64,
+}
+
 #[inline(always)]
-fn fields_of_timer(timer: crate::proved::net_tcp::RetransmissionTimer) -> RetransmissionTimer {
-    let (expires_at, timed) = (timer.expires_at(), timer.timed());
-    RetransmissionTimer {
-        timeout: fields_of_timeout(timer.rtt(), timer.timeout()),
-        expiry: moment_of(expires_at),
-        is_running: u64::from(expires_at.is_some()),
-        timed: position_of(timed),
-        timed_since: sent_at(timed),
+fn flag_of(flag: bool) -> u64 {
+    u64::from(flag)
+}
+
+#[inline(always)]
+fn running_of(ends_at: Option<Instant>) -> Running {
+    Running {
+        at: moment_of(ends_at),
+        is_running: u64::from(ends_at.is_some()),
+    }
+}
+
+#[inline(always)]
+fn timing_of(timed: Option<TimedSegment>) -> Timing {
+    Timing {
+        pos: position_of(timed),
+        since: sent_at(timed),
         is_timing: u64::from(timed.is_some()),
     }
 }
 
 #[inline(always)]
-fn set_expiry(fields: &mut RetransmissionTimer, at: Option<Instant>) {
-    fields.expiry = moment_of(at);
-    fields.is_running = u64::from(at.is_some());
+fn fields_of_timer(timer: crate::proved::net_tcp::RetransmissionTimer) -> RetransmissionTimer {
+    let parts = timer.parts();
+    let running = running_of(parts.ends_at);
+    let timing = timing_of(parts.timed);
+    RetransmissionTimer {
+        timeout: fields_of_timeout(parts.timeout.rtt(), parts.timeout.timeout()),
+        expiry: moment_of(timer.expires_at()),
+        ends_at: running.at,
+        probe_at: parts.probe_at.total_micros(),
+        wait: parts.wait.total_micros(),
+        is_running: running.is_running,
+        is_alone: flag_of(parts.is_alone),
+        timed: timing.pos,
+        timed_since: timing.since,
+        is_timing: timing.is_timing,
+        last: parts.last,
+        timeouts: parts.timeouts,
+        reports: flag_of(parts.reports),
+    }
 }
 
 #[inline(always)]
-fn set_timed(fields: &mut RetransmissionTimer, segment: Option<TimedSegment>) {
-    fields.timed = position_of(segment);
-    fields.timed_since = sent_at(segment);
-    fields.is_timing = u64::from(segment.is_some());
+fn number_of(expiry: Option<Expiry>) -> Status {
+    match expiry {
+        None => NET_BASE_DONE,
+        Some(Expiry::Probe) => NET_BASE_PROBE,
+        Some(Expiry::Timeout) => NET_BASE_TIMEOUT,
+    }
 }
 
 #[inline(always)]
-pub fn net_base_retransmission_timer_init(timer: &mut RetransmissionTimer, timeout: u64) {
-    *timer = fields_of_timer(crate::proved::net_tcp::RetransmissionTimer::new(Duration::from_micros(timeout)));
+pub fn net_base_retransmission_timer_init(
+    timer: &mut RetransmissionTimer,
+    timeout: u64,
+    reports: bool,
+) {
+    *timer = fields_of_timer(crate::proved::net_tcp::RetransmissionTimer::new(
+        Duration::from_micros(timeout),
+        reports,
+    ));
 }
 
 #[inline(always)]
 pub fn net_base_retransmission_timer_start(timer: &mut RetransmissionTimer, now: i64) {
     let mut it = timer_from(timer);
     it.start(Instant::from_micros(now));
-    set_expiry(timer, it.expires_at());
+    *timer = fields_of_timer(it);
 }
 
 #[inline(always)]
 pub fn net_base_retransmission_timer_stop(timer: &mut RetransmissionTimer) {
     let mut it = timer_from(timer);
     it.stop();
-    set_expiry(timer, it.expires_at());
+    *timer = fields_of_timer(it);
 }
 
 #[inline(always)]
 pub fn net_base_retransmission_timer_sent(
     timer: &mut RetransmissionTimer,
+    bounds: &TimeoutBounds,
     position: u64,
     end: u64,
     numbers: &SentNumbers,
     now: i64,
 ) {
     let mut it = timer_from(timer);
-    it.sent(position..end, *numbers, Instant::from_micros(now));
-    set_expiry(timer, it.expires_at());
-    set_timed(timer, it.timed());
+    it.sent(
+        bounds_from(bounds),
+        position..end,
+        *numbers,
+        Instant::from_micros(now),
+    );
+    *timer = fields_of_timer(it);
 }
 
 #[inline(always)]
@@ -200,9 +272,6 @@ pub fn net_base_retransmission_timer_take_sample(
     bounds: &TimeoutBounds,
     now: i64,
 ) {
-    if timer.is_timing == 0 {
-        return;
-    }
     let mut it = timer_from(timer);
     it.take_sample(bounds_from(bounds), Instant::from_micros(now));
     *timer = fields_of_timer(it);
@@ -223,12 +292,14 @@ pub fn net_base_retransmission_timer_acknowledged(
         next,
         Instant::from_micros(now),
     );
-    // The timeout changes by a sample alone, which ends the timing.
-    if timer.is_timing != 0 && it.timed().is_none() {
-        *timer = fields_of_timer(it);
-    } else {
-        set_expiry(timer, it.expires_at());
-    }
+    *timer = fields_of_timer(it);
+}
+
+#[inline(always)]
+pub fn net_base_retransmission_timer_reported(timer: &mut RetransmissionTimer, now: i64) {
+    let mut it = timer_from(timer);
+    it.reported(Instant::from_micros(now));
+    *timer = fields_of_timer(it);
 }
 
 #[inline(always)]
@@ -236,11 +307,11 @@ pub fn net_base_retransmission_timer_expire(
     timer: &mut RetransmissionTimer,
     bounds: &TimeoutBounds,
     now: i64,
-) -> bool {
+) -> Status {
     let mut it = timer_from(timer);
-    if !it.expire(bounds_from(bounds), Instant::from_micros(now)) {
-        return false;
+    let expiry = it.expire(bounds_from(bounds), Instant::from_micros(now));
+    if expiry.is_some() {
+        *timer = fields_of_timer(it);
     }
-    *timer = fields_of_timer(it);
-    true
+    number_of(expiry)
 }

@@ -1,4 +1,4 @@
-use crate::rattle::prelude::*;
+// Written by tools/erase.py from crates/net_ffi/src/ring.rt: a change here would be lost.
 use crate::proved::net_ffi::refusals::no_number;
 use crate::proved::net_ring::RingHead;
 

@@ -1,4 +1,4 @@
-use crate::rattle::prelude::*;
+// Written by tools/erase.py from crates/net_ffi/src/sequence_number.rt: a change here would be lost.
 use crate::proved::net_receiver::SequenceNumber;
 
 #[inline(always)]

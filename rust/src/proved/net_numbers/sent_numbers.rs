@@ -1,6 +1,6 @@
+// Written by tools/erase.py from crates/net_numbers/src/sent_numbers.rt: a change here would be lost.
 //! The numbers of a sender.
 
-use crate::rattle::prelude::*;
 /// What a sender sent of its stream, and what was acknowledged: the numbers that RFC 9293 calls SND.UNA and
 /// SND.NXT, as positions.
 ///

@@ -1,3 +1,4 @@
+// Written by tools/erase.py from crates/net_packets/src/head.rt: a change here would be lost.
 //! The head of a packet queue, which is a queue without its storages: where packets are placed, and how
 //! they are taken off.
 //!
@@ -117,7 +118,7 @@ impl PacketsHead {
     /// Takes the first slot and its `size` bytes off, and returns the index of the first of these
     /// bytes: of a gap before the first packet, or of the first packet.
     ///
-    /// # Panics, unless
+    /// # Requires
     ///
     /// The head is sound, a slot is used, and at least `size` bytes are.
     #[inline]
@@ -131,7 +132,7 @@ impl PacketsHead {
     /// Takes the last `count` bytes off the last packet, after a closure or another program wrote
     /// fewer bytes than were placed. The caller lowers the size in the packet's slot.
     ///
-    /// # Panics, unless
+    /// # Requires
     ///
     /// At least `count` bytes are used.
     #[inline]
@@ -207,7 +208,7 @@ impl PacketsHead {
     /// Takes the first slot in use, `first`, off with its bytes, and returns the index of the first of
     /// these bytes: of the gap before the first packet, or of the first packet.
     ///
-    /// # Panics, unless
+    /// # Requires
     ///
     /// The head is sound, and [`can_take`](PacketsHead::can_take) returns true.
     #[inline]

@@ -1,12 +1,11 @@
+// Written by tools/erase.py from crates/net_packets/src/packet_buffer.rt: a change here would be lost.
 //! A queue of packets, each with a header, over storage that is lent or owned.
 
 use crate::rattle::prelude::*;
 use crate::proved::net_packets::head::{PacketPlace, PacketsHead};
 use crate::proved::net_packets::packet_metadata::PacketMetadata;
 use crate::proved::net_ring::{Empty, Full, ManagedSlice, Storage};
-use crate::rattle::std::marker::{Model, PhantomData};
-
-pub mod laws;
+use crate::rattle::std::marker::PhantomData;
 
 /// A [`PacketBuffer`] over any storage: `M` has the slots and `B` the bytes.
 ///
@@ -56,11 +55,6 @@ pub type PacketBuffer<'a, H> = PacketsOver<
     ManagedSlice<'a, u8>,
 >;
 
-/// Contracts see the number of slots, the storage, the read index and the list of packets (header,
-/// size, gap). They lead with `contents q`, the list of the headers and bytes of a queue's packets.
-impl<H, M: Storage<PacketMetadata<H>>, B: Storage<u8>> Model for PacketsOver<H, M, B> {
-}
-
 /// Making, emptying and measuring a queue.
 impl<H, M: Storage<PacketMetadata<H>>, B: Storage<u8>> PacketsOver<H, M, B> {
     /// Returns a queue with no packets over storages of any type. smoltcp has no such call:
@@ -86,6 +80,7 @@ impl<H, M: Storage<PacketMetadata<H>>, B: Storage<u8>> PacketsOver<H, M, B> {
     /// assert!(!queue.is_empty());
     /// ```
     #[inline]
+    #[must_use]
     pub fn is_empty(&self) -> bool {
         self.head.slots.length == 0
     }
@@ -102,6 +97,7 @@ impl<H, M: Storage<PacketMetadata<H>>, B: Storage<u8>> PacketsOver<H, M, B> {
     /// assert!(queue.is_full());
     /// ```
     #[inline]
+    #[must_use]
     pub fn is_full(&self) -> bool {
         self.head.slots.length == self.slots.count()
     }
@@ -117,6 +113,7 @@ impl<H, M: Storage<PacketMetadata<H>>, B: Storage<u8>> PacketsOver<H, M, B> {
     /// assert!(queue.has_room(13) && !queue.has_room(14));
     /// ```
     #[inline]
+    #[must_use]
     pub fn has_room(&self, size: usize) -> bool {
         self.placement(size).is_some()
     }
@@ -130,6 +127,7 @@ impl<H, M: Storage<PacketMetadata<H>>, B: Storage<u8>> PacketsOver<H, M, B> {
     /// assert_eq!(PacketBuffer::new(&mut slots[..], &mut bytes[..]).packet_capacity(), 4);
     /// ```
     #[inline]
+    #[must_use]
     pub fn packet_capacity(&self) -> usize {
         self.slots.count()
     }
@@ -143,6 +141,7 @@ impl<H, M: Storage<PacketMetadata<H>>, B: Storage<u8>> PacketsOver<H, M, B> {
     /// assert_eq!(PacketBuffer::new(&mut slots[..], &mut bytes[..]).payload_capacity(), 16);
     /// ```
     #[inline]
+    #[must_use]
     pub fn payload_capacity(&self) -> usize {
         self.bytes.count()
     }
@@ -159,6 +158,7 @@ impl<H, M: Storage<PacketMetadata<H>>, B: Storage<u8>> PacketsOver<H, M, B> {
     /// assert_eq!(queue.payload_bytes_count(), 3);
     /// ```
     #[inline]
+    #[must_use]
     pub fn payload_bytes_count(&self) -> usize {
         self.head.bytes.length
     }
@@ -175,6 +175,7 @@ impl<H, M: Storage<PacketMetadata<H>>, B: Storage<u8>> PacketsOver<H, M, B> {
     /// assert_eq!(queue.slots_used(), 1);
     /// ```
     #[inline]
+    #[must_use]
     pub fn slots_used(&self) -> usize {
         self.head.slots.length
     }
@@ -190,6 +191,7 @@ impl<H, M: Storage<PacketMetadata<H>>, B: Storage<u8>> PacketsOver<H, M, B> {
     /// assert!(queue.enqueue(3, ()).is_ok());
     /// assert_eq!(queue.len(), 1);
     /// ```
+    #[must_use]
     pub fn len(&self) -> usize {
         let from = self.head.slots.read_at;
         let cut = self.head.slots.contiguous_queue(self.slots.count());
@@ -333,9 +335,10 @@ impl<H: Sized, M: Storage<PacketMetadata<H>>, B: Storage<u8>> PacketsOver<H, M, 
     /// `Full` if [`PacketsOver::enqueue`] returns it for `max_size` bytes. Then the header is
     /// dropped, `f` isn't called, and nothing changes.
     ///
-    /// # Panics, unless
+    /// # Panics
     ///
-    /// `f` takes the `max_size` bytes that it is lent, and returns at most `max_size`.
+    /// Panics unless `f` takes the `max_size` bytes that it is lent, and returns at most
+    /// `max_size`.
     #[track_caller]
     pub fn enqueue_with_infallible<'b, F: FnOnce(&'b mut [u8]) -> usize>(
         &'b mut self,
@@ -463,10 +466,10 @@ impl<H: Sized, M: Storage<PacketMetadata<H>>, B: Storage<u8>> PacketsOver<H, M, 
 
     /// Lends the `size` bytes before the read index: those of the packet that was taken off last.
     ///
-    /// # Panics, unless
+    /// # Panics
     ///
-    /// The `size` bytes before the read index are contiguous and none is a packet's, as after a
-    /// call of [`PacketsOver::take`] that returned `size`.
+    /// Panics unless the `size` bytes before the read index are contiguous and none is a packet's,
+    /// as after a call of [`PacketsOver::take`] that returned `size`.
     #[track_caller]
     pub fn last_dequeued_mut(&mut self, size: usize) -> &mut [u8] {
         let capacity = self.bytes.count();

@@ -1,14 +1,13 @@
+// Written by tools/erase.py from crates/net_receiver/src/finite_receiver.rt: a change here would be lost.
 //! A receiver of a stream that ends.
 
 use crate::rattle::prelude::*;
 use crate::proved::net_receiver::finite_receiver_head::{
-    FiniteReceiverHead, NO_END, acknowledged, count_below, end_or_max, is_reached, number_after,
+    NO_END, acknowledged, count_below, end_or_max, is_reached, number_after,
 };
 use crate::proved::net_receiver::kept::{FiniteError, KeptBytes};
 use crate::proved::net_receiver::receiver::ReceiverOver;
-use crate::proved::net_assembler::Run;
 use crate::proved::net_ring::{ManagedSlice, Storage};
-use crate::rattle::std::marker::Model;
 
 /// A [`FiniteReceiver`] over any storage.
 ///
@@ -32,21 +31,6 @@ pub struct FiniteReceiverOver<S: Storage<u8>, const N: usize> {
 /// of [`FiniteReceiverOver`].
 pub type FiniteReceiver<'a, const N: usize = ASSEMBLER_MAX_SEGMENT_COUNT> = FiniteReceiverOver<ManagedSlice<'a, u8>, N>;
 
-/// Contracts see what the receiver of the bytes stores, and the end, `no_end` while it isn't known.
-impl<S: Storage<u8>, const N: usize> Model for FiniteReceiverOver<S, N> {
-}
-
-/// Written by hand, so that storage that isn't `Drop` can be used too.
-impl<S: Storage<u8> + Sized, const N: usize> crate::rattle::Drop for FiniteReceiverOver<S, N> {
-    fn drop(self) {
-        let FiniteReceiverOver {
-            receiver,
-            after_end: _,
-        } = self;
-        drop(receiver);
-    }
-}
-
 impl<S: Storage<u8>, const N: usize> FiniteReceiverOver<S, N> {
     /// Returns a receiver of a stream that begins at position 0: `over_at` with 0.
     ///
@@ -61,9 +45,9 @@ impl<S: Storage<u8>, const N: usize> FiniteReceiverOver<S, N> {
     ///
     /// A program in which `N` is 0 does not compile.
     ///
-    /// # Panics, unless
+    /// # Panics
     ///
-    /// `first` is not the greatest number of 64 bits: an end there would have no number after it.
+    /// Panics unless `first` is below `u64::MAX`: an end there would have no number after it.
     #[must_use]
     #[track_caller]
     pub const fn over_at(storage: S, first: u64) -> Self {
@@ -73,32 +57,6 @@ impl<S: Storage<u8>, const N: usize> FiniteReceiverOver<S, N> {
             receiver: ReceiverOver::over_at(storage, first),
             after_end: 0,
         }
-    }
-
-    /// Returns the receiver that a head, a storage and runs represent.
-    ///
-    /// # Panics, unless
-    ///
-    /// They are sound, as `FiniteReceiverHead::is_sound` tests.
-    pub(crate) fn from_parts(head: FiniteReceiverHead, storage: S, runs: [Run; N]) -> Self {
-        FiniteReceiverOver {
-            receiver: ReceiverOver::from_parts(head.receiver, storage, runs),
-            after_end: head.after_end,
-        }
-    }
-
-    /// Returns the head, the storage and the runs, which represent the receiver.
-    pub(crate) fn into_parts(self) -> (FiniteReceiverHead, S, [Run; N]) {
-        let FiniteReceiverOver {
-            receiver,
-            after_end,
-        } = self;
-        let (receiver, storage, runs) = receiver.into_parts();
-        let head = FiniteReceiverHead {
-            receiver,
-            after_end,
-        };
-        (head, storage, runs)
     }
 
     /// Returns the storage. Its bytes can be any.
@@ -129,9 +87,9 @@ impl<S: Storage<u8>, const N: usize> FiniteReceiverOver<S, N> {
     /// Begins again over the same storage: a receiver of a stream that begins at position `first`;
     /// nothing has arrived.
     ///
-    /// # Panics, unless
+    /// # Panics
     ///
-    /// `first` is not the greatest number of 64 bits: an end there would have no number after it.
+    /// Panics unless `first` is below `u64::MAX`: an end there would have no number after it.
     #[track_caller]
     pub fn reset_at(&mut self, first: u64) {
         prove!(first < u64::MAX, "no number is left for an end");
@@ -217,9 +175,9 @@ impl<S: Storage<u8>, const N: usize> FiniteReceiverOver<S, N> {
     /// assert_eq!((receiver.receiver().queued(), receiver.has_read_all()), (1, false));
     /// ```
     ///
-    /// # Panics, unless
+    /// # Panics
     ///
-    /// `f` takes that part, and counts no more bytes than it is lent.
+    /// Panics unless `f` takes that part, and counts no more bytes than it is lent.
     #[track_caller]
     pub fn read_with<R, F: FnOnce(&[u8]) -> (usize, R)>(&mut self, f: F) -> (usize, R) {
         let part = self.receiver.first_slice();
@@ -232,9 +190,9 @@ impl<S: Storage<u8>, const N: usize> FiniteReceiverOver<S, N> {
 
     /// Takes the first `count` bytes off the queue and copies none, as `ReceiverOver::remove` does.
     ///
-    /// # Panics, unless
+    /// # Panics
     ///
-    /// At least `count` bytes are queued.
+    /// Panics unless at least `count` bytes are queued.
     #[track_caller]
     pub fn remove(&mut self, count: usize) {
         prove!(
@@ -303,10 +261,5 @@ impl<S: Storage<u8>, const N: usize> FiniteReceiverOver<S, N> {
     pub fn same_state<O: Storage<u8>>(&self, other: &FiniteReceiverOver<O, N>) -> bool {
         end_or_max(self.after_end) == end_or_max(other.after_end)
             && self.receiver.same_state(&other.receiver)
-    }
-
-    /// States what is true of every receiver; it does nothing. Callers use `laws::is_sound_end`.
-    pub(crate) fn is_sound(&self) {
-        self.receiver.is_sound();
     }
 }

@@ -1,6 +1,6 @@
+// Written by tools/erase.py from crates/net_receiver/src/finite_receiver_head.rt: a change here would be lost.
 //! A receiver of a stream that ends, in parts.
 
-use crate::rattle::prelude::*;
 use crate::proved::net_receiver::kept::{FiniteError, KeptBytes};
 use crate::proved::net_receiver::receiver_head::ReceiverHead;
 use crate::proved::net_assembler::Run;
@@ -66,9 +66,9 @@ impl FiniteReceiverHead {
     /// Returns the head of a receiver of a stream that begins at position `first`; nothing has
     /// arrived. It is sound with every storage and all runs.
     ///
-    /// # Panics, unless
+    /// # Requires
     ///
-    /// `first` is not the greatest number of 64 bits: an end there would have no number after it.
+    /// `first` is below `u64::MAX`: an end there would have no number after it.
     pub const fn new(first: u64) -> Self {
         FiniteReceiverHead {
             receiver: ReceiverHead::new(first),
@@ -92,7 +92,7 @@ impl FiniteReceiverHead {
     /// Returns whether the stream can end at `pos`: it is the end that is known, or none is, and it
     /// isn't below the first missing position or a held run's end. 2^64 - 1 is no end.
     ///
-    /// # Panics, unless
+    /// # Requires
     ///
     /// Head and runs are sound, as `is_sound` tests, with a storage of some length.
     pub fn can_end(&self, runs: &[Run], pos: u64) -> bool {
@@ -115,7 +115,7 @@ impl FiniteReceiverHead {
     /// Keeps the bytes of a segment that are in the free window and below the end, and takes the end, as
     /// `FiniteReceiverOver::keep` does. If it is refused, head, storage and runs stay as they were.
     ///
-    /// # Panics, unless
+    /// # Requires
     ///
     /// Head, storage and runs are sound, as `is_sound` tests.
     #[inline]
@@ -145,7 +145,7 @@ impl FiniteReceiverHead {
 
     /// Returns whether all bytes and the end have arrived. Once it is so it stays so.
     ///
-    /// # Panics, unless
+    /// # Requires
     ///
     /// The first missing position and the one after it fit 64 bits, as they do where head, storage
     /// and runs are sound.
@@ -157,7 +157,7 @@ impl FiniteReceiverHead {
     /// Returns the number that an acknowledgement carries: the first missing position, or, once all
     /// bytes and the end have arrived, the end plus 1, since the end has a number.
     ///
-    /// # Panics, unless
+    /// # Requires
     ///
     /// The first missing position and the one after it fit 64 bits, as they do where head, storage
     /// and runs are sound.
@@ -168,7 +168,7 @@ impl FiniteReceiverHead {
 
     /// Returns whether all bytes were read, up to the end. Once it is so it stays so.
     ///
-    /// # Panics, unless
+    /// # Requires
     ///
     /// The first missing position and the one after it fit 64 bits, as they do where head, storage
     /// and runs are sound.
@@ -181,7 +181,7 @@ impl FiniteReceiverHead {
     /// window, or `acknowledged` if that is greater, as where the end is acknowledged and the storage is
     /// full. `None` if the free window's end doesn't fit 64 bits.
     ///
-    /// # Panics, unless
+    /// # Requires
     ///
     /// The first missing position and the one after it fit 64 bits, as they do where head, storage
     /// and runs are sound.
@@ -194,7 +194,7 @@ impl FiniteReceiverHead {
     /// Moves bytes from the head of the queue to the beginning of `into`, and returns how many: as
     /// many as are queued and as `into` has room for. The rest of `into` stays as it is.
     ///
-    /// # Panics, unless
+    /// # Requires
     ///
     /// The queue is in the storage, and the first missing position fits 64 bits, as they do where
     /// head, storage and runs are sound.
@@ -206,7 +206,7 @@ impl FiniteReceiverHead {
     /// Removes the first `count` bytes of the queue, as `read` does, and copies none. `capacity` is
     /// how many bytes the storage has.
     ///
-    /// # Panics, unless
+    /// # Requires
     ///
     /// The queue is in the storage, it has `count` bytes, and the first missing position fits 64
     /// bits, as they do where head, storage and runs are sound.
@@ -221,7 +221,7 @@ impl FiniteReceiverHead {
     /// are kept again, and counted. The result is 0 for a duplicate, which TCP may report, for a
     /// segment that is beyond the free window, and for one without bytes. It looks at each held run.
     ///
-    /// # Panics, unless
+    /// # Requires
     ///
     /// Head, storage and runs are sound, as `is_sound` tests.
     pub fn count_new(&self, capacity: usize, runs: &[Run], position: u64, len: usize) -> usize {

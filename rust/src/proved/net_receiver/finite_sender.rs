@@ -1,3 +1,4 @@
+// Written by tools/erase.py from crates/net_receiver/src/finite_sender.rt: a change here would be lost.
 //! A sender of a stream that ends.
 
 use crate::rattle::prelude::*;
@@ -5,7 +6,6 @@ use crate::proved::net_receiver::finite_sender_head::FiniteSenderHead;
 use crate::proved::net_receiver::laws;
 use crate::proved::net_numbers::SentNumbers;
 use crate::proved::net_ring::{ManagedSlice, Storage};
-use crate::rattle::std::marker::Model;
 
 /// A [`FiniteSender`] over any storage.
 ///
@@ -30,19 +30,6 @@ pub struct FiniteSenderOver<S: Storage<u8>> {
 /// [`FiniteSenderOver`].
 pub type FiniteSender<'a> = FiniteSenderOver<ManagedSlice<'a, u8>>;
 
-/// Contracts see what they see of a `Sender`; 1 or 0 for whether it is closed, and for whether the
-/// end is acknowledged; and the number after the last one that was sent.
-impl<S: Storage<u8>> Model for FiniteSenderOver<S> {
-}
-
-/// Written by hand, so that storage that isn't `Drop` can be used too.
-impl<S: Storage<u8> + Sized> crate::rattle::Drop for FiniteSenderOver<S> {
-    fn drop(self) {
-        let FiniteSenderOver { head: _, storage } = self;
-        drop(storage);
-    }
-}
-
 impl<S: Storage<u8>> FiniteSenderOver<S> {
     /// Returns a sender of a stream that begins at position 0: `over_at` with 0.
     #[must_use]
@@ -52,9 +39,9 @@ impl<S: Storage<u8>> FiniteSenderOver<S> {
 
     /// Returns a sender of a stream that begins at position `first`, to which nothing was written.
     ///
-    /// # Panics, unless
+    /// # Panics
     ///
-    /// `first` is not the greatest number of 64 bits: the end has a number after it.
+    /// Panics unless `first` is below `u64::MAX`: an end there would have no number after it.
     #[must_use]
     #[track_caller]
     pub const fn over_at(storage: S, first: u64) -> Self {
@@ -63,21 +50,6 @@ impl<S: Storage<u8>> FiniteSenderOver<S> {
             head: FiniteSenderHead::new(first),
             storage,
         }
-    }
-
-    /// Returns the sender that a head and a storage represent.
-    ///
-    /// # Panics, unless
-    ///
-    /// The head is sound for the storage, as `FiniteSenderHead::is_sound` tests.
-    pub(crate) fn from_parts(head: FiniteSenderHead, storage: S) -> Self {
-        FiniteSenderOver { head, storage }
-    }
-
-    /// Returns the head and the storage, which represent the sender.
-    pub(crate) fn into_parts(self) -> (FiniteSenderHead, S) {
-        let FiniteSenderOver { head, storage } = self;
-        (head, storage)
     }
 
     /// Returns the storage. Its bytes can be any.
@@ -90,9 +62,9 @@ impl<S: Storage<u8>> FiniteSenderOver<S> {
     /// Begins again over the same storage: a stream that begins at position `first`, to which nothing
     /// was written.
     ///
-    /// # Panics, unless
+    /// # Panics
     ///
-    /// `first` is not the greatest number of 64 bits: an end there would have no number after it.
+    /// Panics unless `first` is below `u64::MAX`: an end there would have no number after it.
     #[track_caller]
     pub fn reset_at(&mut self, first: u64) {
         prove!(first < u64::MAX, "no number is left for an end");
@@ -131,6 +103,7 @@ impl<S: Storage<u8>> FiniteSenderOver<S> {
     /// ```
     #[must_use]
     pub fn sent_numbers(&self) -> SentNumbers {
+        self.is_sound();
         SentNumbers {
             first_unacknowledged: self.first_number(),
             sent: self.sent(),
@@ -155,7 +128,7 @@ impl<S: Storage<u8>> FiniteSenderOver<S> {
         self.storage.count()
     }
 
-    /// Returns the window: how many bytes `write` would take. None once the sender is closed. A number
+    /// Returns the window: how many bytes `write` would take: 0 once the sender is closed. A number
     /// is kept for the end.
     #[must_use]
     pub fn window(&self) -> usize {

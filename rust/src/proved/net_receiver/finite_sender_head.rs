@@ -1,6 +1,6 @@
+// Written by tools/erase.py from crates/net_receiver/src/finite_sender_head.rt: a change here would be lost.
 //! A sender of a stream that ends, in parts.
 
-use crate::rattle::prelude::*;
 use crate::proved::net_receiver::sender_head::SenderHead;
 use crate::proved::net_ring::Span;
 
@@ -25,9 +25,9 @@ impl FiniteSenderHead {
     /// Returns the head of a sender of a stream that begins at position `first`; nothing was
     /// written. It is sound for every storage.
     ///
-    /// # Panics, unless
+    /// # Requires
     ///
-    /// `first` is not the greatest number of 64 bits: an end there would have no number after it.
+    /// `first` is below `u64::MAX`: an end there would have no number after it.
     pub const fn new(first: u64) -> Self {
         FiniteSenderHead {
             sender: SenderHead::new(first),
@@ -58,7 +58,7 @@ impl FiniteSenderHead {
 
     /// Returns the first number that isn't acknowledged.
     ///
-    /// # Panics, unless
+    /// # Requires
     ///
     /// It fits 64 bits, as it does where the head is sound.
     #[inline]
@@ -68,7 +68,7 @@ impl FiniteSenderHead {
 
     /// Returns the number after the last byte's, and after the end's once the sender is closed.
     ///
-    /// # Panics, unless
+    /// # Requires
     ///
     /// It fits 64 bits, as it does where the head is sound.
     #[inline]
@@ -79,7 +79,7 @@ impl FiniteSenderHead {
     /// Returns how many bytes `write` would take: none once the sender is closed. The number 2^64 - 2 is
     /// kept for the end, which has one after it.
     ///
-    /// # Panics, unless
+    /// # Requires
     ///
     /// The head is sound for a storage of `capacity` bytes, as in each call below that takes one.
     #[inline]

@@ -1,14 +1,15 @@
+// Written by tools/erase.py from crates/net_receiver/src/held_runs.rt: a change here would be lost.
 //! The held runs of a receiver, one after another: in rising order, and in the order in which a selective
 //! acknowledgement lists them.
 
 use crate::rattle::prelude::*;
 use crate::proved::net_assembler::RunIter;
-use crate::rattle::std::marker::Model;
 
 /// An iterator over the held runs of a receiver, made by `held`.
 ///
 /// It yields (start, end) of each run as absolute positions in rising order, the end not included,
 /// and then ends.
+#[derive(Clone)]
 pub struct HeldRunIter<'a> {
     runs: RunIter<'a>,
     from: u64,
@@ -16,9 +17,6 @@ pub struct HeldRunIter<'a> {
 
 /// The iterator of a `Receiver<N>`, which yields at most `N` runs.
 pub type HeldRuns<'a, const N: usize = ASSEMBLER_MAX_SEGMENT_COUNT> = HeldRunIter<'a>;
-
-impl<'a> Model for HeldRunIter<'a> {
-}
 
 impl<'a> HeldRunIter<'a> {
     /// Returns these runs, counted from the position `from`.
@@ -53,10 +51,6 @@ pub struct HeldRun {
     pub end: u64,
 }
 
-/// Contracts see the pair (start, end).
-impl Model for HeldRun {
-}
-
 /// An iterator over held runs, the newest first, made by `newest_runs`: at most `K`.
 ///
 /// It yields (start, end) of each run as absolute positions, the end not included.
@@ -65,10 +59,6 @@ pub struct NewestRunIter<const K: usize> {
     runs: [HeldRun; K],
     from: usize,
     count: usize,
-}
-
-/// Contracts see the list of the runs that are left.
-impl<const K: usize> Model for NewestRunIter<K> {
 }
 
 impl<const K: usize> NewestRunIter<K> {

@@ -1,6 +1,6 @@
+// Written by tools/erase.py from crates/net_receiver/src/kept.rt: a change here would be lost.
 //! The results of a segment: what was kept, or why a receiver of a stream that ends refuses it.
 
-use crate::rattle::prelude::*;
 /// How many bytes of a segment were kept, by how many `next` moved, and the first held runs: what
 /// `segment` returns.
 ///

@@ -1,7 +1,7 @@
+// Written by tools/erase.py from crates/net_receiver/src/lib.rt: a change here would be lost.
 //! The two ends of a stream of bytes: a receiver, at which segments arrive in any order and bytes are
 //! read in order, and a sender, which stores bytes until they are acknowledged.
 
-use crate::rattle::prelude::*;
 mod finite_receiver;
 mod finite_receiver_head;
 mod finite_sender;

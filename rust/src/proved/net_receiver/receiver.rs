@@ -1,12 +1,12 @@
+// Written by tools/erase.py from crates/net_receiver/src/receiver.rt: a change here would be lost.
 //! The receiver.
 
 use crate::rattle::prelude::*;
 use crate::proved::net_receiver::held_runs::{HeldRun, HeldRuns, NewestRunIter};
 use crate::proved::net_receiver::kept::{Kept, KeptBytes};
 use crate::proved::net_receiver::receiver_head::{ReceiverHead, count_existing};
-use crate::proved::net_assembler::{AssemblerHead, Run, TooManyHolesError};
+use crate::proved::net_assembler::{Run, TooManyHolesError};
 use crate::proved::net_ring::{ManagedSlice, Storage};
-use crate::rattle::std::marker::Model;
 
 /// A [`Receiver`] over any storage.
 ///
@@ -56,23 +56,6 @@ pub struct ReceiverOver<S: Storage<u8>, const N: usize> {
 /// ```
 pub type Receiver<'a, const N: usize = ASSEMBLER_MAX_SEGMENT_COUNT> = ReceiverOver<ManagedSlice<'a, u8>, N>;
 
-/// Contracts see the first position, the capacity, the count of bytes read, the queue, and the held
-/// bytes by their positions.
-impl<S: Storage<u8>, const N: usize> Model for ReceiverOver<S, N> {
-}
-
-/// Written by hand, so that storage that isn't `Drop` can be used too.
-impl<S: Storage<u8> + Sized, const N: usize> crate::rattle::Drop for ReceiverOver<S, N> {
-    fn drop(self) {
-        let ReceiverOver {
-            head: _,
-            storage,
-            runs: _,
-        } = self;
-        drop(storage);
-    }
-}
-
 impl<S: Storage<u8>, const N: usize> ReceiverOver<S, N> {
     /// Returns a receiver of a stream that begins at position 0: `over_at` with 0.
     ///
@@ -96,31 +79,6 @@ impl<S: Storage<u8>, const N: usize> ReceiverOver<S, N> {
             head: ReceiverHead::new(first),
             storage,
             runs: [Run { start: 0, end: 0 }; N],
-        }
-    }
-
-    /// Returns the receiver that a head, a storage and runs represent. smoltcp has no such call.
-    ///
-    /// # Panics, unless
-    ///
-    /// They are sound, as `ReceiverHead::is_sound` tests.
-    pub(crate) fn from_parts(head: ReceiverHead, storage: S, runs: [Run; N]) -> Self {
-        if head.held.used == 0 {
-            // A sound head without runs can have any number as `first_start`. That of a receiver is 0: the
-            // new `held` has 0 in both numbers.
-            return ReceiverOver {
-                head: ReceiverHead {
-                    held: AssemblerHead::new(),
-                    ..head
-                },
-                storage,
-                runs,
-            };
-        }
-        ReceiverOver {
-            head,
-            storage,
-            runs,
         }
     }
 
@@ -182,9 +140,9 @@ impl<S: Storage<u8>, const N: usize> ReceiverOver<S, N> {
     /// together with those held would make more than `N` runs. So a segment that begins at or below
     /// `next` is never refused, and its kept bytes join the queue.
     ///
-    /// # Panics, unless
+    /// # Panics
     ///
-    /// The segment ends within 64 bits, as `fits` tests.
+    /// Panics unless the segment ends within 64 bits, as `fits` tests.
     ///
     /// # [Guarantees](crate#guarantees)
     ///
@@ -199,9 +157,19 @@ impl<S: Storage<u8>, const N: usize> ReceiverOver<S, N> {
             Self::fits(pos, bytes.len()),
             "the segment's end is above `u64::MAX`"
         );
-        let count = self.storage.count();
-        let storage = self.storage.part_mut(0, count);
-        self.head.segment(storage, &mut self.runs, pos, bytes)
+        let bytes = self.keep_part(pos, bytes)?;
+        let sack = self.first_runs();
+        Ok(Kept {
+            kept: bytes.kept,
+            queued: bytes.queued,
+            sack,
+        })
+    }
+
+    /// Returns the first three held runs.
+    #[inline(always)]
+    fn first_runs(&self) -> [Option<(u64, u64)>; 3] {
+        self.head.first_runs(&self.runs)
     }
 
     /// Keeps the bytes of a segment that are in the free window, as `segment` does, and lists no runs. Any
@@ -363,9 +331,9 @@ impl<S: Storage<u8>, const N: usize> ReceiverOver<S, N> {
     /// assert_eq!(receiver.peek(0, 9), b"c");
     /// ```
     ///
-    /// # Panics, unless
+    /// # Panics
     ///
-    /// `f` takes that part, and counts no more bytes than it is lent.
+    /// Panics unless `f` takes that part, and counts no more bytes than it is lent.
     #[track_caller]
     pub fn read_with<R, F: FnOnce(&[u8]) -> (usize, R)>(&mut self, f: F) -> (usize, R) {
         let part = self.first_slice();
@@ -379,9 +347,9 @@ impl<S: Storage<u8>, const N: usize> ReceiverOver<S, N> {
     /// Takes the first `count` bytes off the queue, as `read` does, and copies none: `peek` and
     /// `as_slices` show them before.
     ///
-    /// # Panics, unless
+    /// # Panics
     ///
-    /// At least `count` bytes are queued.
+    /// Panics unless at least `count` bytes are queued.
     ///
     /// # [Guarantees](crate#guarantees)
     ///
@@ -598,11 +566,6 @@ impl<S: Storage<u8>, const N: usize> ReceiverOver<S, N> {
         let storage = whole(&self.storage);
         let other_storage = whole(&other.storage);
         self.head.is_same_state(storage, &self.runs, &other.head, other_storage, &other.runs)
-    }
-
-    /// States what is true of every receiver; it does nothing. Callers use `laws::is_sound`.
-    pub(crate) fn is_sound(&self) {
-        let _ = &self.head;
     }
 }
 

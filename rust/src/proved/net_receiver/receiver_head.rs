@@ -1,8 +1,9 @@
+// Written by tools/erase.py from crates/net_receiver/src/receiver_head.rt: a change here would be lost.
 //! A receiver in parts: a head of numbers, a storage, and runs that are kept elsewhere.
 
 use crate::rattle::prelude::*;
 use crate::proved::net_receiver::held_runs::{HeldRun, HeldRunIter, is_listed, remember};
-use crate::proved::net_receiver::kept::{Kept, KeptBytes};
+use crate::proved::net_receiver::kept::KeptBytes;
 use crate::proved::net_assembler::width::most;
 use crate::proved::net_assembler::{AssemblerHead, Run, TooManyHolesError};
 use crate::proved::net_ring::RingHead;
@@ -107,33 +108,9 @@ impl ReceiverHead {
         end as u64 <= limit
     }
 
-    /// Keeps the bytes of a segment that are in the free window, as `keep` does, and lists the
-    /// first three held runs.
-    ///
-    /// # Panics, unless
-    ///
-    /// Head, storage and runs are sound, as `is_sound` tests, and the segment ends within 64 bits,
-    /// as `ReceiverOver::fits` tests.
-    #[inline(always)]
-    pub(crate) fn segment(
-        &mut self,
-        storage: &mut [u8],
-        runs: &mut [Run],
-        pos: u64,
-        bytes: &[u8],
-    ) -> Result<Kept, TooManyHolesError> {
-        let bytes = self.keep(storage, runs, pos, bytes)?;
-        let sack = self.first_runs(runs);
-        Ok(Kept {
-            kept: bytes.kept,
-            queued: bytes.queued,
-            sack,
-        })
-    }
-
     /// Returns the first three held runs.
     #[inline(always)]
-    fn first_runs(&self, runs: &[Run]) -> [Option<(u64, u64)>; 3] {
+    pub(crate) fn first_runs(&self, runs: &[Run]) -> [Option<(u64, u64)>; 3] {
         let mut held = self.held(runs);
         [held.next(), held.next(), held.next()]
     }
@@ -141,7 +118,7 @@ impl ReceiverHead {
     /// Keeps the bytes of a segment that are in the free window, as `ReceiverOver::keep` does. If it is
     /// refused, head, storage and runs stay as they were, with the runs that aren't in use.
     ///
-    /// # Panics, unless
+    /// # Requires
     ///
     /// Head, storage and runs are sound, as `is_sound` tests, and the segment ends within 64 bits,
     /// as `ReceiverOver::fits` tests.
@@ -175,7 +152,7 @@ impl ReceiverHead {
     /// Moves bytes from the head of the queue to the beginning of `into`, and returns how many: as
     /// many as are queued and as `into` has room for. The rest of `into` stays as it is.
     ///
-    /// # Panics, unless
+    /// # Requires
     ///
     /// The queue is in the storage, and the first missing position fits 64 bits, as they do where
     /// head, storage and runs are sound.
@@ -190,7 +167,7 @@ impl ReceiverHead {
     /// many as are queued and as `into` has room for. The rest of `into` stays as it is, and the
     /// queue too.
     ///
-    /// # Panics, unless
+    /// # Requires
     ///
     /// The queue is in the storage.
     #[inline]
@@ -201,7 +178,7 @@ impl ReceiverHead {
     /// Shows bytes of the queue that are contiguous, from its byte `offset` on: `size`, or as many
     /// as there are up to the end of the queue or of the storage.
     ///
-    /// # Panics, unless
+    /// # Requires
     ///
     /// The queue is in the storage.
     #[inline]
@@ -213,7 +190,7 @@ impl ReceiverHead {
     /// Shows at most `size` bytes of the queue, from its byte `offset` on, in two parts: those up to the
     /// storage's end, and those from its beginning on. The second part is empty unless the bytes wrap.
     ///
-    /// # Panics, unless
+    /// # Requires
     ///
     /// The queue is in the storage.
     #[inline]
@@ -233,7 +210,7 @@ impl ReceiverHead {
     /// Shows the queue, in order, in two parts: the bytes up to the storage's end, and those from
     /// its beginning on. The second part is empty unless the queue wraps.
     ///
-    /// # Panics, unless
+    /// # Requires
     ///
     /// The queue is in the storage.
     #[inline]
@@ -248,7 +225,7 @@ impl ReceiverHead {
     /// Removes the first `count` bytes of the queue, as `read` does, and copies none. `capacity` is
     /// how many bytes the storage has.
     ///
-    /// # Panics, unless
+    /// # Requires
     ///
     /// The queue is in the storage, it has `count` bytes, and the first missing position fits 64
     /// bits.
@@ -261,7 +238,7 @@ impl ReceiverHead {
     /// Returns the first missing position: the first position, plus the count of bytes read, plus
     /// those queued.
     ///
-    /// # Panics, unless
+    /// # Requires
     ///
     /// The sum fits 64 bits, as it does where head, storage and runs are sound.
     #[inline(always)]
@@ -278,7 +255,7 @@ impl ReceiverHead {
     /// Returns the window, where the storage has `capacity` bytes: how many bytes have room after
     /// the queue, held ones among them.
     ///
-    /// # Panics, unless
+    /// # Requires
     ///
     /// No more is queued than the capacity, as is so where head, storage and runs are sound.
     #[inline(always)]
@@ -296,7 +273,7 @@ impl ReceiverHead {
 
     /// Returns the held runs, as `ReceiverOver::held` does: at most as many as `runs` has elements.
     ///
-    /// # Panics, unless
+    /// # Requires
     ///
     /// Head and runs are sound, as `is_sound` tests, with a storage of some length.
     #[inline(always)]
@@ -319,10 +296,9 @@ impl ReceiverHead {
     /// the beginning of `recent`, as many as there is room for. The caller sets `recent` to zeros
     /// before the first call, and doesn't change it afterwards. It is enough if `recent` and `into`
     /// have as many elements in each call as the longest acknowledgement has SACK blocks; a shorter
-    /// one has the first of them. RFC 2018, section 4, wants this order. The time grows with the
-    /// number of runs times the number of runs and of elements of `recent` together.
+    /// one has the first of them. RFC 2018, section 4, wants this order. Each run that is listed is found by a search.
     ///
-    /// # Panics, unless
+    /// # Requires
     ///
     /// Head and runs are sound, as `is_sound` tests, with a storage of some length.
     pub fn newest_runs(
@@ -344,6 +320,9 @@ impl ReceiverHead {
             count = self.list_run(runs, recent[i], into, count);
         }
         for (start, _) in self.held(runs) {
+            if count == into.len() {
+                return count;
+            }
             count = self.list_run(runs, start, into, count);
         }
         count
@@ -368,18 +347,31 @@ impl ReceiverHead {
     /// Returns the held run that has a position, as (start, end), the end not included; `None` if
     /// the position isn't held.
     fn run_at(&self, runs: &[Run], position: u64) -> Option<(u64, u64)> {
-        for (start, end) in self.held(runs) {
-            if start <= position && position < end {
-                return Some((start, end));
-            }
+        let next = self.next();
+        if position < next {
+            return None;
         }
-        None
+        let offset = (position - next).min(most() as u64) as usize;
+        let count = self.held.runs_by(runs, offset);
+        if count == 0 {
+            return None;
+        }
+        match self.held.run_at(runs, count - 1) {
+            Some((start, end)) => {
+                if offset < end {
+                    Some((next + start as u64, next + end as u64))
+                } else {
+                    None
+                }
+            }
+            None => None,
+        }
     }
 
     /// Returns how many bytes of a segment of `len` bytes at `position` would be new, where the
     /// storage has `capacity` bytes, as `ReceiverOver::count_new` does.
     ///
-    /// # Panics, unless
+    /// # Requires
     ///
     /// Head, storage and runs are sound, as `is_sound` tests.
     pub fn count_new(&self, capacity: usize, runs: &[Run], position: u64, len: usize) -> usize {
@@ -410,7 +402,7 @@ impl ReceiverHead {
 
     /// Returns whether the first missing position and the end of each held run are at most a position.
     ///
-    /// # Panics, unless
+    /// # Requires
     ///
     /// Head and runs are sound, as `is_sound` tests, with a storage of some length.
     pub(crate) fn has_all_below(&self, runs: &[Run], pos: u64) -> bool {
@@ -420,7 +412,7 @@ impl ReceiverHead {
 
     /// Compares two receivers, as `ReceiverOver::same_state` does.
     ///
-    /// # Panics, unless
+    /// # Requires
     ///
     /// Both heads are sound with their storages and runs, as `is_sound` tests.
     pub(crate) fn is_same_state(

@@ -1,3 +1,4 @@
+// Written by tools/erase.py from crates/net_receiver/src/scoreboard.rt: a change here would be lost.
 //! A scoreboard: which positions a sender knows that the other end has.
 
 use crate::rattle::prelude::*;
@@ -5,7 +6,6 @@ use crate::proved::net_receiver::held_runs::HeldRuns;
 use crate::proved::net_receiver::scoreboard_head::{ReportError, ScoreboardHead};
 use crate::proved::net_receiver::sequence_number::SequenceNumber;
 use crate::proved::net_assembler::Run;
-use crate::rattle::std::marker::Model;
 
 /// What a sender knows of the positions that the other end has, as acknowledgements and their SACK
 /// blocks report them: a scoreboard.
@@ -35,10 +35,6 @@ pub struct Scoreboard<const N: usize> {
     // is 0 in both numbers.
     head: ScoreboardHead,
     runs: [Run; N],
-}
-
-/// Contracts see the set of the positions that were reported.
-impl<const N: usize> Model for Scoreboard<N> {
 }
 
 impl<const N: usize> Scoreboard<N> {
@@ -75,28 +71,6 @@ impl<const N: usize> Scoreboard<N> {
             head: ScoreboardHead::new_at(first),
             runs: [Run { start: 0, end: 0 }; N],
         }
-    }
-
-    /// Returns the scoreboard that a head and runs represent.
-    ///
-    /// # Panics, unless
-    ///
-    /// They are sound, as `ScoreboardHead::is_sound` tests.
-    pub(crate) fn from_parts(head: ScoreboardHead, runs: [Run; N]) -> Self {
-        // The head of an assembler without runs may have any start. A scoreboard's is canonical: 0 in both numbers.
-        if head.reported.used == 0 {
-            return Scoreboard {
-                head: ScoreboardHead::new_at(head.base),
-                runs,
-            };
-        }
-        Scoreboard { head, runs }
-    }
-
-    /// Returns the head and the runs, which represent the scoreboard.
-    pub(crate) fn into_parts(self) -> (ScoreboardHead, [Run; N]) {
-        let Scoreboard { head, runs } = self;
-        (head, runs)
     }
 
     /// Begins again: a stream that begins at position `first`, to which nothing was reported. All
@@ -242,6 +216,19 @@ impl<const N: usize> Scoreboard<N> {
         self.head.first_missing(&self.runs, pos)
     }
 
+    /// Returns how many positions from `start` on and below `end` weren't reported.
+    ///
+    /// ```
+    /// # use net_base::scoreboard::Scoreboard;
+    /// # let mut scoreboard = Scoreboard::<4>::empty();
+    /// assert_eq!((scoreboard.report(5, 9, 20), scoreboard.report(12, 20, 20)), (Ok(()), Ok(())));
+    /// assert_eq!(scoreboard.missing_between(6, 15), 3);
+    /// ```
+    #[must_use]
+    pub fn missing_between(&self, start: u64, end: u64) -> u64 {
+        self.head.missing_between(&self.runs, start, end)
+    }
+
     /// Returns the next range that wasn't reported, as a start and an end, the end not included: it
     /// begins at the first position from `pos` on that wasn't, and ends at the next one that was, or at
     /// `limit`. `None` if there is none below `limit`. Of these bytes most may only be in flight.
@@ -290,10 +277,5 @@ impl<const N: usize> Scoreboard<N> {
     #[must_use]
     pub fn next_lost(&self, pos: u64, duplicates: usize, segment_size: usize) -> Option<(u64, u64)> {
         self.next_hole(pos, self.lost_below(duplicates, segment_size))
-    }
-
-    /// States what is true of every scoreboard; it does nothing. Callers use `laws::is_sound_scoreboard`.
-    pub(crate) fn is_sound(&self) {
-        let _ = self.head.first_unreported();
     }
 }

@@ -1,3 +1,4 @@
+// Written by tools/erase.py from crates/net_receiver/src/scoreboard_head.rt: a change here would be lost.
 //! A scoreboard in parts: a head, and runs that are kept elsewhere.
 
 use crate::rattle::prelude::*;
@@ -65,7 +66,7 @@ impl ScoreboardHead {
         if self.reported.peek_front(runs) != 0 {
             return false;
         }
-        highest_offset(&self.reported, runs) as u64 <= u64::MAX - self.base
+        self.reported.end(runs) as u64 <= u64::MAX - self.base
     }
 
     /// Reports the positions from `start` on and below `end`, as a SACK block of an acknowledgement
@@ -80,7 +81,7 @@ impl ScoreboardHead {
     /// `base`, and there would be more runs than the slice has elements. Then the block isn't
     /// known, and its bytes are sent again.
     ///
-    /// # Panics, unless
+    /// # Requires
     ///
     /// The scoreboard is sound with the runs.
     pub fn report(
@@ -110,7 +111,7 @@ impl ScoreboardHead {
 
     /// Reports all positions below `next`, whatever the number of runs.
     ///
-    /// # Panics, unless
+    /// # Requires
     ///
     /// The scoreboard is sound with the runs.
     pub fn acknowledge(&mut self, runs: &mut [Run], next: u64) {
@@ -131,7 +132,7 @@ impl ScoreboardHead {
 
     /// Returns whether `pos` was reported.
     ///
-    /// # Panics, unless
+    /// # Requires
     ///
     /// The scoreboard is sound with the runs.
     pub fn contains(&self, runs: &[Run], pos: u64) -> bool {
@@ -149,7 +150,7 @@ impl ScoreboardHead {
     /// Returns the runs beyond the first position that wasn't reported, as absolute (start, end), the end
     /// not included, in rising order.
     ///
-    /// # Panics, unless
+    /// # Requires
     ///
     /// The scoreboard is sound with the runs.
     pub(crate) fn reported<'a>(&self, runs: &'a [Run]) -> HeldRunIter<'a> {
@@ -159,16 +160,16 @@ impl ScoreboardHead {
 
     /// Returns the position after the last one that was reported; 0 if none was.
     ///
-    /// # Panics, unless
+    /// # Requires
     ///
     /// The scoreboard is sound with the runs.
     pub fn highest_reported(&self, runs: &[Run]) -> u64 {
-        self.base + highest_offset(&self.reported, runs) as u64
+        self.base + self.reported.end(runs) as u64
     }
 
     /// Returns how many positions were reported beyond the first one that wasn't, which is `base`.
     ///
-    /// # Panics, unless
+    /// # Requires
     ///
     /// The scoreboard is sound with the runs.
     pub fn count_beyond(&self, runs: &[Run]) -> usize {
@@ -182,17 +183,34 @@ impl ScoreboardHead {
 
     /// Returns the first position from `pos` on that wasn't reported.
     ///
-    /// # Panics, unless
+    /// # Requires
     ///
     /// The scoreboard is sound with the runs.
     pub(crate) fn first_missing(&self, runs: &[Run], pos: u64) -> u64 {
         let from = pos.max(self.base);
-        for (start, end) in self.reported(runs) {
-            if start <= from && from < end {
-                return end;
-            }
-        }
-        from
+        let missing = self.reported.first_missing(runs, self.offset_of(from));
+        from.max(self.base + missing as u64)
+    }
+
+    /// Returns how many positions from `start` on and below `end` weren't reported. It looks only at runs that start
+    /// below `end` and at the one before them, which it finds by a search.
+    ///
+    /// # Requires
+    ///
+    /// The scoreboard is sound with the runs.
+    pub fn missing_between(&self, runs: &[Run], start: u64, end: u64) -> u64 {
+        let from = start.max(self.base);
+        let reported = self
+            .reported
+            .count_between(runs, self.offset_of(from), self.offset_of(end));
+        end.saturating_sub(from) - reported as u64
+    }
+
+    /// Returns the offset of a position, 0 if it is below `base`, and the greatest `usize` if the offset is above
+    /// that: no position is reported there.
+    #[inline(always)]
+    fn offset_of(&self, pos: u64) -> usize {
+        pos.saturating_sub(self.base).min(most() as u64) as usize
     }
 
     /// Returns the position below which all that wasn't reported is lost, by the rule of RFC 6675,
@@ -202,23 +220,25 @@ impl ScoreboardHead {
     /// if it begins above it; of a position that wasn't reported that is the RFC's rule exactly, by
     /// law `losses` of `net_receiver`.
     ///
-    /// # Panics, unless
+    /// # Requires
     ///
     /// The scoreboard is sound with the runs.
     pub fn lost_below(&self, runs: &[Run], duplicates: usize, segment_size: usize) -> u64 {
         let most = (duplicates.saturating_sub(1) as u64).saturating_mul(segment_size as u64);
-        let mut count = self.reported.used;
-        let mut bytes = self.count_beyond(runs) as u64;
-        let mut limit = 0;
-        for (start, end) in self.reported(runs) {
-            if count < duplicates.max(1) && bytes <= most {
-                return limit;
+        let used = self.reported.used;
+        let enough = duplicates.max(1);
+        let mut bytes = 0;
+        // From the last run down, and no more of them than are enough.
+        for above in 0..used.min(enough) {
+            let Some((start, end)) = self.reported.run_at(runs, used - 1 - above) else {
+                return 0;
+            };
+            bytes += (end - start) as u64;
+            if above + 1 == enough || bytes > most {
+                return self.base + start as u64;
             }
-            limit = start;
-            count = count.saturating_sub(1);
-            bytes = bytes.saturating_sub(end - start);
         }
-        limit
+        0
     }
 
     /// Returns the next range that wasn't reported, as a start and an end: it begins at the first
@@ -226,16 +246,17 @@ impl ScoreboardHead {
     /// `limit`. If there is none below `limit`, both are `limit`. Most of it may be in flight:
     /// `lost_below` gives the limit of what is lost.
     ///
-    /// # Panics, unless
+    /// # Requires
     ///
     /// The scoreboard is sound with the runs.
     pub fn next_hole(&self, runs: &[Run], pos: u64, limit: u64) -> (u64, u64) {
-        let start = self.first_missing(runs, pos).min(limit);
-        let mut end = limit;
-        for (from, _to) in self.reported(runs) {
-            end = nearer(start, from, end);
+        let from = pos.max(self.base);
+        let (start, end) = self.reported.next_hole(runs, self.offset_of(from));
+        let start = from.max(self.base + start as u64).min(limit);
+        match end {
+            Some(end) => (start, limit.min(self.base + end as u64)),
+            None => (start, limit),
         }
-        (start, end)
     }
 }
 
@@ -243,23 +264,6 @@ impl ScoreboardHead {
 /// begins beyond `first`, the first position that wasn't reported, it ends less than 2^32 above it.
 fn is_report(first: u64, start: u64, end: u64, sent: u64) -> bool {
     start < end && end <= sent && (start <= first || end - first <= u64::from(u32::MAX))
-}
-
-/// Returns the end of the last run; 0 if there is none.
-fn highest_offset(reported: &AssemblerHead, runs: &[Run]) -> usize {
-    let mut end = 0;
-    for (_start, to) in reported.iter_data(runs) {
-        end = to.max(end);
-    }
-    end
-}
-
-/// Returns the lesser of two positions if the first is above `pos`, and otherwise the second.
-fn nearer(pos: u64, start: u64, nearest: u64) -> u64 {
-    if start <= pos {
-        return nearest;
-    }
-    start.min(nearest)
 }
 
 crate::rattle::error_text!(ReportError, ReportError::NoBlock => "not a block of what was sent", ReportError::TooManyHoles => "too many holes");

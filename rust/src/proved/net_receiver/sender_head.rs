@@ -1,3 +1,4 @@
+// Written by tools/erase.py from crates/net_receiver/src/sender_head.rt: a change here would be lost.
 //! A sender in parts: a head of numbers, and a storage that is kept elsewhere.
 
 use crate::rattle::prelude::*;
@@ -47,7 +48,7 @@ impl SenderHead {
 
     /// Returns the position after the last byte that was written.
     ///
-    /// # Panics, unless
+    /// # Requires
     ///
     /// It fits 64 bits, as `end_fits` tests, and as it does where the head is sound for a storage.
     #[inline]
@@ -58,7 +59,7 @@ impl SenderHead {
     /// Returns how many bytes `write` would take: as many as have room in a storage of `capacity`
     /// bytes and below the last position, 2^64 - 1.
     ///
-    /// # Panics, unless
+    /// # Requires
     ///
     /// The head is sound for a storage of `capacity` bytes.
     #[inline]
@@ -70,7 +71,7 @@ impl SenderHead {
     /// Enqueues the first of these bytes, as many as `room` says, and returns how many. An empty
     /// queue is rewound before, also for no bytes.
     ///
-    /// # Panics, unless
+    /// # Requires
     ///
     /// The head is sound for the storage.
     #[inline]
@@ -82,7 +83,7 @@ impl SenderHead {
     /// Returns where at most `max` queued bytes are, from the one at `pos` on; none if the byte at
     /// `pos` isn't queued. The storage has `capacity` bytes.
     ///
-    /// # Panics, unless
+    /// # Requires
     ///
     /// The head is sound for a storage of `capacity` bytes.
     #[inline]
@@ -101,7 +102,7 @@ impl SenderHead {
     /// Drops the bytes below `next`, and returns whether it did: false, and nothing changes, if
     /// `next` is below `first_unacknowledged` or above `end`. The storage has `capacity` bytes.
     ///
-    /// # Panics, unless
+    /// # Requires
     ///
     /// The head is sound for a storage of `capacity` bytes.
     #[inline]
@@ -125,7 +126,7 @@ impl SenderHead {
     ///
     /// The caller keeps this mark. It begins as the position of the stream's first byte.
     ///
-    /// # Panics, unless
+    /// # Requires
     ///
     /// The position after the last byte that was written fits 64 bits, as `end_fits` tests.
     #[inline]
@@ -142,7 +143,7 @@ impl SenderHead {
     /// after the last byte that was ever sent, as `mark_sent` keeps it. Returns false, and changes
     /// nothing, if `next` is below `first_unacknowledged` or above `sent`, or `sent` is above `end`.
     ///
-    /// # Panics, unless
+    /// # Requires
     ///
     /// The head is sound for a storage of `capacity` bytes.
     #[inline]

@@ -1,3 +1,4 @@
+// Written by tools/erase.py from crates/net_tcp/src/advertised_window.rt: a change here would be lost.
 //! The window that a receiver announces.
 
 use crate::rattle::prelude::*;
@@ -57,9 +58,9 @@ impl AdvertisedWindow {
     /// next multiple: at one scale the number may then be less than what was promised, by less than a
     /// unit. What was promised is still acceptable, and `edge` stays.
     ///
-    /// # Panics, unless
+    /// # Panics
     ///
-    /// The window doesn't end before `next`.
+    /// Panics unless the window doesn't end before `next`.
     ///
     /// # [Guarantees](crate#guarantees)
     ///
@@ -84,9 +85,9 @@ impl AdvertisedWindow {
     /// before, rounded down. So the edge grows by what is worth an update, or only up to `next` (RFC
     /// 9293, section 3.8.6.2.2).
     ///
-    /// # Panics, unless
+    /// # Panics
     ///
-    /// The window doesn't end before `next`.
+    /// Panics unless the window doesn't end before `next`.
     ///
     /// # [Guarantees](crate#guarantees)
     ///
@@ -118,9 +119,9 @@ impl AdvertisedWindow {
     /// where it is, below `next` too, by half of the receiver's capacity, rounded up, or by one
     /// segment of `mss` bytes, and by 1 at least.
     ///
-    /// # Panics, unless
+    /// # Panics
     ///
-    /// The window doesn't end before `next`.
+    /// Panics unless the window doesn't end before `next`.
     ///
     /// # [Guarantees](crate#guarantees)
     ///

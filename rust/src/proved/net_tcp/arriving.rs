@@ -1,6 +1,6 @@
+// Written by tools/erase.py from crates/net_tcp/src/arriving.rt: a change here would be lost.
 //! What to do with an arriving segment.
 
-use crate::rattle::prelude::*;
 use crate::proved::net_numbers::SentNumbers;
 
 /// The positions and the flags of an arriving segment.

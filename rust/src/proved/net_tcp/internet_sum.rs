@@ -1,6 +1,6 @@
+// Written by tools/erase.py from crates/net_tcp/src/internet_sum.rt: a change here would be lost.
 //! The Internet checksum (RFC 1071), over one part or several, and its update (RFC 1624).
 
-use crate::rattle::prelude::*;
 /// The sum of the 16-bit words of a message, which is given in parts of any lengths, one after another.
 /// One of zeros is that of no bytes.
 ///

@@ -1,12 +1,11 @@
+// Written by tools/erase.py from crates/net_tcp/src/lib.rt: a change here would be lost.
 //! Small machines that a TCP needs beside its two queues: the Internet checksum, the test of an
 //! arriving segment, the windows of both sides, the time until a retransmission and its timer. They
 //! store no bytes.
 
-use crate::rattle::prelude::*;
 pub mod advertised_window;
 pub mod arriving;
 pub mod internet_sum;
-pub mod laws;
 pub mod peer_window;
 pub mod retransmission;
 pub mod retransmission_timer;
@@ -16,4 +15,4 @@ pub use arriving::{Arrival, Segment, classify, is_acceptable, is_acknowledgement
 pub use internet_sum::{PartsSum, checksum, is_valid, updated_checksum};
 pub use peer_window::{Announcement, PeerWindow, scaled};
 pub use retransmission::{RetransmissionTimeout, RttEstimate, TimeoutBounds, Transmission};
-pub use retransmission_timer::{RetransmissionTimer, TimedSegment};
+pub use retransmission_timer::{Expiry, RetransmissionTimer, TimedSegment, TimerParts};

@@ -1,6 +1,6 @@
+// Written by tools/erase.py from crates/net_tcp/src/peer_window.rt: a change here would be lost.
 //! The window that the peer announced.
 
-use crate::rattle::prelude::*;
 use crate::proved::net_tcp::advertised_window::MAX_SCALE;
 use crate::proved::net_numbers::SentNumbers;
 

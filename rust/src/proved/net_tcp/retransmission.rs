@@ -1,8 +1,7 @@
+// Written by tools/erase.py from crates/net_tcp/src/retransmission.rt: a change here would be lost.
 //! The time until a retransmission.
 
-use crate::rattle::prelude::*;
 use crate::proved::net_base::time::{Duration, Instant};
-use crate::rattle::std::marker::Model;
 
 /// The longest round trip that counts, in microseconds: 2^60, some 36,000 years.
 const LONGEST_SAMPLE: u64 = 1 << 60;
@@ -17,10 +16,8 @@ pub struct RttEstimate {
     rttvar_4: u64,
 }
 
-impl Model for RttEstimate {
-}
-
-/// The bounds of a timeout, and the tick of the clock that the samples are read from.
+/// The bounds of a timeout, the tick of the clock that the samples are read from, and how long a peer delays an
+/// acknowledgement.
 ///
 /// Contracts: `crates/net_tcp/src/retransmission.rt`.
 #[derive(Copy, Clone, Debug, PartialEq, Eq, Hash)]
@@ -31,6 +28,9 @@ pub struct TimeoutBounds {
     pub most: Duration,
     /// The time between two ticks of the clock.
     pub tick: Duration,
+    /// The longest time for which the peer delays the acknowledgement of one segment: 200 ms for TCP (RFC 8985, 7.2), and
+    /// 25 ms for QUIC, unless its peer says another.
+    pub ack_delay: Duration,
 }
 
 /// When an acknowledged segment was sent. A segment that was sent again gives no sample: which of

@@ -82,7 +82,7 @@ impl<K: Copy + Eq, B: Storage<u8>, const N: usize> FragmentSlot<K, B, N> {
     /// Returns a free slot over the bytes, whose buffer is empty and expires after the origin.
     ///
     /// A program in which `N` is 0 does not compile.
-    pub fn over(bytes: B) -> Self
+    pub const fn over(bytes: B) -> Self
         requires { 1 ≤ N }
         ensures key { result.key ≡ None }
         ensures buffer { result.buffer ≡ empty (B.elements bytes) (pos 0) }
@@ -95,6 +95,7 @@ impl<K: Copy + Eq, B: Storage<u8>, const N: usize> FragmentSlot<K, B, N> {
     }
 
     /// Returns whether the slot is for the packet of this key.
+    #[must_use]
     pub fn is_for(&self, key: K) -> bool
         ensures { result ≡ is_for K.PartialEq.eq key self.now.key }
     {

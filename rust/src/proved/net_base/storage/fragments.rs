@@ -1,13 +1,12 @@
+// Written by tools/erase.py from crates/net_base/src/storage/fragments.rt: a change here would be lost.
 //! A packet that arrives in fragments: a buffer of its bytes and runs, its head, and a table of such buffers.
 
 use crate::rattle::prelude::*;
 use crate::proved::net_base::time::Instant;
 use crate::proved::net_assembler::Run;
 use crate::proved::net_ring::{ManagedSlice, Storage};
-use crate::rattle::std::marker::Model;
 
 mod head;
-pub mod laws;
 pub mod table;
 
 pub use head::FragmentsHead;
@@ -52,11 +51,6 @@ pub struct FragmentsOver<B: Storage<u8>, const N: usize> {
 /// calls are those of [`FragmentsOver`].
 pub type FragmentBuffer<'a, const N: usize = ASSEMBLER_MAX_SEGMENT_COUNT> = FragmentsOver<ManagedSlice<'a, u8>, N>;
 
-/// Contracts see the bytes of the storage, the set of the positions that arrived, the packet's
-/// size, once it is known, and the moment up to which the packet is waited for.
-impl<B: Storage<u8>, const N: usize> Model for FragmentsOver<B, N> {
-}
-
 impl<B: Storage<u8>, const N: usize> FragmentsOver<B, N> {
     /// Returns an empty buffer over storage of any type, which expires after `expires_at`.
     ///
@@ -68,25 +62,6 @@ impl<B: Storage<u8>, const N: usize> FragmentsOver<B, N> {
             bytes,
             runs: [Run { start: 0, end: 0 }; N],
         }
-    }
-
-    /// Returns the buffer that a head, bytes and runs represent. smoltcp has no such call.
-    ///
-    /// # Panics, unless
-    ///
-    /// They are sound, as `FragmentsHead::is_sound` tests.
-    pub(crate) fn from_parts(head: FragmentsHead, bytes: B, runs: [Run; N]) -> Self {
-        FragmentsOver {
-            head: head.exact(),
-            bytes,
-            runs,
-        }
-    }
-
-    /// Returns the head, the bytes and the runs, which represent the buffer. smoltcp has no such call.
-    pub(crate) fn into_parts(self) -> (FragmentsHead, B, [Run; N]) {
-        let FragmentsOver { head, bytes, runs } = self;
-        (head, bytes, runs)
     }
 
     /// Returns the bytes, as fragments were written to them. smoltcp has no such call.
@@ -107,6 +82,7 @@ impl<B: Storage<u8>, const N: usize> FragmentsOver<B, N> {
     /// # let mut bytes = [0u8; 8];
     /// assert_eq!(FragmentBuffer::new(&mut bytes[..], Instant::ZERO).capacity(), 8);
     /// ```
+    #[must_use]
     pub fn capacity(&self) -> usize {
         self.bytes.count()
     }
@@ -122,6 +98,7 @@ impl<B: Storage<u8>, const N: usize> FragmentsOver<B, N> {
     /// assert!(buffer.add(2, b"").is_ok() && buffer.is_empty());
     /// assert!(buffer.add(2, b"c").is_ok() && !buffer.is_empty());
     /// ```
+    #[must_use]
     pub fn is_empty(&self) -> bool {
         self.head.present.is_empty()
     }
@@ -136,6 +113,7 @@ impl<B: Storage<u8>, const N: usize> FragmentsOver<B, N> {
     /// let buffer = FragmentBuffer::new(&mut bytes[..], Instant::from_millis(5));
     /// assert_eq!(buffer.expires_at(), Instant::from_millis(5));
     /// ```
+    #[must_use]
     pub fn expires_at(&self) -> Instant {
         moment_of(&self.head)
     }
@@ -256,6 +234,7 @@ impl<B: Storage<u8>, const N: usize> FragmentsOver<B, N> {
     }
 
     /// Returns the packet's size, once it is known. smoltcp has no such call.
+    #[must_use]
     pub fn total_size(&self) -> Option<usize> {
         self.head.total_size()
     }
@@ -265,6 +244,7 @@ impl<B: Storage<u8>, const N: usize> FragmentsOver<B, N> {
     ///
     /// It is asked before `add`, by callers who refuse a packet whose fragments overlap (RFC 5722). A
     /// fragment that arrives twice overlaps too: to allow that, ask `differs`. smoltcp has no such call.
+    #[must_use]
     pub fn overlaps(&self, offset: usize, len: usize) -> bool {
         self.head.overlaps(&self.runs, offset, len)
     }
@@ -285,6 +265,7 @@ impl<B: Storage<u8>, const N: usize> FragmentsOver<B, N> {
     /// assert!(buffer.differs(3, b"De") && !buffer.differs(4, b"De"));
     /// # Ok::<(), FragmentError>(())
     /// ```
+    #[must_use]
     pub fn differs(&self, offset: usize, data: &[u8]) -> bool {
         let bytes = self.bytes.part(0, self.bytes.count());
         self.head.differs(bytes, &self.runs, offset, data)
@@ -304,6 +285,7 @@ impl<B: Storage<u8>, const N: usize> FragmentsOver<B, N> {
     /// assert_eq!(buffer.assemble(), Some(&b"abc"[..]));
     /// # Ok::<(), FragmentError>(())
     /// ```
+    #[must_use]
     pub fn assemble(&self) -> Option<&[u8]> {
         match self.head.complete(&self.runs) {
             Some(size) => Some(self.bytes.part(0, size)),
@@ -321,6 +303,7 @@ impl<B: Storage<u8>, const N: usize> FragmentsOver<B, N> {
     /// assert!(!buffer.is_expired(Instant::from_millis(5)));
     /// assert!(buffer.is_expired(Instant::from_micros(5_001)));
     /// ```
+    #[must_use]
     pub fn is_expired(&self, now: Instant) -> bool {
         self.head.is_expired(now.total_micros())
     }

@@ -1,9 +1,9 @@
+// Written by tools/erase.py from crates/net_base/src/time/instant.rt: a change here would be lost.
 //! Moments, in whole microseconds from an origin.
 
 use crate::rattle::prelude::*;
 use crate::proved::net_base::time::{Duration, LONGEST_TEXT};
 use crate::rattle::std::fmt::{self, InlineText, Write};
-use crate::rattle::std::marker::Model;
 use crate::rattle::std::ops::{Add, AddAssign, Sub, SubAssign};
 
 /// A moment, in microseconds since an origin of the user's own, such as the start of the system. A
@@ -26,10 +26,6 @@ pub struct Instant {
     micros: i64,
 }
 
-/// Contracts see the microseconds.
-impl Model for Instant {
-}
-
 impl Instant {
     /// The origin.
     ///
@@ -47,12 +43,14 @@ impl Instant {
     /// assert_eq!(LATER, Instant::from_micros(1_500));
     /// ```
     #[inline]
+    #[must_use]
     pub const fn from_micros_const(micros: i64) -> Instant {
         Instant { micros }
     }
 
     /// Returns whether the value fits; precondition of `from_millis`.
     #[inline]
+    #[must_use]
     pub const fn fits_millis(millis: i64) -> bool {
         matches!(millis.checked_mul(1_000), Some(_))
     }
@@ -65,11 +63,12 @@ impl Instant {
     /// assert_eq!(LATER, Instant::from_micros(5_000));
     /// ```
     ///
-    /// # Panics, unless
+    /// # Panics
     ///
-    /// So many microseconds fit 64 bits with a sign, as `fits_millis` tests.
+    /// Panics unless so many microseconds fit 64 bits with a sign, as `fits_millis` tests.
     #[inline]
     #[track_caller]
+    #[must_use]
     pub const fn from_millis_const(millis: i64) -> Instant {
         prove!(
             Self::fits_millis(millis),
@@ -82,6 +81,7 @@ impl Instant {
 
     /// Returns whether the value fits; precondition of `from_secs`.
     #[inline]
+    #[must_use]
     pub const fn fits_secs(secs: i64) -> bool {
         matches!(secs.checked_mul(1_000_000), Some(_))
     }
@@ -94,11 +94,12 @@ impl Instant {
     /// assert_eq!(LATER, Instant::from_secs(5));
     /// ```
     ///
-    /// # Panics, unless
+    /// # Panics
     ///
-    /// So many microseconds fit 64 bits with a sign, as `fits_secs` tests.
+    /// Panics unless so many microseconds fit 64 bits with a sign, as `fits_secs` tests.
     #[inline]
     #[track_caller]
+    #[must_use]
     pub const fn from_secs_const(secs: i64) -> Instant {
         prove!(Self::fits_secs(secs), "attempt to multiply with overflow");
         Instant {
@@ -113,6 +114,7 @@ impl Instant {
     /// assert_eq!(Instant::from_millis(5_674).millis(), 674);
     /// ```
     #[inline]
+    #[must_use]
     pub const fn millis(&self) -> i64 {
         self.micros() / 1_000
     }
@@ -124,6 +126,7 @@ impl Instant {
     /// assert_eq!(Instant::from_millis(5_674).micros(), 674_000);
     /// ```
     #[inline]
+    #[must_use]
     pub const fn micros(&self) -> i64 {
         self.micros % 1_000_000
     }
@@ -135,6 +138,7 @@ impl Instant {
     /// assert_eq!(Instant::from_millis(5_674).secs(), 5);
     /// ```
     #[inline]
+    #[must_use]
     pub const fn secs(&self) -> i64 {
         self.micros / 1_000_000
     }
@@ -146,6 +150,7 @@ impl Instant {
     /// assert_eq!(Instant::from_micros(5_674).total_millis(), 5);
     /// ```
     #[inline]
+    #[must_use]
     pub const fn total_millis(&self) -> i64 {
         self.micros / 1_000
     }
@@ -157,18 +162,21 @@ impl Instant {
     /// assert_eq!(Instant::from_millis(5).total_micros(), 5_000);
     /// ```
     #[inline]
+    #[must_use]
     pub const fn total_micros(&self) -> i64 {
         self.micros
     }
 
     /// Returns whether the sum fits: whether `+` and `+=` don't saturate.
     #[inline]
+    #[must_use]
     pub fn can_add(&self, duration: Duration) -> bool {
         self.checked_add(duration).is_some()
     }
 
     /// Returns whether the difference fits: whether `-` and `-=` don't saturate.
     #[inline]
+    #[must_use]
     pub fn can_sub(&self, duration: Duration) -> bool {
         self.checked_sub(duration).is_some()
     }
@@ -181,6 +189,7 @@ impl Instant {
     /// assert_eq!(last.checked_add(Duration::from_micros(1)), None);
     /// ```
     #[inline]
+    #[must_use]
     pub fn checked_add(&self, duration: Duration) -> Option<Instant> {
         match self.micros.checked_add_unsigned(duration.total_micros()) {
             Some(micros) => Some(Instant { micros }),
@@ -196,6 +205,7 @@ impl Instant {
     /// assert_eq!(first.checked_sub(Duration::from_micros(1)), None);
     /// ```
     #[inline]
+    #[must_use]
     pub fn checked_sub(&self, duration: Duration) -> Option<Instant> {
         match self.micros.checked_sub_unsigned(duration.total_micros()) {
             Some(micros) => Some(Instant { micros }),
@@ -216,6 +226,7 @@ impl Instant {
     /// assert_eq!(moment, Instant::from_micros(i64::MAX));
     /// ```
     #[inline]
+    #[must_use]
     pub fn saturating_add(&self, duration: Duration) -> Instant {
         let micros = self.micros.wrapping_add_unsigned(duration.total_micros());
         if micros < self.micros {
@@ -232,6 +243,7 @@ impl Instant {
     /// assert_eq!(moment, Instant::from_micros(i64::MIN));
     /// ```
     #[inline]
+    #[must_use]
     pub fn saturating_sub(&self, duration: Duration) -> Instant {
         let micros = self.micros.wrapping_sub_unsigned(duration.total_micros());
         if micros > self.micros {
@@ -249,6 +261,7 @@ impl Instant {
     /// assert_eq!(sent.saturating_duration_since(answered), Duration::ZERO);
     /// ```
     #[inline]
+    #[must_use]
     pub fn saturating_duration_since(&self, earlier: Instant) -> Duration {
         if self.micros < earlier.micros {
             return Duration::ZERO;

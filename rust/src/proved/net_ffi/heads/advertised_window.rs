@@ -1,10 +1,7 @@
-use crate::rattle::prelude::*;
+// Written by tools/erase.py from crates/net_ffi/src/heads/advertised_window.rt: a change here would be lost.
 // Written by tools/ffi.py.
 
-use crate::proved::net_ffi::refusals::{
-    NET_BASE_ACKNOWLEDGEMENT_ONLY, NET_BASE_ANSWER, NET_BASE_IGNORE, NET_BASE_RESET, NET_BASE_TAKE,
-    Status,
-};
+use crate::proved::net_ffi::refusals::Status;
 use crate::proved::net_ffi::results::number_of;
 use crate::proved::net_tcp::{AdvertisedWindow, Segment};
 

@@ -1,4 +1,4 @@
-use crate::rattle::prelude::*;
+// Written by tools/erase.py from crates/net_ffi/src/heads/assembler.rt: a change here would be lost.
 // Written by tools/ffi.py.
 
 use crate::proved::net_ffi::refusals::{NET_BASE_DONE, NET_BASE_REFUSED, Status, refused_front_length, refused_run};

@@ -1,4 +1,4 @@
-use crate::rattle::prelude::*;
+// Written by tools/erase.py from crates/net_ffi/src/heads/fragments.rt: a change here would be lost.
 // Written by tools/ffi.py.
 
 use crate::proved::net_ffi::fragments::is_plausible;

@@ -1,4 +1,4 @@
-use crate::rattle::prelude::*;
+// Written by tools/erase.py from crates/net_ffi/src/heads/parts_sum.rt: a change here would be lost.
 // Written by tools/ffi.py.
 
 use crate::proved::net_tcp::PartsSum;

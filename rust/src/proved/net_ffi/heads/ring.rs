@@ -1,4 +1,4 @@
-use crate::rattle::prelude::*;
+// Written by tools/erase.py from crates/net_ffi/src/heads/ring.rt: a change here would be lost.
 // Written by tools/ffi.py.
 
 use crate::proved::net_ffi::refusals::{no_number, refused_span};

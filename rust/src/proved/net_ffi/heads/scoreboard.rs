@@ -1,10 +1,10 @@
-use crate::rattle::prelude::*;
+// Written by tools/erase.py from crates/net_ffi/src/heads/scoreboard.rt: a change here would be lost.
 // Written by tools/ffi.py.
 
 use crate::proved::net_ffi::refusals::{NET_BASE_DONE, NET_BASE_REFUSED, Status, no_number, refused_hole};
 use crate::proved::net_ffi::results::{Hole, status_of_report};
 use crate::proved::net_assembler::Run;
-use crate::proved::net_receiver::{ReportError, ScoreboardHead};
+use crate::proved::net_receiver::ScoreboardHead;
 
 #[inline(always)]
 pub fn net_base_scoreboard_init(scoreboard: &mut ScoreboardHead, first: u64) {

@@ -1,3 +1,4 @@
+// Written by tools/erase.py from crates/net_base/src/storage/fragments/head.rt: a change here would be lost.
 //! The head of a buffer of fragments: what it has besides its bytes and runs, which each call takes as slices.
 
 use crate::rattle::prelude::*;
@@ -77,19 +78,6 @@ impl FragmentsHead {
         }
     }
 
-    /// Returns the exact head of the same buffer.
-    pub(crate) fn exact(self) -> Self {
-        let mut head = FragmentsHead::new(self.expires_at);
-        if !self.present.is_empty() {
-            head.present = self.present;
-        }
-        if self.has_total != 0 {
-            head.has_total = 1;
-            head.total = self.total;
-        }
-        head
-    }
-
     /// Adds a fragment, whose first byte is that of the packet at `offset`. One without bytes has
     /// its end at `offset`, and adds nothing.
     ///
@@ -97,7 +85,7 @@ impl FragmentsHead {
     /// else `OtherSize` if it reaches past a known size, or else `TooManyHoles` if there would be
     /// more runs than the slice has elements.
     ///
-    /// # Panics, unless
+    /// # Requires
     ///
     /// Head, bytes and runs are those of a buffer.
     pub fn add(
@@ -126,7 +114,7 @@ impl FragmentsHead {
     /// Adds a fragment, as `add` does, and takes its end as the packet's if it is the last one. If it is
     /// refused, nothing changes.
     ///
-    /// # Panics, unless
+    /// # Requires
     ///
     /// Head, bytes and runs are those of a buffer.
     pub(crate) fn add_fragment(
@@ -159,7 +147,7 @@ impl FragmentsHead {
     ///
     /// It is refused as `add_fragment` refuses it in an empty buffer.
     ///
-    /// # Panics, unless
+    /// # Requires
     ///
     /// Head, bytes and runs are those of a buffer.
     pub(crate) fn reset_with(
@@ -182,7 +170,7 @@ impl FragmentsHead {
     /// Returns `TooLong`, and changes nothing, if the buffer has fewer bytes, or else `OtherSize`
     /// if another size is known, or a byte at `size` or above has arrived.
     ///
-    /// # Panics, unless
+    /// # Requires
     ///
     /// The runs are sound.
     pub fn set_total_size(
@@ -222,7 +210,7 @@ impl FragmentsHead {
     /// It is asked before `add`, by callers who refuse a packet whose fragments overlap (RFC 5722). A
     /// fragment that arrives twice overlaps too.
     ///
-    /// # Panics, unless
+    /// # Requires
     ///
     /// The runs are sound.
     pub fn overlaps(&self, runs: &[Run], offset: usize, len: usize) -> bool {
@@ -238,7 +226,7 @@ impl FragmentsHead {
     /// Returns whether a byte that arrived differs from that of the fragment whose first byte is that of the packet at
     /// `offset`. The fragment need not be within the buffer.
     ///
-    /// # Panics, unless
+    /// # Requires
     ///
     /// Head, bytes and runs are those of a buffer.
     pub fn differs(&self, bytes: &[u8], runs: &[Run], offset: usize, data: &[u8]) -> bool {
@@ -254,7 +242,7 @@ impl FragmentsHead {
     /// Returns the packet's size, if it is known and all its bytes have arrived: they are the first
     /// ones of the buffer.
     ///
-    /// # Panics, unless
+    /// # Requires
     ///
     /// The runs are sound.
     pub fn complete(&self, runs: &[Run]) -> Option<usize> {

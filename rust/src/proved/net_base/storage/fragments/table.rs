@@ -1,3 +1,4 @@
+// Written by tools/erase.py from crates/net_base/src/storage/fragments/table.rt: a change here would be lost.
 //! Packets that arrive in fragments from several sources at a time: a buffer for each key.
 //!
 //! The slots are lent: as many packets are reassembled at a time. smoltcp has such a table of its own
@@ -69,7 +70,7 @@ impl<K: Copy + Eq, B: Storage<u8>, const N: usize> FragmentSlot<K, B, N> {
     /// Returns a free slot over the bytes, whose buffer is empty and expires after the origin.
     ///
     /// A program in which `N` is 0 does not compile.
-    pub fn over(bytes: B) -> Self {
+    pub const fn over(bytes: B) -> Self {
         prove!(N >= 1, "N is at least 1");
         FragmentSlot {
             key: None,
@@ -78,6 +79,7 @@ impl<K: Copy + Eq, B: Storage<u8>, const N: usize> FragmentSlot<K, B, N> {
     }
 
     /// Returns whether the slot is for the packet of this key.
+    #[must_use]
     pub fn is_for(&self, key: K) -> bool {
         match &self.key {
             Some(own) => *own == key,

@@ -1,0 +1,114 @@
+use Rattle.std.proofs.Common.{◌≡◌, ◌∙◌, ◌-◌, ◌≤◌, arith, drop, length, refl}
+use Rattle.net_assembler.specs.Turns.{binary_digits}
+use Rattle.net_assembler.proofs.Calls.{below_binary_digits}
+use Rattle.net_assembler.specs.Positions.{present_count}
+use Rattle.net_assembler.specs.RunLists.{set_of, used_runs}
+use Rattle.net_assembler.proofs.Searches.{next_overlap, no_overlap, overlap, overlap_set, overlap_usize, skipped_overlap}
+use Rattle.net_assembler.proofs.assembler.head.AssemblerHead.count_between.Goals as goal
+
+pub loop-k-init : goal.loop-k-init
+loop-k-init c =
+    let by = c.runs_starting_by.ensures in
+    let skipped = skipped_overlap c.args.runs.now c.args.self.now.used c.requires.runs c.requires.room c.runs_starting_by.result
+    c.saturating_sub-first.result c.saturating_sub-from.result c.saturating_sub-to.result by.within c.saturating_sub-first.ensures (λ k l. by.before k (omega arith) l) in
+    record { counted = omega (arith, skipped); looks = refl; moves = refl }
+
+pub overflow_add-count : goal.overflow_add-count
+overflow_add-count c =
+    let h = c.args.self.now in
+    let xs = c.args.runs.now in
+    let next = next_overlap xs h.used c.requires.runs c.requires.room c.loop-k.k c.saturating_sub-from.result c.saturating_sub-to.result c.loop-k-test.true in
+    omega (
+      arith,
+      next,
+      c.loop-k.invariant.counted,
+      overlap_usize h xs c.requires c.saturating_sub-from.result c.saturating_sub-to.result,
+      c.saturating_sub-count.ensures,
+      c.min.ensures,
+      c.max.ensures,
+      c.end_of.ensures,
+      c.start_of-start.ensures,
+    )
+
+pub prove-unreachable-requires : goal.prove-unreachable-requires
+prove-unreachable-requires c =
+    let h = c.args.self.now in
+    let xs = c.args.runs.now in
+    let next = next_overlap xs h.used c.requires.runs c.requires.room c.loop-k.k c.saturating_sub-from.result c.saturating_sub-to.result c.loop-k-test.true in
+    omega (
+      arith,
+      next,
+      c.loop-k.invariant.counted,
+      overlap_usize h xs c.requires c.saturating_sub-from.result c.saturating_sub-to.result,
+      c.saturating_sub-count.ensures,
+      c.min.ensures,
+      c.max.ensures,
+      c.end_of.ensures,
+      c.start_of-start.ensures,
+      c.most.ensures.greatest,
+      c.if-prove.true,
+    )
+
+pub returns-then-start-to : goal.returns-then-start-to
+returns-then-start-to c =
+    let h = c.args.self.now in
+    let xs = c.args.runs.now in
+    let all = (λ i. overlap (used_runs h xs) (c.saturating_sub-from.ensures i) (c.saturating_sub-to.ensures i)) ∙ overlap_set h xs c.requires c.args.start c.args.end in
+    let none = no_overlap xs h.used c.requires.runs c.requires.room c.loop-k.k c.saturating_sub-from.result c.saturating_sub-to.result (omega (arith, c.loop-k-test.true))
+    (λ _. omega (arith, c.if-start-to.true, c.start_of-start.ensures)) in
+    omega (arith, none, c.loop-k.invariant.counted) ∙ all
+
+pub returns : goal.returns
+returns c =
+    let h = c.args.self.now in
+    let xs = c.args.runs.now in
+    let all = (λ i. overlap (used_runs h xs) (c.saturating_sub-from.ensures i) (c.saturating_sub-to.ensures i)) ∙ overlap_set h xs c.requires c.args.start c.args.end in
+    let none = no_overlap xs h.used c.requires.runs c.requires.room c.loop-k.k c.saturating_sub-from.result c.saturating_sub-to.result (omega (arith, c.loop-k.auto, c.runs_starting_by.ensures.within, c.saturating_sub-first.ensures))
+    (λ l. absurd (omega (arith, c.loop-k-test.false, l))) in
+    omega (arith, none, c.loop-k.invariant.counted) ∙ all
+
+pub loop-k-preserved : goal.loop-k-preserved
+loop-k-preserved c =
+    let h = c.args.self.now in
+    let xs = c.args.runs.now in
+    let next = next_overlap xs h.used c.requires.runs c.requires.room c.loop-k.k c.saturating_sub-from.result c.saturating_sub-to.result c.loop-k-test.true in
+    record {
+      counted = omega (arith, next, c.loop-k.invariant.counted, c.saturating_sub-count.ensures, c.min.ensures, c.max.ensures, c.end_of.ensures, c.start_of-start.ensures);
+      looks = omega (arith, c.loop-k.invariant.looks, c.step.ensures.looks);
+      moves = omega (arith, c.loop-k.invariant.moves, c.step.ensures.moves);
+    }
+
+pub were_a_search_and_a_pass-requires : goal.were_a_search_and_a_pass-requires
+were_a_search_and_a_pass-requires c =
+    let n = length c.args.runs.now in
+    let by = c.runs_starting_by.ensures in
+    omega (
+      arith,
+      by.looks (binary_digits n) (omega (arith, below_binary_digits n, c.requires.room)),
+      by.moves,
+      c.new-turns.ensures.looks,
+      c.new-turns.ensures.moves,
+      c.loop-k.invariant.looks,
+      c.loop-k.invariant.moves,
+      c.step.ensures.looks,
+      c.step.ensures.moves,
+      c.loop-k-test.true,
+      c.requires.room,
+    )
+
+pub were_a_search_and_a_pass-requires-2 : goal.were_a_search_and_a_pass-requires-2
+were_a_search_and_a_pass-requires-2 c =
+    let n = length c.args.runs.now in
+    let by = c.runs_starting_by.ensures in
+    let few : c.loop-k.k ≤ c.args.self.now.used = omega (arith, c.loop-k.auto, by.within, c.saturating_sub-first.ensures) in
+    omega (
+      arith,
+      by.looks (binary_digits n) (omega (arith, below_binary_digits n, c.requires.room)),
+      by.moves,
+      c.new-turns.ensures.looks,
+      c.new-turns.ensures.moves,
+      c.loop-k.invariant.looks,
+      c.loop-k.invariant.moves,
+      few,
+      c.requires.room,
+    )

@@ -1,0 +1,248 @@
+-- The sending end of a connection: a sender, what was reported of it, its recovery, its timer, and the peer's window.
+--     End      the machine
+--     first e, end e      the first number that isn't acknowledged, and the one after the last
+--     is_acceptable e ack      whether a segment may acknowledge that (RFC 5961)
+--     timer_after, peer_after, greatest_after      what an acknowledgement leaves
+--     is_shut e, limit e      whether a probe may be sent; the end of what may be
+--     asks e      whether the next segment is a probe
+--     Event, after_event, after_events      what happens to an end, and what that leaves
+--     commands      the sender's commands that they come to
+--     Run, run      an end, the greatest edge that the peer gave, and what was sent
+use Rattle.std.specs.Prelude.{◌≡◌, ℕ, ℤ, ◌+◌, ◌-◌, ◌<◌, ◌≤◌, ◌⊎◌, min, max, Option, Some, None, is_some}
+use Rattle.std.specs.Prelude.{Bool, true, false, not, ◌&&◌, nat_lt, nat_le, nat_eq, IsTrue, if◌then◌else◌, List, []}
+use Rattle.std.specs.Prelude.{◌∷◌, ◌++◌, All}
+use Rattle.std.specs.Coded.{Coded, coded_ℕ}
+use Rattle.std.specs.Int.{from_bool}
+use Rattle.std.specs.FinSet as set
+use Rattle.net_assembler.specs.Positions.{Positions, contains, with_range, nothing}
+use Rattle.net_recovery.specs.LossRecovery.{begun as begun_recovery, forgotten}
+use Rattle.net_tcp.specs.Retransmission.{after_acknowledged, with_sample, after_expiry, after_sending, started}
+use Rattle.net_tcp.specs.Retransmission.{after_report, has_expired, has_ended, expiry}
+use Rattle.net_tcp.specs.Windows.{after_update, replaces}
+use Rattle.net_tcp.specs.declared.peer_window.PeerWindow.{PeerWindow}
+use Rattle.net_tcp.specs.declared.retransmission.TimeoutBounds.{TimeoutBounds}
+use Rattle.net_tcp.specs.declared.retransmission_timer.TimedSegment.{TimedSegment}
+use Rattle.net_tcp.specs.declared.retransmission_timer.RetransmissionTimer.{RetransmissionTimer}
+use Rattle.net_recovery.specs.declared.loss_recovery.LossRecovery.{LossRecovery}
+use Rattle.net_ends.specs.declared.sending_end.Acknowledged.{Acknowledged}
+use Rattle.net_ends.specs.declared.sending_end.Acknowledged.TheVariants.{Refused, Old, New, Begins}
+use Rattle.net_receiver.specs.FiniteSender.{FiniteSenderState, first_number, numbers_end, accepts, SenderCommand}
+use Rattle.net_receiver.specs.FiniteSender.{Writes, Closes, Marks, Acknowledges, sender_after_command}
+
+-- the positions as a code
+abbrev pub positions_code : Coded Positions
+positions_code = set.code coded_ℕ
+
+pub record End : Type 0 where
+  pub sender : FiniteSenderState
+  pub reported : Positions
+  pub recovery : LossRecovery
+  pub timer : RetransmissionTimer
+  pub bounds : TimeoutBounds
+  pub peer : PeerWindow
+  pub greatest : ℕ
+  pub size : ℕ
+  pub probes : Bool
+  pub overdue : Bool
+
+abbrev pub first : End → ℕ
+first e = first_number e.sender
+
+abbrev pub end : End → ℕ
+end e = numbers_end e.sender
+
+-- ---- an acknowledgement
+-- it isn't above what was sent, nor below the first unacknowledged number by more than the greatest window
+abbrev pub is_acceptable : End → ℕ → Bool
+is_acceptable e ack = nat_le (first e) (ack + e.greatest) && nat_le ack e.sender.sent
+
+-- whether a block reports what wasn't known
+abbrev pub reports_of : Acknowledged → Bool
+reports_of (New n says) = says
+reports_of (Begins n says) = says
+reports_of Refused = false
+reports_of Old = false
+
+abbrev pub told : Bool → ℤ → RetransmissionTimer → RetransmissionTimer
+told says now t = if says then after_report now t else t
+
+abbrev pub is_in : Positions → Option TimedSegment → Bool
+is_in s None = false
+is_in s (Some t) = contains s t.pos
+
+-- a timed segment that is reported gives its sample; then the acknowledgement is the timer's, and then what a block says
+-- that is new
+abbrev pub timer_after : End → Positions → Bool → ℕ → ℤ → RetransmissionTimer
+timer_after e s says ack now = if accepts e.sender ack
+    then told says now (after_acknowledged e.bounds (first e) e.sender.sent ack now
+    (if is_in s e.timer.timed then with_sample e.bounds now e.timer else e.timer))
+    else e.timer
+
+-- the window is taken of what is acknowledged, and of nothing else
+abbrev pub peer_after : End → ℕ → ℕ → ℕ → PeerWindow
+peer_after e seq ack window = after_update e.peer (first e) e.sender.sent seq ack window
+
+-- of one peer's window, with what `update` takes of it
+abbrev pub greatest_of : PeerWindow → ℕ → ℕ → ℕ → ℕ → ℕ → ℕ → ℕ
+greatest_of w greatest first sent seq ack window =
+    if nat_le first ack && nat_le ack sent && replaces w seq ack then max greatest window else greatest
+
+abbrev pub greatest_after : End → ℕ → ℕ → ℕ → ℕ
+greatest_after e seq ack window =
+    greatest_of e.peer e.greatest (first e) e.sender.sent seq ack window
+
+-- ---- what is sent
+abbrev pub is_shut : End → Bool
+is_shut e = nat_le e.peer.edge (first e) && nat_lt (first e) (end e)
+
+abbrev pub asks : End → Bool
+asks e = e.probes && is_shut e
+
+-- one number of a shut window, if the timer has ended; else what the peer's window has room for
+abbrev pub limit : End → ℕ
+limit e = if asks e then first e + 1 else min e.peer.edge (end e)
+
+-- a range that may be sent: a probe is the first number alone
+abbrev pub may_send : End → ℕ → ℕ → Bool
+may_send e from to = nat_lt from to && nat_le to (limit e) && nat_le (first e) from
+
+-- while something waits the timer runs
+abbrev pub waiting : End → ℤ → RetransmissionTimer
+waiting e now = if nat_lt (first e) (end e) then started now e.timer else e.timer
+
+-- whether the timeout has passed
+abbrev pub has_timed_out : End → ℤ → Bool
+has_timed_out e now = has_ended e.timer now
+
+-- all that was sent is lost, and what was reported counts no more if the peer has dropped it
+abbrev pub all_lost : End → End
+all_lost e = record e {
+  reported = if contains e.reported (first e) then with_range nothing 0 (first e) else e.reported;
+  recovery = begun_recovery (first e) e.sender.sent e.sender.sent (forgotten e.recovery);
+  probes = is_shut e;
+  overdue = false;
+}
+
+-- so it is where the timeout has passed
+abbrev pub timed_out : End → ℤ → End
+timed_out e now = all_lost (record e { timer = after_expiry e.bounds now e.timer })
+
+-- ---- what happens
+-- bytes are written, the stream is closed, an acknowledgement comes, from whomever, with what is reported then and the
+-- recovery that it leaves, and whether a block says what is new; the timer is looked at; and a range is sent, with the recovery that it leaves, or none
+pub data Event : Type 0 where
+  Wrote : List ℕ → Event
+  Shut : Event
+  Heard : Positions → LossRecovery → Bool → ℕ → ℕ → ℕ → ℤ → Event
+  Looked : Positions → LossRecovery → ℤ → Event
+  Sent : LossRecovery → ℕ → ℕ → ℤ → Event
+  Rested : ℤ → Event
+
+abbrev pub after_event : End → Event → End
+after_event e (Wrote xs) = record e { sender = sender_after_command e.sender (Writes xs) }
+after_event e Shut = record e { sender = sender_after_command e.sender Closes }
+after_event e (Heard s r says seq ack window now) = record e {
+  sender = sender_after_command e.sender (Acknowledges ack);
+  reported = s;
+  recovery = r;
+  timer = timer_after e s says ack now;
+  peer = peer_after e seq ack window;
+  greatest = greatest_after e seq ack window;
+}
+after_event e (Looked s r now) =
+    if has_expired e.timer now
+    then record e {
+      reported = s;
+      recovery = r;
+      timer = after_expiry e.bounds now e.timer;
+      probes = is_shut e && has_ended e.timer now;
+      overdue = not (has_ended e.timer now) && not (is_shut e);
+    } else e
+after_event e (Sent r from to now) =
+    if may_send e from to
+    then record e {
+      sender = sender_after_command e.sender (Marks to);
+      recovery = r;
+      timer = after_sending e.bounds from to (first e) e.sender.sent now e.timer;
+      probes = false;
+      overdue = false;
+    } else e
+after_event e (Rested now) = record e { timer = waiting e now }
+
+abbrev pub after_events : End → List Event → End
+after_events e [] = e
+after_events e (v ∷ vs) = after_events (after_event e v) vs
+
+-- the sender's commands that they come to
+abbrev pub commands_of : End → Event → List SenderCommand
+commands_of e (Wrote xs) = Writes xs ∷ []
+commands_of e Shut = Closes ∷ []
+commands_of e (Heard s r says seq ack window now) = Acknowledges ack ∷ []
+commands_of e (Looked s r now) = []
+commands_of e (Sent r from to now) = if may_send e from to then Marks to ∷ [] else []
+commands_of e (Rested now) = []
+
+abbrev pub commands : End → List Event → List SenderCommand
+commands e [] = []
+commands e (v ∷ vs) = commands_of e v ++ commands (after_event e v) vs
+
+-- ---- what was sent
+-- a range, with the first number that wasn't acknowledged then, and the greatest edge that the peer had given
+pub record SentRange : Type 0 where
+  pub from : ℕ
+  pub to : ℕ
+  pub first : ℕ
+  pub edge : ℕ
+
+pub record Run : Type 0 where
+  pub end : End
+  pub edge : ℕ
+  pub log : List SentRange
+
+abbrev pub sends_of : Run → Event → List SentRange
+sends_of u (Sent r from to now) = if may_send u.end from to
+    then record { from = from; to = to; first = first u.end; edge = u.edge } ∷ u.log else u.log
+sends_of u _ = u.log
+
+abbrev pub run_on : Run → Event → Run
+run_on u v = let e = after_event u.end v in
+    record { end = e; edge = max u.edge e.peer.edge; log = sends_of u v }
+
+abbrev pub run : Run → List Event → Run
+run u [] = u
+run u (v ∷ vs) = run (run_on u v) vs
+
+-- nothing was sent
+abbrev pub begun : End → Run
+begun e = record { end = e; edge = e.peer.edge; log = [] }
+
+-- it is within the greatest edge, or a probe
+abbrev pub IsAllowed : SentRange → Type 0
+IsAllowed r = (r.to ≤ r.edge) ⊎ ((r.from ≡ r.first) × (r.to ≡ r.first + 1))
+
+-- something that was sent isn't acknowledged
+abbrev pub IsUnacknowledged : End → Type 0
+IsUnacknowledged e = first e < e.sender.sent
+
+abbrev pub runs : End → Bool
+runs e = is_some e.timer.ends_at
+
+-- how much isn't acknowledged
+abbrev pub rest : End → ℕ
+rest e = end e - first e
+
+-- ---- progress
+-- an acknowledgement of something new
+abbrev pub is_news : End → Event → Bool
+is_news e (Heard s r says seq ack window now) = accepts e.sender ack && nat_lt (first e) ack
+is_news e _ = false
+
+abbrev pub news : End → List Event → ℕ
+news e [] = 0
+news e (v ∷ vs) = from_bool (is_news e v) + news (after_event e v) vs
+
+-- nothing more is to be sent
+abbrev pub IsNoWrite : Event → Type 0
+IsNoWrite (Wrote xs) = ⊥
+IsNoWrite Shut = ⊥
+IsNoWrite _ = Unit {0}

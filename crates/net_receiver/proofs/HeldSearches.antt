@@ -1,0 +1,105 @@
+-- What a search in the held runs of a receiver says of a position.
+use Rattle.std.proofs.lemmas.Bool.Decides.{nat_tests}
+use Rattle.net_receiver.proofs.Words.{◌≡◌, ◌⊎◌, inl, inr, ℕ, zero, suc, ◌+◌, ◌-◌, ◌<◌, ◌≤◌, ◌^◌, min, false, List, [], ◌∷◌}
+use Rattle.net_receiver.proofs.Words.{length, Some, None, slice_get, get_or, refl, sym, ap, subst, ◌∙◌, arith, find}
+use Rattle.net_receiver.proofs.Words.{cond-true, cond-false, cases_lt, Positions, contains, maximal_runs, lies_in}
+use Rattle.net_receiver.proofs.Words.{IsMaximalRun, IsTrue, IsRising, run_at, shift_up, runs_shifted_up, maximal_runs-shift_up}
+use Rattle.net_receiver.proofs.Words.{end_at}
+use Rattle.std.proofs.lemmas.List.Elements.{All-get_or}
+use Rattle.std.proofs.lemmas.Option.{slice_get_within, slice_get-get_or, get_or_from_slice_get}
+use Rattle.net_assembler.specs.RunLists.{SplitsRuns, start_at}
+use Rattle.net_assembler.proofs.Joins.{apart, at_run, ends_rise}
+use Rattle.net_assembler.proofs.Runs.{are_maximal_runs, rising-maximal_runs}
+use Rattle.net_assembler.proofs.ShiftedRuns.{end_at-up, get_or-up, length-up, start_at-up}
+use Rattle.net_receiver.proofs.NewestRuns.{lies_from}
+
+lacks : (p : ℕ) (r : ℕ × ℕ) → (p < r.0) ⊎ (r.1 ≤ p) → lies_in p r ≡ false
+lacks p r (inl l) = grind (arith, nat_tests)
+lacks p r (inr l) = grind (arith, nat_tests)
+
+-- the first of rising runs that has a position is the run k
+find_at : (low : ℕ) (rs : List (ℕ × ℕ)) (k p : ℕ) → IsRising low rs → k < length rs → start_at rs k ≤ p → p < end_at rs k →
+    find (lies_in p) rs ≡ Some (get_or rs k (0, 0))
+find_at low [] k p h l a b = absurd (omega (arith, l))
+find_at low (r ∷ rs) zero p h l a b = cond-true _ _ _ (lies_from p r a b)
+find_at low (r ∷ rs) (suc k) p h l a b =
+    let next = apart low (r ∷ rs) 0 (suc k) h (omega arith) l in
+    cond-false _ _ _ (lacks p r (inr (omega (arith, next, a)))) ∙ find_at (r.1 + 1) rs k p h.2 (omega (arith, l)) a b
+
+-- or none has it
+find_none : (rs : List (ℕ × ℕ)) (p : ℕ) → ((k : ℕ) → k < length rs → (p < start_at rs k) ⊎ (end_at rs k ≤ p)) →
+    find (lies_in p) rs ≡ None
+find_none [] p off = refl
+find_none (r ∷ rs) p off =
+    cond-false _ _ _ (lacks p r (off 0 (omega arith))) ∙ find_none rs p (λ k l. off (suc k) (omega (arith, l)))
+
+-- held positions, counted from the next one
+module _ (next top : ℕ) (s : Positions) (under : (p : ℕ) → IsTrue (contains s p) → p < top) where
+  abbrev rs : List (ℕ × ℕ)
+  rs = maximal_runs s
+
+  abbrev all : List (ℕ × ℕ)
+  all = runs_shifted_up next rs
+
+  is_all : maximal_runs (shift_up s next) ≡ all
+  is_all = maximal_runs-shift_up s next
+
+  rising : IsRising 0 all
+  rising = subst (IsRising 0) is_all (rising-maximal_runs (shift_up s next))
+
+  ends : (k : ℕ) → k < length rs → (start_at rs k < end_at rs k) × (end_at rs k ≤ top)
+  ends k l =
+      let run = All-get_or (IsMaximalRun s) rs k (0, 0) l (are_maximal_runs s).maximal in
+      let some = run.some in
+      (some, omega (arith, under (end_at rs k - 1) (run.inside (end_at rs k - 1) (omega (arith, some)) (omega (arith, some)))))
+
+  -- a position before all
+  pub before_all : (p : ℕ) → p < next → None ≡ run_at (shift_up s next) p
+  before_all p l =
+      sym (ap (find (lies_in p)) is_all ∙ find_none all p (λ k b.
+      let used : k < length rs = omega (arith, b, length-up next rs) in inl (omega (arith, start_at-up next rs k used, l))))
+
+  module _ (p o n : ℕ) (from : next ≤ p) (is : o ≡ min (p - next) top) (split : SplitsRuns rs o n) where
+    -- where the last run that starts by then ends by then
+    pub none_has : (0 < n → end_at rs (n - 1) ≤ o) → None ≡ run_at (shift_up s next) p
+    none_has last =
+        sym (ap (find (lies_in p)) is_all ∙ find_none all p (λ k b.
+        let used : k < length rs = omega (arith, b, length-up next rs) in
+        elim (cases_lt k n) [
+          | inl before ↦ inr (
+              let rise = ends_rise 0 rs k (n - 1) (rising-maximal_runs s) (omega (arith, before)) (omega (arith, before, split.few)) in
+              omega (arith, end_at-up next rs k used, rise, last (omega (arith, before)), is, from))
+          | inr after ↦ inl (
+              let run = ends k used in
+              omega (arith, start_at-up next rs k used, split.after k after used, run.0, run.1, is, from))
+        ]))
+
+    -- or it has the position
+    module _ (start end : ℕ) (some : 0 < n) (found : Some (start, end) ≡ slice_get rs (n - 1)) where
+      within : n - 1 < length rs
+      within = slice_get_within rs (n - 1) (start, end) (sym found)
+
+      item : get_or rs (n - 1) (0, 0) ≡ (start, end)
+      item = get_or_from_slice_get rs (n - 1) (start, end) (0, 0) (sym found)
+
+      pub end_is : end_at rs (n - 1) ≡ end
+      end_is = ap (λ (r : ℕ × ℕ). r.1) item
+
+      pub one_has : o < end → Some (next + start, next + end) ≡ run_at (shift_up s next) p
+      one_has l =
+          let run = ends (n - 1) within in
+          let by = split.before (n - 1) (omega (arith, some)) in
+          sym (ap (find (lies_in p)) is_all
+          ∙ find_at 0 all (n - 1) p rising (omega (arith, within, length-up next rs))
+          (omega (arith, start_at-up next rs (n - 1) within, by, is, from))
+          (omega (arith, end_at-up next rs (n - 1) within, end_is, l, is, from, run.1))
+          ∙ ap Some (get_or-up next rs (n - 1) within ∙ ap (λ (r : ℕ × ℕ). (next + r.0, next + r.1)) item))
+
+      pub ends_fit : ((q : ℕ) → IsTrue (contains s q) → next + q + 1 < 2 ^ 64) → (start < end) × (next + end < 2 ^ 64)
+      ends_fit fits =
+          let run = subst (IsMaximalRun s) item (All-get_or (IsMaximalRun s) rs (n - 1) (0, 0) within (are_maximal_runs s).maximal) in
+          let some = run.some in
+          (some, omega (arith, fits (end - 1) (run.inside (end - 1) (omega (arith, some)) (omega (arith, some))), some))
+
+    pub none_stored : 0 < n → None ≡ slice_get rs (n - 1) → ⊥
+    none_stored some none = let there = slice_get-get_or rs (n - 1) (0, 0) (omega (arith, some, split.few)) in absurd (cc)

@@ -1,0 +1,258 @@
+//! The two ends of a connection: whatever arrives, forged acknowledgements too, what is sent is what was written, nothing is
+//! sent beyond the peer's edge but a probe, and a timer runs while anything waits.
+#![cfg(feature = "alloc")]
+use net_base::ends::{Acknowledged, Expired, ReceivingEnd, SendingEnd};
+use net_base::rand::Rand;
+use net_base::tcp::{Announcement, TimeoutBounds};
+use net_base::time::{Duration, Instant};
+
+const RUNS: u32 = if cfg!(target_pointer_width = "64") { 20_000 } else { 200 };
+
+fn byte(at: u64) -> u8 {
+    (at ^ (at / 251)) as u8
+}
+
+const SECOND: Duration = Duration::from_secs(1);
+
+/// One of these, by chance.
+fn any<const K: usize>(rand: &mut Rand, of: [u64; K]) -> u64 {
+    of[rand.below(K as u32) as usize]
+}
+
+#[test]
+fn whatever_arrives() {
+    for seed in 0..RUNS {
+        let rand = &mut Rand::new(seed.into());
+        let first = any(rand, [0, 1, 1 << 32, u64::MAX - 40]);
+        let capacity = any(rand, [0, 1, 7, 100]) as usize;
+        let mut end =
+            SendingEnd::<4>::new_at(vec![0; capacity], first, SECOND, TimeoutBounds::default());
+        let window = any(rand, [0, 1, 50, u64::MAX]);
+        end.open(
+            Announcement { seq: 0, ack: first, window },
+            any(rand, [0, 1, 5, 1_000]) as usize,
+            any(rand, [0, 1]) == 1,
+        );
+        let mut edge = first.saturating_add(window);
+        let (mut written, mut closed, mut now) = (first, false, Instant::ZERO);
+        for _step in 0..60 {
+            let numbers = end.numbers();
+            assert!(numbers.first_unacknowledged <= numbers.sent);
+            let wild = rand.rand_u32();
+            match rand.below(5) {
+                0 => {
+                    let bytes =
+                        (0..20).map(|at| byte(written.wrapping_add(at))).collect::<Vec<_>>();
+                    let room = end.window();
+                    let count = end.write(&bytes);
+                    assert_eq!(count, room.min(bytes.len()));
+                    written += count as u64;
+                    if wild % 20 == 0 {
+                        end.close();
+                        closed = true;
+                    }
+                }
+                1 | 2 => {
+                    let (una, sent) = (numbers.first_unacknowledged, numbers.sent);
+                    let mid = una + u64::from(wild) % (sent - una + 1);
+                    let far = sent.saturating_add(1);
+                    let ack = any(rand, [una, sent, mid, mid, far, u64::MAX, 0, una / 2]);
+                    let seq = any(rand, [0, 1, u64::MAX, 5]);
+                    let window = any(rand, [0, 1, 10, 60, u64::MAX]);
+                    let blocks = [
+                        (any(rand, [0, una, mid, sent]), any(rand, [una, mid, sent, far])),
+                        (any(rand, [mid, una.saturating_add(1)]), any(rand, [sent, far, mid])),
+                    ];
+                    let runs = end.expires_at().is_some();
+                    let it = Announcement { seq, ack, window };
+                    match end.acknowledged(it, &blocks, any(rand, [0, 1]) == 0, now) {
+                        Acknowledged::Taken { new, .. } => {
+                            assert!(una <= ack && ack <= sent && new == ack - una);
+                            edge = edge.max(ack.saturating_add(window));
+                            assert!(ack == sent || end.expires_at().is_some());
+                        }
+                        other => {
+                            assert!(ack < una || other == Acknowledged::Refused && ack > sent);
+                            assert_eq!(
+                                (end.numbers(), end.expires_at().is_some()),
+                                (numbers, runs)
+                            );
+                        }
+                    }
+                }
+                3 => {
+                    now += Duration::from_millis(u64::from(wild % 3_000));
+                    let waits = numbers.first_unacknowledged < written + u64::from(closed);
+                    match end.expired(now) {
+                        Expired::Probe | Expired::Lost if waits => {
+                            // The first number that isn't acknowledged goes out, however small the window is.
+                            let it = end.next_segment(0, now).expect("a segment");
+                            assert_eq!(it.pos, numbers.first_unacknowledged);
+                        }
+                        _ => {}
+                    }
+                }
+                _ => {
+                    let window = any(rand, [0, 1, 30, u64::MAX]);
+                    let una = end.numbers().first_unacknowledged;
+                    while let Some(it) = end.next_segment(window, now) {
+                        let bytes = [it.parts.0, it.parts.1].concat();
+                        let after = it.pos + bytes.len() as u64 + u64::from(it.is_last);
+                        assert!(it.pos < after && after <= written + u64::from(closed));
+                        assert!(bytes
+                            .iter()
+                            .zip(0..)
+                            .all(|(found, at)| *found == byte(it.pos + at)));
+                        assert_eq!(it.is_last, closed && after == written + 1);
+                        assert!(
+                            after <= edge || (it.pos, after) == (una, una + 1),
+                            "beyond the edge"
+                        );
+                    }
+                    let waits = una < written + u64::from(closed);
+                    assert!(end.expires_at().is_some() || !waits, "nothing wakes it");
+                }
+            }
+        }
+    }
+}
+
+/// 0 to 9 were sent; a forged acknowledgement of 11 stops nothing.
+#[test]
+fn a_forged_acknowledgement_stops_no_timer() {
+    let mut end = SendingEnd::<4>::new_at(vec![0; 20], 0, SECOND, TimeoutBounds::default());
+    end.open(Announcement { seq: 0, ack: 0, window: 100 }, 10, true);
+    assert_eq!(end.write(&[7; 10]), 10);
+    assert!(end.next_segment(100, Instant::ZERO).is_some());
+    let at = end.expires_at();
+    let it = Announcement { seq: 1, ack: 11, window: 100 };
+    assert_eq!(end.acknowledged(it, &[], true, Instant::ZERO), Acknowledged::Refused);
+    assert!(at.is_some() && end.expires_at() == at);
+}
+
+/// What is sent after a pause is probed after two round trips, and not only found by the timeout; one segment alone after
+/// 200 ms more, by which its acknowledgement may be delayed.
+#[test]
+fn what_is_sent_after_a_pause_is_probed() {
+    let mut end = SendingEnd::<4>::new_at(vec![0; 20], 0, SECOND, TimeoutBounds::default());
+    end.open(Announcement { seq: 0, ack: 0, window: 100 }, 10, true);
+    assert_eq!(end.write(&[7; 10]), 10);
+    assert!(end.next_segment(100, Instant::ZERO).is_some());
+    let it = Announcement { seq: 1, ack: 10, window: 100 };
+    let taken = end.acknowledged(it, &[], true, Instant::from_millis(10));
+    assert_eq!((taken, end.expires_at()), (Acknowledged::Taken { new: 10, begins: false }, None));
+    assert_eq!(end.write(&[7; 10]), 10);
+    let now = Instant::from_millis(5_000);
+    assert!(end.next_segment(100, now).is_some() && end.next_segment(100, now).is_none());
+    assert_eq!(end.expires_at(), Some(Instant::from_millis(5_220)));
+    let now = Instant::from_millis(5_100);
+    assert_eq!(end.write(&[7; 10]), 10);
+    assert!(end.next_segment(100, now).is_some() && end.next_segment(100, now).is_none());
+    let now = Instant::from_millis(5_120);
+    assert_eq!(end.expires_at(), Some(now));
+    assert_eq!(end.expired(now), Expired::Overdue { begins: false });
+    let probe = end.next_segment(0, now).map(|it| (it.pos, it.is_again));
+    assert_eq!(probe, Some((20, true)));
+    // The next probe would be due after 40 ms more, and so on; the timeout passes where it was.
+    let mut probes = 0;
+    while end.expired(end.expires_at().unwrap_or(now)) != Expired::Lost {
+        probes += 1;
+    }
+    assert_eq!((probes, end.timeouts()), (4, 1));
+    assert_eq!(end.expires_at(), Some(Instant::from_millis(8_000)));
+}
+
+/// A peer that reports no blocks can't answer a probe: it is sent none, and the timeouts are counted until it answers.
+#[test]
+fn a_peer_without_blocks_is_not_probed() {
+    let mut end = SendingEnd::<4>::new_at(vec![0; 30], 0, SECOND, TimeoutBounds::default());
+    end.open(Announcement { seq: 0, ack: 0, window: 100 }, 10, false);
+    assert_eq!(end.write(&[7; 30]), 30);
+    let mut now = Instant::ZERO;
+    for _segment in 0..3 {
+        assert!(end.next_segment(100, now).is_some());
+    }
+    now = Instant::from_millis(10);
+    let it = Announcement { seq: 1, ack: 10, window: 100 };
+    assert_eq!(
+        end.acknowledged(it, &[], true, now),
+        Acknowledged::Taken { new: 10, begins: false }
+    );
+    for (timeouts, millis) in [(1, 1_010), (2, 3_010), (3, 7_010)] {
+        now = Instant::from_millis(millis);
+        assert_eq!(end.expires_at(), Some(now));
+        assert_eq!((end.expired(now), end.timeouts()), (Expired::Lost, timeouts));
+    }
+    let it = Announcement { seq: 2, ack: 20, window: 100 };
+    assert!(matches!(end.acknowledged(it, &[], true, now), Acknowledged::Taken { new: 10, .. }));
+    assert_eq!(end.timeouts(), 0);
+}
+
+/// A peer fills the window and sends its end: what is announced is 0, and nothing panics.
+#[test]
+fn a_full_window_and_an_end() {
+    let mut end = ReceivingEnd::<4>::empty_at(vec![0; 3], 0, 1_000);
+    assert_eq!(end.open(0, 0), 3);
+    assert!(end.arrived(0, b"abc", true).is_ok());
+    assert!(end.is_due() && end.is_wanted());
+    let it = end.acknowledgement();
+    assert_eq!((it.next, it.window, end.announce()), (4, 0, (4, 0)));
+}
+
+/// Both ends over a path that loses, doubles and reorders.
+#[test]
+fn what_is_read_is_what_was_written() {
+    for seed in 0..RUNS / 20 {
+        let rand = &mut Rand::new(seed.into());
+        let text = (0..3_000).map(byte).collect::<Vec<_>>();
+        let mut sending =
+            SendingEnd::<4>::new_at(vec![0; 300], 9, SECOND, TimeoutBounds::default());
+        let mut receiving = ReceivingEnd::<4>::empty_at(vec![0; 200], 9, 50);
+        let window = u64::from(receiving.open(9, 0));
+        sending.open(Announcement { seq: 0, ack: 9, window }, 50, true);
+        let (mut rest, mut read, mut now) = (&text[..], Vec::<u8>::new(), Instant::ZERO);
+        let (mut there, mut back) = (vec![], vec![]);
+        let mut steps = 0;
+        while !(sending.is_done() && receiving.receiver().has_read_all()) {
+            steps += 1;
+            assert!(steps < 20_000, "{:?} {:?}", sending, receiving);
+            rest = &rest[sending.write(rest)..];
+            if rest.is_empty() {
+                sending.close();
+            }
+            if there.is_empty() && back.is_empty() && !sending.is_done() {
+                now = now.max(sending.expires_at().unwrap_or(now));
+            }
+            let _is_lost = sending.expired(now);
+            while let Some(it) = sending.next_segment(400, now) {
+                for _copy in 0..any(rand, [0, 1, 1, 1, 1, 2]) {
+                    there.push((it.pos, [it.parts.0, it.parts.1].concat(), it.is_last));
+                }
+            }
+            if !there.is_empty() {
+                let (pos, bytes, is_last) =
+                    there.swap_remove(rand.below(there.len() as u32) as usize);
+                let _is_kept = receiving.arrived(pos, &bytes, is_last);
+            }
+            let mut into = [0; 70];
+            let count = receiving.read(&mut into);
+            read.extend(&into[..count]);
+            if receiving.is_wanted() {
+                let it = receiving.acknowledgement();
+                for _copy in 0..any(rand, [0, 1, 1, 1, 1, 2]) {
+                    back.push(it);
+                }
+            }
+            now += Duration::from_millis(3);
+            if !back.is_empty() {
+                let it = back.swap_remove(rand.below(back.len() as u32) as usize);
+                let blocks = it.blocks.into_iter().flatten().collect::<Vec<_>>();
+                let window = it.window.into();
+                // The edge never falls, so that it tells which of two answers is the older one.
+                let it = Announcement { seq: it.next + window, ack: it.next, window };
+                let _taken = sending.acknowledged(it, &blocks, true, now);
+            }
+        }
+        assert!(read == text);
+    }
+}
