@@ -2,7 +2,7 @@
 """Writes the files that the models of this folder give, or compares them.
 
     python3 models/make.py          writes the rows, rust/tests/rows/rows.txt, the program's, rust/tests/net_bench/rows.txt,
-                                    and those of assemblers as tables of net_core_tests
+                                    and worked ones as tables of net_core_tests and net_program_tests
     python3 models/make.py --check  writes nothing, and names each file that is not as the models give it
 
 A row is `call => reply`. Blocks are divided by an empty line, and a block's first line makes what its other lines call. A
@@ -37,6 +37,7 @@ import worked
 REPOSITORY = pathlib.Path(__file__).resolve().parent.parent
 ROWS, PROGRAM = "rust/tests/rows/rows.txt", "rust/tests/net_bench/rows.txt"
 ASSEMBLERS = "crates/net_core_tests/src/worked/assembler_rows.rt"
+PROGRAM_TABLES = "crates/net_program_tests/src/program_rows.rt"
 
 
 def text_of(blocks):
@@ -62,7 +63,8 @@ def given():
         print(f"{name:10} {len(of_subject):4} blocks {rows:6} lines")
     blocks = [block for of_subject in subjects.values() for block in of_subject] + by_hand.drawn()
     print(f"{len(branches.ALL)} questions, {sum(len(each.counts) for each in branches.ALL)} answers")
-    return {ROWS: text_of(blocks), PROGRAM: text_of(seen(program)), ASSEMBLERS: tables.assembler_rows()}, wrong
+    return {ROWS: text_of(blocks), PROGRAM: text_of(seen(program)), ASSEMBLERS: tables.assembler_rows(),
+            PROGRAM_TABLES: tables.program_rows()}, wrong
 
 
 def unknown_tests():

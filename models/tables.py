@@ -1,5 +1,5 @@
-"""The worked rows of assemblers, and texts of sets, as tables of Rattle, which net_core_tests makes. The proof of a loan of a
-table takes time that grows with the square of its rows, so there are several."""
+"""The worked rows of assemblers, with texts of sets, and those of the program, as tables of Rattle, which net_core_tests and
+net_program_tests make. The proof of a loan of a table takes time that grows with the square of its rows, so there are several."""
 import assembler
 import worked
 
@@ -16,7 +16,8 @@ MOST_ROWS = 14
 
 def quoted(text):
     """A text as Rattle writes it."""
-    return '"' + text.replace("\\", "\\\\").replace('"', '\\"') + '"'
+    plain = {"\\": "\\\\", '"': '\\"', "\n": "\\n", "\r": "\\r", "\t": "\\t"}
+    return '"' + "".join(plain.get(it, it) for it in text) + '"'
 
 
 def formatted(*fields):
@@ -96,3 +97,29 @@ def assembler_rows():
         rows = "".join(formatted(quoted(name), str(most), array(steps)) for name, most, steps in table)
         out += f"pub static ROWS_{number}: [Row; {len(table)}] = [\n{rows}];\n"
     return out
+
+
+PROGRAM_TOP = '''//! Rows of the program, of models/worked.py: `python3 models/make.py` writes this file.
+use crate::rows::Row;
+
+'''
+
+
+def lines_of(text):
+    """Lines as bytes of Rattle: a line feed is `;` in the rows."""
+    return "b" + quoted(text.replace(";", "\n"))
+
+
+def program_rows():
+    """The worked rows of the program, and lines that no mode has, as tables of net_program_tests."""
+    tables = {"RINGS": [], "ASSEMBLERS": [], "STREAMS": [], "SCHEDULES": [], "NO_LINES": []}
+    of_mode = {"ring": "RINGS", "asm": "ASSEMBLERS", "stream": "STREAMS"}
+    rows = [("SCHEDULES" if "--" in lines.split(";") else of_mode[words.split(" ")[0]], *row)
+            for row in worked.RUNS for _, words, lines, _ in [row]]
+    rows += [("NO_LINES", "no_line", words, line, "= line 1: bad command") for words, lines in worked.NO_LINES for line in lines]
+    for table, name, words, lines, reply in rows:
+        written, _, end = reply.rpartition("= ")
+        error = "" if end == "Ok" else end
+        tables[table].append(formatted(quoted(name), quoted(words), lines_of(lines), lines_of(written), quoted(error)))
+    return PROGRAM_TOP + "\n".join(
+        f"pub static {name}: [Row<'static>; {len(rows)}] = [\n{''.join(rows)}];\n" for name, rows in tables.items())

@@ -296,12 +296,16 @@ fn recovery() {
             3 => recovery.lose_all(numbers),
             4 => recovery.sent(numbers, start..end),
             5 => recovery.probed(numbers, start),
-            9 => recovery.expect_reports(draw.below(2) == 0),
-            10 => {
-                let _begins = recovery.lose_dropped(numbers, &board);
-            }
             6 => recovery.duplicated(numbers),
             7 => {
+                let reports = draw.below(2) == 0;
+                recovery.expect_reports(reports);
+                assert!(recovery.is_blind() != reports);
+            }
+            8 => {
+                let _begins = recovery.lose_dropped(numbers, &board);
+            }
+            9 => {
                 let _begins = recovery.find_overdue(numbers, &board);
                 let probe = recovery.next_probe(numbers, &board, end, size);
                 assert!(probe.is_none_or(|(from, to)| from < to && to <= sent.max(end)));

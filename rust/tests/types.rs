@@ -15,9 +15,10 @@ use net_base::phy::{
 };
 use net_base::rand::Rand;
 use net_base::receiver::{Kept, KeptBytes, Receiver, ReceiverOver};
-use net_base::scoreboard::Scoreboard;
+use net_base::scoreboard::{ReportError, Scoreboard};
 use net_base::sender::{Sender, SenderOver};
 use net_base::sequence_number::SequenceNumber;
+use net_base::storage::fragment_table::AcceptError;
 use net_base::storage::{
     Assembler, Empty, FragmentBuffer, FragmentError, FragmentsOver, Full, PacketBuffer,
     PacketMetadata, PacketsOver, RingBuffer, RingOver, Storage, TooManyHolesError,
@@ -107,22 +108,43 @@ fn texts_of_what_stores() {
     assert_eq!(debug(ManagedSlice::from(&mut [1u8, 2])), "Borrowed([1, 2])");
 }
 
-/// Each error, with its two texts; options of a text change nothing, and none has a source.
-#[test]
-fn errors() {
-    fn all(error: impl Error, text: &str, name: &str) {
-        assert_eq!((error.to_string(), debug(&error)), (text.to_string(), name.to_string()));
-        assert_eq!(format!("{error:>99}|{error:.2}"), format!("{text}|{text}"));
-        assert!(error.source().is_none());
+/// Each error, with its two texts; options of a text change nothing, and none has a source. A variant without a row doesn't
+/// compile.
+macro_rules! errors {
+    ($($type:ident { $($variant:ident: $text:literal),* })*) => {
+        #[test]
+        fn errors() {
+            fn all(error: impl Error, text: &str, name: &str) {
+                assert_eq!((error.to_string(), debug(&error)), (text.to_string(), name.to_string()));
+                assert_eq!(format!("{error:>99}|{error:.2}"), format!("{text}|{text}"));
+                assert!(error.source().is_none());
+            }
+            all(Full, "buffer full", "Full");
+            all(Empty, "buffer empty", "Empty");
+            all(TooManyHolesError, "too many holes", "TooManyHolesError");
+            $(for (error, text) in [$(($type::$variant, $text)),*] {
+                all(error, text, match error { $($type::$variant => stringify!($variant)),* });
+            })*
+        }
+    };
+}
+
+errors! {
+    FragmentError {
+        TooLong: "past the end of the buffer",
+        TooManyHoles: "too many holes",
+        OtherSize: "contradicts the packet's size"
     }
-    all(Full, "buffer full", "Full");
-    all(Empty, "buffer empty", "Empty");
-    all(TooManyHolesError, "too many holes", "TooManyHolesError");
-    all(FragmentError::TooLong, "past the end of the buffer", "TooLong");
-    all(FragmentError::TooManyHoles, "too many holes", "TooManyHoles");
-    all(FragmentError::OtherSize, "contradicts the packet's size", "OtherSize");
-    all(FiniteError::TooManyHoles, "too many holes", "TooManyHoles");
-    all(FiniteError::OtherEnd, "the stream ends elsewhere", "OtherEnd");
+    AcceptError {
+        NoBytes: "no bytes",
+        NoSlot: "no slots",
+        OtherBytes: "contradicts bytes that have arrived",
+        TooLong: "past the end of the buffer",
+        TooManyHoles: "too many holes",
+        OtherSize: "contradicts the packet's size"
+    }
+    FiniteError { TooManyHoles: "too many holes", OtherEnd: "the stream ends elsewhere" }
+    ReportError { NoBlock: "not a block of what was sent", TooManyHoles: "too many holes" }
 }
 
 /// Equal values have equal hashes; a clone is equal, and another value is not.

@@ -14,3 +14,11 @@ pub fn assert_holds(rt: &impl Abort, fact: bool, (name, number): Place<'_>) {
 pub fn assert_count(rt: &impl Abort, found: usize, wanted: usize, (name, number): Place<'_>) {
     assert!(rt; found == wanted, "{name}, {number}: {found}, not {wanted}");
 }
+
+/// Stops the test unless these bytes are equal.
+pub fn assert_bytes(rt: &impl Abort, found: &[u8], wanted: &[u8], (name, number): Place<'_>) {
+    assert!(rt;
+        found == wanted,
+        "{name}, {number}: {found:?}, not {wanted:?}"
+    );
+}

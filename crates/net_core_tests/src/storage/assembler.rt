@@ -40,6 +40,7 @@ fn adds_in_parts(head: &mut AssemblerHead, runs: &mut [Run; 2]) -> bool {
         && head.used == 2
         && *runs == [Run { start: 0, end: 1 }, Run { start: 3, end: 5 }]
         && head.is_same(runs, head, runs)
+        && searches(head, runs)
 }
 
 #[test]
@@ -47,6 +48,15 @@ fn an_assembler_in_parts(rt: HostRuntime) {
     let mut head = AssemblerHead::new();
     let mut runs = [Run { start: 0, end: 0 }; 2];
     assert_holds(&rt, adds_in_parts(&mut head, &mut runs), ("parts", 2));
+}
+
+/// Returns whether the searches of an assembler whose runs are 10 to 10 and 13 to 14 find these.
+fn searches(head: &AssemblerHead, runs: &[Run; 2]) -> bool {
+    head.runs_by(runs, 12) == 1
+        && head.runs_by(runs, 13) == 2
+        && head.first_missing(runs, 12) == 12
+        && head.first_missing(runs, 13) == 15
+        && head.count_between(runs, 10, 14) == 2
 }
 
 /// Adds a range to an assembler, with counts that were raised before. Returns whether it was taken.
