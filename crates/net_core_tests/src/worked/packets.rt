@@ -22,8 +22,8 @@ enum Step {
     DequeueLength(usize),
     /// `dequeue`, the header and the packet.
     Dequeue(u8, &'static [u8]),
-    /// `dequeue_with`: the packet that the closure gets, what it writes to header and bytes, and that it refuses.
-    Keep(&'static [u8], u8, &'static [u8]),
+    /// `dequeue_with`: the packet that the closure gets, what it writes to header and bytes, and its refusal.
+    Keep(&'static [u8], u8, &'static [u8], Result<(), u8>),
     /// `dequeue_with`: the packet that the closure gets, which it takes off.
     Take(&'static [u8]),
     /// `peek`, the header and the packet.
@@ -133,7 +133,7 @@ static ROWS: [Row; 18] = [
             Enqueue(4, b"abcd"),
             Uses(3, 14),
             DequeueLength(8),
-            Keep(b"abcd", 0, b""),
+            Keep(b"abcd", 0, b"", Err(123)),
             Uses(1, 4),
             Take(b"abcd"),
             Uses(0, 0),
@@ -191,7 +191,7 @@ static ROWS: [Row; 18] = [
         16,
         &[
             EnqueueHeader(7, b"ab"),
-            Keep(b"ab", 9, b"x"),
+            Keep(b"ab", 9, b"x", Err(1)),
             Peek(9, b"xb"),
             Uses(1, 2),
             Dequeue(9, b"xb"),
@@ -287,14 +287,20 @@ fn peeks(queue: &mut PacketBuffer<'_, u8>, header: u8, bytes: &[u8]) -> bool {
 }
 
 /// Shows the first packet to a closure, which writes a header and bytes, and refuses it. Returns whether it is this.
-fn keeps(queue: &mut PacketBuffer<'_, u8>, shown: &[u8], header: u8, bytes: &[u8]) -> bool {
+fn keeps(
+    queue: &mut PacketBuffer<'_, u8>,
+    shown: &[u8],
+    header: u8,
+    bytes: &[u8],
+    refusal: Result<(), u8>,
+) -> bool {
     let result = queue.dequeue_with(|found, packet| {
         let is_shown = *packet == *shown;
         *found = header;
         write_to(packet, bytes);
-        Result::<(), bool>::Err(is_shown)
+        if is_shown { refusal } else { Err(0) }
     });
-    result == Ok(Err(true))
+    result == Ok(refusal)
 }
 
 /// Shows the first packet to a closure, which takes it off. Returns whether it is this.
@@ -328,7 +334,7 @@ fn answers_otherwise(queue: &mut PacketBuffer<'_, u8>, step: &Step) -> bool {
         DequeueLength(length) => dequeues_length(queue, *length),
         Dequeue(header, bytes) => dequeues(queue, *header, bytes),
         Peek(header, bytes) => peeks(queue, *header, bytes),
-        Keep(shown, header, bytes) => keeps(queue, shown, *header, bytes),
+        Keep(shown, header, bytes, refusal) => keeps(queue, shown, *header, bytes, *refusal),
         Take(shown) => takes(queue, shown),
         Nothing => has_nothing(queue),
         Reset => {
