@@ -4,9 +4,9 @@ timing.py --whole PROGRAM [--lines N] [--runs N]
 
 Times workloads over the crate net-base and over smoltcp in turns, each side linked once for each placement of its code,
 both built as a user builds a program, in cargo's default profile without flags; counts instructions and mispredicted
-branches, if valgrind is there. With --whole: whole runs of net_bench, as `rt run` or `rt ci` built it, beside PROGRAM,
-which takes the same words and lines, as net_bench of another commit. Prints a table in Markdown. Status 1 if results
-differ. --once: one placement.
+branches, if valgrind is there. With --whole: whole runs of the example net_bench of the crate beside PROGRAM, which takes
+the same words and lines, as net_bench of another commit. Prints a table in Markdown. Status 1 if results differ. --once:
+one placement.
 """
 import argparse
 import datetime
@@ -243,10 +243,10 @@ def timed(smoltcp, arguments):
 
 def timed_programs(arguments):
     """Times whole runs: a table, and what differs."""
-    bench = common.REPOSITORY / "crates/net_bench/out/net_bench"
-    for program in (bench, arguments.whole):
-        if not os.access(program, os.X_OK):
-            sys.exit(f"there is no program {program}: (cd crates/net_bench && rt run -- ring 1 < stdin) builds net_bench")
+    if not os.access(arguments.whole, os.X_OK):
+        sys.exit(f"there is no program {arguments.whole}")
+    example = ["--example", "net_bench"]
+    bench = common.cargo("release", ["net-base"], "", common.REPOSITORY / "rust", example) / "examples/net_bench"
     print(f"\n{datetime.date.today()}; {machine()}; {arguments.runs} whole runs of each program, in turns\n")
     return whole_runs(bench, arguments.whole, arguments.lines, arguments.runs)
 
