@@ -63,6 +63,10 @@ COVERED = [
     ('(a as u64).min(x) as usize', 'cut'),
     ('let c = (a - b) as u64; c.min(x) as usize', 'cut'),
     ('1 << 16', 'constant'),
+    ('for c in 0..b { if c + 1 == a || x > 3 { take(c); } } 0', 'turn'),
+    ('for c in 0..a.min(b) { if let Some(d) = Some(c) { take(c + 1); } } 0', 'turn'),
+    ('a.saturating_mul(b).min(7)', 'lesser'),
+    ('a.saturating_add(b).min(s.n)', 'lesser'),
 ]
 
 # Bodies in which an operation has no cover.
@@ -146,6 +150,19 @@ OPEN = [
     'let c = a + b; prove!(c <= most(), "another text"); c',
     f'let c = x as usize; prove!(x <= x{BOUND} c',
     f'prove!(x <= a{BOUND} x as usize'.replace('x <= a', 'x <= (a as u64)'),
+    # No turn of a `for`, and no lesser number.
+    'for c in 0..b { take(c + 2); } 0',
+    'for mut c in 0..b { c = a; take(c + 1); } 0',
+    'for c in 0..=b { take(c + 1); } 0',
+    'for c in 0..b { if let Some(c) = Some(a) { take(c + 1); } } 0',
+    'for c in 0..b { let c = a; take(c + 1); } 0',
+    'for c in 0..b { match a { c => take(c + 1) } } 0',
+    'for c in 0..b { take(Some(a).map_or(0, |c| c + 1)); } 0',
+    'for c in [a].into_iter().chain(0..b) { take(c + 1); } 0',
+    'for c in 0..b { } let c = a; c + 1',
+    'a.saturating_mul(b).max(7)',
+    'a.saturating_mul(b).pow(2).min(7)',
+    'a.wrapping_mul(b).min(7)',
     # An end of no slice, a cut of no `usize`, and a number that wraps and goes elsewhere.
     'take((a..a + b).len()); 0',
     'let c = [(a..a + b).len()]; c[0]',
@@ -260,7 +277,9 @@ def main(arguments):
             assert bool(list(widths.laws([path]))) != allowed, text
         path = temporary / 'crates/a/proofs/b/Answers.antt'
         path.parent.mkdir(parents=True)
-        for text, count in (('returns c = omega arith', 0), ('unfolding shortfall', 1), ('unfolding front shortfall', 1)):
+        of_both = 'word : shortfall < 2 ^ 64\nunfolding shortfall\nword = omega arith'
+        for text, count in (('returns c = omega arith', 0), ('unfolding shortfall', 1), ('unfolding front shortfall', 1),
+                            (of_both, 0), (of_both.replace('64', '63'), 1), (of_both.replace('<', '≡'), 1)):
             path.write_text(f'use a.{{shortfall}}\n{text}\n')
             assert len(list(widths.unfolded(temporary / 'crates'))) == count, text
     print(f'{len(COVERED)} covers, {len(OPEN) + len(EXPORTS)} plants, {len(ITEMS)} items, {len(LAWS)} calls of the law')
