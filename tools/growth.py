@@ -1,13 +1,16 @@
 #!/usr/bin/env python3
-"""growth.py [--rust FOLDER]
+"""growth.py [--write] [--rust FOLDER]
 
-How the instructions of each call that a packet reaches grow with the runs that are held: counts them by callgrind at 32
-runs and at 1,024, in the crate of rust/ or of FOLDER. Prints a table. Status 1 if a call grows more than its class of
-`CLASSES` allows, if a call has no class, or if a class has no call. A class is that of the worst case: `1` looks at some
-runs, `log` searches, `runs` passes the runs once, or moves them. A call that passed them for each of them would grow
-1,024 times.
+How the instructions of each call that a packet reaches grow with the runs that are held, or with the packets of a table:
+counts them by callgrind at 32 and at 1,024, in the crate of rust/ or of FOLDER. Prints a table. That of
+docs/PERFORMANCE.md has of each type and class the most that a call takes: `--write` writes it there. Each case of
+growth/src/main.rs has a class, that of the worst case: a call looks at some runs, searches them, or passes them once. One
+that passed them for each of them would grow 1,024 times. Status 1 if a call grows more than its class allows, if a public
+call of the types that have runs, and of the others of `TYPES`, has no case, and no reason in `LEFT_OUT`, if a case or a
+reason has no call, or if a number of the page is off by more than a tenth.
 """
 import argparse
+import itertools
 import os
 import re
 import shutil
@@ -18,19 +21,98 @@ from pathlib import Path
 
 FEW, MANY = 32, 1024
 # How many times more instructions a call may take with 32 times as many runs.
-MOST = {"1": 1.1, "log": 2.2, "runs": 36}
-CLASSES = {
-    "1": """assembler_add_last assembler_run_at assembler_hole_at scoreboard_acknowledge_below_the_runs
-        scoreboard_highest_reported scoreboard_lost_below""",
-    "log": """assembler_add_in_the_middle assembler_add_refused assembler_contains scoreboard_report_again
-        scoreboard_report_refused scoreboard_contains scoreboard_first_missing scoreboard_next_hole scoreboard_next_lost
-        receiver_keep_refused receiver_newest_runs""",
-    "runs": """assembler_add_before_all assembler_add_then_remove_front assembler_shift assembler_all_runs
-        scoreboard_report_between scoreboard_acknowledge_a_run scoreboard_lost_below_by_bytes scoreboard_count_beyond
-        recovery_find_losses recovery_in_flight recovery_next_segment receiver_keep_between receiver_keep_the_next receiver_count_new
-        fragments_add fragments_overlaps fragments_differs""",
+MOST = {"looks": 1.1, "searches": 2.2, "passes": 36}
+# What the calls of a type, or of a module, begin with in growth/src/main.rs: then comes the method's name, and the case.
+TYPES = {
+    "assembler": "Assembler", "scoreboard": "Scoreboard", "recovery": "LossRecovery", "receiver": "ReceiverOver",
+    "finite_receiver": "FiniteReceiverOver", "sender": "SenderOver", "finite_sender": "FiniteSenderOver",
+    "fragments": "FragmentsOver", "slot": "FragmentSlot", "table": "fragment_table",
+}
+# Types with runs whose calls are made of those above, without a loop over runs (tools/loops.py).
+MADE_OF_THESE = "SendingEndOver ReceivingEndOver".split()
+# Calls without a class, by reason.
+LEFT_OUT = {
+    "it makes a value, takes one apart, or begins anew: a program does that": """
+        assembler: new empty clear / scoreboard: empty empty_at reset_at / recovery: new
+        receiver: new new_at empty empty_at over over_at into_storage reset_at
+        finite_receiver: empty_at over over_at into_storage reset_at
+        sender: new new_at over over_at into_storage reset_at / finite_sender: new_at over over_at into_storage reset_at
+        fragments: new empty over into_storage / slot: over""",
+    "it reads numbers of the head, or of what it is given": """
+        assembler: fits is_empty peek_front run_count / scoreboard: first_unreported
+        recovery: duplicates is_active is_blind / receiver: capacity fits held_count is_empty next queued window window_end
+        finite_receiver: acknowledged end has_read_all is_complete receiver window_end
+        sender: capacity end first_unacknowledged is_empty len window
+        finite_sender: capacity first_number is_closed is_closed_and_acknowledged is_empty len numbers_end sent
+        finite_sender: sent_numbers window / fragments: capacity expires_at is_empty is_expired total_size / slot: is_for""",
+    "only a program makes it, and it takes queued bytes": """
+        receiver: as_slices peek peek_slice peek_slices read_with / finite_receiver: read_with
+        sender: write / finite_sender: close write""",
+    "only a program makes it: it compares two values": "receiver: same_state / finite_receiver: same_state",
 }
 HERE = Path(__file__).resolve().parent
+PAGE = HERE.parent / "docs/PERFORMANCE.md"
+
+
+def public_calls():
+    """The public calls of `TYPES`, and a line for each other type, or call of one, that has runs."""
+    items = (HERE / "public_items.txt").read_text()
+    aliases = set(re.findall(r": pub type (\w+)", items))
+    known = {name: prefix for prefix, name in TYPES.items()}
+    others = {it for it in re.findall(r": pub struct (\w+)<.*const N: usize", items) if it not in aliases}
+    calls = set()
+    for path, name, rest in re.findall(r"^. ([\w:]+): pub (?:const )?fn (\w+)(.*)", items, re.M):
+        of = path.split("::")[-1]
+        if of in known:
+            calls.add(f"{known[of]}_{name}")
+        elif "<const N: usize" in rest or ", const N: usize" in rest:
+            others.add(of)
+    unknown = others - {*known, *MADE_OF_THESE}
+    return calls, [f"{it}: has runs, and isn't in TYPES of growth.py" for it in sorted(unknown)]
+
+
+def call_of(name, calls):
+    """The public call that a case of growth/src/main.rs makes, the one with the longest name."""
+    return max((it for it in calls if f"{name}_".startswith(f"{it}_")), key=len, default=None)
+
+
+def unclassed(cases, calls):
+    """A line for each call that has neither a case nor a reason, or both, and for each reason without a call."""
+    made = {call_of(name, calls) for name in cases}
+    left = {f"{prefix}_{name}" for text in LEFT_OUT.values()
+            for prefix, names in re.findall(r"(\w+):((?: \w+\b(?!:))+)", text) for name in names.split()}
+    wrong = [f"{it}: no case in growth/src/main.rs makes it, and LEFT_OUT has no reason" for it in calls - made - left]
+    wrong += [f"{it}: LEFT_OUT has it, and there is no such call" for it in left - calls]
+    wrong += [f"{it}: has a case, and is in LEFT_OUT" for it in left & made]
+    return sorted(wrong + [f"{it}: is no public call" for it in cases if call_of(it, calls) is None])
+
+
+def page_table(few, many, classes):
+    """The table of the page: of each type and class the most instructions that a call takes at each number of runs."""
+    rows = ["| Calls of | look at some | search | pass once |", "|---|---:|---:|---:|"]
+    for prefix, name in TYPES.items():
+        of = {call: classes[call] for call in few if re.match(rf"{prefix}_", call)}
+        cells = []
+        for kind in MOST:
+            calls = [call for call in of if of[call] == kind]
+            cells.append(f"{max(few[it] for it in calls):,.0f}; {max(many[it] for it in calls):,.0f}" if calls else "")
+        rows.append(f"| `{name}` | {' | '.join(cells)} |")
+    return rows
+
+
+def differing(rows, writes):
+    """A line for each row of the page that is another, or has a number that is off by more than a tenth; or writes them."""
+    before, begin, rest = PAGE.read_text().partition("<!-- tools/growth.py: begin -->\n")
+    said, end, after = rest.partition("<!-- tools/growth.py: end -->")
+    if writes:
+        PAGE.write_text("".join([before, begin, "\n", *(f"{row}\n" for row in rows), "\n", end, after]))
+        return []
+    numbers = lambda line: [int(it.replace(",", "")) for it in re.findall(r"[\d,]+", line)]
+    same = lambda a, b: re.sub(r"[\d,]+", "", a) == re.sub(r"[\d,]+", "", b) and all(
+        abs(one - other) <= max(other / 10, 2) for one, other in zip(numbers(a), numbers(b)))
+    pairs = itertools.zip_longest(said.strip().split("\n"), rows, fillvalue="")
+    wrong = [row for line, row in pairs if not same(line, row)]
+    return [f"{PAGE.name}: growth.py --write has another row: {row or 'none'}" for row in wrong]
 
 
 def counts(program, runs, folder):
@@ -53,36 +135,46 @@ def counts(program, runs, folder):
     return {name: cost / times for name, (cost, times) in found.items()}
 
 
+def counted(rust):
+    """The instructions of each call at few runs and at many."""
+    with tempfile.TemporaryDirectory() as name:
+        folder = Path(name)
+        source = folder / "growth"
+        shutil.copytree(HERE / "growth", source)
+        manifest = source / "Cargo.toml"
+        manifest.write_text(manifest.read_text().replace("../../rust", str(rust.resolve())))
+        target = Path(os.environ.get("CARGO_TARGET_DIR", folder / "target"))
+        words = ["cargo", "build", "--quiet", "--release", "--offline", "--target-dir", target]
+        if subprocess.run(words, cwd=source).returncode:
+            sys.exit("growth/src/main.rs doesn't compile over the crate: a call of it has changed")
+        return [counts(target / "release/growth", runs, folder) for runs in (FEW, MANY)]
+
+
 def main():
     parser = argparse.ArgumentParser(description=__doc__)
+    parser.add_argument("--write", action="store_true")
     parser.add_argument("--rust", type=Path, default=HERE.parent / "rust")
     arguments = parser.parse_args()
     if not shutil.which("valgrind"):
         print("not run: valgrind isn't here")
         return 2
-    with tempfile.TemporaryDirectory() as name:
-        folder = Path(name)
-        source = folder / "growth"
-        (source / "src").mkdir(parents=True)
-        (source / "src/main.rs").write_text((HERE / "growth/src/main.rs").read_text())
-        manifest = (HERE / "growth/Cargo.toml").read_text()
-        (source / "Cargo.toml").write_text(manifest.replace("../../rust", str(arguments.rust.resolve())))
-        target = Path(os.environ.get("CARGO_TARGET_DIR", folder / "target"))
-        words = ["cargo", "build", "--quiet", "--release", "--offline", "--target-dir", target]
-        subprocess.run(words, check=True, cwd=source)
-        few, many = (counts(target / "release/growth", runs, folder) for runs in (FEW, MANY))
-    classes = {call: kind for kind, calls in CLASSES.items() for call in calls.split()}
-    bad = [f"{call}: no class, or no call" for call in sorted(set(classes) ^ set(few))]
+    few, many = counted(arguments.rust)
+    source = (HERE / "growth/src/main.rs").read_text()
+    classes = {call: kind for kind, call in re.findall(rf"^ +({'|'.join(MOST)}) (\w+) {{", source, re.M)}
+    calls, bad = public_calls()
+    bad += unclassed(classes, calls)
     print(f"| Call | Class | {FEW} runs | {MANY:,} | Ratio | At most |\n|---|---|---:|---:|---:|---:|")
-    for call in few:
-        kind = classes.get(call, "1")
+    for call, kind in classes.items():
         ratio = many[call] / few[call]
         print(f"| {call} | {kind} | {few[call]:,.0f} | {many[call]:,.0f} | {ratio:.2f} | {MOST[kind]} |")
         if ratio > MOST[kind]:
             bad.append(f"{call}: grows {ratio:.2f} times")
+    if arguments.rust == parser.get_default("rust"):
+        bad += differing(page_table(few, many, classes), arguments.write)
     for line in bad:
         print(line, file=sys.stderr)
     return 1 if bad else 0
 
 
-sys.exit(main())
+if __name__ == "__main__":
+    sys.exit(main())
