@@ -292,7 +292,7 @@ class Tests:
             return "rustc"
         path, usr = self.folder / "rustc", f"{kit}/usr"
         libraries = f"{usr}/lib/x86_64-linux-gnu:{usr}/lib:{usr}/lib/llvm-19/lib"
-        path.write_text(f'#!/bin/sh\nLD_LIBRARY_PATH={libraries} exec {usr}/bin/rustc --sysroot {usr} "$@"\n')
+        path.write_text(f'#!/bin/sh\nLD_LIBRARY_PATH="{libraries}" exec "{usr}/bin/rustc" --sysroot "{usr}" "$@"\n')
         path.chmod(0o755)
         return str(path)
 
