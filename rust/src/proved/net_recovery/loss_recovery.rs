@@ -513,16 +513,27 @@ impl LossRecovery {
     #[must_use]
     pub fn in_flight<const N: usize>(&self, numbers: SentNumbers, scoreboard: &Scoreboard<N>) -> u64 {
         let first = numbers.first_unacknowledged;
-        let all = scoreboard
-            .missing_between(first, numbers.sent)
-            .saturating_sub(self.unknown);
         if !self.is_active(numbers) {
-            return all;
+            let all = scoreboard.missing_between(first, numbers.sent);
+            return all.saturating_sub(self.unknown);
         }
         let from = self.again.max(first);
-        let of_pass = scoreboard.missing_between(from, self.turn.min(self.lost));
-        let others = scoreboard.missing_between(from.max(self.resume), self.lost);
-        all.saturating_sub(of_pass).saturating_sub(others)
+        let turn = self.turn.min(self.lost).max(from);
+        let resume = self.resume.max(from);
+        let lost = self.lost.max(resume);
+        // Lost and not sent again is what is missing from `from` to `turn`, and from `resume` to `lost`.
+        if turn <= resume && lost <= numbers.sent {
+            let again = scoreboard.missing_between(first, from);
+            let before = scoreboard.missing_between(turn, resume);
+            let after = scoreboard.missing_between(lost, numbers.sent);
+            return (again + before + after).saturating_sub(self.unknown);
+        }
+        let all = scoreboard.missing_between(first, numbers.sent);
+        let of_pass = scoreboard.missing_between(from, turn);
+        let others = scoreboard.missing_between(resume, lost);
+        all.saturating_sub(self.unknown)
+            .saturating_sub(of_pass)
+            .saturating_sub(others)
     }
 
     /// Returns what to send next, as a start and an end, the end not included, at most a segment. In a
