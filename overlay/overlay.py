@@ -8,11 +8,12 @@ become what is written by hand around it, and `src/lib.rs` gets one item more. T
 which is made; --dry-run prints what would change; --undo puts back what was there, byte for byte, also if the command,
 or an undo, was interrupted anywhere.
 
-Refuses another version, a replaced file whose code, up to its test module, isn't 0.14.0's by SHA-256, a link in place of
+Refuses a checkout on which another of these commands is at work, another version, a replaced file whose code, up to its test module, isn't 0.14.0's by SHA-256, a link in place of
 one, a second overlay, an undo after an edit, and a net-base that doesn't fit: one line says so, the status is 1, and
 nothing is changed.
 """
 import argparse
+import fcntl
 import hashlib
 import json
 import os
@@ -24,7 +25,9 @@ from pathlib import Path
 HERE = Path(__file__).resolve().parent
 MODULES, NET_BASE = HERE / "modules", HERE.parent / "rust"
 VERSION = "0.14.0"
-SAVED = ".net-base-overlay"
+PROVED_FOLDER = "src/proved"
+# What was there, in the folder that is added, so that `git stash -u` takes both.
+SAVED = f"{PROVED_FOLDER}/.overlay"
 # The digests of each file before and after, the first of none if it was added. Without this nothing was replaced.
 RECORD = f"{SAVED}/files.json"
 
@@ -110,6 +113,11 @@ def changed(path, pattern, by, count, text=None):
     return text
 
 
+def is_free(folder):
+    """Whether a folder can be added: none is there, or an interrupted command left one without files."""
+    return not os.path.lexists(folder) or folder.is_dir() and {it.name for it in folder.iterdir()} <= {Path(SAVED).name}
+
+
 def check(root):
     """Refuses what isn't smoltcp as it was released."""
     package = read(root / "Cargo.toml").partition("[package]\n")[2].partition("\n[")[0]
@@ -125,7 +133,7 @@ def check(root):
     links = [name for name in ["src", "src/storage", "src/lib.rs", *DIGESTS, SAVED] if (root / name).is_symlink()]
     if links:
         sys.exit(f"{root / links[0]} is a link, which may lead out of the checkout")
-    if os.path.lexists(root / "src/proved"):
+    if not is_free(root / PROVED_FOLDER):
         sys.exit(f"{root} has a folder src/proved already")
     edited = [name for name, is_so in DIGESTS.items() if digest(parts(read(root / name))[0].encode()) != is_so]
     if edited:
@@ -178,16 +186,24 @@ def put_back(root, files):
     for folder in sorted({folder for name in added for folder in name.parents}, reverse=True):
         if (root / folder).is_dir() and not any((root / folder).iterdir()):
             (root / folder).rmdir()
-    shutil.rmtree(root / SAVED)
+    forget(root)
+
+
+def forget(root):
+    """Removes what was saved, and its folder if nothing else is in it."""
+    if (root / SAVED).is_dir():
+        shutil.rmtree(root / SAVED)
+    if (root / PROVED_FOLDER).is_dir() and not any((root / PROVED_FOLDER).iterdir()):
+        (root / PROVED_FOLDER).rmdir()
 
 
 def undo(root, dry_run):
-    if not (root / SAVED).is_dir():
+    if not (root / PROVED_FOLDER).is_dir() or not (root / SAVED).is_dir() and not is_free(root / PROVED_FOLDER):
         sys.exit(f"{root} has no overlay")
     files = json.loads(read(root / RECORD) or "{}")
     edited = [name for name, digests in files.items() if digest_of(root / name) not in digests]
     if edited:
-        sys.exit(f"edited since: {', '.join(edited)}; what was there is in {root / SAVED}")
+        sys.exit(f"edited since: {', '.join(edited)}; what was there is in {root / SAVED}/was")
     if dry_run:
         return print("\n".join(f"{'put back' if was else 'removed'}: {name}" for name, (was, _) in files.items()))
     for folder in {(root / name).parent for name in files}:
@@ -210,11 +226,10 @@ def write(root, new):
             if files[name][0]:
                 shutil.copy(root / name, saved / "was" / name)
                 shutil.copymode(root / name, saved / "new" / name)
-        (saved / ".gitignore").write_text("*\n")
         (saved / "record").write_text(json.dumps(files, indent=1) + "\n")
         os.replace(saved / "record", root / RECORD)
     except BaseException:
-        shutil.rmtree(saved, ignore_errors=True)
+        forget(root)
         raise
     try:
         for name in new:
@@ -235,15 +250,27 @@ def run(root, into, dry_run):
         print("\n".join(f"{'changed' if (root / name).is_file() else 'added'}: {name}" for name in new))
     elif not into:
         write(root, new)
-    elif into.exists():
-        sys.exit(f"{into} exists")
     else:
         try:
-            shutil.copytree(root, into, symlinks=True, ignore=shutil.ignore_patterns("target"))
+            into.mkdir(parents=True)
+        except FileExistsError:
+            sys.exit(f"{into} exists")
+        try:
+            shutil.copytree(root, into, symlinks=True, ignore=shutil.ignore_patterns("target"), dirs_exist_ok=True)
             write(into, new)
         except BaseException:
             shutil.rmtree(into, ignore_errors=True)
             raise
+
+
+def lock(root, how):
+    """Keeps other commands from the checkout until this process ends, also if it is killed; one that copies lets others copy."""
+    if root.is_dir():
+        folder = os.open(root, os.O_RDONLY)
+        try:
+            fcntl.flock(folder, how | fcntl.LOCK_NB)
+        except BlockingIOError:
+            sys.exit(f"{root}: another overlay command is at work there")
 
 
 def main():
@@ -254,6 +281,7 @@ def main():
     parser.add_argument("--undo", action="store_true")
     arguments = parser.parse_args()
     try:
+        lock(arguments.checkout, fcntl.LOCK_SH if arguments.into else fcntl.LOCK_EX)
         if arguments.undo and arguments.into:
             sys.exit("--undo changes the checkout itself, and makes no copy")
         elif arguments.undo:

@@ -8,6 +8,7 @@ what smoltcp printed are compared (`expected.txt`, which --record writes), and t
 RUST_KIT names the folder that `sh rust/targets.sh FOLDER` fills: a compiler for ARMv7, if `rustc` is none.
 """
 import argparse
+import fcntl
 import hashlib
 import os
 import re
@@ -167,7 +168,7 @@ class Tests:
         if tree(original) != before:
             stop("--dry-run or --into changed the checkout")
         after = tree(self.folder / "overlaid")
-        differ = {str(path) for path in after if before.get(path) != after[path] and path.parts[0] == "src"}
+        differ = {str(path) for path in after if before.get(path) != after[path] and path.parts[0] == "src" and ".overlay" not in path.parts}
         if differ != {line.split(": ")[1] for line in listed} or set(before) - set(after):
             stop("--dry-run doesn't list what is changed")
         checkout = self.copy("checkout")
@@ -183,7 +184,9 @@ class Tests:
             self.made(checkout, "--undo")
             if tree(checkout) != before or (checkout / "src/proved").exists():
                 stop("--undo doesn't give back what was there")
+        self.stashed(checkout, before)
         (checkout / "src/proved").mkdir()
+        (checkout / "src/proved/own.rs").write_text("")
         self.refused("has a folder src/proved", [checkout])
         self.refused("checkout exists", [original, "--into", checkout])
         self.refused("has no Cargo.toml of smoltcp", [self.folder / "none"])
@@ -217,7 +220,7 @@ class Tests:
             self.refused("nothing was changed: .*File too large", words, preexec_fn=limit)
         for path in [checkout, *checkout.rglob("*")]:
             path.chmod(0o777 if path.is_dir() else 0o666)
-        for name in ["src/storage", "src", ""]:
+        for name in ["src/storage", "src"]:
             (checkout / name).chmod(0o555)
             self.refused("nothing was changed: .*Permission denied", [checkout], nobody=True)
             (checkout / name).chmod(0o777)
@@ -234,6 +237,30 @@ class Tests:
             self.refused(f"{name} is a link", [checkout])
             self.refused(f"{name} is a link", [checkout, "--into", self.folder / "none"])
         print(f"script: {len(listed)} files, listed, made, taken back; {self.refusals} refusals, which change nothing")
+
+    def stashed(self, checkout, before):
+        """`git stash -u` takes the undo along, and gives it back. Two commands at once: the second is refused."""
+        self.made(checkout)
+        git = lambda *words: subprocess.run(["git", "-C", self.folder / "git", *words], check=True, capture_output=True)
+        original = self.copy("git")
+        for words in [["init"], ["add", "."], ["-c", "user.name=a", "-c", "user.email=a@b", "commit", "-m", "a"]]:
+            git(*words)
+        shutil.rmtree(original / "src")
+        shutil.copytree(checkout / "src", original / "src")
+        git("-c", "user.name=a", "-c", "user.email=a@b", "stash", "-u")
+        self.refused("has no overlay", [original, "--undo"])
+        git("stash", "pop")
+        self.made(original, "--undo")
+        shutil.rmtree(original / ".git")
+        if tree(original) != before:
+            stop("--undo doesn't give back what was there after a stash")
+        shutil.rmtree(original)
+        held = os.open(checkout, os.O_RDONLY)
+        fcntl.flock(held, fcntl.LOCK_EX)
+        for words in [[checkout], [checkout, "--undo"], [checkout, "--into", self.folder / "none"]]:
+            self.refused("another overlay command is at work", words)
+        os.close(held)
+        self.made(checkout, "--undo")
 
     def interruptions(self):
         """Killed, or interrupted, before any of its changes of files, the command is taken back by --undo; so is an --undo
