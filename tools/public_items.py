@@ -73,7 +73,7 @@ def unshown(pages):
 
 def documented(features, folder):
     """The crate's pages with these features."""
-    words = f"cargo doc --offline --quiet --no-deps --lib {features} --target-dir {folder}".split()
+    words = [*f"cargo doc --offline --quiet --no-deps --lib {features} --target-dir".split(), folder]
     environment = os.environ | {"RUSTDOCFLAGS": "-D rustdoc::broken_intra_doc_links"}
     subprocess.run(words, cwd=ROOT / "rust", env=environment, check=True)
     return Path(folder) / "doc/net_base"

@@ -1,0 +1,349 @@
+#!/usr/bin/env python3
+"""What the checkers say of small wrong texts, each line by line, and that they say nothing of right ones:
+python3 tools/checker_tests.py [CHECKER]"""
+import contextlib
+import io
+import os
+import pathlib
+import sys
+import tempfile
+
+sys.dont_write_bytecode = True
+HERE = pathlib.Path(__file__).resolve().parent
+sys.path[:0] = [str(HERE), str(HERE.parent / "models")]
+
+
+@contextlib.contextmanager
+def folder(files):
+    """A folder with these files, in which `,` of a name divides two with the same text."""
+    with tempfile.TemporaryDirectory() as name:
+        for path, text in files.items():
+            file = pathlib.Path(name, path)
+            file.parent.mkdir(parents=True, exist_ok=True)
+            file.write_text(text)
+        yield pathlib.Path(name)
+
+
+def said(function, *arguments):
+    """What a function returns, or ends the script with, and the lines that it prints."""
+    with contextlib.redirect_stdout(io.StringIO()) as out, contextlib.redirect_stderr(out):
+        try:
+            status = function(*arguments)
+        except SystemExit as ended:
+            status = ended.code
+    return status, out.getvalue().splitlines()
+
+
+def same(what, got, wanted):
+    assert got == wanted, f"{what}:\n  got    {got}\n  wanted {wanted}"
+
+
+def is_asserted(function, *arguments):
+    """Whether what a function asserts holds."""
+    try:
+        return bool(function(*arguments)) or True
+    except AssertionError:
+        return False
+
+
+# ---- check_quotes.py: a repository, and of each change of a file of it the lines that it must print.
+QUOTED = {
+    "README.md": "# A\n\n```rust\n#![tactic(auto)]\n\n    let a = take(1);\n    let b = 2;\n```\n\n`take`, `take_`, `_ke`, `Vec`, `plant`.\n"
+                 "`c.part.ensures`, `Rattle.net_a.specs.A`, `Rattle.net_a.specs.B`, `specs/A.antt`, 3 lines, `lib.rt`.\n"
+                 "Clause `value` of `take`; clauses `small` and `value` of `net_a::take`; `take`, clause `small`.\n",
+    "rust/README.md": "`net_a/src/lib.rt`\n", "CONTRIBUTING.md": "Clause `small`.\n", "docs/B.md": "`AMake`\n", "crates/net_a/CALLING.md": "",
+    "docs/TRUST.md": "This repository declares\nnone. One `unsafe impl`. Proofs by hand of [one functions](a).\n",
+    "crates/net_a/src/lib.rt": "/// Takes.\n///\n/// ```rust\n/// let a = take(1);\n/// ```\n///\n/// ```\n/// nothing();\n/// ```\n#[inline]\n"
+                               "pub fn take(x: u8) -> u8\n    requires small { x < 3 }\n    ensures value { let y = 1 in\n        { result } }\n"
+                               "    ensures { x ≡ x }\n{\n    x\n}\n\nimpl Make for A {\n    fn other();\n}\nunsafe impl Make for B {}\nlet Vec;\nfn take_one(antt: u8, rt: u8, a_ke: u8) {}\n",
+    "crates/net_a/specs/A.antt": "-- a\n-- b\n-- c\n", "crates/net_a/specs/Lib.antt": "pub use Rattle.net_b.specs.B\n",
+    "crates/net_a/proofs/take/Proof.antt": "c.part.ensures-1\nc.part.ensures\n", "crates/net_a/src/out/a.rt": "",
+    "crates/net_examples/src/lib.rt": "fn example() {\n        let a = take(1);\n        let b = 2;\n}\n", "crates.txt": "", "models/a.py": "",
+}
+QUOTES = [
+    ("README.md", "let b = 2;", "let b = 3;", ["README.md:4: is in no source: ['let a = take(1);']"]),
+    ("README.md", "    let b = 2;\n```", "  let b = 2;\n```", ["README.md:4: is in no source: ['  let a = take(1);']"]),
+    ("README.md", "    let a = take(1);\n    let b = 2;\n", "", ["README.md:4: is in no source: []"]),
+    ("README.md", "`take_`", "`take_o`, `Vek_`", ["README.md:10: no source has the name take_o", "README.md:10: no source has the name Vek_"]),
+    ("README.md", "`_ke`", "`_ko`, `x.none`", ["README.md:10: no source has the name _ko", "README.md:10: no source has the name none"]),
+    ("README.md", "c.part.ensures", "c.part.small", ["README.md:11: no proof has the name c.part.small"]),
+    ("README.md", "c.part.ensures", "c.part", []),
+    ("README.md", "specs.B`", "specs.Lib`, `Rattle.net_a.specs.C`", ["README.md:11: no source has the name C",
+                                                                      "README.md:11: there is no module Rattle.net_a.specs.C"]),
+    ("README.md", "3 lines", "4 lines", ["README.md:11: specs/A.antt hasn't 4 lines"]),
+    ("README.md", "`lib.rt`", "`take.rt`, `src/A.antt`", ["README.md:11: there is no file take.rt", "README.md:11: there is no file src/A.antt"]),
+    ("README.md", "Clause `value`", "Clause `other`", ["README.md:12: take has no clause other", "README.md:12: no function has a clause other"]),
+    ("README.md", "`small` and `value` of", "`take`,\n`value` of", ["README.md:12: take has no clause take",
+                                                                   "README.md:12: no function has a clause take"]),
+    ("README.md", "`take`, clause `small`", "`example`, clause `small`", ["README.md:12: example has no clause small"]),
+    ("README.md", "`take`, clause `small`", "`Vec`, clause `small`", []),
+    ("CONTRIBUTING.md", "`small`", "`large`", ["CONTRIBUTING.md:1: no function has a clause large", "CONTRIBUTING.md:1: no source has the name large"]),
+    ("docs/B.md", "AMake", "BMade", ["docs/B.md:1: no source has the name BMade"]),
+    ("rust/README.md", "net_a/src", "net_b/src", ["rust/README.md:1: there is no file net_b/src/lib.rt"]),
+    ("crates/net_a/CALLING.md", "", "`nowhere`\n", ["crates/net_a/CALLING.md:1: no source has the name nowhere"]),
+    ("crates/net_a/src/lib.rt", "/// let a = take(1);", "/// let a = take(2);",
+     ["crates/net_a/src/lib.rt:4: is in no example: ['let a = take(2);']"]),
+    ("crates/net_a/src/lib.rt", "pub fn take(", "pub fn taken(",
+     ["crates/net_a/src/lib.rt:4: an example that doesn't name taken"]),
+    ("crates/net_a/src/lib.rt", "let Vec;", "/// ```rust\n/// let b = 2;\n/// ```", ["crates/net_a/src/lib.rt:25: an example that doesn't name take_one",
+                                                                                  "README.md:10: no source has the name Vec"]),
+    ("crates/net_a/src/lib.rt", "let Vec;", "/// ```rust\nlet Vec;", ["crates/net_a/src/lib.rt:25: is in no example: ['let Vec;']"]),
+    ("crates/net_a/src/lib.rt", "ensures value {", "ensures val {", [f"README.md:12: {it} value" for it in
+                                                                   ("take has no clause", "no function has a clause", "no source has the name") * 2]),
+    ("crates/net_a/src/lib.rt", "unsafe impl Make for B", "impl Make for B", [
+        "docs/TRUST.md:1: the crates have 0 of what is counted by: (\\w+) `unsafe impl`", "docs/TRUST.md:2: no source has the name unsafe"]),
+    ("crates/net_a/src/lib.rt", "let Vec;", "let Vec;\nunsafe extern \"C\" {\n", [
+        "docs/TRUST.md:1: the crates have 1 of what is counted by: This repository declares (\\w+)\\."]),
+    ("docs/TRUST.md", "Proofs by hand of [one functions]", "Proofs by hand of [ten functions]", [
+        "docs/TRUST.md:1: the crates have 1 of what is counted by: Proofs by hand of \\[(\\w+) functions\\]"]),
+    ("docs/TRUST.md", "One `unsafe impl`", "Many", ["docs/TRUST.md:1: the crates have 1 of what is counted by: (\\w+) `unsafe impl`"]),
+    ("rust/src/a.rs", None, "//! let a = take(1);\n//! let b = 2;\n", []),
+    ("crates/net_examples/src/lib.rt", "let a = take(1);", "let a = take(0);",
+     ["README.md:4: is in no source: ['let a = take(1);']", "crates/net_a/src/lib.rt:4: is in no example: ['let a = take(1);']"]),
+]
+
+
+def quotes():
+    import check_quotes
+
+    kept = check_quotes.definitions.miscounted
+    for counted in [], ["a row has 3 lines"]:
+        check_quotes.definitions.miscounted = lambda: counted
+        for path, old, new, wanted in [("README.md", "", "", []), *QUOTES]:
+            files = QUOTED | {path: QUOTED[path].replace(old, new, 1) if old is not None else new}
+            with folder(files) as check_quotes.ROOT:
+                check_quotes.files.cache_clear()
+                status, lines = said(check_quotes.main)
+            wanted = wanted + [f"docs/TRUST.md:1: {it}" for it in counted]
+            same((path, new), (status, sorted(lines[:-4]), lines[-1]), (bool(wanted), sorted(wanted), f"{len(wanted)} things are in no source"))
+            if (path, old, counted) == ("README.md", "", []):
+                same(path, lines[:3], ["1 quoted blocks are in the sources", "1 examples of doc comments are in net_examples, net_core_tests",
+                                       "4 clauses that pages name are those of their functions"])
+    check_quotes.definitions.miscounted = kept
+
+
+# ---- edits.py: what refuses an edit, by what `rt must-fail` printed, and the table.
+EDITED = {
+    "CONTRIBUTING.md": "| A body | `net_a/one` | `a::A::f` value |\n| B | `net_a/two` | `a::A::g` ensures |\n| C | `net_a/checked` | a test |\n"
+                       "| D | `rust/long` | a test |\n",
+    "crates/net_a/must-fail/one.edit": "file: src/a.rt\nold:     1\nnew:     2\n# twin:     1 + 0\n",
+    "crates/net_a/must-fail/two.edit": "file: src/a.rt\nold:     x\nnew:     y\n# twin:     z\nfile: src/b.rt\nold: b\nnew: c\n# twin: d\n",
+    "crates/net_a/src/a.rt": "impl A {\n    fn f() {\n    1\n    }\n    #[inline]\n    fn g() {\n    x\n    }\n}\n#[test]\nfn checked() {}\n",
+    "crates/net_a/src/b.rt": "b\n", "rust/tests/a/b.rs": "#[test]\nfn long() {}\n", "crates.txt": "",
+}
+TABLES = [
+    ("CONTRIBUTING.md", "", "", []),
+    ("CONTRIBUTING.md", "`net_a/one`", "`net_a/none`", ["net_a/one: no row of CONTRIBUTING.md has this edit",
+                                                        "net_a/none: CONTRIBUTING.md names this edit, and there is none"]),
+    ("crates/net_a/src/a.rt", "#[test]\nfn checked", "fn checked", ["net_a/checked: CONTRIBUTING.md names this test, and there is none"]),
+    ("rust/tests/a/b.rs", "long", "short", ["rust/long: CONTRIBUTING.md names this test, and there is none"]),
+]
+F, G = "refused, as it must be: src/a.rt:3:5: error (`{}", "refused, as it must be: src/a.rt:5:5: error (`{}"
+REFUSALS = [
+    (F.format("returns-1-clause-value`)"), G.format("returns`)"), 0), (F.format("returns-1-clause-other`)"), G.format("returns`)"), 1),
+    (G.format("returns-1-clause-value`)"), G.format("returns`)"), 1), (F.format("value-requires`)"), G.format("returns-clause-value`)"), 2),
+    (F.format("returns-1-clause-va"), G.format("returns-2"), 0), (F.format("returns-1-clause-vo"), G.format("requires-2"), 2),
+    ("refused, as it must be: proofs/a/A/f/Answers.antt:1:2: error: `value` no", G.format("ensures`)"), 0),
+    ("refused, as it must be: proofs/a/A/f/Answers.antt:1:2: error: 3 declarations that depend on `other`", F.format("returns`)"), 2),
+    ("proved: src/a.rt:3:5: error (`returns-1-clause-value`)", "refused, as it must be: nothing", 2),
+]
+
+
+def edits():
+    import edits
+
+    def at(files):
+        edits.ROOT, edits.CRATES, edits.PAGE = files, files / "crates", files / "CONTRIBUTING.md"
+
+    for path, old, new, wanted in TABLES:
+        with folder(EDITED | {path: EDITED[path].replace(old, new)}) as files:
+            at(files)
+            same(new, said(edits.differing), (len(wanted), [*wanted, f"2 edits and 2 tests in rows, {len(wanted)} differ"]))
+    with folder(EDITED) as files:
+        at(files)
+        for one, two, wrong in REFUSALS:
+            printed = f"must-fail net_a/one.edit: {one}\nmust-fail net_a/two.edit: {two}\n"
+            status, lines = said(edits.compare, edits.folders_of([]), printed)
+            same((one, two), (status, lines[-1]), (wrong, f"{2 - wrong} edits are refused by their clauses, {wrong} are not"))
+            same((one, two), sum(" WANTED " in line for line in lines), wrong)
+        same("no row", said(edits.compare, edits.folders_of(["net_a"]), ""), (2, [
+            "net_a/one: WANTED a::A::f value", "    nothing was said of it", "net_a/two: WANTED a::A::g ensures", "    nothing was said of it",
+            "0 edits are refused by their clauses, 2 are not"]))
+        two = files / "crates/net_a/must-fail/two.edit"
+        same("edited", edits.edited(files / "crates/net_a", two), {"src/a.rt": EDITED["crates/net_a/src/a.rt"].replace("    x", "    y"), "src/b.rt": "c\n"})
+        same("twin", edits.edited(files / "crates/net_a", two, "# twin")["src/b.rt"], "d\n")
+        kept, proved = edits.checked, lambda crate, texts, function: (0, f"fn net_a::{function}: proved")
+        for checked, wrong, line in [(proved, 0, "net_a/two: its twin is proved"), (lambda *_: (0, ""), 2, "net_a/two: ITS TWIN IS NOT PROVED"),
+                                     (lambda *of: (1, proved(*of)[1] + "\na: error"), 2, "    a: error")]:
+            edits.checked = checked
+            status, lines = said(edits.try_twins, edits.folders_of([]))
+            same(line, (status, line in lines, lines[-1]), (wrong, True, f"{wrong} edits have no twin that is proved"))
+        edits.checked = proved
+        two.write_text(two.read_text().replace("# twin: d\n", "").replace("old: b", "old: e"))
+        same("no twin", said(edits.try_twins, edits.folders_of(["net_a"])), (1, [
+            "net_a/one: its twin is proved", "net_a/two: HAS NO TWIN", "1 edits have no twin that is proved"]))
+        edits.checked = kept
+        rt = files / "bin/rt"
+        rt.parent.mkdir()
+        rt.write_text(f"#!/bin/sh\necho 'must-fail net_a/one.edit: {F.format('returns-clause-value`)')}'\necho \"$*\" >&2\n"
+                      "grep -qs 1\\ +\\ 0 src/a.rt && grep -q . ../../crates.txt ../net_b/a && echo fn net_a::a::A::f: proved\n")
+        rt.chmod(0o755)
+        os.environ["PATH"] = f"{rt.parent}:{os.environ['PATH']}"
+        (files / "crates.txt").write_text("net_a:\n")
+        (files / "crates/net_b").mkdir()
+        (files / "crates/net_b/a").write_text("b\n")
+        printed = f"must-fail net_a/one.edit: {F.format('returns-clause-value`)')}\n"
+        same("must_fail", edits.must_fail(edits.folders_of(["net_a"])), printed + "must-fail net_a\n")
+        two.unlink()
+        (files / "log").write_text(printed)
+        of_one = ["net_a/one: a::A::f value", "1 edits are refused by their clauses, 0 are not"]
+        twin = ["net_a/one: its twin is proved", "0 edits have no twin that is proved"]
+        for words, wanted in [(["--table"], (1, ["net_a/two: CONTRIBUTING.md names this edit, and there is none",
+                                                 "2 edits and 2 tests in rows, 1 differ"])),
+                              (["--log", str(files / "log")], (0, of_one)), ([], (0, of_one)), (["net_a"], (0, of_one)),
+                              (["--twins"], (0, twin)), (["--twins", "net_a"], (0, twin))]:
+            sys.argv[1:] = words
+            same(words, said(edits.main), wanted)
+        (files / "log").write_text("")
+        rt.write_text("#!/bin/sh\n")
+        for words in ["--log", str(files / "log")], [], ["--twins"]:
+            sys.argv[1:] = words
+            same(words, said(edits.main)[0], 1)
+        two.write_text("file: src/b.rt\nold: e\nnew: f\n")
+        same("no such text", said(edits.edited, files / "crates/net_a", two), (f"{two}: not in src/b.rt: e", []))
+
+
+# ---- models/make.py: files that it writes and compares, and names of smoltcp's tests.
+def models():
+    import make
+
+    same("rows", make.text_of([(["a 1", "b"], ["x|1", "y|"]), (["c"], ["z|"])]), "a 1 => x|1\nb => y|\n\nc => z|\n")
+    for blocks in [(["a => b"], ["c"])], [(["a\nb"], ["c"])], [(["a"], ["b\nc"])]:
+        same(blocks, is_asserted(make.text_of, blocks), False)
+    same("seen", make.seen([(["words", "a\\b\t\0"], ["|", "c\r|"])]), [(["a\\\\b\\t\\0"], ["c\\r"])])
+    with folder({"a": "1\n", "b": "2\n", "src/storage/c.rs": "fn test_a() {}\n", "none/src/storage/c.rs": "fn a() {}\n"}) as make.REPOSITORY:
+        told = lambda name: f"{name} is not as the models give it: python3 models/make.py writes it"
+        for files, writes, before, after in [({"a": "1\n", "b": "3\n", "c": "4\n"}, False, [], [told("b"), told("c")]),
+                                             ({"a": "5\n"}, True, ["wrong"], ["wrong", told("a")]), ({"b": "3\n", "c": "4\n"}, True, [], []),
+                                             ({"a": "1\n", "b": "3\n", "c": "4\n"}, False, [], [])]:
+            status, lines = said(make.compare, files, writes, before)
+            same(files, (before, len(lines)), (after, len(files)))
+        same("lines", lines[0], "a: 1 lines, 2 bytes")
+        given, make.given = make.given, lambda: ({"d": "5\n"}, [*wrong])
+        for wrong, words, wanted in [(["one"], [], (1, ["d: 1 lines, 2 bytes", "one", told("d")])), ([], ["--check"], (1, ["d: 1 lines, 2 bytes", told("d")])),
+                                     ([], [], (0, ["d: 1 lines, 2 bytes"])), ([], ["--check"], (0, ["d: 1 lines, 2 bytes"]))]:
+            sys.argv[1:] = words
+            same((wrong, words), said(make.main), wanted)
+        make.given = given
+        kept, make.worked.tests_of_smoltcp = make.worked.tests_of_smoltcp, lambda: {"test_a", "test_b"}
+        for place, wanted in [("", ["smoltcp has no test test_b"]), ("/none", 2)]:
+            os.environ["SMOLTCP"] = f"{make.REPOSITORY}{place}"
+            same(place, said(make.unknown_tests)[0], wanted)
+        del os.environ["SMOLTCP"]
+        same("no checkout", make.unknown_tests(), [])
+        make.worked.tests_of_smoltcp = kept
+
+
+# ---- growth.py, composition.py, places.py, regenerate
+ITEMS = """  a: pub struct Assembler<const N: usize> { }
+  a: pub type Short<'a, const N: usize> = A<N>;
+  a: pub struct Short<'a, const N: usize> { }
+  a::Assembler: pub fn add(&mut self) -> A
++ a::Assembler: pub const fn add_last<const K: usize>(&self) -> A
+"""
+
+
+def growth():
+    import growth
+
+    kept, growth.TYPES, growth.MADE_OF_THESE, left = growth.TYPES, {"assembler": "Assembler"}, ["End"], growth.LEFT_OUT
+    with folder({"public_items.txt": ITEMS, "page.md": ""}) as growth.HERE:
+        calls = {"assembler_add", "assembler_add_last"}
+        same("items", growth.public_calls(), (calls, []))
+        for more, wrong in [("  a: pub struct Other<const N: usize> { }\n", ["Other"]), ("  a: pub struct End<const N: usize> { }\n", []),
+                            ("  b::Loss: pub fn f<const N: usize>(&self)\n", ["Loss"]), ("  b: pub fn f<K, const N: usize>(a: &A<N>)\n", ["b"]),
+                            ("  b::Loss: pub fn f(a: usize)\n", [])]:
+            (growth.HERE / "public_items.txt").write_text(ITEMS + more)
+            same(more, growth.public_calls()[1], [f"{it}: has runs, and isn't in TYPES of growth.py" for it in wrong])
+        same("longest", growth.call_of("assembler_add_last_again", calls), "assembler_add_last")
+        same("shorter", growth.call_of("assembler_add_lastly", calls), "assembler_add")
+        for cases, out, wrong in [
+            (["assembler_add_a", "assembler_add_last"], {}, []), (["assembler_add"], {"it reads": "assembler: add_last"}, []),
+            (["assembler_add"], {}, ["assembler_add_last: no case in growth/src/main.rs makes it, and LEFT_OUT has no reason"]),
+            (["assembler_add"], {"a": "assembler: add_last drop / b: c"}, ["assembler_drop: LEFT_OUT has it, and there is no such call",
+                                                                          "b_c: LEFT_OUT has it, and there is no such call"]),
+            (["assembler_add", "assembler_add_last"], {"a": "assembler: add"}, ["assembler_add: has a case, and is in LEFT_OUT"]),
+            (["assembler_add", "assembler_add_last", "other"], {}, ["other: is no public call"]),
+        ]:
+            growth.LEFT_OUT = out
+            same((cases, out), growth.unclassed(cases, calls), wrong)
+        few, many = {"assembler_add": 10, "assembler_b": 2000, "assembler_c": 30}, {"assembler_add": 11, "assembler_b": 2100, "assembler_c": 900}
+        rows = growth.page_table(few, many, {"assembler_add": "looks", "assembler_b": "looks", "assembler_c": "passes"})
+        same("table", rows[2:], ["| `Assembler` | 2,000; 2,100 |  | 30; 900 |"])
+        growth.PAGE = growth.HERE / "page.md"
+        growth.PAGE.write_text("a\n<!-- tools/growth.py: begin -->\n\nold\n\n<!-- tools/growth.py: end -->\nb\n")
+        told = lambda row: [f"page.md: growth.py --write has another row: {row}"]
+        same("old", growth.differing(rows[2:], False), told(rows[2]))
+        same("written", growth.differing(rows[2:], True), [])
+        same("page", growth.PAGE.read_text(), f"a\n<!-- tools/growth.py: begin -->\n\n{rows[2]}\n\n<!-- tools/growth.py: end -->\nb\n")
+        same("new", growth.differing(rows[2:], False), [])
+        for changed, wrong in [(rows[2].replace("2,100", "2,300"), 0), (rows[2].replace("2,100", "2,400"), 1), (rows[2].replace("As", "Is"), 1),
+                               (rows[2].replace("| 30; 900", "| "), 1)]:
+            same(changed, growth.differing([changed], False), told(changed) * wrong)
+        same("more", growth.differing([*rows[2:], "more"], False), told("more"))
+        same("fewer", growth.differing([], False), told("none"))
+    growth.TYPES, growth.LEFT_OUT = kept, left
+
+
+def composition():
+    import composition
+
+    kept, composition.LOOPS = composition.LOOPS, {"the runs": "m::a m::b"}
+    right = ("impl A {\n    pub fn a() {\n        for x in y {}\n    }\n    // for c in d\n    fn c(f: for_all) {\n        format(x.map(|a| a))\n    }\n}\n"
+             "pub(crate) const fn b() {\n    'out: loop {}\n}\n")
+    for old, new, wrong in [
+        ("", "", []), ("format(", "while a < b {}(", ["c"]), ("format(", "x.iter().any(", ["c"]), ("format(", "loop {}", ["c"]), ("x.map(", "x.fold(", ["c"]),
+        ("    // for", "    for", ["a"][:0]), ("'out: loop {}", "", ["b: LOOPS has it, and it has no loop"]), ("fn a()", "fn other()", ["other", "a: LOOPS has it, and it has no loop"]),
+    ]:
+        lines = [f"m::{it}" if " " in it else f"m::{it}: has a loop: use a call of net_assembler, or name it in LOOPS with its reason" for it in wrong]
+        same((old, new), composition.differing([("m", right.replace(old, new, 1))])[0], sorted(lines))
+    composition.LOOPS = kept
+    same("the sources", len(dict(composition.sources())) > 30, True)
+
+
+def places():
+    import places
+
+    history = "data Call : Type where\n  Clear : Call\n  Add : ℕ → Call\n\nmodule _ where\n  Makes Clear g h = a\n  Makes (Add n) g h = b\n"
+    specs = "-- a\npub record Adds (a : ℕ) : Type 0 where\n    pub call : Makes (Add a) q r\n\npub record Other : Type 0 where\n    pub a : ℕ\n"
+    source = ("impl<T> RingOver<T> {\n    pub fn clear(&mut self)\n        ensures call { Makes Clear a b }\n    {\n        a()\n    }\n"
+              "    pub fn add(&mut self, n: u8)\n        requires { a }\n        ensures { Adds a }\n    {\n        b()\n    }\n"
+              "    pub fn read_allocated(&mut self) {\n        a()\n    }\n    pub fn len(&self) {\n        a()\n    }\n    fn own(&mut self) {\n        a()\n    }\n}\n"
+              "impl Other {\n    pub fn f(&mut self) {\n        a()\n    }\n}\n")
+    no_call = lambda name: f"RingOver::{name}: no clause says which call of the history it is"
+    for old, new, wrong in [
+        ("", "", []), ("Makes Clear", "Is Clear", [no_call("clear")]), ("Adds a", "Other a", [no_call("add")]), ("fn len(&self", "fn len(&mut self", [no_call("len")]),
+        ("    fn own", "    pub fn own", [no_call("own")]), ("Makes Clear", "Makes Nothing", ["RingOver: no clause makes the call Clear of the history"]),
+        ("fn read_allocated", "fn read", [no_call("read"), "RingOver::read_allocated: NO_CALLS has it, and there is no such method"]),
+        ("impl Other", "impl Trait for RingOver", [no_call("f")]),
+    ]:
+        same((old, new), [*places.without_history("RingOver", history, specs, [source.replace(old, new)])], wrong)
+    same("guards", places.unguarded([("a", "", "", []), ("b", "", "", ["x < 3"])]), ["a: requires something, and no guard tests it"])
+    kept, places.ROWLESS = places.ROWLESS, {"b": "Listed"}
+    items = "  a: pub struct Named { }\n+ a: pub trait Listed\n  exports: pub struct Head\n"
+    for more, rows, wrong in [
+        ("", "use a::Named;", []), ("", "Name", ["Named: no file of rust/tests/rows names it, and ROWLESS has no reason"]),
+        ("", "Named Listed", ["Listed: ROWLESS has it, and it has rows, or is no type"]),
+        ("- b: pub enum New { A }\n", "Named", ["New: no file of rust/tests/rows names it, and ROWLESS has no reason"]),
+    ]:
+        same((more, rows), places.without_rows(items + more, rows), wrong)
+    same("no type", places.without_rows("", ""), ["Listed: ROWLESS has it, and it has rows, or is no type"])
+    places.ROWLESS = kept
+
+
+CHECKERS = {"quotes": quotes, "edits": edits, "models": models, "growth": growth, "composition": composition, "places": places}
+
+if __name__ == "__main__":
+    for name in sys.argv[1:] or CHECKERS:
+        CHECKERS[name]()
+    print(f"{len(CHECKERS)} checkers say what they must of wrong texts")
