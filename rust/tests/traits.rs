@@ -3,7 +3,7 @@
 #![allow(clippy::op_ref)]
 use std::collections::HashSet;
 use std::fmt::Write as _;
-use std::hash::Hash;
+use std::hash::{BuildHasher, Hash};
 use std::iter::FusedIterator;
 
 use net_base::finite::{FiniteError, FiniteReceiverOver, FiniteSenderOver};
@@ -30,6 +30,8 @@ fn hashes() {
     assert_eq!(count([5, -5, 5].map(Instant::from_secs)), 2);
     assert_eq!(count([5, 6, 5].map(Duration::from_secs)), 2);
     assert_eq!(count([5, 1 << 16, 5].map(SequenceNumber::new)), 2);
+    let hasher = std::hash::RandomState::new();
+    assert_ne!(hasher.hash_one(SequenceNumber::new(5)), hasher.hash_one(SequenceNumber::new(6)));
     assert_eq!(count([FiniteError::TooManyHoles, FiniteError::OtherEnd]), 2);
     assert_eq!(count([FragmentError::TooLong, FragmentError::OtherSize]), 2);
     assert_eq!((count([Full; 2]), count([Empty; 2]), count([TooManyHolesError; 2])), (1, 1, 1));
@@ -194,6 +196,9 @@ fn elements_and_texts() {
     let mut ring = RingOver::over([0u8; 4]);
     assert!(ring.write_str("abc").is_ok() && ring.write_str("de").is_err());
     assert_eq!((ring.len(), write!(ring, "{}", 7), ring.get(3)), (3, Ok(()), Some(&b'7')));
+    // Past the storage's end.
+    let (left, written) = (ring.dequeue_slice(&mut [0; 2]), ring.write_str("de"));
+    assert_eq!((left, written, ring.get(2), ring.get(3)), (2, Ok(()), Some(&b'd'), Some(&b'e')));
     let mut numbers = [0; 3];
     let mut ring = RingBuffer::new(&mut numbers[..]);
     let extend = std::panic::AssertUnwindSafe(|| ring.extend([1, 2, 3, 4]));
