@@ -17,7 +17,7 @@ use Rattle.net_assembler.proofs.Runs.{in_runs, in_first, past_first, not_in_runs
 use Rattle.net_assembler.proofs.Joins.{apart, at_run, in_run_at, not_before, rest_rises, starts_rise}
 use Rattle.net_assembler.proofs.Sets.{either, first_missing-is}
 use Rattle.net_assembler.proofs.SoundHeads.{are_runs, end_of, length-runs_of, length-used_runs, maximal_runs-set_of}
-use Rattle.net_assembler.proofs.SoundHeads.{pair_fits, run_at}
+use Rattle.net_assembler.proofs.SoundHeads.{pair_fits, run_at, run_start}
 
 -- ---- runs of which n start at or before p
 module _ (rs : List (ℕ × ℕ)) (p n : ℕ) (h : AreRuns rs) (s : SplitsRuns rs p n) where
@@ -39,6 +39,16 @@ module _ (rs : List (ℕ × ℕ)) (p n : ℕ) (h : AreRuns rs) (s : SplitsRuns r
   lacks e q is from past before = either (cases_lt 0 n)
       (λ some. within q some from before ∙ le-ltb q (end_at rs (n - 1)) (omega (arith, is some, past)))
       (λ none. without q (omega (arith, none)) before)
+
+  -- whether p is present
+  pub here : (e : ℕ) → (n ≡ 0 → e ≡ 0) → (0 < n → e ≡ end_at rs (n - 1)) → nat_lt p e ≡ contains (set_of_runs rs) p
+  here e zeroth is =
+      let before : n < length rs → p < start_at rs n = λ l. s.after n (omega arith) l in
+      sym (contains-set_of_runs rs p ∙ either (cases_lt 0 n)
+      (λ some. within p some (omega arith) before ∙ ap (nat_lt p) (sym (is some)))
+      (λ none.
+      let zero : n ≡ 0 = omega (arith, none) in
+      without p zero before ∙ sym (le-ltb p e (omega (arith, zeroth zero)))))
 
   -- the first missing position from p on
   pub missing_from : (e : ℕ) → (n ≡ 0 → e ≡ 0) → (0 < n → e ≡ end_at rs (n - 1)) → max p e ≡ first_missing (set_of_runs rs) p
@@ -258,11 +268,11 @@ module _ (h : AssemblerHead) (xs : List (ℕ × ℕ)) (s : HasSoundRuns h xs) wh
   count = length-runs_of h xs s
 
   -- a search finds how many start at or before p
-  pub splits : (p n : ℕ) → h.first_start ≤ p → n ≤ h.used → ((k : ℕ) → 0 ≤ k → k < n → start_at xs k ≤ p - h.first_start) →
+  pub splits : (p n : ℕ) → h.first_start ≤ p → n ≤ h.used → ((k : ℕ) → k < n → start_at xs k ≤ p - h.first_start) →
       ((k : ℕ) → n ≤ k → k < h.used → p - h.first_start < start_at xs k) → SplitsRuns (maximal_runs (set_of h xs)) p n
   splits p n from few before after = subst (λ ts. SplitsRuns ts p n) (sym (maximal_runs-set_of h xs s)) (record {
     few = omega (arith, count, few);
-    before = λ k l. omega (arith, starts k (omega (arith, l, few)), before k (omega arith) l, from);
+    before = λ k l. omega (arith, starts k (omega (arith, l, few)), before k l, from);
     after = λ k a b. omega (arith, starts k (omega (arith, count, b)), after k a (omega (arith, count, b)), from);
   })
 
@@ -273,27 +283,41 @@ module _ (h : AssemblerHead) (xs : List (ℕ × ℕ)) (s : HasSoundRuns h xs) wh
     after = λ k a b. omega (arith, starts k (omega (arith, count, b)), below);
   })
 
-  module _ (p n e : ℕ) (is : SplitsRuns (maximal_runs (set_of h xs)) p n) (zeroth : n ≡ 0 → e ≡ 0)
-      (last : 0 < n → e ≡ h.first_start + end_at xs (n - 1)) where
+  module _ (p n : ℕ) (is : SplitsRuns (maximal_runs (set_of h xs)) p n) where
     found : SplitsRuns rs p n
     found = subst (λ ts. SplitsRuns ts p n) (maximal_runs-set_of h xs s) is
 
     pub few_split : n ≤ h.used
     few_split = omega (arith, found.few, count)
 
+    pub before_split : (k : ℕ) → k < n → h.first_start + start_at xs k ≤ p
+    before_split k l = omega (arith, found.before k l, starts k (omega (arith, l, few_split)))
+
+    pub some_split : h.first_start ≤ p → 0 < h.used → 0 < n
+    some_split from some = either (cases_lt 0 n) (λ l. l) (λ none.
+        absurd (omega (arith, found.after 0 (omega (arith, none)) (omega (arith, count, some)), run_start h xs s some, from)))
+
+    pub after_split : n < h.used → p < h.first_start + start_at xs n
+    after_split l = omega (arith, found.after n (omega arith) (omega (arith, count, l)), starts n l)
+
+  module _ (p n e : ℕ) (is : SplitsRuns (maximal_runs (set_of h xs)) p n) (zeroth : n ≡ 0 → e ≡ 0)
+      (last : 0 < n → e ≡ h.first_start + end_at xs (n - 1)) where
     at_last : 0 < n → e ≡ end_at rs (n - 1)
-    at_last some = omega (arith, last some, ends (n - 1) (omega (arith, some, few_split)))
+    at_last some = omega (arith, last some, ends (n - 1) (omega (arith, some, few_split p n is)))
+
+    pub here_is : nat_lt p e ≡ contains (set_of h xs) p
+    here_is = here rs p n (are_runs h xs s) (found p n is) e zeroth at_last
 
     pub missing_is : max p e ≡ first_missing (set_of h xs) p
-    missing_is = missing_from rs p n (are_runs h xs s) found e zeroth at_last
+    missing_is = missing_from rs p n (are_runs h xs s) (found p n is) e zeroth at_last
 
     pub hole_ends : (end : ℕ) → n < h.used → end ≡ h.first_start + start_at xs n → EndsHole (set_of h xs) (max p e) (Some end)
     hole_ends end l at =
         subst (λ (q : ℕ). EndsHole (set_of h xs) (max p e) (Some q)) (starts n l ∙ sym at)
-        (hole_some rs p n (are_runs h xs s) found e zeroth at_last (omega (arith, count, l)))
+        (hole_some rs p n (are_runs h xs s) (found p n is) e zeroth at_last (omega (arith, count, l)))
 
     pub hole_open : n ≡ h.used → EndsHole (set_of h xs) (max p e) None
-    hole_open all = hole_none rs p n (are_runs h xs s) found e at_last (omega (arith, count, all))
+    hole_open all = hole_none rs p n (are_runs h xs s) (found p n is) e at_last (omega (arith, count, all))
 
   pub end_is : (e : ℕ) → (h.used ≡ 0 → e ≡ 0) → (0 < h.used → e ≡ h.first_start + end_at xs (h.used - 1)) → IsEnd (set_of h xs) e
   end_is e zeroth last =

@@ -1,7 +1,7 @@
 -- Runs that are counted from elsewhere, also by numbers that wrap, and a range that joins them.
 use Rattle.std.proofs.Common.{◌||◌, ◌≡◌, ℕ, zero, suc, ◌+◌, ◌-◌, ◌<◌, ◌≤◌, ◌^◌, max, min, true, false, ◌&&◌, List, []}
 use Rattle.std.proofs.Common.{◌∷◌, length, map, drop, set, get_or, nat_le, nat_lt, refl, sym, ap, subst, ◌∙◌, arith}
-use Rattle.std.proofs.Common.{◌%◌, ◌++◌, take, ◌*◌}
+use Rattle.std.proofs.Common.{◌%◌, ◌++◌, take, ◌*◌, ◌/◌}
 use Rattle.std.proofs.lemmas.List.{drop-map, length-map, get_or-map, map-id, length-drop, length-take-le, take-take}
 use Rattle.std.proofs.lemmas.List.{get_or-drop, get_or-take}
 use Rattle.std.proofs.lemmas.Bool.{cases_lt, cond_both, false≢true, or_cases}
@@ -203,16 +203,6 @@ in_runs-below n (r ∷ rs) q l =
     let here : (nat_le (n + r.0) q && nat_lt q (n + r.1)) ≡ false = grind (arith, nat_tests) in
     λ i. here i || in_runs-below n rs q l i
 
-pub in_runs-up : (n : ℕ) (rs : List (ℕ × ℕ)) (q : ℕ) → n ≤ q →
-    in_runs (runs_shifted_up n rs) q ≡ in_runs rs (q - n)
-in_runs-up n [] q l = refl
-in_runs-up n (r ∷ rs) q l =
-    λ i. up_test n r.0 r.1 q l i || in_runs-up n rs q l i
-  where
-    up_test : (n a e q : ℕ) → n ≤ q →
-        (nat_le (n + a) q && nat_lt q (n + e)) ≡ (nat_le a (q - n) && nat_lt (q - n) e)
-    up_test n a e q l = grind (arith, nat_tests)
-
 -- and it is below the greatest number of `usize` if their ends fit
 pub in_runs-fits : (n : ℕ) (rs : List (ℕ × ℕ)) (q : ℕ) → FitsFrom n rs → in_runs (runs_shifted_up n rs) q ≡ true →
     q + 1 + shortfall < 2 ^ 64
@@ -263,12 +253,13 @@ wrapped-up by low (r ∷ rs) h f =
     λ i. (start i, end i) ∷ wrapped-up by (r.1 + 1) rs h.2 f.1 i
 
 -- and down, by a number that wraps
-wraps : (n m x : ℕ) → n + m ≡ 2 ^ 64 → m ≤ x → x < 2 ^ 64 → (n + x) % 2 ^ 64 ≡ x - m
+wraps : (n m x : ℕ) → (n + m) % 2 ^ 64 ≡ 0 → m ≤ x → x < 2 ^ 64 → (n + x) % 2 ^ 64 ≡ x - m
 wraps n m x e l f =
-    let once : n + x ≡ 1 * 2 ^ 64 + (x - m) = omega arith in
-    ap (λ k. k % 2 ^ 64) once ∙ mod-mul-add 1 (2 ^ 64) (x - m) (omega arith)
+    let times = (n + m) / 2 ^ 64 in
+    let once : n + x ≡ times * 2 ^ 64 + (x - m) = omega arith in
+    ap (λ k. k % 2 ^ 64) once ∙ mod-mul-add times (2 ^ 64) (x - m) (omega arith)
 
-pub wrapped-down : (n m : ℕ) (rs : List (ℕ × ℕ)) → n + m ≡ 2 ^ 64 → IsRising m rs → FitsFrom 0 rs →
+pub wrapped-down : (n m : ℕ) (rs : List (ℕ × ℕ)) → (n + m) % 2 ^ 64 ≡ 0 → IsRising m rs → FitsFrom 0 rs →
     runs_wrapped n rs ≡ runs_shifted_down m rs
 wrapped-down n m [] e h f = refl
 wrapped-down n m (r ∷ rs) e h f =
@@ -287,7 +278,7 @@ tail_usize by n rs h f =
     let fits = fits-drop by n rs f in
     subst AreUsize (sym (wrapped-up by 0 (drop n rs) rises fits)) (usize-up by 0 (drop n rs) rises fits)
 
-pub usize-down : (n m : ℕ) (rs : List (ℕ × ℕ)) → n + m ≡ 2 ^ 64 → IsRising m rs → FitsFrom 0 rs →
+pub usize-down : (n m : ℕ) (rs : List (ℕ × ℕ)) → (n + m) % 2 ^ 64 ≡ 0 → IsRising m rs → FitsFrom 0 rs →
     AreUsize (runs_wrapped n rs)
 usize-down n m rs e h f =
     subst AreUsize (sym (wrapped-down n m rs e h f)) (lower m rs f (rising_from 0 m rs (omega arith) h))
@@ -396,7 +387,3 @@ module _ (xs : List (ℕ × ℕ)) (used by start end first next : ℕ) (h : AreR
         (λ k a b.
         omega (arith, upto k a (omega arith), pair_is k (omega arith), start_at-up by cs k (omega (arith, len))))
         (λ k a b. up_after k (omega arith) b))
-
--- a number and its negative, if it isn't 0
-pub negated : (n m : ℕ) → n < 2 ^ 64 → 0 < m → m < 2 ^ 64 → (n + m) % 2 ^ 64 ≡ 0 → n + m ≡ 2 ^ 64
-negated n m a some b e = omega arith

@@ -10,7 +10,7 @@ use Rattle.net_assembler.proofs.Runs.{runs_with_range, one_run_more, rising-runs
 use Rattle.net_assembler.proofs.Runs.{front_of_runs, step_meets, contains-set_of_runs, front-set_of_runs}
 use Rattle.net_assembler.proofs.Runs.{runs-set_of_runs, maximal_runs-set_of_runs, set_of_runs_injective}
 use Rattle.net_assembler.proofs.Runs.{set-runs_with_range, runs-runs_with_range, few_with_range}
-use Rattle.net_assembler.proofs.ShiftedRuns.{rest_of_runs, down-less, down-none, in_runs-up, in_runs-below, end_at-up}
+use Rattle.net_assembler.proofs.ShiftedRuns.{rest_of_runs, down-less, down-none, in_runs-below, end_at-up}
 use Rattle.net_assembler.proofs.ShiftedRuns.{first-runs_with_range, up-none, fits-runs_with_range, fits-up}
 use Rattle.net_assembler.proofs.ShiftedRuns.{up-runs_with_range, up-up, zero-runs_with_range, length-up, drop-up}
 use Rattle.net_assembler.proofs.ShiftedRuns.{runs-up, down-up, fits-at, start-up, first_at, get_or-up, up-injective}
@@ -143,20 +143,6 @@ module _ (h : AssemblerHead) (xs : List (ℕ × ℕ)) (s : HasSoundRuns h xs) wh
   dropped k m top e =
       sym (down-up h.first_start m (drop k (used_runs h xs)))
       ∙ (λ i. runs_shifted_down (sym e i) (sym (drop-up h.first_start k (used_runs h xs)) i))
-
-  -- the last of n runs, of which all but the first start by m
-  pub starts_by : (n m : ℕ) → 0 < n → n ≤ h.used → ((k : ℕ) → 1 ≤ k → k < n → start_at xs k ≤ m) →
-      start_at xs (n - 1) ≤ m
-  starts_by n m some few before =
-      either (cases_lt 0 (n - 1)) (λ b. before (n - 1) b (omega arith))
-      (λ b. let zeroth : n - 1 ≡ 0 = omega arith in omega (arith, ap (start_at xs) zeroth, first_pair (omega arith)))
-
-  -- a position is in the set if it is in the runs, counted from where the first of them starts
-  pub contains-from : (q : ℕ) → h.first_start ≤ q →
-      contains (set_of h xs) q ≡ contains (set_of_runs (used_runs h xs)) (q - h.first_start)
-  contains-from q l =
-      contains-set_of_runs (runs_of h xs) q ∙ in_runs-up h.first_start (used_runs h xs) q l
-      ∙ sym (contains-set_of_runs (used_runs h xs) (q - h.first_start))
 
   pub contains-below : (q : ℕ) → q < h.first_start → contains (set_of h xs) q ≡ false
   contains-below q l = contains-set_of_runs (runs_of h xs) q ∙ in_runs-below h.first_start (used_runs h xs) q l
@@ -560,7 +546,7 @@ pub ruleset gaps = (holes-set_of, hole_after, no_hole_after, few_holes)
 
 pub ruleset fronts = (no_front, first_front, front_none, front_later, left_set, left_after_front)
 
-pub ruleset places = (fits_from, contains-from, contains-below, lowered, lowered_set, lowered_runs)
+pub ruleset places = (fits_from, contains-below, lowered, lowered_set, lowered_runs)
 
 pub ruleset none = (set_of_no_runs, runs-nothing, shift_down-zero, shift_down-none)
 

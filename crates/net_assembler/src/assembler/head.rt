@@ -195,7 +195,7 @@ impl AssemblerHead {
         self.add_last(runs, offset, size, turns)
     }
 
-    /// Adds a range as `add` does, with all of the rule inlined.
+    /// Adds a range as `add` does, with all of the rule inlined, and counts as `add_counted` does.
     #[inline(always)]
     pub(crate) fn add_inlined(
         &mut self,
@@ -206,7 +206,13 @@ impl AssemblerHead {
     ) -> Result<(), TooManyHolesError>
         requires sound { HasSoundRuns self.old runs.old }
         requires range { RangeFits offset size }
-        ensures { AddsInPlace self.old runs.old offset size result self.new runs.new turns.old turns.new }
+        ensures sound { HasSoundRuns self.new runs.new }
+        ensures added { Adds (length runs.old) (set_of self.old runs.old) offset size
+            result (set_of self.new runs.new) }
+        ensures unchanged { OnErr result ((self.new ≡ self.old) × (runs.new ≡ runs.old)) }
+        ensures canonical { IsCanonical self.old → IsCanonical self.new }
+        ensures turns { let n = length runs.old in
+            TurnsWithin (2 * binary_digits n) n turns.old turns.new }
     {
         if self.starts_in_runs(runs, offset, size) {
             return self.join(runs, offset, size, turns);
@@ -266,7 +272,7 @@ impl AssemblerHead {
         }
         // The last run that starts by then is cut, or ends by then; those before it end by then.
         let by = count - self.first_start;
-        let met = runs_starting_by(runs, self.used, 1, by, &mut Turns::new());
+        let met = self.runs_by(runs, count);
         let last = met - 1;
         let end = end_of(runs, last);
         if end <= by {
@@ -372,7 +378,7 @@ impl AssemblerHead {
         requires { HasSoundRuns self.now runs.now }
         ensures { result ≡ contains (set_of self.now runs.now) position }
     {
-        position >= self.first_start && holds(&runs[..self.used], position - self.first_start)
+        position < self.end_of_first(runs, self.runs_by(runs, position))
     }
 
     /// Returns how many maximal runs start at or before `position`. It looks at as many runs as the number of
@@ -381,7 +387,6 @@ impl AssemblerHead {
     /// # Requires
     ///
     /// The head is sound with the runs, as `is_sound` tests.
-    #[inline(never)]
     pub fn runs_by(&self, runs: &[Run], position: usize) -> usize
         requires { HasSoundRuns self.now runs.now }
         ensures { SplitsRuns (maximal_runs (set_of self.now runs.now)) position result }
@@ -391,7 +396,7 @@ impl AssemblerHead {
         }
         let mut turns = Turns::new();
         let offset = position - self.first_start;
-        let count = runs_starting_by(runs, self.used, 0, offset, &mut turns);
+        let count = runs_starting_by(runs, self.used, offset, &mut turns);
         turns.were_a_search(runs);
         count
     }
@@ -441,8 +446,8 @@ impl AssemblerHead {
         (start, Some(end))
     }
 
-    /// Returns how many positions from `start` on and below `end` are present. It looks only at runs that start
-    /// below `end` and at the one before them, which it finds by a search.
+    /// Returns how many positions from `start` on and below `end` are present. It looks at one run more than have
+    /// some of them, at most, and finds the first of these as `runs_by` does.
     ///
     /// # Requires
     ///
@@ -454,19 +459,19 @@ impl AssemblerHead {
         let mut turns = Turns::new();
         let from = start.saturating_sub(self.first_start);
         let to = end.saturating_sub(self.first_start);
-        let first = runs_starting_by(runs, self.used, 0, from, &mut turns).saturating_sub(1);
+        let first = self.runs_by(runs, start).saturating_sub(1);
         let mut count = 0;
         for k in first..self.used {
             let start = start_of(runs, k);
             turns.step();
             if start >= to {
-                turns.were_a_search_and_a_pass(runs);
+                turns.were_a_pass(runs);
                 return count;
             }
             count += end_of(runs, k).min(to).saturating_sub(start.max(from));
             prove!(count <= most(), "in any `usize`");
         }
-        turns.were_a_search_and_a_pass(runs);
+        turns.were_a_pass(runs);
         count
     }
 
@@ -787,7 +792,6 @@ impl AssemblerHead {
         requires runs { AreRuns (used_runs self.old runs.old) }
         requires fits { FitsFrom self.old.first_start (used_runs self.old runs.old) }
         requires count { count ≤ self.old.used }
-        requires some { 0 < end }
         requires after { count < self.old.used → end ≤ start_at runs.old count }
         ensures sound { HasSoundRuns self.new runs.new }
         ensures runs { runs_of self.new runs.new
@@ -802,15 +806,10 @@ impl AssemblerHead {
             end
         };
         self.first_start = start - end;
+        let mut turns = Turns::new();
         // A sum that wraps lowers their numbers.
-        self.used = take_out(
-            runs,
-            used,
-            0,
-            count,
-            start.wrapping_neg(),
-            &mut Turns::new(),
-        );
+        self.used = take_out(runs, used, 0, count, start.wrapping_neg(), &mut turns);
+        turns.were_a_pass(runs);
     }
 
     /// Returns the hole after the run `k`, if there is a run after it.
@@ -928,20 +927,18 @@ fn runs_ending_before(runs: &[Run], used: usize, offset: usize, turns: &mut Turn
     low
 }
 
-/// Returns how many of the `used` runs start at or before `end`, but at least `from`.
+/// Returns how many of the `used` runs start at or before `end`.
 #[inline(always)]
-fn runs_starting_by(runs: &[Run], used: usize, from: usize, end: usize, turns: &mut Turns) -> usize
+fn runs_starting_by(runs: &[Run], used: usize, end: usize, turns: &mut Turns) -> usize
     requires used { used ≤ length runs.now }
     requires runs { AreRuns (take used runs.now) }
-    requires from { from ≤ used }
-    ensures from { from ≤ result }
     ensures within { result ≤ used }
-    ensures before { (k : ℕ) → from ≤ k → k < result → start_at runs.now k ≤ end }
+    ensures before { (k : ℕ) → k < result → start_at runs.now k ≤ end }
     ensures after { (k : ℕ) → result ≤ k → k < used → end < start_at runs.now k }
     ensures looks { (b : ℕ) → used < 2 ^ b → turns.new.0 ≤ turns.old.0 + b }
     ensures moves { turns.new.1 ≡ turns.old.1 }
 {
-    let mut low = from;
+    let mut low = 0;
     let mut high = used;
     while low < high {
         let middle = low + (high - low) / 2;
@@ -957,9 +954,9 @@ fn runs_starting_by(runs: &[Run], used: usize, from: usize, end: usize, turns: &
     low
 }
 
-/// Returns what `runs_starting_by` does. It looks at the runs in turn: mostly the first that it looks at
-/// starts after `end`. Each that starts by then is taken into a range that ends there, which counts as a
-/// move.
+/// Returns how many of the `used` runs start at or before `end`, but at least `from`. It looks at the runs
+/// in turn: mostly the first that it looks at starts after `end`. Each that starts by then is taken into a
+/// range that ends there, which counts as a move.
 #[inline(always)]
 fn runs_met(runs: &[Run], used: usize, from: usize, end: usize, turns: &mut Turns) -> usize
     requires used { used ≤ length runs.now }
@@ -1047,15 +1044,4 @@ fn take_out(
         turns.step();
     }
     to
-}
-
-/// Returns whether `position` is present: whether the last run that starts at or before it, if
-/// there is one, ends after it.
-fn holds(runs: &[Run], position: usize) -> bool
-    requires runs { AreRuns runs.now }
-    requires fits { FitsFrom 0 runs.now }
-    ensures { result ≡ contains (set_of_runs runs.now) position }
-{
-    let count = runs_starting_by(runs, runs.len(), 0, position, &mut Turns::new());
-    count > 0 && position < end_of(runs, count - 1)
 }

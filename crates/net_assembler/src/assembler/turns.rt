@@ -65,8 +65,8 @@ impl Turns {
         self.moves = Snapshot::of(&Count::Next(before));
     }
 
-    /// States that a call over these runs was a search: it looked at as many as their number has binary digits. It
-    /// does nothing.
+    /// States that a loop over these runs was a search: it looked at as many as their number has binary digits, at
+    /// most. It does nothing.
     #[inline(always)]
     pub(crate) fn were_a_search(&self, runs: &[Run])
         requires { self.now.0 + self.now.1 ≤ binary_digits (length runs.now) }
@@ -74,10 +74,10 @@ impl Turns {
         let _ = runs;
     }
 
-    /// States that it was a search and one pass. It does nothing.
+    /// States that a loop passed these runs once, at most. It does nothing.
     #[inline(always)]
-    pub(crate) fn were_a_search_and_a_pass(&self, runs: &[Run])
-        requires { self.now.0 + self.now.1 ≤ binary_digits (length runs.now) + length runs.now }
+    pub fn were_a_pass(&self, runs: &[Run])
+        requires { self.now.0 + self.now.1 ≤ length runs.now }
     {
         let _ = runs;
     }

@@ -20,14 +20,13 @@ loop-low-preserved c =
       | else-starts_by w ↦ omega arith
     ] in
     record {
-      from = elim c.if-starts_by.branch [ then-starts_by w ↦ omega arith | else-starts_by w ↦ omega arith ];
       order = elim c.if-starts_by.branch [ then-starts_by w ↦ omega arith | else-starts_by w ↦ omega arith ];
       within = elim c.if-starts_by.branch [ then-starts_by w ↦ omega arith | else-starts_by w ↦ omega arith ];
-      before = λ j a l. elim c.if-starts_by.branch [
+      before = λ j l. elim c.if-starts_by.branch [
         | then-starts_by w ↦
             (let r = used_starts_rise xs n c.requires.runs c.requires.used j m (omega arith) (omega arith) in
             omega (arith, r, c.starts_by.ensures.0 w.if-starts_by.true))
-        | else-starts_by w ↦ inv.before j a (omega arith)
+        | else-starts_by w ↦ inv.before j (omega arith)
       ];
       after = λ j l b. elim c.if-starts_by.branch [
         | then-starts_by w ↦ inv.after j (omega arith) b

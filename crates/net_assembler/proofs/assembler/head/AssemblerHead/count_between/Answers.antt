@@ -1,16 +1,18 @@
-use Rattle.std.proofs.Common.{◌≡◌, ◌∙◌, ◌-◌, ◌≤◌, arith, drop, length, refl}
-use Rattle.net_assembler.specs.Turns.{binary_digits}
-use Rattle.net_assembler.proofs.Calls.{below_binary_digits}
+use Rattle.std.proofs.Common.{◌≡◌, ◌∙◌, ◌-◌, ◌≤◌, arith, drop, refl}
 use Rattle.net_assembler.specs.Positions.{present_count}
 use Rattle.net_assembler.specs.RunLists.{set_of, used_runs}
-use Rattle.net_assembler.proofs.Searches.{next_overlap, no_overlap, overlap, overlap_set, overlap_usize, skipped_overlap}
+use Rattle.net_assembler.proofs.Searches.{before_split, few_split, next_overlap, no_overlap, overlap, overlap_set, overlap_usize}
+use Rattle.net_assembler.proofs.Searches.{skipped_overlap}
 use Rattle.net_assembler.proofs.assembler.head.AssemblerHead.count_between.Goals as goal
 
 pub loop-k-init : goal.loop-k-init
 loop-k-init c =
-    let by = c.runs_starting_by.ensures in
-    let skipped = skipped_overlap c.args.runs.now c.args.self.now.used c.requires.runs c.requires.room c.runs_starting_by.result
-    c.saturating_sub-first.result c.saturating_sub-from.result c.saturating_sub-to.result by.within c.saturating_sub-first.ensures (λ k l. by.before k (omega arith) l) in
+    let by = c.runs_by.ensures in
+    let few = few_split _ _ c.requires _ _ by in
+    let before = before_split _ _ c.requires _ _ by in
+    let skipped = skipped_overlap c.args.runs.now c.args.self.now.used c.requires.runs c.requires.room c.runs_by.result
+    c.saturating_sub-first.result c.saturating_sub-from.result c.saturating_sub-to.result few c.saturating_sub-first.ensures
+    (λ k l. omega (arith, before k l, c.saturating_sub-from.ensures)) in
     record { counted = omega (arith, skipped); looks = refl; moves = refl }
 
 pub overflow_add-count : goal.overflow_add-count
@@ -63,7 +65,7 @@ returns c =
     let h = c.args.self.now in
     let xs = c.args.runs.now in
     let all = (λ i. overlap (used_runs h xs) (c.saturating_sub-from.ensures i) (c.saturating_sub-to.ensures i)) ∙ overlap_set h xs c.requires c.args.start c.args.end in
-    let none = no_overlap xs h.used c.requires.runs c.requires.room c.loop-k.k c.saturating_sub-from.result c.saturating_sub-to.result (omega (arith, c.loop-k.auto, c.runs_starting_by.ensures.within, c.saturating_sub-first.ensures))
+    let none = no_overlap xs h.used c.requires.runs c.requires.room c.loop-k.k c.saturating_sub-from.result c.saturating_sub-to.result (omega (arith, c.loop-k.auto, few_split _ _ c.requires _ _ c.runs_by.ensures, c.saturating_sub-first.ensures))
     (λ l. absurd (omega (arith, c.loop-k-test.false, l))) in
     omega (arith, none, c.loop-k.invariant.counted) ∙ all
 
@@ -78,14 +80,10 @@ loop-k-preserved c =
       moves = omega (arith, c.loop-k.invariant.moves, c.step.ensures.moves);
     }
 
-pub were_a_search_and_a_pass-requires : goal.were_a_search_and_a_pass-requires
-were_a_search_and_a_pass-requires c =
-    let n = length c.args.runs.now in
-    let by = c.runs_starting_by.ensures in
+pub were_a_pass-requires : goal.were_a_pass-requires
+were_a_pass-requires c =
     omega (
       arith,
-      by.looks (binary_digits n) (omega (arith, below_binary_digits n, c.requires.room)),
-      by.moves,
       c.new-turns.ensures.looks,
       c.new-turns.ensures.moves,
       c.loop-k.invariant.looks,
@@ -96,15 +94,12 @@ were_a_search_and_a_pass-requires c =
       c.requires.room,
     )
 
-pub were_a_search_and_a_pass-requires-2 : goal.were_a_search_and_a_pass-requires-2
-were_a_search_and_a_pass-requires-2 c =
-    let n = length c.args.runs.now in
-    let by = c.runs_starting_by.ensures in
-    let few : c.loop-k.k ≤ c.args.self.now.used = omega (arith, c.loop-k.auto, by.within, c.saturating_sub-first.ensures) in
+pub were_a_pass-requires-2 : goal.were_a_pass-requires-2
+were_a_pass-requires-2 c =
+    let few : c.loop-k.k ≤ c.args.self.now.used =
+    omega (arith, c.loop-k.auto, few_split _ _ c.requires _ _ c.runs_by.ensures, c.saturating_sub-first.ensures) in
     omega (
       arith,
-      by.looks (binary_digits n) (omega (arith, below_binary_digits n, c.requires.room)),
-      by.moves,
       c.new-turns.ensures.looks,
       c.new-turns.ensures.moves,
       c.loop-k.invariant.looks,

@@ -5,7 +5,7 @@ use Rattle.net_assembler.specs.RunLists.{AreRuns, AreUsize, IsRising, FitsFrom, 
 use Rattle.net_assembler.specs.RunLists.{runs_wrapped, used_runs, runs_of, runs_shifted_down, start_at}
 use Rattle.net_assembler.proofs.Runs.{rising-runs_shifted_down}
 use Rattle.net_assembler.proofs.Joins.{rest_rises, rest_starts}
-use Rattle.net_assembler.proofs.ShiftedRuns.{first-down, fits-down, fits-drop, fits-less, negated, up-down}
+use Rattle.net_assembler.proofs.ShiftedRuns.{first-down, fits-down, fits-drop, fits-less, up-down}
 use Rattle.net_assembler.proofs.ShiftedRuns.{usize-down, wrapped-down}
 use Rattle.net_assembler.proofs.assembler.head.AssemblerHead.drop_front.Goals as goal
 use Rattle.net_assembler.proofs.assembler.head.AssemblerHead.drop_front.Goals.{After-wrapping_neg, then-count-used}
@@ -40,9 +40,6 @@ module _ (c : After-wrapping_neg) where
   rises : IsRising start rest
   rises = rest_rises xs h.used c.requires.runs c.requires.room c.args.count start c.requires.count is
 
-  turn : c.wrapping_neg.result + start ≡ 2 ^ 64
-  turn = negated _ start (omega arith) (omega (arith, above, c.requires.some)) (omega arith) c.wrapping_neg.ensures
-
   fits : FitsFrom h.first_start rest
   fits = fits-drop h.first_start c.args.count (used_runs h xs) c.requires.fits
 
@@ -50,7 +47,7 @@ module _ (c : After-wrapping_neg) where
   fits_from_zero = fits-less 0 h.first_start rest (omega arith) fits
 
   usize : AreUsize (runs_wrapped c.wrapping_neg.result rest)
-  usize = usize-down _ start rest turn rises fits_from_zero
+  usize = usize-down _ start rest c.wrapping_neg.ensures rises fits_from_zero
 
   module _ (n : ℕ) (ys : List (ℕ × ℕ)) (room : n ≤ length ys)
       (moved : take n ys ≡ runs_wrapped c.wrapping_neg.result rest) where
@@ -58,7 +55,7 @@ module _ (c : After-wrapping_neg) where
     g = record { used = n; first_start = start - c.args.end }
 
     down : used_runs g ys ≡ runs_shifted_down start rest
-    down = moved ∙ wrapped-down _ start rest turn rises fits_from_zero
+    down = moved ∙ wrapped-down _ start rest c.wrapping_neg.ensures rises fits_from_zero
 
     sound : HasSoundRuns g ys
     sound = record {

@@ -1,5 +1,5 @@
 use Rattle.std.proofs.Common.{◌∙◌, arith}
-use Rattle.net_assembler.proofs.Searches.{few_split, missing_is}
+use Rattle.net_assembler.proofs.Searches.{missing_is}
 use Rattle.net_assembler.proofs.assembler.head.AssemblerHead.first_missing.Goals as goal
 
 pub returns : goal.returns

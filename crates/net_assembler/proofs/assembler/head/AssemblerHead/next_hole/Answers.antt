@@ -26,7 +26,7 @@ returns-clause-ends c =
     let h = c.args.self.now in
     let xs = c.args.runs.now in
     let n = c.runs_by-count.result in
-    let few = few_split h xs c.requires c.args.position n c.end_of_first.result c.runs_by-count.ensures last.none last.some in
+    let few = few_split h xs c.requires c.args.position n c.runs_by-count.ensures in
     let ends =
     hole_ends h xs c.requires c.args.position n c.end_of_first.result c.runs_by-count.ensures last.none last.some
     (h.first_start + c.start_of.result) (omega (arith, few, c.if-count-self.false)) (omega (arith, c.start_of.ensures)) in

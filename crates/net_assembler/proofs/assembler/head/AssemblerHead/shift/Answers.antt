@@ -1,25 +1,29 @@
 use Rattle.std.proofs.Common.{◌∙◌, ◌-◌, ◌<◌, ◌≤◌, ℕ, arith}
 use Rattle.net_assembler.specs.RunLists.{start_at}
-use Rattle.net_assembler.proofs.SoundHeads.{cut_fits, cut_left, cut_rises, left_set, pairs_apart, starts_by}
+use Rattle.net_assembler.proofs.Searches.{after_split, before_split, few_split, some_split}
+use Rattle.net_assembler.proofs.SoundHeads.{cut_fits, cut_left, cut_rises, left_set, pairs_apart}
 use Rattle.net_assembler.proofs.assembler.head.AssemblerHead.shift.Goals as goal
 use Rattle.net_assembler.proofs.assembler.head.AssemblerHead.shift.Goals.{Else-end-by}
 
 -- the last run that starts by then, which is cut
 module _ (c : Else-end-by) where
   abbrev last : ℕ
-  last = c.runs_starting_by-met.result - 1
+  last = c.runs_by-met.result - 1
 
   abbrev by : ℕ
   by = c.args.count - c.args.self.now.first_start
 
+  some : 0 < c.runs_by-met.result
+  some = some_split _ _ c.requires _ _ c.runs_by-met.ensures (omega arith) (omega arith)
+
   within : last < c.args.self.now.used
-  within = omega (arith, c.runs_starting_by-met.ensures.from, c.runs_starting_by-met.ensures.within)
+  within = omega (arith, few_split _ _ c.requires _ _ c.runs_by-met.ensures, some)
 
   start : start_at c.args.runs.now last ≤ by
-  start =
-      let met = c.runs_starting_by-met.ensures in
-      starts_by _ _ c.requires c.runs_starting_by-met.result by (omega (arith, met.from))
-      (omega (arith, met.within)) met.before
+  start = omega (arith, before_split _ _ c.requires _ _ c.runs_by-met.ensures last (omega (arith, some)))
+
+pub drop_front-requires-clause-after : goal.drop_front-requires-clause-after
+drop_front-requires-clause-after c = λ l. omega (arith, after_split _ _ c.requires _ _ c.runs_by-met.ensures l)
 
 pub drop_front-requires-2-clause-runs : goal.drop_front-requires-2-clause-runs
 drop_front-requires-2-clause-runs c =
