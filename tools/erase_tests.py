@@ -312,6 +312,16 @@ def own_checks():
     assert 'other tokens' in refusal(eraser.finish)
 
 
+def exact_sizes():
+    """An `ExactSizeIterator` is refused unless a clause says what its `size_hint` returns, one within the trait's bounds or not."""
+    rust = "impl ExactSizeIterator for A<'_> {}\n\nimpl<T: Copy> ExactSizeIterator for B<T> {}\n\nimpl Iterator for C {}\n"
+    body = 'fn size_hint(&self) -> (usize, Option<usize>)\n        ensures lower { a result.0 }\n{}    {\n        (0, None)\n    }\n'
+    rattle = lambda *clauses: ''.join(f"impl<'a> Iterator for {name} {{\n    {body.replace('{}', clause)}}}\n" for name, clause in zip('AB', clauses))
+    exact = '        ensures exact { result ≡ (n, Some n) }\n'
+    assert erase.inexact(rust, rattle(exact, exact)) == [] and erase.inexact(rust, '') == ['A', 'B']
+    assert erase.inexact(rust, rattle('', exact)) == ['A'] and erase.inexact(rust, rattle(exact, exact.replace('≡', '≤'))) == ['B']
+
+
 def statuses():
     """`--check` ends with 1 if a file differs, is missing, or comes from no source; without it files are written."""
     kept = erase.OUT, erase.EXAMPLE, erase.erased
@@ -390,6 +400,7 @@ def main():
     assert of(export, crate='net_ffi') == '#[inline(always)]\npub fn f(x: u8) -> u8 {\n    x\n}\n'
     assert 'unknown attribute' in said(export)
     own_checks()
+    exact_sizes()
     replacements()
     statuses()
     guarantees()
