@@ -2,8 +2,10 @@
 use Rattle.std.proofs.Common.{◌≡◌, ℕ, zero, suc, ◌+◌, ◌-◌, ◌*◌, ◌/◌, ◌%◌, ◌^◌, ◌<◌, ◌≤◌, List, [], ◌∷◌, ◌++◌, length}
 use Rattle.std.proofs.Common.{take, drop, refl, sym, ap, ◌∙◌, inl, inr, subst, arith, length-append, append-nil, All}
 use Rattle.std.proofs.Common.{true, false, cond, Bool, not, nat_eq}
-use Rattle.std.specs.Prelude.{◌⊎◌}
-use Rattle.std.specs.Int.{w32, from_be_bytes}
+use Rattle.std.specs.Prelude.{◌⊎◌, Option, Some, None}
+use Rattle.std.specs.List.{slice_get}
+use Rattle.std.specs.Int.{w16, w32, w64, from_le_bytes}
+use Rattle.std.proofs.lemmas.List.{take-append-drop}
 use Rattle.std.proofs.lemmas.Bool.{cases_lt, cond_both, eqb-true, eqb-false}
 use Rattle.net_tcp.specs.InternetChecksum.{word_sum, folded, internet_checksum, updated, word_bytes, IsEven}
 use Rattle.net_tcp.specs.InternetChecksum.{add_words, carried_sum, Sums, sum_with, sum_joined}
@@ -87,34 +89,135 @@ word_sum-append_odd [] b ys h = absurd (omega arith)
 word_sum-append_odd (a ∷ []) b ys h = omega arith
 word_sum-append_odd (a ∷ c ∷ xs) b ys h = omega (arith, word_sum-append_odd xs b ys (omega arith))
 
--- four bytes as one number, in a sum
-pub four : (x : ℕ) (s : List ℕ) → 4 ≤ length s → folded (x + from_be_bytes w32 (take 4 s) + word_sum (drop 4 s))
-    ≡ folded (x + word_sum s)
-four x (a ∷ b ∷ c ∷ d ∷ s) l = folded_same _ _ (a * 256 + b) (omega arith) (λ z. omega arith)
-four x _ l = absurd (omega arith)
-
 -- sums that fold alike, and then more added to both
 pub folded_more : (a b y : ℕ) → folded a ≡ folded b → folded (a + y) ≡ folded (b + y)
 folded_more a b y e = sym (folded_first a y) ∙ ap (λ n. folded (n + y)) e ∙ folded_first b y
 
--- a turn of the loop over four bytes
-pub four_more : (s w : ℕ) (rest part after : List ℕ) → w ≡ from_be_bytes w32 part →
+-- ---- bytes as one number
+-- these bytes as a number, the low one first
+abbrev little : List ℕ → ℕ
+little [] = 0
+little (a ∷ xs) = a + 256 * little xs
+
+-- 256 times that number folds to the sum of the words, however many bytes there are
+little_turned : (xs : List ℕ) → (k : ℕ) × (256 * little xs ≡ word_sum xs + 65535 * k) × (word_sum xs ≡ 0 → k ≡ 0)
+little_turned [] = (0, omega arith, λ z. refl)
+little_turned (a ∷ []) = (0, omega arith, λ z. refl)
+little_turned (a ∷ b ∷ xs) =
+    let more = little_turned xs in
+    (b + more.0 + word_sum xs + 65535 * more.0, omega (arith, more.1), λ none. omega (arith, more.2 (omega arith)))
+
+pub little_is : (xs : List ℕ) → folded (256 * little xs) ≡ folded (word_sum xs)
+little_is xs = let t = little_turned xs in folded_same _ _ t.0 t.1 t.2
+
+-- folding before a multiplication
+times : (a : ℕ) → folded (256 * folded a) ≡ folded (256 * a)
+times zero = refl
+times (suc n) = folded_alike (256 * folded (suc n)) (256 * suc n) (256 * (n / 65535)) 0 (omega arith) (omega arith)
+    (omega arith)
+
+-- numbers that fold alike, 256 times
+times_alike : (a b : ℕ) → folded a ≡ folded b → folded (256 * a) ≡ folded (256 * b)
+times_alike a b e = sym (times a) ∙ ap (λ n. folded (256 * n)) e ∙ times b
+
+-- a part that is added to a sum, as any number that folds as its bytes do, the low one first
+pub part_more : (x w : ℕ) (part after : List ℕ) → IsEven part → folded w ≡ folded (little part) →
+    folded (256 * (x + w) + word_sum after) ≡ folded (256 * x + word_sum (part ++ after))
+part_more x w part after even is =
+    let turned_part : folded (256 * w) ≡ folded (word_sum part) = times_alike w (little part) is ∙ little_is part in
+    let all = groups_add part after even in
+    let e : 256 * (x + w) + word_sum after ≡ (256 * x + word_sum after) + 256 * w = omega arith in
+    let f : (256 * x + word_sum after) + word_sum part ≡ 256 * x + word_sum (part ++ after) = omega (arith, all) in
+    ap folded e ∙ sym (folds_add (256 * x + word_sum after) (256 * w))
+    ∙ ap (λ n. folded (256 * x + word_sum after + n)) turned_part
+    ∙ folds_add (256 * x + word_sum after) (word_sum part) ∙ ap folded f
+
+abbrev item : Option ℕ → ℕ
+item None = 0
+item (Some a) = suc a
+
+-- a last byte, and none
+pub last_more : (x a : ℕ) (rest : List ℕ) → Some a ≡ slice_get rest 0 → length rest < 2 →
+    folded (256 * (x + a)) ≡ folded (256 * x + word_sum rest)
+last_more x a [] is few = let e : suc a ≡ 0 = ap item is in absurd (omega (arith, e))
+last_more x a (b ∷ []) is few =
+    let same : suc a ≡ suc b = ap item is in
+    let e : 256 * (x + a) ≡ 256 * x + word_sum (b ∷ []) = omega (arith, same) in ap folded e
+last_more x a (b ∷ c ∷ rest) is few = absurd (omega (arith, few))
+
+pub none_more : (x : ℕ) (rest : List ℕ) → None ≡ slice_get rest 0 → folded (256 * x) ≡ folded (256 * x + word_sum rest)
+none_more x [] is = let e : 256 * x ≡ 256 * x + word_sum [] = omega arith in ap folded e
+none_more x (b ∷ rest) is = let e : 0 ≡ suc b = ap item is in absurd (omega (arith, e))
+
+le_8 : (xs : List ℕ) → length xs ≡ 8 → from_le_bytes w64 xs ≡ little xs
+le_8 (a ∷ b ∷ c ∷ d ∷ e ∷ f ∷ g ∷ h ∷ []) l = omega arith
+le_8 _ l = absurd (omega arith)
+
+le_4 : (xs : List ℕ) → length xs ≡ 4 → from_le_bytes w32 xs ≡ little xs
+le_4 (a ∷ b ∷ c ∷ d ∷ []) l = omega arith
+le_4 _ l = absurd (omega arith)
+
+le_2 : (xs : List ℕ) → length xs ≡ 2 → from_le_bytes w16 xs ≡ little xs
+le_2 (a ∷ b ∷ []) l = omega arith
+le_2 _ l = absurd (omega arith)
+
+-- the parts that `split_first_chunk` gives
+both_parts : (n : ℕ) (rest part after : List ℕ) →
+    (part ≡ take n rest) × (after ≡ drop n rest) × (length after + n ≡ length rest) →
+    (part ++ after ≡ rest) × (length part ≡ n)
+both_parts n rest part after parts =
+    let whole : part ++ after ≡ rest = ap (λ l. l ++ after) parts.0 ∙ ap (λ l. take n rest ++ l) parts.1 ∙ take-append-drop n rest
+    in (whole, omega (arith, length-append part after, ap length whole, parts.2))
+
+-- ---- halves of a number
+pub halves_32 : (n : ℕ) → folded (n / 2 ^ 32 + n % 2 ^ 32) ≡ folded n
+halves_32 n = sym (folded_same n (n / 2 ^ 32 + n % 2 ^ 32) (65537 * (n / 2 ^ 32)) (omega arith) (λ z. omega arith))
+
+pub eight_more : (low high word : ℕ) (rest part after : List ℕ) → word ≡ from_le_bytes w64 part →
+    (part ≡ take 8 rest) × (after ≡ drop 8 rest) × (length after + 8 ≡ length rest) →
+    folded (256 * (low + word % 2 ^ 32 + (high + word / 2 ^ 32)) + word_sum after)
+    ≡ folded (256 * (low + high) + word_sum rest)
+eight_more low high word rest part after is parts =
+    let at = both_parts 8 rest part after parts in
+    let e : low + word % 2 ^ 32 + (high + word / 2 ^ 32) ≡ (low + high) + (word / 2 ^ 32 + word % 2 ^ 32) = omega arith in
+    ap (λ n. folded (256 * n + word_sum after)) e
+    ∙ part_more (low + high) (word / 2 ^ 32 + word % 2 ^ 32) part after (omega (arith, at.1))
+    (halves_32 word ∙ ap folded (is ∙ le_8 part at.1))
+    ∙ ap (λ l. folded (256 * (low + high) + word_sum l)) at.0
+
+-- a word that is added as any number that folds as it does
+pub four_more : (x w word : ℕ) (rest part after : List ℕ) → folded w ≡ folded word → word ≡ from_le_bytes w32 part →
     (part ≡ take 4 rest) × (after ≡ drop 4 rest) × (length after + 4 ≡ length rest) →
-    folded (s + w + word_sum after) ≡ folded (s + word_sum rest)
-four_more s w rest part after is parts =
-    ap (λ n. folded (s + n + word_sum after)) (is ∙ ap (from_be_bytes w32) parts.0)
-    ∙ ap (λ l. folded (s + from_be_bytes w32 (take 4 rest) + word_sum l)) parts.1
-    ∙ four s rest (omega arith)
+    folded (256 * (x + w) + word_sum after) ≡ folded (256 * x + word_sum rest)
+four_more x w word rest part after same is parts =
+    let at = both_parts 4 rest part after parts in
+    part_more x w part after (omega (arith, at.1)) (same ∙ ap folded (is ∙ le_4 part at.1))
+    ∙ ap (λ l. folded (256 * x + word_sum l)) at.0
+
+pub two_more : (x word : ℕ) (rest part after : List ℕ) → word ≡ from_le_bytes w16 part →
+    (part ≡ take 2 rest) × (after ≡ drop 2 rest) × (length after + 2 ≡ length rest) →
+    folded (256 * (x + word) + word_sum after) ≡ folded (256 * x + word_sum rest)
+two_more x word rest part after is parts =
+    let at = both_parts 2 rest part after parts in
+    part_more x word part after (omega (arith, at.1)) (ap folded (is ∙ le_2 part at.1))
+    ∙ ap (λ l. folded (256 * x + word_sum l)) at.0
 
 -- a turn of the loop over blocks
-pub block_more : (s w r : ℕ) (rest part after : List ℕ) → folded w ≡ folded (word_sum part) →
-    folded r ≡ folded (s + w) →
-    rest ≡ part ++ after → IsEven part → folded (r + word_sum after) ≡ folded (s + word_sum rest)
-block_more s w r rest part after is sum cut even =
+pub block_more : (s r t : ℕ) (rest part after : List ℕ) → folded (256 * r) ≡ folded (256 * s + word_sum part) →
+    t ≡ folded r → rest ≡ part ++ after → IsEven part →
+    folded (256 * t + word_sum after) ≡ folded (256 * s + word_sum rest)
+block_more s r t rest part after sum is cut even =
     let all = groups_add part after even in
-    let e : (s + word_sum part) + word_sum after ≡ s + word_sum rest = omega (arith, all, ap word_sum cut) in
-    folded_more r (s + word_sum part) (word_sum after) (sum ∙ sym (folds_add s w) ∙ ap (λ n. folded (s + n)) is
-    ∙ folds_add s (word_sum part)) ∙ ap folded e
+    let e : (256 * s + word_sum part) + word_sum after ≡ 256 * s + word_sum rest = omega (arith, all, ap word_sum cut) in
+    folded_more (256 * t) (256 * s + word_sum part) (word_sum after)
+    (ap (λ n. folded (256 * n)) is ∙ times r ∙ sum) ∙ ap folded e
+
+-- a sum that begins with a word whose bytes are exchanged, and with a low byte after it
+pub even_start : (s y : ℕ) → folded (256 * (s % 256 * 256 + s / 256) + y) ≡ folded (s + y)
+even_start s y = folded_same _ _ (s % 256) (omega arith) (λ z. omega arith)
+
+pub odd_start : (s low y : ℕ) → folded (256 * (s % 256 * 256 + s / 256 + low * 256) + y) ≡ folded (s + low + y)
+odd_start s low y = folded_same _ _ (s % 256 + low) (omega arith) (λ z. omega arith)
 
 -- ---- a field of a message
 -- a word at an even offset
@@ -241,12 +344,6 @@ turned ys = let t = turned_sum ys in folded_same _ _ t.0 t.1 t.2
 swap_is : (w : ℕ) → folded (w % 256 * 256 + w / 256) ≡ folded (256 * w)
 swap_is w = sym (folded_same (256 * w) (w % 256 * 256 + w / 256) (w / 256) (omega arith) (λ z. omega arith))
 
--- folding before a multiplication
-times : (a : ℕ) → folded (256 * folded a) ≡ folded (256 * a)
-times zero = refl
-times (suc n) = folded_alike (256 * folded (suc n)) (256 * suc n) (256 * (n / 65535)) 0 (omega arith) (omega arith)
-    (omega arith)
-
 -- ---- one part after another
 -- a folded sum is folded
 folded_twice : (n : ℕ) → folded (folded n) ≡ folded n
@@ -361,6 +458,18 @@ low_first s r part words low odd cut sum rest =
       odd = nat_eq (length (cond (sym odd i) (0 ∷ part) part) % 2) 1;
     })
 
+-- a part whose first byte is a high one
+pub high_first : (s r : PartsSum) (part : List ℕ) → s.odd ≡ false →
+    r.sum ≡ folded (256 * (s.sum % 256 * 256 + s.sum / 256) + word_sum part) → r.odd ≡ nat_eq (length part % 2) 1 →
+    r ≡ sum_with s part
+high_first s r part odd sum rest =
+    let sum_is : r.sum ≡ folded (s.sum + word_sum part) = sum ∙ even_start s.sum (word_sum part) in
+    (λ i. record { sum = sum_is i; odd = rest i })
+    ∙ (λ i. record {
+      sum = folded (s.sum + word_sum (cond (sym odd i) (0 ∷ part) part));
+      odd = nat_eq (length (cond (sym odd i) (0 ∷ part) part) % 2) 1;
+    })
+
 -- no part
 pub none_last : (s : PartsSum) → s.odd ≡ true → s.sum ≤ 65535 → s ≡ sum_with s []
 none_last s odd few =
@@ -378,4 +487,4 @@ pub ruleset sums = (is_carried, groups_add)
 
 pub ruleset updates = (update_is_checksum, update_keeps_valid)
 
-pub ruleset parts = (block_more, with_sums, word_joins, low_first, none_last)
+pub ruleset parts = (four_more, two_more, last_more, none_more, with_sums, word_joins, low_first, none_last)

@@ -75,6 +75,9 @@ pub fn rows() -> Vec<Row> {
     }
     all.push(Row { number: 1, ..row("rand", "") });
     all.push(Row { number: 1, ..row("port", "") });
+    for size in [20, 40, 64, 576, 1_460, 9_000, 65_535] {
+        all.push(Row { source: size, ..row("checksum", &format!("size {size}")) });
+    }
     for size in [64, 1_514] {
         all.push(Row { source: size, calls: 2, ..row("loopback", &format!("size {size}")) });
     }

@@ -6,6 +6,7 @@ use original4::phy::{Device, Loopback, Medium, RxToken, TxToken};
 use original4::storage::{PacketBuffer, PacketMetadata, RingBuffer};
 use original4::time::Instant;
 use receiver::{Assembler, Assembler4, Assembler32, Assembler256, Assembler1024, Receiver, Stream};
+use std::hint::black_box;
 
 /// A slice that crosses the border of a library.
 #[repr(C)]
@@ -37,18 +38,18 @@ pub struct Memory {
 pub type Workload = extern "C" fn(&Memory) -> u64;
 
 /// How many workloads there are.
-pub const COUNT: usize = 13;
+pub const COUNT: usize = 14;
 
 /// Their names, `np_` of `perf` left out.
 pub const NAMES: [&str; COUNT] = [
     "ring_slice", "ring_many", "ring_ahead", "ring_one", "packet", "asm_add", "asm_front", "asm_slide",
-    "stream", "stream_lent", "rand", "port", "loopback",
+    "stream", "stream_lent", "rand", "port", "checksum", "loopback",
 ];
 
 /// The workloads over smoltcp, in the order of their names.
 pub static ORIGINAL: [Workload; COUNT] = [
     ring_slice, ring_many, ring_ahead, ring_one, packet, asm_add, asm_front, asm_slide, stream, stream_lent,
-    rand, port, loopback,
+    rand, port, checksum, loopback,
 ];
 
 /// The checksum of nothing.
@@ -331,6 +332,35 @@ extern "C" fn rand(m: &Memory) -> u64 {
 extern "C" fn port(m: &Memory) -> u64 {
     let mut rand = Rand::new(m.number);
     (0..m.rounds).fold(START, |sum, _| mix(sum, rand.rand_source_port().into()))
+}
+
+/// The checksum of bytes, as smoltcp's `wire::ip::checksum::data` sums them, which its copy here lacks.
+#[inline(never)]
+pub fn smoltcp_checksum(bytes: &[u8]) -> u16 {
+    let word = |pair: &[u8]| u32::from(u16::from_be_bytes([pair[0], pair[1]]));
+    let (mut rest, mut sum) = (bytes, 0);
+    while rest.len() >= 32 {
+        let mut chunk = &rest[..32];
+        while chunk.len() >= 2 {
+            sum += word(chunk);
+            chunk = &chunk[2..];
+        }
+        rest = &rest[32..];
+    }
+    while rest.len() >= 2 {
+        sum += word(rest);
+        rest = &rest[2..];
+    }
+    if let Some(&high) = rest.first() {
+        sum += u32::from(high) << 8;
+    }
+    let sum = (sum >> 16) + (sum & 0xffff);
+    !((sum >> 16) as u16).wrapping_add(sum as u16)
+}
+
+extern "C" fn checksum(m: &Memory) -> u64 {
+    let bytes = m.source.slice();
+    (0..m.rounds).fold(START, |sum, _| mix(sum, smoltcp_checksum(black_box(&*bytes)).into()))
 }
 
 extern "C" fn loopback(m: &Memory) -> u64 {

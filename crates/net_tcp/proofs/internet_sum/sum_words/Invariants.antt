@@ -1,9 +1,12 @@
-use Rattle.std.proofs.Common.{◌≡◌, ◌+◌, length}
+use Rattle.std.proofs.Common.{◌≡◌, ◌+◌, ◌*◌, ◌^◌, ◌<◌, length}
 use Rattle.net_tcp.specs.InternetChecksum.{folded, word_sum}
 use Rattle.net_tcp.proofs.internet_sum.sum_words.Given as goal
 
 abbrev pub invariant-loop-rest : goal.invariant-loop-rest
-invariant-loop-rest l = folded (l.sum + word_sum l.rest) ≡ folded (l.start + word_sum l.bytes)
+invariant-loop-rest l = record {
+  same : folded (256 * l.sum + word_sum l.rest) ≡ folded (256 * l.start + word_sum l.bytes);
+  few : l.sum < 2 ^ 17;
+}
 
 abbrev pub decreases-loop-rest : goal.decreases-loop-rest
 decreases-loop-rest l = length l.rest

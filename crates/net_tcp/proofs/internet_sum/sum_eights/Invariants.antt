@@ -1,0 +1,13 @@
+use Rattle.std.proofs.Common.{◌≡◌, ◌+◌, ◌*◌, ◌^◌, ◌≤◌, length}
+use Rattle.net_tcp.specs.InternetChecksum.{folded, word_sum}
+use Rattle.net_tcp.proofs.internet_sum.sum_eights.Given as goal
+
+abbrev pub invariant-loop-eight : goal.invariant-loop-eight
+invariant-loop-eight l = record {
+  same : folded (256 * (l.low + l.high) + word_sum l.rest) ≡ folded (256 * l.start + word_sum l.bytes);
+  low : l.low + length l.rest * 2 ^ 29 ≤ 2 ^ 32 + length l.bytes * 2 ^ 29;
+  high : l.high + length l.rest * 2 ^ 29 ≤ length l.bytes * 2 ^ 29;
+}
+
+abbrev pub decreases-loop-eight : goal.decreases-loop-eight
+decreases-loop-eight l = length l.rest
