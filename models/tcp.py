@@ -14,6 +14,7 @@ SCALE = Size("tcp: scale for a capacity", 4)
 GREATER = Order("tcp: scale and the greatest")
 FREE = Order("tcp: number to announce and the greatest")
 KEPT = Order("tcp: edge after an announcement and before")
+BEFORE = Test("tcp: a window ends before the first missing position")
 REST = Test("tcp: free room isn't a multiple of the unit")
 DUE = Test("tcp: an update of the window is due")
 OLD = Order("tcp: acknowledged number and first one that isn't")
@@ -97,28 +98,22 @@ def number_for(unit, free):
 
 
 def announce(edge, scale, first, window_end):
-    if first > window_end:
-        return "forbidden"
-    number = number_for(unit_of(scale), window_end - first)
+    number = number_for(unit_of(scale), max(0, window_end - first))
     reached = first + number * unit_of(scale)
     KEPT.least(reached, edge)
     return f"{number} {max(edge, reached)}"
 
 
 def is_due(edge, scale, first, window_end, capacity, mss):
-    gained = first + number_for(unit_of(scale), window_end - first) * unit_of(scale) - edge
-    return DUE(gained >= worth(capacity, mss))
+    gained = first + number_for(unit_of(scale), max(0, window_end - first)) * unit_of(scale) - edge
+    return not BEFORE(window_end < first) and DUE(gained >= worth(capacity, mss))
 
 
 def is_update_due(edge, scale, first, window_end, capacity, mss):
-    if first > window_end:
-        return "forbidden"
     return truth(is_due(edge, scale, first, window_end, capacity, mss))
 
 
 def announce_in_steps(edge, scale, first, window_end, capacity, mss):
-    if first > window_end:
-        return "forbidden"
     if is_due(edge, scale, first, window_end, capacity, mss):
         return announce(edge, scale, first, window_end)
     return announce(edge, scale, first, max(first, min(edge, window_end)))

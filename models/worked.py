@@ -727,8 +727,11 @@ TCP = [
     ("peer_update", [125, 10, 120, 120, 140, 11, 141, 500], "0 125"), ("peer_room", [125, 125, 140], "0 1"),
     ("peer_room", [125, 125, 125], "0 0"), ("scaled", [0xffff, 14], "1073725440"), ("scaled", [0xffff, 15], "1073725440"), ("scaled", [1, 255], "16384"),
     ("announce", [0, 2, 1, 100], "24 97"), ("announce", [100, 2, 1, 100], "24 100"),
-    ("announce", [0, 15, 1, 1 << 20], "63 1032193"), ("announce", [0, 0, 5, 4], "forbidden"),
+    ("announce", [0, 15, 1, 1 << 20], "63 1032193"), ("announce", [0, 0, 5, 4], "0 5"),
     ("announce_in_steps", [100, 0, 100, 100, 100, 50], "0 100"),
+    # A window of 3 is full, and the end, whose number is 3, acknowledged.
+    ("announce_in_steps", [3, 0, 4, 3, 3, 1], "0 4"), ("is_update_due", [3, 0, 4, 3, 3, 1], "0"),
+    ("is_update_due", [3, 0, 4, 4, 3, 1], "1"),
     # The greatest scale: 64 units of 2^14.
     ("announce_in_steps", [0, 14, 0, 1 << 20, 1 << 20, 1460], "64 1048576"),
     ("announce_in_steps", [0, 255, 0, 1 << 20, 1 << 20, 1460], "64 1048576"),

@@ -187,9 +187,8 @@ static void acknowledge(struct receiving *it, struct link *link, uint64_t positi
     struct net_base_held_run held[BLOCKS];
     must(net_base_finite_receiver_acknowledged(&it->receiver, &number), "acknowledged");
     must(net_base_finite_receiver_window_end(&it->receiver, WINDOW, &window_end), "window_end");
-    must(net_base_advertised_window_announce_in_steps(
-             &it->announced, SCALE, number, window_end, WINDOW, MSS, &segment.window),
-        "announce_in_steps");
+    segment.window = net_base_advertised_window_announce_in_steps(
+        &it->announced, SCALE, number, window_end, WINDOW, MSS);
     segment.block_count = net_base_receiver_newest_runs(
         &it->receiver.receiver, it->runs, RUNS, position, it->recent, BLOCKS, held, BLOCKS);
     must(segment.block_count != NET_BASE_NONE, "newest_runs");
@@ -242,8 +241,7 @@ static void run(uint64_t first, const uint8_t *data, size_t size, bool is_slow) 
     net_base_scoreboard_init(&from.scoreboard, first);
     net_base_retransmission_timer_init(&from.timer, 1000000, false);
     net_base_advertised_window_init(&to.announced, first);
-    must(net_base_advertised_window_announce(&to.announced, SCALE, first, first + WINDOW, &field),
-        "announce");
+    field = net_base_advertised_window_announce(&to.announced, SCALE, first, first + WINDOW);
     net_base_peer_window_init(&from.peer);
     struct net_base_announcement opened = {0, first, net_base_tcp_scaled(field, SCALE)};
     struct net_base_sent_numbers none = {first, first};

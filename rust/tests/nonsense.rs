@@ -170,11 +170,9 @@ fn windows_and_timers() {
             3 => assert!(!peer.update(numbers, Announcement { seq, ack, window }) || ack <= sent),
             4 => assert!(peer.acknowledgement_number(numbers) <= sent),
             5 => {
-                let end = seq.max(ack);
-                let _field = advertised.announce(scale, seq.min(ack), end);
-                let _field =
-                    advertised.announce_in_steps(scale, seq.min(ack), end, len, sent as u16);
-                assert!(advertised.edge() >= seq.min(ack) && peer.usable(end) <= peer.edge());
+                let _field = advertised.announce(scale, seq, ack);
+                let _field = advertised.announce_in_steps(scale, seq, ack, len, sent as u16);
+                assert!(advertised.edge() >= seq && peer.usable(ack) <= peer.edge());
             }
             6 => timer.sent(bounds, seq..ack, numbers, draw.instant()),
             7 => timer.acknowledged(bounds, numbers, ack, draw.instant()),

@@ -65,28 +65,22 @@ impl AdvertisedWindow {
     /// next multiple: at one scale the number may then be less than what was promised, by less than a
     /// unit. What was promised is still acceptable, and `edge` stays.
     ///
-    /// # Requires
-    ///
-    /// The window doesn't end before `next`.
-    #[track_caller]
+    /// If the window ends before `next`, there is no room, as where the storage is full and the end, which has a number, is
+    /// acknowledged.
     pub fn announce(&mut self, scale: u8, next: u64, window_end: u64) -> u16
-        requires { next ≤ window_end }
         ensures field { result ≡ field_for (shift_count scale) (window_end - next) }
         ensures edge { self.new.edge ≡ max self.old.edge (announced next (shift_count scale) result) }
         // Guarantee.
         ensures never_back { self.old.edge ≤ self.new.edge }
         // Guarantee.
-        ensures within { announced next (shift_count scale) result ≤ window_end }
-        ensures room { self.old.edge ≤ window_end → self.new.edge ≤ window_end }
+        ensures within { announced next (shift_count scale) result ≤ max next window_end }
+        ensures room { self.old.edge ≤ max next window_end → self.new.edge ≤ max next window_end }
         // Guarantee.
-        ensures most { (f : ℕ) → f ≤ 65535 → announced next (shift_count scale) f ≤ window_end → f ≤ result }
-        ensures lost { self.old.edge ≤ window_end → self.old.edge ≤ announced next (shift_count scale) 65535 →
+        ensures most { (f : ℕ) → f ≤ 65535 → announced next (shift_count scale) f ≤ max next window_end →
+            f ≤ result }
+        ensures lost { self.old.edge ≤ max next window_end → self.old.edge ≤ announced next (shift_count scale) 65535 →
             self.old.edge < announced next (shift_count scale) result + 2 ^ shift_count scale }
     {
-        prove!(
-            next <= window_end,
-            "the window ends before the first missing position"
-        );
         let shift = scale.min(MAX_SCALE);
         let field = field(shift, next, window_end);
         let edge = next + (u64::from(field) << shift);
@@ -98,11 +92,6 @@ impl AdvertisedWindow {
     /// the edge beyond `next` only if an update would be due: otherwise it announces what was promised
     /// before, rounded down. So the edge grows by what is worth an update, or only up to `next` (RFC
     /// 9293, section 3.8.6.2.2).
-    ///
-    /// # Requires
-    ///
-    /// The window doesn't end before `next`.
-    #[track_caller]
     pub fn announce_in_steps(
         &mut self,
         scale: u8,
@@ -111,24 +100,19 @@ impl AdvertisedWindow {
         capacity: u64,
         mss: u16,
     ) -> u16
-        requires { next ≤ window_end }
         ensures due { worth capacity mss ≤ gain self.old.edge (shift_count scale) next window_end →
             result ≡ field_for (shift_count scale) (window_end - next) }
         ensures held { gain self.old.edge (shift_count scale) next window_end < worth capacity mss →
             result ≡ field_for (shift_count scale) (min self.old.edge window_end - next) }
         ensures edge { self.new.edge ≡ max self.old.edge (announced next (shift_count scale) result) }
         // Guarantee.
-        ensures within { announced next (shift_count scale) result ≤ window_end }
+        ensures within { announced next (shift_count scale) result ≤ max next window_end }
         // Guarantee.
-        ensures room { self.old.edge ≤ window_end → self.new.edge ≤ window_end }
+        ensures room { self.old.edge ≤ max next window_end → self.new.edge ≤ max next window_end }
         // Guarantee.
         ensures steps { self.old.edge + worth capacity mss ≤ self.new.edge
             ⊎ (self.new.edge ≡ max self.old.edge next) }
     {
-        prove!(
-            next <= window_end,
-            "the window ends before the first missing position"
-        );
         if self.is_update_due(scale, next, window_end, capacity, mss) {
             self.announce(scale, next, window_end)
         } else {
@@ -141,11 +125,9 @@ impl AdvertisedWindow {
     /// where it is, below `next` too, by half of the receiver's capacity, rounded up, or by one
     /// segment of `mss` bytes, and by 1 at least.
     ///
-    /// # Requires
-    ///
-    /// The window doesn't end before `next`.
+    /// None is due if the window ends before `next`. Pass such a `window_end`, as 0, once all up to the end is acknowledged:
+    /// nothing follows that needs room, and a peer that has closed its connection would answer an update by a reset.
     #[must_use]
-    #[track_caller]
     pub fn is_update_due(
         &self,
         scale: u8,
@@ -154,29 +136,23 @@ impl AdvertisedWindow {
         capacity: u64,
         mss: u16,
     ) -> bool
-        requires { next ≤ window_end }
         // Guarantee.
-        ensures { IsTrue result
-            ↔ (worth capacity mss ≤ gain self.now.edge (shift_count scale) next window_end) }
+        ensures { IsTrue result ↔ ((next ≤ window_end)
+            × (worth capacity mss ≤ gain self.now.edge (shift_count scale) next window_end)) }
     {
-        prove!(
-            next <= window_end,
-            "the window ends before the first missing position"
-        );
         let shift = scale.min(MAX_SCALE);
         let edge = next + (u64::from(field(shift, next, window_end)) << shift);
         let worth = (capacity - capacity / 2).min(u64::from(mss)).max(1);
-        edge.saturating_sub(self.edge) >= worth
+        next <= window_end && edge.saturating_sub(self.edge) >= worth
     }
 }
 
 /// Returns the number to announce.
 #[inline]
 fn field(scale: u8, next: u64, window_end: u64) -> u16
-    requires scale { scale ≤ 14 }
-    requires room { next ≤ window_end }
+    requires { scale ≤ 14 }
     ensures value { result ≡ field_for scale (window_end - next) }
-    ensures within { announced next scale result ≤ window_end }
+    ensures within { announced next scale result ≤ max next window_end }
 {
-    ((window_end - next) >> scale).min(0xffff) as u16
+    (window_end.saturating_sub(next) >> scale).min(0xffff) as u16
 }

@@ -1,6 +1,6 @@
 //! What a TCP needs beside its queues. No call changes what another sees.
 use crate::show::{pattern, truth};
-use crate::{unless_panics, Call, Subject};
+use crate::{Call, Subject};
 use net_base::tcp::{
     checksum, classify, is_acceptable, is_acknowledgement, is_valid, scale_for, scaled,
     updated_checksum, AdvertisedWindow, Announcement, Arrival, PartsSum, PeerWindow,
@@ -20,9 +20,7 @@ impl Subject for Tcp {
                 truth(is_acknowledgement(sent_numbers(one, two), three, four)).to_string()
             }
             "scale_for" => scale_for(one).to_string(),
-            "announce" | "announce_in_steps" | "is_update_due" => {
-                unless_panics("forbidden", || announce(call))
-            }
+            "announce" | "announce_in_steps" | "is_update_due" => announce(call),
             "peer_update" => peer_update(call),
             "peer_room" => {
                 let peer = peer_window(one);
