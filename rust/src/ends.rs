@@ -467,10 +467,11 @@ impl<S: Storage<u8>, const N: usize> ReceivingEndOver<S, N> {
     }
 
     /// Returns whether an acknowledgement is to be sent before one waits: something came, or an update of the window is worth
-    /// a segment.
+    /// a segment. After the end no update is.
     #[must_use]
     pub fn is_wanted(&self) -> bool {
         let (next, end, capacity) = self.free();
+        let end = if self.receiver.is_complete() { 0 } else { end };
         self.unanswered > 0
             || self.advertised.is_update_due(self.scale, next, end, capacity, self.segment_size)
     }

@@ -188,7 +188,7 @@ fn a_peer_without_blocks_is_not_probed() {
     assert_eq!(end.timeouts(), 0);
 }
 
-/// A peer fills the window and sends its end: what is announced is 0, and nothing panics.
+/// A peer fills the window and sends its end: what is announced is 0, and nothing panics. After the end no update is sent.
 #[test]
 fn a_full_window_and_an_end() {
     let mut end = ReceivingEnd::<4>::empty_at(vec![0; 3], 0, 1_000);
@@ -197,6 +197,7 @@ fn a_full_window_and_an_end() {
     assert!(end.is_due() && end.is_wanted());
     let it = end.acknowledgement();
     assert_eq!((it.next, it.window, end.announce()), (4, 0, (4, 0)));
+    assert_eq!((end.read(&mut [0; 3]), end.is_wanted()), (3, false));
 }
 
 /// Both ends over a path that loses, doubles and reorders.
