@@ -78,8 +78,9 @@ class Timer:
         EMPTY.least(pos, end)
         if pos >= end:
             return "done"
-        if not RUNS(self.end is not None):
-            self.restart(now, ALONE(before <= first))
+        alone = ALONE(before <= first)
+        if not RUNS(self.end is not None) or alone:
+            self.restart(now, alone)
         elif SECOND(self.delayed and end > before):
             self.delayed = False
             if self.estimate:

@@ -792,8 +792,13 @@ TIMERS = [
     "start 9223372036853775807: done|1000000 9223372036854775807 -; stop: done; start 9223372036853775808: done|1000000 "
     "9223372036854775807 -; expire 9223372036854775806: none; expire 9223372036854775807: timeout|2000000 9223372036854775807 -",
     # The peer's window is shut, and nothing is on the way: what is acknowledged again doesn't stop the timer of a probe.
-    "start 0: done|1000000 1000000 -; acknowledged 50 50 50 10: done|1000000 1000000 -; sent 50 51 50 50 20: done|1000000 1000000 50; "
-    "acknowledged 50 51 50 30: done|1000000 1000000 50; acknowledged 50 51 51 40: done|1000000 - -",
+    "start 0: done|1000000 1000000 -; acknowledged 50 50 50 10: done|1000000 1000000 -; sent 50 51 50 50 20: done|1000000 1000020 50; "
+    "acknowledged 50 51 50 30: done|1000000 1000020 50; acknowledged 50 51 51 40: done|1000000 - -",
+    # A round trip of 0.5 s. The window is shut, and the timeout of 1.5 s passes once. What is sent once it opens starts the timer
+    # anew: the doubled timeout of 3 s passes at 6 s, and a probe is due after 1 + 0.2 s.
+    "sent 0 1 0 0 0: done; acknowledged 0 1 1 500000: done|1500000 - -; start 600000: done|1500000 2100000 -; "
+    "expire 2100000: timeout|3000000 5100000 - 1; sent 1 2 1 1 3000000: done|3000000 4200000 1 1; "
+    "expire 4200000: probe|3000000 6000000 1 1",
 ]
 # The peer reports no blocks: no probe, and the timeout is where it was.
 SILENT_TIMERS = [

@@ -9,7 +9,7 @@
 --     first_wait e, allowance delay alone      how long the first probe waits, and how much longer if a segment is alone
 --     restarted delay alone now t, waiting now t, started now t, stopped t      it runs from now on; so without a probe; that
 --         unless it runs; it doesn't run
---     running delay alone new now t, hastened now t      it runs where something is sent; a probe is due two round trips from now
+--     running delay alone new now t, hastened now t      what sending leaves; a probe is due two round trips from now
 --     times t from to      whether a segment is timed whose position is from `from` on and below `to`
 --     untimed t      none is
 --     after_sending, with_sample, after_acknowledged, after_report, after_expiry      what the calls leave
@@ -18,7 +18,7 @@
 --     Event, Connection, after_event, after_events      what happens to a connection, and what that leaves
 --     arms c e      whether that sets the moment at which the timeout passes
 use Rattle.std.specs.Prelude.{◌≡◌, ℕ, ℤ, ◌+◌, ◌-◌, ◌*◌, ◌/◌, ◌^◌, ◌<◌, ◌≤◌, min, max, Option, Some, None, is_none}
-use Rattle.std.specs.Prelude.{is_some, Bool, true, false, ◌&&◌, nat_lt, nat_le, int_le, int_lt, IsTrue, IsFalse, if◌then◌else◌, List}
+use Rattle.std.specs.Prelude.{is_some, Bool, true, false, ◌&&◌, ◌||◌, nat_lt, nat_le, int_le, int_lt, IsTrue, IsFalse, if◌then◌else◌, List}
 use Rattle.std.specs.Prelude.{[], ◌∷◌, filter, map, pos as whole}
 use Rattle.net_base.specs.Time.{elapsed, moment_after}
 use Rattle.net_tcp.specs.Estimate.{Estimate}
@@ -163,9 +163,10 @@ hastened now t = record t {
   is_alone = false;
 }
 
--- where something is sent: it starts, unless it runs; then what is new brings the probe of a segment alone
+-- where something is sent: it starts, unless it runs for what is on the way; then what is new brings the probe of a
+-- segment alone
 abbrev pub running : ℕ → Bool → Bool → ℤ → RetransmissionTimer → RetransmissionTimer
-running delay alone new now t = if is_none t.ends_at then restarted delay alone now t
+running delay alone new now t = if is_none t.ends_at || alone then restarted delay alone now t
     else (if t.is_alone && new then hastened now t else t)
 
 abbrev pub stopped : RetransmissionTimer → RetransmissionTimer
@@ -304,10 +305,11 @@ abbrev pub opened : ℕ → Bool → ℕ → Connection
 opened t reports first =
     record { timer = new_timer t reports; first = first; sent = first; log = []; due = whole 0 }
 
--- what arms a timer: sending and a start where it doesn't run, what is new where something stays on the way, and that the
--- timeout has passed. A probe doesn't
+-- what arms a timer: sending where it doesn't run or nothing is on the way, a start where it doesn't run, what is new where
+-- something stays on the way, and that the timeout has passed. A probe doesn't
 abbrev pub arms : Connection → Event → Bool
-arms c (Sends pos end now) = nat_le c.first pos && nat_lt pos end && is_none c.timer.ends_at
+arms c (Sends pos end now) =
+    nat_le c.first pos && nat_lt pos end && (is_none c.timer.ends_at || nat_le c.sent c.first)
 arms c (Acknowledges next now) = nat_lt c.first next && nat_lt next c.sent
 arms c (Reports now) = is_some c.timer.ends_at
 arms c (Looks now) = has_ended c.timer now
@@ -383,8 +385,10 @@ IsEnd c (Acknowledges next now) = IsUnacknowledged c × (next ≡ c.sent)
 IsEnd c Stops = Unit {0}
 IsEnd c _ = ⊥
 
--- the moment at which the timeout of a timer that runs passes is moved by that and by what is new, or it is stopped
+-- the moment at which the timeout of a timer that runs passes is moved by that, by what is new, and by what is sent where
+-- nothing is on the way; or the timer is stopped
 abbrev pub IsMove : Connection → Event → Type 0
+IsMove c (Sends pos end now) = (c.first ≤ pos) × (pos < end) × (c.sent ≤ c.first)
 IsMove c (Acknowledges next now) = (c.first < next) × (next ≤ c.sent)
 IsMove c (Reports now) = Unit {0}
 IsMove c (Looks now) = IsTrue (has_ended c.timer now)
