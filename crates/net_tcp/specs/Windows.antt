@@ -172,14 +172,9 @@ abbrev pub heard_all : Heard → List Announcement → Heard
 heard_all h [] = h
 heard_all h (s ∷ more) = heard_all (heard h s) more
 
--- two segments of one peer: it didn't send s after t, since neither number of what it sends ever falls
+-- neither number of s is above that of t, and s says nothing else if both are the same: so it is of two segments with
+-- something new that a peer sent in this order, and not of a copy of what was lost nor of a window that is told anew
 pub record IsNoLater (s t : Announcement) : Type 0 where
   pub seq : s.seq ≤ t.seq
   pub ack : s.ack ≤ t.ack
   pub same : s.seq ≡ t.seq → s.ack ≡ t.ack → s.window ≡ t.window
-
--- what was heard is from no later segment
-pub record IsFromNoLater (h : Heard) (t : Announcement) : Type 0 where
-  pub seq : h.peer.seq ≤ t.seq
-  pub ack : h.peer.ack ≤ t.ack
-  pub first : h.first ≤ t.ack
