@@ -14,3 +14,4 @@ done
 cargo clippy --offline --quiet --features segmentation-offload -- -D warnings \
     -D clippy::must_use_candidate -D clippy::return_self_not_must_use
 (cd ../c && cargo clippy --offline --quiet -- -D warnings)
+(cd ../compare && cargo clippy --offline --quiet --package peers -- -D warnings)

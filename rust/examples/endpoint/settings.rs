@@ -68,7 +68,7 @@ impl Settings {
             incoming,
             source: source.clone(),
             target: target.clone(),
-            fates: Fates { lost, doubled, delayed, longest_delay, latency },
+            fates: Fates { lost, doubled, delayed, longest_delay, latency, ..Fates::default() },
             seed,
             runs,
             capacity: capacity as usize,

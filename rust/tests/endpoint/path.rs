@@ -121,7 +121,7 @@ fn run_ends<const N: usize>(mut a: End<N>, mut b: End<N>) -> (u64, u64) {
 }
 
 fn fates(lost: u32, others: u32) -> Fates {
-    Fates { lost, doubled: others, delayed: 3 * others, longest_delay: 20_000, latency: 0 }
+    Fates { lost, doubled: others, delayed: 3 * others, longest_delay: 20_000, ..Fates::default() }
 }
 
 #[test]

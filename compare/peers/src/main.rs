@@ -1,0 +1,318 @@
+//! The example's endpoint, lwIP and Linux, joined by a path that loses, doubles, delays, stops, cuts and forges IP packets by
+//! a seed: `run.sh` beside it builds it, and lwIP's program, and runs it in a network namespace of its own.
+//!
+//!     peers sample|matrix|goodput|runs [WORD [SEED]]
+//!
+//! What each end reads is compared with what the other one sends, byte by byte. With a word only the cases or rows with it
+//! are run; with a seed the sample by that. The status is 1 if a byte differs, a stream ends too early, or a case of the
+//! sample exceeds its bounds.
+mod ends;
+mod relay;
+mod watch;
+
+// Formatted with the example.
+#[rustfmt::skip]
+#[path = "../../../rust/examples/endpoint/channel.rs"]
+mod channel;
+#[allow(dead_code)]
+#[rustfmt::skip]
+#[path = "../../../rust/examples/endpoint/os.rs"]
+mod os;
+#[allow(dead_code)]
+#[rustfmt::skip]
+#[path = "../../../rust/examples/endpoint/tcp.rs"]
+mod tcp;
+#[allow(dead_code)]
+#[rustfmt::skip]
+#[path = "../../../rust/examples/endpoint/wire.rs"]
+mod wire;
+
+use std::process::exit;
+use std::sync::atomic::{AtomicU32, Ordering};
+use std::sync::Mutex;
+use std::thread;
+
+use channel::Fates;
+use ends::Kind;
+use relay::{Case, Outcome, Path, Traffic};
+
+const ENDPOINT: Kind = Kind::Example(0x4_0000, 32);
+const RENO: Kind = Kind::Linux("reno");
+const CUBIC: Kind = Kind::Linux("cubic");
+
+/// How many of 10,000 packets are lost, delayed by up to 2 ms, and doubled, with a round trip of some microseconds.
+fn path(lost: u32, delayed: u32, doubled: u32, round_trip: u32) -> Path {
+    let fates =
+        Fates { lost, doubled, delayed, longest_delay: 2_000, latency: round_trip / 2, rate: 0, queue: 0 };
+    Path { fates, ..Path::default() }
+}
+
+/// A line of 0.4 MB/s, on which the receiver's end stops for 3 s.
+fn stopped() -> (Path, Traffic) {
+    let fates = Fates { rate: 400_000, queue: 64, ..path(0, 0, 0, 2_000).fates };
+    (Path { fates, stop: Some((300, 3_000)), ..Path::default() }, send(400_000))
+}
+
+fn send(bytes: u64) -> Traffic {
+    Traffic::Send { bytes, chunk: 0x1_0000, rest: 0 }
+}
+
+fn run(case: Case, what: &str) -> Outcome {
+    let outcome = case.run().unwrap_or_else(|error| {
+        eprintln!("peers: {what}: {error}");
+        exit(1)
+    });
+    if let Some(wrong) = &outcome.wrong {
+        eprintln!("peers: {what}, seed {}: {wrong}", case.seed);
+        exit(1);
+    }
+    outcome
+}
+
+/// What a case of the sample may take: seconds, timeouts of the first end, and segments of it sent again for nothing.
+type Bounds = (f64, u64, u64);
+
+/// Prints a line about a case, and returns whether it is within its bounds.
+fn judge(what: &str, it: &Outcome, bounds: Bounds) -> bool {
+    let [first, _second] = &it.watches;
+    let seconds = it.seconds.unwrap_or(f64::INFINITY);
+    let is_within = seconds <= bounds.0 && first.timeouts <= bounds.1 && first.needless <= bounds.2;
+    let is_ok = is_within && it.is_closed && it.resets == 0;
+    println!(
+        "{} {what}: {seconds:.2} s, {} segments, {} again, {} for nothing, {} timeouts, {} resets{}",
+        if is_ok { "ok  " } else { "over" },
+        first.segments,
+        first.again,
+        first.needless,
+        first.timeouts,
+        it.resets,
+        if it.is_closed { "" } else { ", not closed" },
+    );
+    is_ok
+}
+
+fn sample(word: &str, seed: u64) {
+    let (mib, any) = (send(1 << 20), u64::MAX);
+    let hidden = Path { without_blocks: true, ..path(100, 0, 0, 1_000) };
+    let forged = Path { forged: 1_000, ..path(100, 0, 0, 1_000) };
+    let cut = Path { cut: Some((20, 1_000)), ..path(0, 0, 0, 2_000) };
+    let (stop, stops) = stopped();
+    let slow = Traffic::Send { bytes: 200_000, chunk: 2_000, rest: 5_000 };
+    let requests = |count, thinks| Traffic::Requests { count, thinks };
+    let of_endpoint: [(&str, Path, Traffic, Bounds); 11] = [
+        ("clean", path(0, 0, 0, 0), mib, (1.0, 1, 5)),
+        ("1 % lost", path(100, 0, 0, 1_000), mib, (1.2, 1, 5)),
+        ("1 % lost, without blocks", hidden, mib, (1.2, 2, 10)),
+        ("20 % delayed", path(0, 2_000, 0, 1_000), mib, (1.5, 1, 80)),
+        ("20 % doubled", path(0, 0, 2_000, 1_000), mib, (1.0, 0, 5)),
+        ("both send, 1 % lost", path(100, 0, 0, 1_000), Traffic::Both { bytes: 500_000 }, (4.0, 1, 5)),
+        ("a slow reader", path(0, 0, 0, 1_000), slow, (5.0, 1, 10)),
+        ("answers after 40 ms", path(0, 0, 0, 1_000), requests(20, 40), (2.0, 0, 0)),
+        ("answers after 300 ms", path(0, 0, 0, 1_000), requests(4, 300), (2.0, 0, 0)),
+        ("a stop of 3 s", stop, stops, (6.0, 5, 60)),
+        ("1 % lost, forged packets", forged, mib, (6.0, 12, 60)),
+    ];
+    let to_endpoint: [(&str, Path, Traffic, f64); 5] = [
+        ("clean", path(0, 0, 0, 0), mib, 1.0),
+        ("1 % lost", path(100, 0, 0, 1_000), mib, 6.0),
+        ("20 % delayed", path(0, 2_000, 0, 1_000), mib, 3.0),
+        ("1 % lost, forged packets", forged, mib, 6.0),
+        ("cut for 1 s", cut, mib, 6.0),
+    ];
+    let mut cases = vec![];
+    for peer in [Kind::Lwip, RENO] {
+        for (what, path, traffic, bounds) in of_endpoint {
+            cases.push(([ENDPOINT, peer], what, path, traffic, bounds));
+        }
+        for (what, path, traffic, most) in to_endpoint {
+            cases.push(([peer, ENDPOINT], what, path, traffic, (most, any, any)));
+        }
+    }
+    // Three at once: most of them wait.
+    let (cases, failed) = (Mutex::new(cases.into_iter()), AtomicU32::new(0));
+    let next = || cases.lock().expect("no run panics").next();
+    thread::scope(|scope| {
+        for _worker in 0..3 {
+            scope.spawn(|| {
+                while let Some((ends, what, path, traffic, bounds)) = next() {
+                    let what = format!("{} to {}: {what}", ends[0].name(), ends[1].name());
+                    if !what.contains(word) {
+                        continue;
+                    }
+                    // A machine that is busy is late: three runs in a row fail.
+                    let mut seeds = seed..seed + 3;
+                    let case = |seed| run(Case { ends, path, traffic, seed, most: 10 }, &what);
+                    if !seeds.any(|seed| judge(&what, &case(seed), bounds)) {
+                        failed.fetch_add(1, Ordering::Relaxed);
+                    }
+                }
+            });
+        }
+    });
+    let failed = failed.into_inner();
+    if failed > 0 {
+        println!("failed: {failed}, each three times over its bounds in compare/peers/src/main.rs, reset, or not closed");
+        exit(1);
+    }
+}
+
+fn median(mut values: Vec<f64>) -> f64 {
+    values.sort_by(f64::total_cmp);
+    values[values.len() / 2]
+}
+
+/// The median time of some seeds, or infinity, and how many segments of the first end went again for nothing, and by a timeout.
+fn median_of(ends: [Kind; 2], path: Path, traffic: Traffic, seeds: u64, most: u64) -> (f64, u64, u64) {
+    let what = format!("{} to {}", ends[0].name(), ends[1].name());
+    let runs =
+        (1..=seeds).map(|seed| run(Case { ends, path, traffic, seed, most }, &what)).collect::<Vec<_>>();
+    let seconds = median(runs.iter().map(|it| it.seconds.unwrap_or(f64::INFINITY)).collect());
+    let sum = |of: fn(&Outcome) -> u64| runs.iter().map(of).sum();
+    (seconds, sum(|it| it.watches[0].needless), sum(|it| it.watches[0].timeouts))
+}
+
+fn ratio(a: f64, b: f64) -> String {
+    if a.is_finite() && b.is_finite() {
+        format!("{:.2}", a / b)
+    } else {
+        "-".into()
+    }
+}
+
+fn matrix(word: &str) {
+    let (mib, most) = (send(1 << 20), 20);
+    let hidden = |path| Path { without_blocks: true, ..path };
+    let requests = |thinks| Traffic::Requests { count: 50, thinks };
+    let slow = Traffic::Send { bytes: 400_000, chunk: 2_000, rest: 5_000 };
+    let (stop, stops) = stopped();
+    println!("Seconds, and in brackets segments sent again for nothing in three runs. Round trip 1 ms but where said.");
+    print!("| 1 MiB | endpoint to lwIP | of Linux | of lwIP | lwIP to endpoint | of Linux | of lwIP ");
+    println!("| endpoint to Linux | of Linux | Linux to endpoint | of Linux |");
+    println!("|---|---:|---:|---:|---:|---:|---:|---:|---:|---:|---:|");
+    for (what, path, traffic) in [
+        ("clean, 0 ms", path(0, 0, 0, 0), mib),
+        ("clean, 10 ms", path(0, 0, 0, 10_000), mib),
+        ("0.5 % lost", path(50, 0, 0, 1_000), mib),
+        ("1 % lost", path(100, 0, 0, 1_000), mib),
+        ("3 % lost", path(300, 0, 0, 1_000), mib),
+        ("10 % lost", path(1_000, 0, 0, 1_000), mib),
+        ("1 % lost, 10 ms", path(100, 0, 0, 10_000), mib),
+        ("1 % lost, no blocks", hidden(path(100, 0, 0, 1_000)), mib),
+        ("3 % lost, no blocks", hidden(path(300, 0, 0, 1_000)), mib),
+        ("5 % delayed", path(0, 500, 0, 1_000), mib),
+        ("20 % delayed", path(0, 2_000, 0, 1_000), mib),
+        ("20 % delayed, no blocks", hidden(path(0, 2_000, 0, 1_000)), mib),
+        ("20 % doubled", path(0, 0, 2_000, 1_000), mib),
+        ("a slow reader", path(0, 0, 0, 1_000), slow),
+        ("50 answers after 20 ms", path(0, 0, 0, 1_000), requests(20)),
+        ("50 answers after 40 ms", path(0, 0, 0, 1_000), requests(40)),
+        ("50 answers after 300 ms", path(0, 0, 0, 1_000), requests(300)),
+        ("a stop of 3 s", stop, stops),
+    ] {
+        if !what.contains(word) {
+            continue;
+        }
+        let time = |ends| median_of(ends, path, traffic, 3, most);
+        let cell = |it: (f64, u64, u64)| match it.0.is_finite() {
+            true => format!("{:.2} ({})", it.0, it.1),
+            false => format!("> {most}"),
+        };
+        let (lwip_itself, linux_itself) = (time([Kind::Lwip; 2]), time([RENO; 2]));
+        let (to_lwip, linux_to_lwip) = (time([ENDPOINT, Kind::Lwip]), time([RENO, Kind::Lwip]));
+        let (from_lwip, lwip_to_linux) = (time([Kind::Lwip, ENDPOINT]), time([Kind::Lwip, RENO]));
+        let (to_linux, from_linux) = (time([ENDPOINT, RENO]), time([RENO, ENDPOINT]));
+        println!(
+            "| {what} | {} | {} ({}) | {} ({}) | {} | {} ({}) | {} ({}) | {} | {} ({}) | {} | {} ({}) |",
+            cell(to_lwip),
+            ratio(to_lwip.0, linux_to_lwip.0),
+            linux_to_lwip.1,
+            ratio(to_lwip.0, lwip_itself.0),
+            lwip_itself.1,
+            cell(from_lwip),
+            ratio(from_lwip.0, lwip_to_linux.0),
+            lwip_to_linux.1,
+            ratio(from_lwip.0, lwip_itself.0),
+            lwip_itself.1,
+            cell(to_linux),
+            ratio(to_linux.0, linux_itself.0),
+            linux_itself.1,
+            cell(from_linux),
+            ratio(from_linux.0, linux_itself.0),
+            linux_itself.1,
+        );
+    }
+}
+
+fn goodput(word: &str) {
+    let (bytes, seeds) = (8 << 20, 5);
+    println!("To Linux, 8 MiB, a round trip of 1 ms, no rate; a delay is up to 2 ms. Each cell: MB/s, the median of {seeds}");
+    println!(
+        "runs; timeouts of all; of 10,000 segments how many were sent again for nothing. Ratios are of MB/s."
+    );
+    println!("| Path | endpoint | Linux, Reno | Linux, CUBIC | of Reno | of CUBIC |");
+    println!("|---|---:|---:|---:|---:|---:|");
+    for (what, path) in [
+        ("clean", path(0, 0, 0, 1_000)),
+        ("0.5 % lost", path(50, 0, 0, 1_000)),
+        ("1 % lost", path(100, 0, 0, 1_000)),
+        ("3 % lost", path(300, 0, 0, 1_000)),
+        ("10 % lost", path(1_000, 0, 0, 1_000)),
+        ("5 % delayed", path(0, 500, 0, 1_000)),
+        ("20 % delayed", path(0, 2_000, 0, 1_000)),
+    ] {
+        if !what.contains(word) {
+            continue;
+        }
+        let all = [ENDPOINT, RENO, CUBIC].map(|it| median_of([it, RENO], path, send(bytes), seeds, 60));
+        let cell = |it: (f64, u64, u64)| {
+            let segments = seeds * bytes / 1_460;
+            format!("{:.1}; {}; {}", bytes as f64 / 1e6 / it.0, it.2, it.1 * 10_000 / segments)
+        };
+        let [mine, reno, cubic] = all;
+        let cells = all.map(cell).join(" | ");
+        println!("| {what} | {cells} | {} | {} |", ratio(reno.0, mine.0), ratio(cubic.0, mine.0));
+    }
+}
+
+fn runs(word: &str) {
+    println!("Linux (Reno) sends 4 MiB to an endpoint of 1 MiB, over 20 Mbit/s, 80 ms, and a queue of 200 packets.");
+    println!("| N | seconds of three runs | segments | refused | most held |");
+    println!("|---:|---:|---:|---:|---:|");
+    for n in [32, 64, 128, 256] {
+        if !n.to_string().contains(word) {
+            continue;
+        }
+        let fates = Fates { rate: 2_500_000, queue: 200, ..path(0, 0, 0, 80_000).fates };
+        let path = Path { fates, ..Path::default() };
+        let ends = [RENO, Kind::Example(1 << 20, n)];
+        let runs =
+            [1, 2, 3].map(|seed| run(Case { ends, path, traffic: send(4 << 20), seed, most: 60 }, "runs"));
+        let mut seconds = runs.iter().map(|it| it.seconds.unwrap_or(f64::INFINITY)).collect::<Vec<_>>();
+        seconds.sort_by(f64::total_cmp);
+        let sum = |of: fn(&Outcome) -> u64| runs.iter().map(of).sum::<u64>();
+        println!(
+            "| {n} | {:.1}, {:.1}, {:.1} | {} | {} | {} |",
+            seconds[0],
+            seconds[1],
+            seconds[2],
+            sum(|it| it.watches[0].segments),
+            sum(|it| it.refused[1].0),
+            runs.iter().map(|it| it.refused[1].1).max().unwrap_or(0),
+        );
+    }
+}
+
+fn main() {
+    let words = std::env::args().skip(1).collect::<Vec<_>>();
+    let word = words.get(1).map_or("", |word| word);
+    match words.first().map(String::as_str) {
+        Some("sample") => sample(word, words.get(2).and_then(|it| it.parse().ok()).unwrap_or(1)),
+        Some("matrix") => matrix(word),
+        Some("goodput") => goodput(word),
+        Some("runs") => runs(word),
+        _ => {
+            eprintln!("usage: peers sample|matrix|goodput|runs [WORD [SEED]]");
+            exit(1);
+        }
+    }
+}
