@@ -63,13 +63,7 @@ impl<const N: usize> End<N> {
 
     fn next(&self, now: Instant) -> Option<Instant> {
         let reads_at = self.reads_at.filter(|at| *at > now);
-        self.endpoint
-            .sending
-            .expires_at()
-            .into_iter()
-            .chain(self.channel.next())
-            .chain(reads_at)
-            .min()
+        self.endpoint.expires_at().into_iter().chain(self.channel.next()).chain(reads_at).min()
     }
 }
 

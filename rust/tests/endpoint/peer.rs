@@ -192,7 +192,10 @@ pub struct Talk<const N: usize> {
 impl<const N: usize> Talk<N> {
     pub fn new(listens: bool, capacity: usize) -> Talk<N> {
         let ends = Ends { here: HERE, there: if listens { ([0; 4], 0) } else { THERE } };
-        let endpoint = Endpoint::new(ends, listens, INITIAL, capacity);
+        let mut endpoint = Endpoint::new(ends, listens, INITIAL, capacity);
+        // What is written is sent at once, and a test may wait for long.
+        endpoint.options.nagle = false;
+        endpoint.options.gives_up = Duration::from_secs(86_400);
         Talk { endpoint, now: Instant::from_secs(5) }
     }
 

@@ -151,6 +151,10 @@ fn both_open_at_once() {
     assert_eq!(talk.endpoint.state, State::Opening(true));
     let answer = talk.wait(0).remove(0);
     assert_eq!((answer.flags, answer.number, answer.acked()), (SYN | ACK, INITIAL, 0));
+    // The answer is lost: the SYN comes again, and so does the answer. It takes no other SYN for that.
+    assert_eq!(talk.say(&syn(OPTIONS)), [answer]);
+    let other = Packet { number: PEER.wrapping_add(5), ..syn(OPTIONS) };
+    challenge(&talk.say(&other), 0);
     // So does the peer. Its SYN is a second one, and is answered; its next segment opens.
     challenge(&talk.say(&peer(u32::MAX, 0).with(SYN)), 0);
     assert_eq!(talk.say(&peer(0, 0).text(b"abc")), []);

@@ -1,5 +1,8 @@
 //! What goes: the peer's MSS and window, losses, timeouts, the own end.
+use net_base::time::Duration;
+
 use crate::peer::*;
+use crate::tcp::{Options, State};
 
 /// Where packets begin, and how many bytes they have.
 fn places(said: &[Packet]) -> Vec<(u32, usize)> {
@@ -247,4 +250,94 @@ fn the_own_end() {
     assert_eq!(places(&talk.wait(0)), [(1, 1000)]);
     talk.say(&peer(0, 1001).window(1));
     assert_eq!(places(&talk.wait(0)), [(1001, 0)]);
+}
+
+/// Less than a segment waits for what is on the way, but for the last of the stream (RFC 9293, 3.7.4).
+#[test]
+fn small_segments_wait() {
+    let mut talk = talk(1);
+    talk.endpoint.options.nagle = true;
+    // Nothing is on the way: it goes at once.
+    assert_eq!(places(&talk.wait(0)), [(1, 1)]);
+    write(&mut talk, 2, 1_001);
+    assert_eq!(talk.wait(0), []);
+    // A whole segment goes, and what is left over waits.
+    write(&mut talk, 1_001, 1_502);
+    assert_eq!(places(&talk.wait(0)), [(2, 1000)]);
+    assert_eq!(talk.wait(0), []);
+    talk.say(&peer(0, 1002));
+    assert_eq!(places(&talk.wait(0)), [(1002, 500)]);
+    write(&mut talk, 1_502, 1_510);
+    assert_eq!(talk.wait(0), []);
+    // What was lost goes again. An end doesn't wait.
+    let (_after, said) = talk.time_out();
+    assert_eq!(said[0].at(), 1002);
+    let mut talk = self::talk(1_500);
+    talk.endpoint.options.nagle = true;
+    assert_eq!(places(&talk.wait(0)), [(1, 1000)]);
+    talk.endpoint.close();
+    assert_eq!(places(&talk.wait(0)), [(1001, 500)]);
+}
+
+/// How long it goes on without an answer.
+fn silence(talk: &mut Talk<4>) -> u64 {
+    let begun = talk.now;
+    talk.endpoint.options.gives_up = Options::default().gives_up;
+    while talk.endpoint.state != State::Silent {
+        let at = talk.endpoint.expires_at().expect("a timer");
+        talk.wait((at - talk.now).total_micros());
+    }
+    let lasted = (talk.now - begun).secs();
+    assert_eq!((talk.endpoint.expires_at(), talk.wait(1_000_000)), (None, vec![]));
+    lasted
+}
+
+#[test]
+fn a_peer_that_is_silent() {
+    // RFC 9293, 3.8.3: at least 100 s, and 3 minutes for a SYN.
+    let mut talk = Talk::<4>::new(false, 100);
+    talk.wait(0);
+    assert_eq!(silence(&mut talk), 180);
+    let mut talk = self::talk(5_000);
+    assert_eq!(talk.wait(0).len(), 5);
+    assert_eq!(silence(&mut talk), 100);
+    // Any answer counts, and that to a probe of a window that is shut.
+    let mut talk = self::talk(5_000);
+    talk.endpoint.options.gives_up = Options::default().gives_up;
+    talk.say(&peer(0, 1).window(0));
+    assert_eq!(talk.wait(0), []);
+    for _probe in 0..20 {
+        assert_eq!(places(&talk.time_out().1), [(1, 1)]);
+        assert_eq!(talk.say(&peer(0, 1).window(0)), []);
+    }
+    // It is 60 s to the next probe, which is the first that isn't answered.
+    assert_eq!(silence(&mut talk), 160);
+    // Who listened does so again.
+    let mut talk = Talk::<4>::new(true, 100);
+    talk.say(&syn(OPTIONS));
+    talk.wait(0);
+    talk.wait(180_000_000);
+    assert_eq!(talk.endpoint.state, State::Listening);
+    // Nothing was sent: it waits for the peer for good.
+    let mut talk = Talk::<4>::open(100, OPTIONS);
+    assert_eq!((talk.wait(999_000_000), talk.endpoint.state), (vec![], State::Open));
+}
+
+#[test]
+fn a_peer_that_is_asked() {
+    let mut talk = talk(0);
+    talk.endpoint.options.keep_alive = Some(Duration::from_secs(10));
+    // The number before the first that isn't acknowledged, and no byte (RFC 9293, 3.8.4).
+    for _time in 0..3 {
+        let at = talk.endpoint.expires_at().expect("a timer");
+        assert_eq!((at - talk.now).secs(), 10);
+        let said = talk.wait((at - talk.now).total_micros());
+        assert_eq!((places(&said), said[0].flags), (vec![(0, 0)], ACK));
+        assert_eq!(talk.say(&peer(0, 1)), []);
+    }
+    // No answer: it asks again, and then gives up.
+    assert_eq!(silence(&mut talk), 10 + 100);
+    // The peer's are answered.
+    let mut talk = self::talk(0);
+    assert_eq!(talk.say(&peer(u32::MAX, 1)).len(), 1);
 }
