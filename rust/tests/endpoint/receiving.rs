@@ -390,3 +390,75 @@ fn the_timer_of_a_handshake_is_no_loss() {
     assert_eq!(talk.endpoint.sending.write(&[5; 20_000]), 20_000);
     assert_eq!(talk.wait(0).iter().filter(|said| said.payload.len() == 1000).count(), 10);
 }
+
+/// A segment: where it begins, how many bytes it has, whether it is the last one, and how much is
+/// acknowledged once it came.
+type Step = (u32, u32, bool, u32);
+
+/// Says segments to an endpoint with a capacity, which then reads; and then others. Byte k is k.
+fn says(capacity: usize, before: &[Step], read: usize, after: &[Step]) -> Talk<4> {
+    let mut talk = Talk::<4>::open(capacity, OPTIONS);
+    let say_all = |talk: &mut Talk<4>, steps: &[Step]| {
+        for (at, len, is_last, acked) in steps {
+            let text = (*at..at + len).map(|at| at as u8).collect::<Vec<_>>();
+            talk.say(&peer(*at, 0).text(&text).with(if *is_last { FIN } else { 0 }));
+            talk.wait(0);
+            let begin = u64::from(PEER.wrapping_add(1)) + (1 << 32);
+            let next = talk.endpoint.receiving.receiver().acknowledged() - begin;
+            assert_eq!(next, u64::from(*acked), "after {at}, {len} bytes, {is_last}: {steps:?}");
+        }
+    };
+    say_all(&mut talk, before);
+    assert_eq!(talk.read(1_000), (0..read as u8).collect::<Vec<_>>(), "{before:?}");
+    talk.wait(0);
+    say_all(&mut talk, after);
+    let rest = talk.read(1_000);
+    assert!(rest.iter().enumerate().all(|(at, byte)| usize::from(*byte) == read + at));
+    talk
+}
+
+/// What lwIP's tests of its queue ask, which out-of-order segments and ends are kept in.
+#[test]
+fn ends_that_come_twice_and_in_odd_places() {
+    for steps in [
+        // The same end twice: out of order, with and without its bytes, or once in order.
+        &[(2, 2, true, 0), (2, 2, true, 0), (0, 2, false, 5), (2, 2, true, 5)][..],
+        &[(4, 0, true, 0), (2, 2, true, 0), (0, 2, false, 5)],
+        &[(2, 2, true, 0), (4, 0, true, 0), (0, 4, false, 5), (4, 0, true, 5)],
+        &[(2, 2, true, 0), (0, 4, true, 5), (0, 4, true, 5)],
+        // It comes in the middle of what is held, and over all of it.
+        &[(1, 1, false, 0), (3, 1, true, 0), (2, 1, false, 0), (0, 1, false, 5)],
+        &[(1, 1, false, 0), (3, 1, false, 0), (0, 4, true, 5)],
+        &[(2, 1, false, 0), (1, 3, true, 0), (0, 2, false, 5)],
+        // Bytes after an end that is held, or that has come, and an end there.
+        &[(4, 0, true, 0), (2, 4, false, 0), (0, 2, false, 5), (5, 0, true, 5)],
+        &[(0, 4, true, 5), (4, 3, false, 5), (5, 2, true, 5), (2, 4, true, 5)],
+        // Another end out of order: the first one stays.
+        &[(2, 2, true, 0), (6, 0, true, 0), (2, 1, true, 0), (0, 2, false, 5)],
+    ] {
+        let talk = says(64, steps, 4, &[]);
+        assert!(talk.endpoint.receiving.receiver().has_read_all(), "{steps:?}");
+    }
+    // An end below what is held, where more is missing before it: there is none yet.
+    let talk =
+        says(64, &[(6, 2, false, 0), (4, 0, true, 0), (0, 6, false, 8)], 8, &[(8, 0, true, 9)]);
+    assert!(talk.endpoint.receiving.receiver().has_read_all());
+}
+
+#[test]
+fn windows_that_are_overrun() {
+    for (before, after) in [
+        // Bytes and an end beyond the window are dropped: in order, out of order, and all at once.
+        (&[(0, 20, true, 10)][..], &[(10, 9, false, 19), (19, 0, true, 20)][..]),
+        (&[(4, 20, true, 0), (0, 4, false, 10), (10, 0, true, 10)], &[(10, 10, true, 21)]),
+        (&[(9, 5, false, 0), (0, 14, true, 10), (10, 4, true, 10)], &[(5, 15, true, 21)]),
+        // What begins at the edge, or one before it.
+        (&[(10, 1, false, 0), (9, 1, false, 0), (0, 9, false, 10)], &[(8, 12, true, 21)]),
+    ] {
+        assert!(says(10, before, 10, after).endpoint.receiving.receiver().has_read_all());
+    }
+    // An end at the edge takes no room.
+    for steps in [&[(4, 6, true, 0), (0, 4, false, 11)][..], &[(0, 10, true, 11)]] {
+        assert!(says(10, steps, 10, &[]).endpoint.receiving.receiver().has_read_all());
+    }
+}
