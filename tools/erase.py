@@ -9,7 +9,7 @@
 What it does are `RULES`, and no more; what they refuse is said with its file and line. From a function that stays it takes
 no statement and no call; what goes as a whole are functions that nothing in the text calls, by rule 9. What is taken out
 ends where its bracket closes, and texts and comments in it, which may hide a bracket, are refused. That names mean in Rust
-what they mean in Rattle is for tools/same_calls.py. tools/parts/erase_says.py adds lines of documentation.
+what they mean in Rattle is for tools/same_program.py. tools/parts/erase_says.py adds lines of documentation.
 """
 import re
 import sys
@@ -142,6 +142,8 @@ class Eraser(Text):
             return self.put(head, k + 1, GONE)
         if kind == 'clause' and k not in self.new:
             self.refuse(at, 'a clause of no function')
+        if (word, follows) == ('.', '.') and self.before(k) in (',', '{') and re.compile(r'\.\.\s*[\w(*&][^{};]*\[').match(self.text, at):
+            self.refuse(at, 'the rest of a struct from an element, which Rattle may not read: name it before')
         if kind != 'word':
             return k + 1
         if word == 'fn':
@@ -236,8 +238,9 @@ class Eraser(Text):
             named = [j for j in range(k + 1, end) if self.tokens[j][0] == 'word']
             kept = lambda name: name not in given.UNNAMED.get(self.key, ()) if is_public else name in used or name in self.traits
             leaves = [j for j in named if self.tokens[self.next(j + 1)][1] in (',', ';', '}')]
+            by_name = {j: self.tokens[named[at - 2]][1] for at, j in enumerate(named) if at > 1 and self.tokens[named[at - 1]][1] == 'as'}
             gone = [j for j in leaves if self.tokens[j][1] == 'Model' or
-                    self.tokens[named[0]][1] not in ('std', 'thiserror') and not kept(self.tokens[j][1])]
+                    self.tokens[named[0]][1] not in ('std', 'thiserror') and not kept(self.tokens[j][1]) and by_name.get(j) not in self.traits]
             if len(gone) == len(leaves):
                 self.put(head, end + 1, GONE)
             elif gone and re.search(r'\bas\b', self.source(k, end)):
@@ -353,7 +356,7 @@ def erased(said):
     files = {OUT / 'mod.rs': HEADER.format('crates') + TOP + FEATURES + modules, EXAMPLE / 'mod.rs': HEADER.format('crates') + TOP + PROGRAM}
     left = {file for *_, found in given.REPLACED for file in found}
     laws, of_crate, of_program, of_traits, gone = called_laws(), [*sources()], program(), set(), set()
-    traits = {name for *_, text in of_crate + of_program for name in re.findall(r'^(?:pub(?:\([^)]*\))? )?trait (\w+)', text, re.M)}
+    traits = {name for *_, text in of_crate + of_program for name in re.findall(r'^ *(?:pub(?:\([^)]*\))? )?trait (\w+)', text, re.M)}
     lawless = {Path(crate, path).parent for crate, path, text in of_crate
                if path.stem == 'laws' and not laws & {*re.findall(r'^pub fn (\w+)', text, re.M)}}
     for out, by_hand, (crate, path, text) in [(OUT, (), each) for each in of_crate] + [(EXAMPLE, given.BY_HAND, each) for each in of_program]:

@@ -132,6 +132,9 @@ UNLIKE = [
     ('another meaning', 'fn f() -> u32 { usize::BITS }', 'fn f() -> u32 { 64 }'),
     ('another meaning', 'fn f() { Mul::mul(a, 2) }', 'fn f() { a * 2 }'),
     ('another meaning', 'fn f() { <usize as Add>::add(a, 2) }', 'impl Add<A> for B { type Output = A; fn add(self, a: A) -> A { a } }'),
+    ('from an element', 'fn f() { S { a: 1, ..v[i] } }', 'fn f() { S { a: 1, ..w } }'),
+    ('from an element', 'fn f() { S { ..self.v[i] } }', 'fn f() { let S { a, .. } = v[i]; f(&v[..i], &v[1..]) }'),
+    ('from an element', 'fn f() { S { a: 1, ..(v[i].b) } }', 'fn f() { let [a, .., b] = v[i]; }'),
     ('all names', 'use a::*;', 'use a::{b, c};'),
 ]
 
@@ -391,6 +394,9 @@ def main():
     assert of('mod a;\nmod b;\npub use a::C;\nuse b::D;\n\nfn f(d: D) {}\n', omitted={'a'}) == 'mod b;\nuse b::D;\n\nfn f(d: D) {}\n'
     # A trait's methods are called without its name.
     assert of('use crate::b::{D, E};\n', traits={'D'}) == 'use crate::proved::net_tcp::b::D;\n'
+    for other in ('D as _', 'D as E'):
+        assert of(f'use crate::b::{other};\n', traits={'D'}) == f'use crate::proved::net_tcp::b::{other};\n'
+    assert of('use crate::b::f as e;\n', traits={'D'}) == '\n'
     uncalled()
     # The program: some crates are modules of what is by hand, and its prelude has other names.
     paths = 'use crate::a::B;\nuse net_ring::C;\nuse hex::{D, E};\nuse std::mem;\n\nfn f(b: B, c: C) -> D {\n    b.is_sound()\n}\n'

@@ -1,0 +1,353 @@
+#!/usr/bin/env python3
+"""Compares the program that is proved with the one that rustc compiles, function by function, as wholes: what is done, in
+which order, under which condition, and with what:
+
+    python3 tools/same_program.py [--all] [CRATE=MIR_JSON ..] [KIT | MIR FOLDER]
+
+The prover keeps its program beside each library that is proved, `out/rlib/NAME.rlib/toolchain/mir.json`; rustc's is its MIR of
+the erased crate, as tools/widths.py makes it. Both are run side by side with symbols for numbers, from a function's start. What
+one does between two events it does by itself. An event is a call, a store through a reference, a branch, a panic, or the return,
+and both have to come to the same one: the same function with equal arguments, the same place with an equal value, the same
+condition with the same ends. Equal means the same expression over parameters, results of the same calls, and memory as it was
+after the same event. Where ways meet, or a loop comes round, what is equal on each way stays equal, and all else is a new symbol:
+a function is the same if no pair of places that is reached differs.
+
+Not compared are when values are dropped, and the ghosts of proofs (`Snapshot`); the text of a panic; rustc's tests of sums and
+indices, which are proved to hold; types that a callee is given; and the functions of `LEFT`. Names that the two have otherwise
+are in `SAME`, and what one side has alone in `ALONE`. A form that isn't known is an error. The status is 1 if a function differs
+or isn't understood, 2 if there is no compiler.
+"""
+import json
+import re
+import subprocess
+import sys
+import tempfile
+from pathlib import Path
+
+sys.dont_write_bytecode = True
+import widths
+from parts import erase_list as given
+from parts.same_compiled import NUMBERS, Compiled, CompiledSide
+from parts.same_proved import Proved, ProvedSide
+from parts.same_terms import FALSE, TRUE, Differ, Unknown, any_part, discriminant, holds_ref, is_test, mentions, met, negated, operation, shown
+
+REPOSITORY = widths.REPOSITORY
+# Rustc's word, and the one here. `from_micros` and its like are by hand.
+SAME = [(re.compile(pattern), text) for pattern, text in [
+    (r'net_base::time::instant::Instant::(from_(?:micros|millis|secs))', r'time.\1'),
+    (r'(?:\w+|\?):(PartialEq|PartialOrd)\.(ne|lt|le|gt|ge)', r'\1.\2'),
+    (rf'({NUMBERS}):Ord\.(min|max)', r'\1.\2'),
+    (r'\?:(?:FnOnce|FnMut|Fn)(?:\+\d)?\.\w+', '?:Fn.call'),
+    ('Vec:SliceMut.slice_mut', 'Vec.slice_mut'),
+    (r'\?:IntoIterator\.0', '?:IntoIterator.into_iter'),
+    (r'\w+:Write\.write_fmt', 'Write.write_fmt'),
+]]
+# What one side has alone: what is printed by hand, or by a macro, in Rust; a default of std's; modules that aren't erased;
+# what makes a variant; and what the eraser leaves out: of a law, and of a function of its list, rustc refuses a call.
+ALONE = re.compile('|'.join([
+    r'.*::(?:(?:RingOver|PacketsOver|Assembler)Debug::fmt|\w*(?:Empty|Full|Error)Display::fmt|\w*IterIterator::size_hint|Assembler::new): .*',
+    r'.*::Instant::from_(?:micros|millis|secs): .*', r'.*::[A-Z]\w*: not proved', r'(?:\w+::)+laws::\w+: not compiled',
+    *(f'{name.replace("/", "::")}::.*' for names in given.UNERASED.values() for name in names),
+    *(rf'{file.replace("/", "::")}::(?:\w+::)?{name}: not compiled' for file, names in given.UNCALLED.items() for name in names)]))
+# What isn't understood: what prints a number or a run; what a derive prints, clones, and hashes of a variant's number, and equality
+# where rustc's derive compares numbers first.
+LEFT = re.compile('|'.join([
+    r'.*::(?:\w+Display::fmt|(?:Duration|Instant)::text): prints', r'.*Debug::fmt: derived: .*', r'.*Clone::clone: derived: .*can be refused; .*',
+    r'.*Hash::hash: derived: .*usize:Hash.hash; .*isize:Hash.hash', '.*::(?:Kept|LossRecovery|RetransmissionTimer|TimerParts)PartialEq::eq: derived: .*']))
+
+
+def common(name, traits):
+    """A callee in common words."""
+    name = traits.get(name, name)
+    for pattern, text in SAME:
+        name = pattern.sub(text, name) if pattern.fullmatch(name) else name
+    return name
+
+
+class Pair:
+    """A function in both programs, run side by side. A state has the locals of both, what memory is, and the facts: what is
+    known of a term on this way, ('is', number) or ('not', numbers)."""
+    MOST = 1500
+
+    def __init__(self, proved, compiled, traits, is_derived=False):
+        self.a, self.b, self.traits, self.is_derived = proved, compiled, traits, is_derived
+        self.counts, self.states, self.work = {}, {}, []
+
+    def settle(self, value, facts, memo=None):
+        """A term under what is known on this way."""
+        memo = {} if memo is None else memo
+        if not isinstance(value, tuple) or not value:
+            return value
+        if value not in memo:
+            out = value if value[0] == 'ref' or facts.get(value, ('',))[0] == 'is' else \
+                tuple(self.settle(part, facts, memo) if isinstance(part, tuple) else part for part in value)
+            if out[0] == 'op' and out != value:
+                sign, _, bits = out[1].partition(' ')
+                out = operation(sign, *out[2:], int(bits or 0))
+            elif out[0] == 'not':
+                out = negated(out[1])
+            known = facts.get(out[2], ('',)) if out[0] == 'op' and out[1] == '==' and out[3][0] == 'int' else ('',)
+            out = FALSE if known[0] == 'not' and out[3][1] in known[1] else out
+            known = facts.get(out, ('',))
+            memo[value] = ('int', known[1]) if known[0] == 'is' else out
+        return memo[value]
+
+    def same(self, one, two, state, seen=()):
+        if one == two and not holds_ref(one):
+            return True
+        if not isinstance(one, tuple) or not isinstance(two, tuple) or len(one) != len(two) or one[:1] != two[:1] or one[:1] in (('nothing',), ('forgotten',)):
+            return False
+        if one[:1] == ('N',):                      # a parameter that is a number, by place and by name
+            return self.counts.setdefault(one, two) == two and self.counts.setdefault(two, one) == one
+        if one[:1] == ('ref',) and one[1] != two[1]:
+            ends = [self.settle(side.read(state, ('local', *ref[2:4])), state['facts']) for side, ref in ((self.a, one), (self.b, two))]
+            return (one, two) in seen or one[4] == two[4] and self.same(*ends, state, (*seen, (one, two)))
+        return all(self.same(a, b, state, seen) if isinstance(a, tuple) else a == b for a, b in zip(one, two))
+
+    def check(self, one, two, state, what):
+        one, two = self.settle(one, state['facts']), self.settle(two, state['facts'])
+        if not self.same(one, two, state):
+            raise Differ(f'{what}: proved: {shown(one)}; compiled: {shown(two)}')
+
+    @staticmethod
+    def fresh(state, key):
+        """A symbol that nothing holds."""
+        used = set()
+        note = lambda one: one[:1] == ('sym',) and one[1] == key and used.add(one[2])
+        for value in [*(value for name, value in state.items() if name != 'facts'), *state['facts']]:
+            any_part(value, note)
+        return ('sym', key, next(k for k in range(len(used) + 1) if k not in used))
+
+    def reach(self, node, state):
+        """A pair of places is reached: what was equal on each way is equal."""
+        old = self.states.get(node)
+        new = state if old is None else self.joined(('phi', node), old, state)
+        if new is not None:
+            self.states[node] = new
+            self.work += [node] if node not in self.work else []
+
+    def joined(self, key, old, new):
+        """What two states have in common; nothing if that is the old one."""
+        pairs, memo_old, memo_new, ones = {}, {}, {}, {}
+        before = {name: self.settle(value, old['facts'], memo_old) for name, value in old.items() if name != 'facts'}
+        out = {name: met(value, self.settle(new[name], new['facts'], memo_new), key, pairs) for name, value in before.items() if name in new}
+        facts = {value: known for value, known in old['facts'].items() if new['facts'].get(value) == known and not mentions(value, key)}
+        is_less = any(not (one[:1] == ('sym',) and one[1] == key) or ones.setdefault(one, two) != two for one, two in pairs)
+        is_less |= len(out) + 1 != len(old) or len(facts) != len(old['facts']) or any(before[name] != old[name] for name in before)
+        return {**out, 'facts': facts} if is_less else None
+
+    def compare(self):
+        """Raises `Differ` or `Unknown`; gives how many pairs of places are reached."""
+        state, count = {'ver': ('sym', 'ver', 0), 'facts': {}}, self.a.function['params']
+        state |= {(word, k): ('par', k) for k in range(1, count + 1) for word in 'AB'}
+        if count != self.b.parameters:
+            raise Unknown('parameters')
+        self.reach((self.a.start, self.b.start), state)
+        for _ in range(self.MOST):
+            if not self.work:
+                return len(self.states)
+            node = self.work.pop()
+            self.step(node, {**self.states[node], 'facts': dict(self.states[node]['facts'])})
+        raise Unknown('too many turns')
+
+    def event(self, side, at, state):
+        """The next event of a side; branches whose end is known are none."""
+        for _ in range(500):
+            event = side.run(at, state)
+            if event[0] == 'next':                 # a range's: a branch, with what each end does
+                _, where, one, condition, item, place, after = event
+                event = ('branch', condition, {0: ('none', place, after)}, ('some', where, one, item, place, after))
+            if event[0] != 'branch':
+                return event
+            value, ends, other = self.settle(event[1], state['facts']), event[2], event[3]
+            while value[0] == 'not':
+                value, ends, other = value[1], {k: end for k, end in ((0, ends.get(1, other)), (1, ends.get(0, other))) if end is not None}, None
+            if value[0] == 'op' and value[1] == '==' and value[3][0] == 'int':      # a test of one value
+                value, ends, other = value[2], {value[3][1]: ends.get(1, other)}, ends.get(0, other)
+            if is_test(value):
+                ends, other = {number: ends.get(number, other) for number in (0, 1)}, None
+            known = state['facts'].get(value, ('not', frozenset()))
+            left = {number: end for number, end in ends.items() if number not in known[1]} if value[0] != 'int' else {}
+            if len(left) + (other is not None) > 1 and value[0] != 'int':
+                return ('branch', value, left, other)
+            end = ends.get(value[1], other) if value[0] == 'int' else next(iter(left.values()), other)
+            if end is None:
+                return ('never',)
+            at = self.enter(side, end, state)
+        raise Unknown('branches without an event')
+
+    @staticmethod
+    def enter(side, end, state):
+        """Takes an end of a branch: of a range's `next` it has a value."""
+        if not isinstance(end, tuple) or end[0] not in ('none', 'some'):
+            return end
+        *begin, place, after = end
+        if begin[0] == 'some':
+            side.write(state, begin[1], ('next', begin[2]))
+        side.write(state, place, ('agg', 1, begin[3]) if begin[0] == 'some' else ('agg', 0))
+        return after
+
+    def step(self, node, state):
+        """From a pair of places to the next ones."""
+        before = dict(state)
+        one, two = self.event(self.a, node[0], state), self.event(self.b, node[1], state)
+        kind = one[0]
+        if 'never' in (kind, two[0]):
+            if kind != two[0] and 'panic' not in (kind, two[0]):
+                raise Differ(f'proved: {kind}; compiled: {two[0]}')
+        elif self.is_derived and kind == 'branch' and one[1][:2] == ('op', '==') and (two[0] != 'branch' or one[1] != two[1]):
+            for number in (0, 1):                  # a test of variants, of which rustc's has the value
+                self.reach((one[2].get(number, one[3]), node[1]), {
+                    **state, **{key: value for key, value in before.items() if key[0] == 'B'}, 'facts': {**before['facts'], one[1]: ('is', number)}})
+        elif kind != two[0]:
+            raise Differ('; '.join(f'{side}: {event[0]} {common(event[1], {}) if event[0] == "call" else shown(event[1:2])}'
+                                   for side, event in (('proved', one), ('compiled', two))))
+        elif kind == 'return' and self.a.locals[0] != 'Unit':
+            self.check(one[1], two[1], state, 'returned')
+        elif kind == 'store':
+            self.check(one[1], two[1], state, 'stored at')
+            self.check(one[2], two[2], state, 'stored')
+            state['ver'] = self.fresh(state, ('ver', node))
+            self.reach((one[3], two[3]), state)
+        elif kind == 'branch':
+            self.branch(one, two, state)
+        elif kind == 'call':
+            self.call(node, one[1:], two[1:], state)
+
+    def branch(self, one, two, state):
+        self.check(one[1], two[1], state, 'condition')
+        numbers = frozenset({*one[2], *two[2]})
+        known = state['facts'].get(one[1], ('not', frozenset()))[1]
+        for fact in [*(('is', number) for number in sorted(numbers)), ('not', known | numbers)]:
+            ends = [event[2].get(fact[1], event[3]) if fact[0] == 'is' else event[3] for event in (one, two)]
+            if ends == [None, None] or None in ends and fact[0] == 'not':             # all that are left of a type
+                continue
+            if None in ends:
+                raise Differ(f'an end that one side has not: {shown(one[1])} {fact}')
+            after = {**state, 'facts': {**state['facts'], one[1]: fact, two[1]: fact}}
+            self.reach(tuple(self.enter(side, end, after) for side, end in zip((self.a, self.b), ends)), after)
+
+    def lent(self, side, value, state, seen=()):
+        """The locals that a value lends to be changed, and what they lend."""
+        if not isinstance(value, tuple):
+            return []
+        if value[:1] == ('ref',):
+            inner = side.read(state, ('local', *value[2:4]))
+            return [] if value in seen else [value] * value[4] + self.lent(side, inner, state, (*seen, value))
+        return [ref for part in value for ref in self.lent(side, part, state, seen)]
+
+    def end(self, side, value, state):
+        """What a reference to a local refers to."""
+        return self.end(side, side.read(state, ('local', *value[2:4])), state) if value[0] == 'ref' else value
+
+    def call(self, node, one, two, state):
+        name, given_a, to_a, next_a = one
+        other, given_b, to_b, next_b = two
+        name, other = common(name, self.traits), common(other, self.traits)
+        if name != other:
+            raise Differ(f'proved: {name}; compiled: {other}')
+        if re.match(r'(?:Formatter|Write)\.', name):
+            raise Unknown('prints')
+        if name == '?:Fn.call' and len(given_b) == 2 and given_b[1][:2] == ('agg', None):
+            given_b = [given_b[0], *given_b[1][2:]]
+        if re.search(r'Partial(?:Eq|Ord)\.', name):
+            given_a, given_b = ([self.end(side, one, state) for one in given] for side, given in ((self.a, given_a), (self.b, given_b)))
+        if len(given_a) != len(given_b):
+            raise Unknown(f'arguments of {name}')
+        for k, (a, b) in enumerate(zip(given_a, given_b)):
+            self.check(a, b, state, f'{name}, argument {k + 1}')
+        result = self.fresh(state, ('call', node))
+        for k, both in enumerate(zip(given_a, given_b)):                            # what was lent may be changed
+            refs = [self.lent(side, self.settle(one, state['facts']), state) for side, one in zip((self.a, self.b), both)]
+            if len(refs[0]) != len(refs[1]):
+                raise Unknown(f'what {name} is lent')
+            for m, pair in enumerate(zip(*refs)):
+                for side, ref in zip((self.a, self.b), pair):
+                    side.write(state, ('local', *ref[2:4]), ('after', result, k, m))
+        state['ver'] = ('ver', result)
+        if next_b is None:
+            return
+        stores = [side.write(state, to, result) for side, to in ((self.a, to_a), (self.b, to_b))]
+        if any(stores):
+            if not all(stores):
+                raise Differ('the result of a call is stored by one side')
+            self.check(stores[0][1], stores[1][1], state, 'stored at')
+            state['ver'] = self.fresh(state, ('ver', node))
+        self.reach((next_a, next_b), state)
+
+
+def why(proved, rust, name, there, side=ProvedSide):
+    """Whether a function is the same, and why not: ('same', pairs), ('differ', reason) or ('unknown', reason)."""
+    is_derived = name in rust.derived
+    try:
+        if there in rust.twice:
+            raise Differ('two functions of this name')
+        compiled = CompiledSide(rust, rust.functions.get(there) or rust.constants[there], there)
+        return 'same', Pair(side(proved, name), compiled, rust.traits, is_derived).compare()
+    except Unknown as reason:
+        return 'unknown', f'derived: {reason}' if is_derived else str(reason)
+    except Differ as reason:
+        return ('unknown', f'derived: {reason}') if is_derived else ('differ', str(reason))
+    except (RecursionError, AttributeError, IndexError, KeyError, TypeError, ValueError) as reason:
+        return 'unknown', f'a form that is not known: {type(reason).__name__}: {reason}'
+
+
+def place(proved, rust, name):
+    """The name that rustc has for a function: a closure has none."""
+    around, _, inner = proved.functions[name].partition('::fn::')
+    return name if not inner or name in rust.functions else f'{around}::{inner.rpartition("::")[0]}::{{closure#0}}'
+
+
+def compared(proved, rust, crate):
+    """Of each function that both have: whether it is the same, with its reason if not; and what one has alone."""
+    found = {'same': [], 'differ': [], 'unknown': []}
+    for name in sorted(proved.functions):
+        there = place(proved, rust, name)
+        if there in rust.functions or there in rust.constants:
+            how, reason = why(proved, rust, name, there)
+            found[how].append((name, reason))
+        elif name not in proved.trivial and not ALONE.fullmatch(f'{name}: not compiled'):         # a drop that only drops isn't erased
+            found['differ'].append((name, 'not compiled'))
+    own = {name for name in rust.functions if name.split('::')[0] == crate and '{' not in name} - rust.derived
+    found['differ'] += [(name, 'not proved') for name in sorted(own - proved.functions.keys()) if not ALONE.fullmatch(f'{name}: not proved')]
+    return found['same'], found['differ'], found['unknown']
+
+
+def kept(crate):
+    """Where the prover keeps a library's program."""
+    return REPOSITORY / f'crates/{crate}/out/rlib/{crate}.rlib/toolchain/mir.json'
+
+
+def main(arguments):
+    everything = '--all' in arguments
+    folders = [word for word in arguments if word != '--all' and '=' not in word]
+    mirs = {crate: path for crate, _, path in (word.partition('=') for word in arguments if '=' in word)} or \
+        {crate: kept(crate) for crate in given.CRATES if crate != given.EXPORTS}
+    with tempfile.TemporaryDirectory() as temporary:
+        mir, root = (Path(folders[0]), Path(folders[-1])) if folders and folders[0].endswith('.mir') else (None, REPOSITORY / 'rust')
+        if not mir:
+            kit = Path(folders[0] if folders else temporary).resolve()
+            if status := subprocess.run(['sh', REPOSITORY / 'rust/kit.sh', kit]).returncode:
+                print('same_program: not run: no compiler', file=sys.stderr)
+                return status
+            widths.compiled(root, kit, Path(temporary) / 'target')
+            mir, = Path(temporary).glob('target/debug/deps/*.mir')
+        rust = Compiled(root, mir.read_text())
+    bad = 0
+    for crate, path in mirs.items():
+        if not Path(path).is_file():
+            print(f'{crate}: not compared: no proved library: rt lib')
+            bad += 1
+            continue
+        same, differ, unknown = compared(Proved(json.loads(Path(path).read_text())), rust, crate)
+        wrong = differ + [(name, f'not understood: {reason}') for name, reason in unknown if not LEFT.fullmatch(f'{name}: {reason}')]
+        bad += len(wrong)
+        print(*(f'{name}: {reason}' for name, reason in wrong), sep='\n', end='\n' * bool(wrong))
+        if everything:
+            print(*(f'  not understood: {name}: {reason}' for name, reason in unknown), sep='\n')
+        print(f'{crate}: {len(same)} functions are the same, {len(differ)} differ, {len(unknown)} are not understood')
+    return int(bad > 0)
+
+
+if __name__ == '__main__':
+    sys.exit(main(sys.argv[1:]))
