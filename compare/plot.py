@@ -16,9 +16,8 @@ HERE, THERE, LINE = "#1f6feb", "#8b949e", "#57606a"
 
 def table(page, title):
     """The rows of the first table of a section, without its head, each a list of texts."""
-    section = page.split(f"\n## {title}\n")[1].split("\n## ")[0]
-    rows = [line.strip("|").split("|") for line in section.splitlines() if line.startswith("|")]
-    return [[cell.strip(" *") for cell in row] for row in rows[2:]]
+    lines = page.split(f"\n## {title}\n")[1].split("\n| ", 1)[1].split("\n\n")[0].splitlines()
+    return [[cell.strip(" *") for cell in line.strip("|").split("|")] for line in lines[2:]]
 
 
 def text(x, y, said, anchor="start", color=LINE):

@@ -1,7 +1,6 @@
 // Written by tools/erase.py from crates/net_tcp/src/advertised_window.rt: a change here would be lost.
 //! The window that a receiver announces.
 
-use crate::rattle::prelude::*;
 use crate::proved::net_tcp::arriving::{Arrival, Segment, classify};
 
 /// The greatest window scale (RFC 7323, section 2.3).
@@ -58,21 +57,15 @@ impl AdvertisedWindow {
     /// next multiple: at one scale the number may then be less than what was promised, by less than a
     /// unit. What was promised is still acceptable, and `edge` stays.
     ///
-    /// # Panics
-    ///
-    /// Panics unless the window doesn't end before `next`.
+    /// If the window ends before `next`, there is no room, as where the storage is full and the end, which has a number, is
+    /// acknowledged.
     ///
     /// # [Guarantees](crate#guarantees)
     ///
     /// - `old(self).edge() <= self.edge()`
-    /// - `announced(next, shift_count(scale), result) <= window_end`
-    /// - for each `f`: if `f <= 65535` and `announced(next, shift_count(scale), f) <= window_end`, then `f <= result`
-    #[track_caller]
+    /// - `announced(next, shift_count(scale), result) <= max(next, window_end)`
+    /// - for each `f`: if `f <= 65535` and `announced(next, shift_count(scale), f) <= max(next, window_end)`, then `f <= result`
     pub fn announce(&mut self, scale: u8, next: u64, window_end: u64) -> u16 {
-        prove!(
-            next <= window_end,
-            "the window ends before the first missing position"
-        );
         let shift = scale.min(MAX_SCALE);
         let field = field(shift, next, window_end);
         let edge = next + (u64::from(field) << shift);
@@ -85,16 +78,11 @@ impl AdvertisedWindow {
     /// before, rounded down. So the edge grows by what is worth an update, or only up to `next` (RFC
     /// 9293, section 3.8.6.2.2).
     ///
-    /// # Panics
-    ///
-    /// Panics unless the window doesn't end before `next`.
-    ///
     /// # [Guarantees](crate#guarantees)
     ///
-    /// - `announced(next, shift_count(scale), result) <= window_end`
-    /// - if `old(self).edge() <= window_end`, then `self.edge() <= window_end`
+    /// - `announced(next, shift_count(scale), result) <= max(next, window_end)`
+    /// - if `old(self).edge() <= max(next, window_end)`, then `self.edge() <= max(next, window_end)`
     /// - `old(self).edge() + worth(capacity, mss) <= self.edge()` or `self.edge() == max(old(self).edge(), next)`
-    #[track_caller]
     pub fn announce_in_steps(
         &mut self,
         scale: u8,
@@ -103,10 +91,6 @@ impl AdvertisedWindow {
         capacity: u64,
         mss: u16,
     ) -> u16 {
-        prove!(
-            next <= window_end,
-            "the window ends before the first missing position"
-        );
         if self.is_update_due(scale, next, window_end, capacity, mss) {
             self.announce(scale, next, window_end)
         } else {
@@ -119,15 +103,13 @@ impl AdvertisedWindow {
     /// where it is, below `next` too, by half of the receiver's capacity, rounded up, or by one
     /// segment of `mss` bytes, and by 1 at least.
     ///
-    /// # Panics
-    ///
-    /// Panics unless the window doesn't end before `next`.
+    /// None is due if the window ends before `next`. Pass such a `window_end`, as 0, once all up to the end is acknowledged:
+    /// nothing follows that needs room, and a peer that has closed its connection would answer an update by a reset.
     ///
     /// # [Guarantees](crate#guarantees)
     ///
-    /// - `result` exactly if `worth(capacity, mss) <= gain(self.edge(), shift_count(scale), next, window_end)`
+    /// - `result` exactly if `next <= window_end` and `worth(capacity, mss) <= gain(self.edge(), shift_count(scale), next, window_end)`
     #[must_use]
-    #[track_caller]
     pub fn is_update_due(
         &self,
         scale: u8,
@@ -136,19 +118,15 @@ impl AdvertisedWindow {
         capacity: u64,
         mss: u16,
     ) -> bool {
-        prove!(
-            next <= window_end,
-            "the window ends before the first missing position"
-        );
         let shift = scale.min(MAX_SCALE);
         let edge = next + (u64::from(field(shift, next, window_end)) << shift);
         let worth = (capacity - capacity / 2).min(u64::from(mss)).max(1);
-        edge.saturating_sub(self.edge) >= worth
+        next <= window_end && edge.saturating_sub(self.edge) >= worth
     }
 }
 
 /// Returns the number to announce.
 #[inline]
 fn field(scale: u8, next: u64, window_end: u64) -> u16 {
-    ((window_end - next) >> scale).min(0xffff) as u16
+    (window_end.saturating_sub(next) >> scale).min(0xffff) as u16
 }

@@ -1,6 +1,8 @@
 // Written by tools/erase.py from crates/net_tcp/src/internet_sum.rt: a change here would be lost.
 //! The Internet checksum (RFC 1071), over one part or several, and its update (RFC 1624).
 
+use crate::proved::net_assembler::width::most;
+
 /// The sum of the 16-bit words of a message, which is given in parts of any lengths, one after another.
 /// One of zeros is that of no bytes.
 ///
@@ -29,12 +31,12 @@ impl PartsSum {
     /// Returns the sum of the bytes that were added and of those that follow them.
     #[must_use]
     pub fn with(self, part: &[u8]) -> Self {
-        let sum = u64::from(self.sum);
+        let sum = u32::from(swapped(self.sum));
         if !self.odd {
             return sum_from(sum, part);
         }
         match part.split_first() {
-            Some((low, words)) => sum_from(sum + u64::from(*low), words),
+            Some((low, words)) => sum_from(sum + u32::from(*low) * 256, words),
             None => self,
         }
     }
@@ -111,13 +113,13 @@ impl PartsSum {
 /// Returns the checksum of these bytes.
 #[must_use]
 pub fn checksum(bytes: &[u8]) -> u16 {
-    u16::MAX - fold(sum_words(0, bytes))
+    u16::MAX - turned(sum_words(0, bytes))
 }
 
 /// Returns whether these bytes, with their checksum among them at an even offset, are valid.
 #[must_use]
 pub fn is_valid(bytes: &[u8]) -> bool {
-    fold(sum_words(0, bytes)) == u16::MAX
+    turned(sum_words(0, bytes)) == u16::MAX
 }
 
 /// Returns the checksum of a message in which the word `old`, at an even offset, became `new`, from
@@ -125,69 +127,127 @@ pub fn is_valid(bytes: &[u8]) -> bool {
 /// Checksums and words are numbers: in a message the high byte comes first.
 #[must_use]
 pub fn updated_checksum(checksum: u16, old: u16, new: u16) -> u16 {
-    let without = u64::from(u16::MAX - checksum) + u64::from(u16::MAX - old);
-    u16::MAX - fold(without + u64::from(new))
+    let without = u32::from(u16::MAX - checksum) + u32::from(u16::MAX - old);
+    u16::MAX - fold(without + u32::from(new))
 }
 
-/// Returns the sum of some words and of these bytes, the first of which is a high byte.
-fn sum_from(start: u64, bytes: &[u8]) -> PartsSum {
+/// Returns the sum of some words and of these bytes, the first of which is a high byte. The words' low byte comes first.
+fn sum_from(start: u32, bytes: &[u8]) -> PartsSum {
     PartsSum {
-        sum: fold(sum_words(start, bytes)),
+        sum: turned(sum_words(start, bytes)),
         odd: bytes.len() % 2 == 1,
     }
 }
 
-/// How many bytes are summed with no test for a carry: their sum has room in 64 bits.
+/// How many bytes are summed with no fold: their sum has room in 32 bits.
 const BLOCK: usize = 1 << 16;
 
-/// Adds the words of these bytes to a sum.
-fn sum_words(start: u64, bytes: &[u8]) -> u64 {
+/// Adds the words of these bytes to a sum. It sums words whose low byte comes first: 256 times their sum folds to that of
+/// the words whose high byte does, since 256 times 256 is one more than a multiple of 65535.
+fn sum_words(start: u32, bytes: &[u8]) -> u32 {
     let mut sum = start;
     let mut rest = bytes;
     while rest.len() > BLOCK {
         let (block, after) = rest.split_at(BLOCK);
-        sum = add_carry(sum, sum_block(block));
+        sum = u32::from(fold(sum_block(sum, block)));
         rest = after;
     }
-    add_carry(sum, sum_block(rest))
+    sum_block(sum, rest)
 }
 
-/// Returns a sum of the words of a block. The loop has no carries, so that it is done by vectors.
-fn sum_block(bytes: &[u8]) -> u64 {
-    let mut sum = 0;
+/// Adds the words of a block to a sum.
+#[inline]
+fn sum_block(start: u32, bytes: &[u8]) -> u32 {
+    if has_wide_registers() {
+        sum_eights(start, bytes)
+    } else {
+        sum_fours(start, bytes)
+    }
+}
+
+/// Returns whether registers have 64 bits, as a `usize` has then. It has no contract: both ways are proved for all.
+#[inline]
+const fn has_wide_registers() -> bool {
+    most() as u64 > 0xffff_ffff
+}
+
+/// Adds the words of a block to a sum, eight bytes at a time. The loop has no carries, so that it is done by vectors.
+#[inline]
+fn sum_eights(start: u32, bytes: &[u8]) -> u32 {
+    let mut low = u64::from(start);
+    let mut high = 0;
     let mut rest = bytes;
-    while let Some((four, after)) = rest.split_first_chunk::<4>() {
-        sum += u64::from(u32::from_be_bytes(*four));
+    while let Some((eight, after)) = rest.split_first_chunk::<8>() {
+        let word = u64::from_le_bytes(*eight);
+        low += word % (1 << 32);
+        high += word / (1 << 32);
         rest = after;
     }
-    sum_pairs(sum, rest)
+    sum_few(halved(low + high), rest)
 }
 
-/// Adds the words of a few bytes to a sum.
-fn sum_pairs(start: u64, bytes: &[u8]) -> u64 {
+/// Returns a number of 18 bits that folds as a sum does.
+#[inline]
+fn halved(sum: u64) -> u32 {
+    let sum = sum / (1 << 32) + sum % (1 << 32);
+    (sum / (1 << 16)) as u32 + (sum % (1 << 16)) as u32
+}
+
+/// Adds the words of at most seven bytes to a sum.
+#[inline]
+fn sum_few(start: u32, bytes: &[u8]) -> u32 {
+    match bytes.split_first_chunk::<4>() {
+        Some((four, after)) => sum_last(start + halves(u32::from_le_bytes(*four)), after),
+        None => sum_last(start, bytes),
+    }
+}
+
+/// Adds the words of a block to a sum, four bytes at a time.
+#[inline]
+fn sum_fours(start: u32, bytes: &[u8]) -> u32 {
     let mut sum = start;
     let mut rest = bytes;
-    while let Some((two, after)) = rest.split_first_chunk::<2>() {
-        sum = add_carry(sum, u64::from(u16::from_be_bytes(*two)));
+    while let Some((four, after)) = rest.split_first_chunk::<4>() {
+        sum += halves(u32::from_le_bytes(*four));
         rest = after;
     }
-    match rest.first() {
-        Some(high) => add_carry(sum, u64::from(*high) * 256),
-        None => sum,
+    sum_last(sum, rest)
+}
+
+/// Returns the sum of the halves of a number.
+#[inline]
+fn halves(word: u32) -> u32 {
+    word % (1 << 16) + word / (1 << 16)
+}
+
+/// Adds the words of at most three bytes to a sum.
+#[inline]
+fn sum_last(start: u32, bytes: &[u8]) -> u32 {
+    match bytes.split_first_chunk::<2>() {
+        Some((two, after)) => sum_byte(start + u32::from(u16::from_le_bytes(*two)), after),
+        None => sum_byte(start, bytes),
     }
 }
 
-/// Adds two sums, and a carry out of 64 bits at the low end.
+/// Adds the word of at most one byte to a sum.
 #[inline]
-fn add_carry(a: u64, b: u64) -> u64 {
-    let (sum, carried) = a.overflowing_add(b);
-    sum + carried as u64
+fn sum_byte(start: u32, bytes: &[u8]) -> u32 {
+    match bytes.first() {
+        Some(low) => start + u32::from(*low),
+        None => start,
+    }
+}
+
+/// Folds a sum of words whose low byte comes first to a word whose high byte does.
+#[inline]
+fn turned(sum: u32) -> u16 {
+    swapped(fold(sum))
 }
 
 /// Adds two words, and folds their sum.
 #[inline]
 fn folded_sum(a: u16, b: u16) -> u16 {
-    fold(u64::from(a) + u64::from(b))
+    fold(u32::from(a) + u32::from(b))
 }
 
 /// Returns a word with its bytes exchanged.
@@ -198,10 +258,7 @@ fn swapped(word: u16) -> u16 {
 
 /// Folds a sum to one word.
 #[inline]
-fn fold(sum: u64) -> u16 {
-    if sum == 0 {
-        0
-    } else {
-        ((sum - 1) % 65535 + 1) as u16
-    }
+fn fold(sum: u32) -> u16 {
+    let sum = sum / (1 << 16) + sum % (1 << 16);
+    (sum / (1 << 16) + sum % (1 << 16)) as u16
 }

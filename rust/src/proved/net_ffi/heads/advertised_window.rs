@@ -2,7 +2,7 @@
 // Written by tools/ffi.py.
 
 use crate::proved::net_ffi::refusals::Status;
-use crate::proved::net_ffi::results::number_of;
+use crate::proved::net_ffi::results::{number_of};
 use crate::proved::net_tcp::{AdvertisedWindow, Segment};
 
 #[inline(always)]
@@ -25,13 +25,8 @@ pub fn net_base_advertised_window_announce(
     scale: u8,
     next: u64,
     window_end: u64,
-    number: &mut u16,
-) -> bool {
-    if window_end < next {
-        return false;
-    }
-    *number = advertised.announce(scale, next, window_end);
-    true
+) -> u16 {
+    advertised.announce(scale, next, window_end)
 }
 
 #[inline(always)]
@@ -42,13 +37,8 @@ pub fn net_base_advertised_window_announce_in_steps(
     window_end: u64,
     capacity: u64,
     mss: u16,
-    number: &mut u16,
-) -> bool {
-    if window_end < next {
-        return false;
-    }
-    *number = advertised.announce_in_steps(scale, next, window_end, capacity, mss);
-    true
+) -> u16 {
+    advertised.announce_in_steps(scale, next, window_end, capacity, mss)
 }
 
 #[inline(always)]
@@ -60,8 +50,5 @@ pub fn net_base_advertised_window_is_update_due(
     capacity: u64,
     mss: u16,
 ) -> bool {
-    if window_end < next {
-        return false;
-    }
     advertised.is_update_due(scale, next, window_end, capacity, mss)
 }
