@@ -338,7 +338,20 @@ def places():
     ]:
         same((more, rows), places.without_rows(items + more, rows), wrong)
     same("no type", places.without_rows("", ""), ["Listed: ROWLESS has it, and it has rows, or is no type"])
-    places.ROWLESS = kept
+    asked, places.guards.guarded, histories, places.HISTORIES = places.guards.guarded, lambda: asks, places.HISTORIES, {"net_a": "RingOver"}
+    files = {"crates/net_a/specs/AHistory.antt": history, "crates/net_a/specs/A.antt": specs, "crates/net_a/src/a/b.rt": source,
+             "rust/tests/rows/a.rs": "Named", "tools/public_items.txt": items}
+    end = "1 histories, {} guarded calls: {} places are missing"
+    for more, asks, wrong in [
+        ({}, [], []), ({}, [("a", "", "", [])], ["a: requires something, and no guard tests it"]),
+        ({"rust/tests/rows/a.rs": ""}, [], ["Named: no file of rust/tests/rows names it, and ROWLESS has no reason"]),
+        ({"crates/net_b/specs/BHistory.antt": history}, [], [
+            f"net_b: HISTORIES hasn't its type: no clause makes the call {it} of the history" for it in ("Add", "Clear")]),
+        ({"crates/net_a/src/a/b.rt": source.replace("Makes Clear", "Is Clear")}, [], [no_call("clear")]),
+    ]:
+        with folder(files | more) as places.ROOT:
+            same(more, said(places.main), (bool(wrong), [*wrong, end.format(len(asks), len(wrong))]))
+    places.ROWLESS, places.guards.guarded, places.HISTORIES = kept, asked, histories
 
 
 CHECKERS = {"quotes": quotes, "edits": edits, "models": models, "growth": growth, "composition": composition, "places": places}
