@@ -7,6 +7,7 @@ cd "$(dirname "$0")"
 for folder in . ../c ../compare; do
     (cd "$folder" && cargo fmt --check)
 done
+(cd ../tools/growth && cargo fmt --check -- --config-path ../../rust)
 for features in "" "--no-default-features" "--no-default-features --features alloc" "--all-features"; do
     # shellcheck disable=SC2086
     cargo clippy --offline --quiet --all-targets $features -- -D warnings
