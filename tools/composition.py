@@ -10,16 +10,16 @@ ROOT = pathlib.Path(__file__).resolve().parent.parent / "crates"
 CRATES = "net_receiver net_recovery net_tcp net_ends net_base/storage".split()
 # What a loop is over, and the functions that have one; growth.py counts those that a packet reaches.
 LOOPS = {
-    "the runs, once": """net_receiver::receiver_head::count_part net_receiver::scoreboard_head::count_beyond
-        net_base::fragments::head::overlaps net_base::fragments::head::differs""",
+    "the runs, once": "net_receiver::receiver_head::count_part net_receiver::scoreboard_head::count_beyond",
+    "the runs that a range meets": "net_base::fragments::head::differs",
     "the last runs, at most as many as the threshold of duplicates": "net_receiver::scoreboard_head::lost_below",
     "the runs until the list of K positions is full": "net_receiver::receiver_head::list_runs",
     "a list of K positions, or of runs at them": "net_receiver::held_runs::is_listed net_receiver::held_runs::remember",
     "the blocks of one acknowledgement": "net_ends::sending_end::report_blocks",
     "the slots of a table, once": """net_base::fragments::table::find net_base::fragments::table::find_free
         net_base::fragments::table::first_to_expire net_base::fragments::table::remove_expired""",
-    "bytes that are summed or compared": """net_tcp::internet_sum::sum_words net_tcp::internet_sum::sum_block
-        net_tcp::internet_sum::sum_pairs net_receiver::receiver_head::is_same_queue""",
+    "bytes that are summed or compared": """net_tcp::internet_sum::sum_words net_tcp::internet_sum::sum_eights
+        net_tcp::internet_sum::sum_fours net_receiver::receiver_head::is_same_queue""",
     "the shifts of a window, of which there are 14": "net_tcp::advertised_window::scale_for",
     "the commands of a schedule, which no packet makes": "net_receiver::schedule::replay_core",
 }

@@ -36,7 +36,7 @@ UNCALLED = {
 }
 
 # Names that a `pub use` gives to other crates of Rattle, and that nothing of Rust has.
-UNNAMED = {'net_base/time': ['earlier'], 'net_assembler/lib': ['Turns'], 'net_bench_lib/lib': ['run']}
+UNNAMED = {'net_base/time': ['earlier'], 'net_bench_lib/lib': ['run']}
 
 # Where the repository's files are on the web, such as `https://..../blob/main`: a type's page then links its contracts. The
 # maintainers fill it in, with `repository` of rust/Cargo.toml.

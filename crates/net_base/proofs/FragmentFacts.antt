@@ -1,7 +1,7 @@
 -- Facts of a buffer of fragments: what is lent and written, positions of a set and its runs, many fragments, and which
 -- slot of a table a loop finds.
 use Rattle.std.proofs.Common.{◌≡◌, ℕ, ◌-◌, ◌∙◌, List, length, take, drop, ap, arith, take_all, ◌↔◌, suc, ◌+◌, ◌<◌}
-use Rattle.std.proofs.Common.{◌≤◌, true, [], ◌∷◌, ◌&&◌, All, max, IsTrue, nat_lt, nat_le, inl, inr, get_or, subst}
+use Rattle.std.proofs.Common.{◌≤◌, true, [], ◌∷◌, ◌&&◌, max, IsTrue, nat_lt, nat_le, inl, inr, get_or, subst}
 use Rattle.std.proofs.Common.{Some, None, ⊎_elim, ◌≢◌, Bool, false, not, min, nat_eq, sym, length-take, length-drop}
 use Rattle.std.proofs.Common.{refl, if◌then◌else◌, IsFalse, ap₂, ◌||◌, Err, cond, ℤ, ◌<ℤ◌, ◌≤ℤ◌}
 use Rattle.net_ring.specs.Overwrite.{overwrite, OverwritesAt}
@@ -9,18 +9,17 @@ use Rattle.net_ring.proofs.RingFacts.{overwrite_whole}
 use Rattle.std.specs.List.{count_by, slice_get, position}
 use Rattle.std.proofs.lemmas.Bool.{cases_Bool, cases_lt, both_ways}
 use Rattle.std.proofs.lemmas.Bool.Decides.{nat_tests}
-use Rattle.std.proofs.lemmas.List.Elements.{All-head, All-tail}
 use Rattle.std.proofs.lemmas.Option.{get_or_from_slice_get, slice_get_within, slice_get-get_or}
 use Rattle.net_assembler.specs.Positions.{Positions, IsMaximalRun, AreMaximalRuns, contains, lies_in, nothing}
 use Rattle.net_assembler.specs.Positions.{with_range}
 use Rattle.net_assembler.proofs.Sets.{contains-nothing}
-use Rattle.net_base.specs.Fragments.{IsBelow, Meets, meets_one, HasOther, FragmentsState, with_fragment}
+use Rattle.net_base.specs.Fragments.{IsBelow, HasOther, FragmentsState, with_fragment}
 use Rattle.net_base.specs.Fragments.{after_fragments, covers, last_byte, Adds, HasSoundParts}
 use Rattle.net_base.specs.declared.storage.fragments.FragmentError.{FragmentError}
 use Rattle.std.specs.Str.{bytes_eq}
 use Rattle.std.proofs.lemmas.List.{length-replicate, get_or-take, get_or-drop, get_or_default}
 use Rattle.std.proofs.lemmas.Slice.Eq.{bytes_eq-Decides}
-use Rattle.net_assembler.specs.RunLists.{HasSoundRuns, set_of}
+use Rattle.net_assembler.specs.RunLists.{HasSoundRuns, SplitsRuns, set_of}
 use Rattle.net_base.specs.declared.storage.fragments.head.FragmentsHead.{FragmentsHead}
 use Rattle.net_assembler.specs.AssemblerLaws.{MembersOfNothing, MembersWithRange}
 use Rattle.std.specs.Ordering.{is_lt, int_cmp}
@@ -41,34 +40,12 @@ pub first_part : (xs part : List ℕ) (n : ℕ) → part ≡ take (n - 0) xs →
 first_part xs part n is = is ∙ ap (λ k. take k xs) (omega arith)
 
 -- ---- positions of a set, and its maximal runs
--- a position that a run has is in the set
-met : (s : Positions) (rs : List (ℕ × ℕ)) (o n : ℕ) → All (IsMaximalRun s) rs → meets_one rs o n ≡ true → Meets s o n
-met s [] o n all h = absurd (cc)
-met s (r ∷ rs) o n all h =
-    let here = All-head (IsMaximalRun s) r rs all in
-    let some = here.some in
-    let others = met s rs o n (All-tail (IsMaximalRun s) r rs all) in
-    elim (cases_Bool (nat_lt (r.0 - o) n && nat_lt o r.1)) [
-      | inl is ↦
-          let a : r.0 - o < n = grind (arith, nat_tests) in
-          let b : o < r.1 = grind (arith, nat_tests) in (
-            max r.0 o,
-            omega arith,
-            omega (arith, a, b, some),
-            here.inside (max r.0 o) (omega arith) (omega (arith, b, some)),
-          )
-      | inr is ↦ others (grind (arith, nat_tests))
-    ]
-
--- and a position of the set is one that a run has
-meeting : (rs : List (ℕ × ℕ)) (o n p : ℕ) → count_by (lies_in p) rs ≡ 1 → o ≤ p → p < o + n → meets_one rs o n ≡ true
-meeting [] o n p h low high = absurd (omega arith)
-meeting (r ∷ rs) o n p h low high = let others = meeting rs o n p in grind (arith, nat_tests)
-
-pub meets_is : (s : Positions) (rs : List (ℕ × ℕ)) (o n : ℕ) → AreMaximalRuns s rs →
-    IsTrue (meets_one rs o n) ↔ Meets s o n
-meets_is s rs o n known =
-    (met s rs o n known.maximal, λ m. meeting rs o n m.0 (known.complete m.0 m.3) m.1 m.2)
+-- each maximal run ends within what the set is below
+pub run_within : (s : Positions) (r : ℕ × ℕ) (n : ℕ) → IsMaximalRun s r → IsBelow s n → r.1 ≤ n
+run_within s r n run below =
+    let some = run.some in
+    let last = below (r.1 - 1) (run.inside (r.1 - 1) (omega (arith, some)) (omega (arith, some))) in
+    omega (arith, some, last)
 
 below_nothing : (s : Positions) (n : ℕ) → s ≡ nothing → IsBelow s n
 below_nothing s n empty p is =
@@ -199,18 +176,56 @@ module _ (bytes data' : List ℕ) (o start end first last from : ℕ) (a : first
         ],
   )
 
--- no position of the first of some runs is one at which the fragment differs
-pub run_passed : (s : Positions) (D : ℕ → Type 0) (r : ℕ × ℕ) (rs : List (ℕ × ℕ)) → All (IsMaximalRun s) (r ∷ rs) →
-    ((p : ℕ) → IsTrue (contains s p) → D p → count_by (lies_in p) (r ∷ rs) ≡ 1) →
-    ((p : ℕ) → r.0 ≤ p → p < r.1 → D p → ⊥) →
-    All (IsMaximalRun s) rs × ((p : ℕ) → IsTrue (contains s p) → D p → count_by (lies_in p) rs ≡ 1)
-run_passed s D r rs all once passed = (
-  All-tail (IsMaximalRun s) r rs all,
-  λ p in_s d. elim (cases_Bool (lies_in p r)) [
-    | inl is ↦ absurd (passed p (grind (arith, nat_tests, is)) (grind (arith, nat_tests, is)) d)
-    | inr not_here ↦ let one = once p in_s d in grind (arith, one, not_here)
-  ],
-)
+-- the fragment differs at no position of the first k runs
+abbrev pub PassedTo : List (ℕ × ℕ) → (ℕ → Type 0) → ℕ → Type 0
+PassedTo rs D k = (j p : ℕ) → j < k → IsTrue (lies_in p (get_or rs j (0, 0))) → D p → ⊥
+
+module _ (s : Positions) (rs : List (ℕ × ℕ)) (known : AreMaximalRuns s rs) (bytes : List ℕ) (o : ℕ) (data' : List ℕ) where
+  abbrev D : ℕ → Type 0
+  D p = HasOther bytes o data' p
+
+  -- runs before the last one that starts by its offset end by then
+  pub passed_before : (n k : ℕ) → SplitsRuns rs o n → k ≡ n - 1 → PassedTo rs D k
+  passed_before n k is at j p l here d =
+      let before = is.before (n - 1) (omega (arith, at, l)) in
+      let apart = known.rising j (n - 1) (0, 0) (omega (arith, at, l)) (omega (arith, at, l, is.few)) in
+      let below : p < (get_or rs j (0, 0)).1 = grind (arith, nat_tests, here) in
+      omega (arith, before, apart, below, d.from)
+
+  pub passed_more : (k : ℕ) (r : ℕ × ℕ) → get_or rs k (0, 0) ≡ r → PassedTo rs D k → ((p : ℕ) → r.0 ≤ p → p < r.1 → D p → ⊥) →
+      PassedTo rs D (k + 1)
+  passed_more k r at passed none j p l here d = ⊎_elim
+      (λ (before : j < k). passed j p before here d)
+      (λ (from : k ≤ j).
+      let same : j ≡ k = omega (arith, from, l) in
+      let there : IsTrue (lies_in p r) = subst (λ (q : ℕ × ℕ). IsTrue (lies_in p q)) (ap (λ (i : ℕ). get_or rs i (0, 0)) same ∙ at) here in
+      none p (grind (arith, nat_tests, there)) (grind (arith, nat_tests, there)) d)
+      (cases_lt j k)
+
+  -- runs from the first one on that starts after it have none
+  pub passed_all : (k : ℕ) (r : ℕ × ℕ) → get_or rs k (0, 0) ≡ r → PassedTo rs D k → length data' ≤ r.0 - o →
+      (p : ℕ) → IsTrue (contains s p) → D p → ⊥
+  passed_all k r at passed past p in_s d =
+      let w = run_of rs p (known.complete p in_s) in
+      let from : (get_or rs w.0 (0, 0)).0 ≤ p = grind (arith, nat_tests, w.2) in
+      let first : (get_or rs k (0, 0)).0 ≡ r.0 = ap (λ (q : ℕ × ℕ). q.0) at in
+      ⊎_elim
+      (λ (before : w.0 < k). passed w.0 p before w.2 d)
+      (λ (later : k ≤ w.0). ⊎_elim
+      (λ (after : k < w.0).
+      let apart = known.rising k w.0 (0, 0) after w.1 in
+      let some = (known.maximal k (0, 0) (omega (arith, after, w.1))).some in
+      omega (arith, from, first, apart, some, past, d.from, d.before))
+      (λ (here : w.0 ≤ k).
+      let same : w.0 ≡ k = omega (arith, here, later) in
+      let start = ap (λ (i : ℕ). (get_or rs i (0, 0)).0) same in
+      omega (arith, from, first, start, past, d.from, d.before))
+      (cases_lt k w.0))
+      (cases_lt w.0 k)
+
+  pub passed_last : (k : ℕ) → length rs ≤ k → PassedTo rs D k → (p : ℕ) → IsTrue (contains s p) → D p → ⊥
+  passed_last k all passed p in_s d =
+      let w = run_of rs p (known.complete p in_s) in passed w.0 p (omega (arith, w.1, all)) w.2 d
 
 -- ---- many fragments
 pick_inside : (i p n a b c : ℕ) → (i ≤ p → p < i + n → a ≡ b) → (if nat_le i p && nat_lt p (i + n) then a else c) ≡
@@ -338,9 +353,7 @@ module _ {X : Type 0} (f : X → ℤ) (xs : List X) where
           first = known.first;
         }
 
--- what closes the goals of a head's calls, of a buffer's, of slots, and of laws
-pub ruleset heads = (meets_is, refused_adds)
-
+-- what closes the goals of a buffer's calls, of slots, and of laws
 pub ruleset buffers = (all_lent, all_written, length-replicate)
 
 pub ruleset slots = (none_found, contains-nothing)

@@ -17,7 +17,6 @@
 --     IsPlausible c n h, HasSoundParts h bytes runs      what is true of the parts of a buffer of c bytes and n runs
 --     IsExact h      that a head has no number but those that say something
 --     zero_fragments e      the head whose numbers but `expires_at` are 0
---     meets_one rs o n      whether one of some runs has one of the n positions from o on
 --     after_fragments b fs      the buffer after fragments
 --     last_byte p d fs      the byte at a position: that of the last fragment there
 --     is_for eq key own      whether a slot with this key is for the packet of `key`
@@ -29,7 +28,7 @@
 --     is_in_writes p writes, newest_element writes p x      what the writes have at a position
 --     Reassembles writes buffer present      a buffer and a set of positions are what the writes make
 use Rattle.std.specs.Prelude.{◌≡◌, ◌≢◌, ◌+◌, ◌-◌, ◌<◌, ◌≤◌, ℕ, ℤ, List, Option, length, slice_index_or, unwrap_or}
-use Rattle.std.specs.Prelude.{◌⊎◌, IsTrue, IsFalse, Bool, if◌then◌else◌, refl, ◌&&◌, ◌||◌, false, [], ◌∷◌, nat_eq}
+use Rattle.std.specs.Prelude.{◌⊎◌, IsTrue, IsFalse, Bool, if◌then◌else◌, refl, ◌&&◌, false, [], ◌∷◌, nat_eq}
 use Rattle.std.specs.Prelude.{nat_lt, nat_le, ◌↔◌, ◌<ℤ◌, ◌≤ℤ◌, is_none, Result, Ok, Err, OnOk, IsErr}
 use Rattle.std.specs.Coded.{Coded, code_by, coded×, coded_ℕ, coded_ℤ, coded_list, coded_option}
 use Rattle.std.specs.declared.option.Option.TheVariants.{Some, None}
@@ -171,11 +170,6 @@ pub record IsExact (h : FragmentsHead) : Type 0 where
 -- the head whose numbers are 0, but for the last moment at which a packet is waited for
 abbrev pub zero_fragments : ℤ → FragmentsHead
 zero_fragments at = record { present = zero_head; has_total = 0; total = 0; expires_at = at }
-
--- whether one of the runs (start, end) has one of the n positions from o on
-abbrev pub meets_one : List (ℕ × ℕ) → ℕ → ℕ → Bool
-meets_one [] o n = false
-meets_one (r ∷ rs) o n = (nat_lt (r.0 - o) n && nat_lt o r.1) || meets_one rs o n
 
 -- ---- many fragments
 -- the buffer after fragments (offset, bytes), the first one first

@@ -1,5 +1,5 @@
 //! The head of a buffer of fragments: what it has besides its bytes and runs, which each call takes as slices.
-#![tactic(auto, using(crate::proofs::FragmentFacts::heads))]
+#![tactic(auto, using(crate::proofs::FragmentFacts::refused_adds))]
 
 ghost use Rattle.std.specs.Prelude.{◌≡◌, ◌↔◌, ◌+◌, ◌<◌, ◌≤◌, ◌<ℤ◌, ℕ, List, length, IsTrue, IsSome, IfSome, OnOk};
 ghost use Rattle.std.specs.Prelude.{OnErr, unwrap_or, false};
@@ -10,7 +10,7 @@ ghost use Rattle.net_base.specs.Fragments.{IsComplete, IsBelow, begun, Adds, Tak
 ghost use Rattle.net_base.specs.Fragments.{total_of, fragments_of, HasSoundParts, IsExact, zero_fragments};
 
 use super::FragmentError;
-use net_assembler::{AssemblerHead, Run, assembler};
+use net_assembler::{AssemblerHead, Run, Turns, assembler};
 
 /// What a buffer of fragments has besides its bytes and runs.
 ///
@@ -299,17 +299,19 @@ impl FragmentsHead {
         requires sound { HasSoundRuns self.now.present runs.now }
         ensures { IsTrue result ↔ Meets (set_of self.now.present runs.now) offset len }
     {
-        assembler::laws::maximal_runs();
-        for (start, end) in self.present.iter_data(runs) {
-            if start.saturating_sub(offset) < len && offset < end {
-                return true;
-            }
+        let (missing, end) = self.present.next_hole(runs, offset);
+        if offset < missing {
+            return len > 0;
         }
-        false
+        match end {
+            Some(end) => end - offset < len,
+            None => false,
+        }
     }
 
     /// Returns whether a byte that arrived differs from that of the fragment whose first byte is that of the packet at
-    /// `offset`. The fragment need not be within the buffer.
+    /// `offset`. The fragment need not be within the buffer. It looks at one run more than the fragment meets, at most,
+    /// and finds the first of these by halves.
     ///
     /// # Requires
     ///
@@ -320,7 +322,17 @@ impl FragmentsHead {
             ↔ Differs (fragments_of self.now bytes.now runs.now) offset «data».now }
     {
         assembler::laws::maximal_runs();
-        for (start, end) in self.present.iter_data(runs) {
+        let mut turns = Turns::new();
+        let first = self.present.runs_by(runs, offset).saturating_sub(1);
+        for k in first..self.present.run_count() {
+            turns.step();
+            turns.were_a_pass(runs);
+            let Some((start, end)) = self.present.run_at(runs, k) else {
+                return false;
+            };
+            if start.saturating_sub(offset) >= data.len() {
+                return false;
+            }
             if run_differs(bytes, start, end, offset, data) {
                 return true;
             }

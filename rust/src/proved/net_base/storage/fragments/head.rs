@@ -3,7 +3,7 @@
 
 use crate::rattle::prelude::*;
 use super::FragmentError;
-use crate::proved::net_assembler::{AssemblerHead, Run, assembler};
+use crate::proved::net_assembler::{AssemblerHead, Run, Turns, assembler};
 
 /// What a buffer of fragments has besides its bytes and runs.
 ///
@@ -214,24 +214,36 @@ impl FragmentsHead {
     ///
     /// The runs are sound.
     pub fn overlaps(&self, runs: &[Run], offset: usize, len: usize) -> bool {
-        assembler::laws::maximal_runs();
-        for (start, end) in self.present.iter_data(runs) {
-            if start.saturating_sub(offset) < len && offset < end {
-                return true;
-            }
+        let (missing, end) = self.present.next_hole(runs, offset);
+        if offset < missing {
+            return len > 0;
         }
-        false
+        match end {
+            Some(end) => end - offset < len,
+            None => false,
+        }
     }
 
     /// Returns whether a byte that arrived differs from that of the fragment whose first byte is that of the packet at
-    /// `offset`. The fragment need not be within the buffer.
+    /// `offset`. The fragment need not be within the buffer. It looks at one run more than the fragment meets, at most,
+    /// and finds the first of these by halves.
     ///
     /// # Requires
     ///
     /// Head, bytes and runs are those of a buffer.
     pub fn differs(&self, bytes: &[u8], runs: &[Run], offset: usize, data: &[u8]) -> bool {
         assembler::laws::maximal_runs();
-        for (start, end) in self.present.iter_data(runs) {
+        let mut turns = Turns::new();
+        let first = self.present.runs_by(runs, offset).saturating_sub(1);
+        for k in first..self.present.run_count() {
+            turns.step();
+            turns.were_a_pass(runs);
+            let Some((start, end)) = self.present.run_at(runs, k) else {
+                return false;
+            };
+            if start.saturating_sub(offset) >= data.len() {
+                return false;
+            }
             if run_differs(bytes, start, end, offset, data) {
                 return true;
             }
