@@ -1,4 +1,4 @@
--- What a search in the held runs of a receiver says of a position.
+-- What a search in the held runs of a receiver says of a position, and of those of a segment.
 use Rattle.std.proofs.lemmas.Bool.Decides.{nat_tests}
 use Rattle.net_receiver.proofs.Words.{◌≡◌, ◌⊎◌, inl, inr, ℕ, zero, suc, ◌+◌, ◌-◌, ◌<◌, ◌≤◌, ◌^◌, min, false, List, [], ◌∷◌}
 use Rattle.net_receiver.proofs.Words.{length, Some, None, slice_get, get_or, refl, sym, ap, subst, ◌∙◌, arith, find}
@@ -11,7 +11,9 @@ use Rattle.net_assembler.specs.RunLists.{SplitsRuns, start_at}
 use Rattle.net_assembler.proofs.Joins.{apart, at_run, ends_rise}
 use Rattle.net_assembler.proofs.Runs.{are_maximal_runs, rising-maximal_runs}
 use Rattle.net_assembler.proofs.ShiftedRuns.{end_at-up, get_or-up, length-up, start_at-up}
-use Rattle.net_receiver.proofs.NewestRuns.{lies_from}
+use Rattle.net_receiver.proofs.NewestRuns.{lies_from, count, count_more, clipped}
+use Rattle.net_receiver.proofs.Words.{Bool, true, cond, not, max, ◌&&◌, nat_le, nat_lt, le-leb, contains-shift_up, from_bool}
+use Rattle.net_assembler.specs.Positions.{present_count}
 
 lacks : (p : ℕ) (r : ℕ × ℕ) → (p < r.0) ⊎ (r.1 ≤ p) → lies_in p r ≡ false
 lacks p r (inl l) = grind (arith, nat_tests)
@@ -103,3 +105,45 @@ module _ (next top : ℕ) (s : Positions) (under : (p : ℕ) → IsTrue (contain
 
     pub none_stored : 0 < n → None ≡ slice_get rs (n - 1) → ⊥
     none_stored some none = let there = slice_get-get_or rs (n - 1) (0, 0) (omega (arith, some, split.few)) in absurd (cc)
+
+-- ---- how many positions of a segment aren't held
+-- of the n positions from next + o on, those that are held, counted from `next`, and the others are all
+pub held_and_not : (s : Positions) (next o n : ℕ) →
+    count (λ q. not (contains (shift_up s next) q)) (next + o) n + present_count s o n ≡ n
+held_and_not s next o zero = refl
+held_and_not s next o (suc n) =
+    let lacks : ℕ → Bool = λ q. not (contains (shift_up s next) q) in
+    let offset : next + o - next ≡ o = omega arith in
+    let above = le-leb next (next + o) (omega arith) in
+    let on : contains (shift_up s next) (next + o) ≡ contains s o = contains-shift_up s next (next + o) ∙ (λ i. above i && contains s (offset i)) in
+    let here : cond (not (contains (shift_up s next) (next + o))) 1 0 ≡ cond (not (contains s o)) 1 0 = ap {B = ℕ} (λ b. cond (not b) 1 0) on in
+    let after : next + o + 1 ≡ next + (o + 1) = omega arith in
+    omega (arith, count_more lacks (next + o) n, here, one_way (contains s o), ap (λ a. count lacks a n) after, held_and_not s next (o + 1) n)
+  where
+    one_way : (b : Bool) → cond (not b) 1 0 + from_bool b ≡ 1
+    one_way true = refl
+    one_way false = refl
+
+-- the positions of a segment in the free window that aren't held, by the offsets of that part
+pub new_in : (s : Positions) (next window p n from to held : ℕ) → from ≡ min (p - next) window → to ≡ min (p + n - next) window →
+    held ≡ present_count s from (to - from) →
+    (held ≤ to - from)
+    × (to - from - held
+    ≡ count (λ q. nat_le next q && nat_lt q (next + window) && not (contains (shift_up s next) q)) p n)
+new_in s next window p n from to held begins ends is =
+    let lacks : ℕ → Bool = λ q. not (contains (shift_up s next) q) in
+    let all = held_and_not s next from (to - from) in
+    let clip = clipped lacks next (next + window) p n in
+    let few : held ≤ to - from = omega (arith, all, is) in
+    elim (cases_lt from to) [
+      | inl some ↦ (
+          let start : next + from ≡ max next p = omega (arith, begins, ends, some) in
+          let size : to - from ≡ min (next + window) (p + n) - max next p = omega (arith, begins, ends, some) in
+          let same : count lacks (next + from) (to - from) ≡ count lacks (max next p) (min (next + window) (p + n) - max next p) =
+          λ i. count lacks (start i) (size i) in
+          (few, omega (arith, all, is, same, clip)))
+      | inr none ↦ (
+          let size : min (next + window) (p + n) - max next p ≡ 0 = omega (arith, begins, ends, none) in
+          let same : count lacks (max next p) (min (next + window) (p + n) - max next p) ≡ 0 = ap (count lacks (max next p)) size in
+          (few, omega (arith, none, same, clip)))
+    ]

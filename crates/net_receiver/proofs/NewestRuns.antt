@@ -1,4 +1,4 @@
--- The runs that are listed newest first, by one call and by several, and how many positions are in none.
+-- The runs that are listed newest first, by one call and by several, and how many positions of a range pass a test.
 use Rattle.std.proofs.lemmas.Bool.Decides.{nat_tests}
 use Rattle.net_receiver.proofs.Words.{◌≡◌, ◌⊎◌, inl, inr, ℕ, ◌+◌, ◌-◌, ◌<◌, ◌≤◌, ◌||◌, Bool, true, false, cond, List}
 use Rattle.net_receiver.proofs.Words.{[], ◌∷◌, ◌++◌, length, map, take, Some, None, All, slice_get, is_some, refl, sym}
@@ -11,13 +11,13 @@ use Rattle.net_receiver.proofs.Words.{or_cases, false_from_ne_true, lt-leb, leng
 use Rattle.net_receiver.proofs.Words.{All-tail, All-append, sum_by-cons, Positions, contains, maximal_runs, lies_in}
 use Rattle.net_receiver.proofs.Words.{IsMaximalRun, run_at, newest_runs, CommandValue, IsSound}
 use Rattle.net_receiver.proofs.Words.{next_position, receiver_after_command, receiver_after_commands, HasByteAt}
-use Rattle.net_receiver.proofs.Words.{ReceiverState, length-range_with_len}
+use Rattle.net_receiver.proofs.Words.{ReceiverState}
 use Rattle.std.proofs.lemmas.Option.{slice_get-map}
 use Rattle.std.specs.Option.{option_to_list, option_map}
 use Rattle.std.proofs.lemmas.Bool.{true_from_ne_false}
 use Rattle.std.proofs.lemmas.List.{take-append-le, append-nil}
 use Rattle.std.proofs.lemmas.List.Folds.{list_any-append}
-use Rattle.std.proofs.lemmas.List.Sums.{sum_by-append, count_by-le-length}
+use Rattle.std.proofs.lemmas.List.Sums.{sum_by-append}
 use Rattle.net_assembler.proofs.Runs.{are_maximal_runs}
 use Rattle.net_receiver.specs.{with_run, runs_of, starts, AreNewestRuns, NewestRunsAreListed, IsListedBy, HasOneOf}
 use Rattle.net_receiver.specs.{with_starts}
@@ -379,17 +379,12 @@ newest_runs_are_listed k s ps =
     by : (p : ℕ) → count_by (lies_in p) (maximal_runs s) ≡ 1 → list_any (lies_in p) (maximal_runs s) ≡ true
     by p e = true_from_ne_false _ (λ no. (let none = (none_found (lies_in p) (maximal_runs s) no).1 in absurd (omega (arith, e, none))))
 
--- ---- How many positions of a range are in none of the runs of a list that rises.
--- of the positions from `at` on and below `end`, those that are in no run
-abbrev pub missing_in : ℕ → ℕ → List (ℕ × ℕ) → ℕ
-missing_in end at [] = end - at
-missing_in end at (r ∷ rs) = (min r.0 end - at) + missing_in end (max at r.1) rs
-
+-- ---- How many positions of a range pass a test.
 module _ (g : ℕ → Bool) where
   abbrev pub count : ℕ → ℕ → ℕ
   count a n = count_by g (range_with_len a n)
 
-  count_more : (a n : ℕ) → count a (suc n) ≡ cond (g a) 1 0 + count (a + 1) n
+  pub count_more : (a n : ℕ) → count a (suc n) ≡ cond (g a) 1 0 + count (a + 1) n
   count_more a n = sum_by-cons (λ q. cond (g q) 1 0) a (range_with_len (a + 1) n)
 
   pub count_split : (a x y : ℕ) → count a (x + y) ≡ count a x + count (a + x) y
@@ -406,13 +401,6 @@ module _ (g : ℕ → Bool) where
       let whole = ap (count a) e ∙ count_more a (x + y) in
       let part = count_more a x in
       omega (arith, rest, whole, part)
-
-  pub count_all : (a n : ℕ) → ((q : ℕ) → a ≤ q → q < a + n → g q ≡ true) → count a n ≡ n
-  count_all a zero all = refl
-  count_all a (suc n) all =
-      let here : count a (suc n) ≡ 1 + count (a + 1) n = count_more a n ∙ ap (λ b. cond b 1 0 + count (a + 1) n) (all a (omega arith) (omega arith)) in
-      let rest = count_all (a + 1) n (λ q l h. all q (omega arith) (omega arith)) in
-      omega (arith, here, rest)
 
   pub count_none : (a n : ℕ) → ((q : ℕ) → a ≤ q → q < a + n → g q ≡ false) → count a n ≡ 0
   count_none a zero all = refl
@@ -462,74 +450,6 @@ clipped g low high p n =
     within true true c e f = refl
     within true false c e f = absurd (both_ways false refl f)
     within false b c e f = absurd (both_ways false refl e)
-
-none_below : (q : ℕ) (rs : List (ℕ × ℕ)) → All (λ r. q < r.0) rs → list_any (lies_in q) rs ≡ false
-none_below q [] all = refl
-none_below q (r ∷ rs) all =
-    false_from_ne_true _ (λ h. ⊎_elim
-    (λ e. (let l = leb-true r.0 q (and_parts _ _ e).0 in let m = All-head (λ (x : ℕ × ℕ). q < x.0) r rs all in absurd (omega (arith, l, m))))
-    (λ e. absurd (both_ways _ (none_below q rs (All-tail (λ (x : ℕ × ℕ). q < x.0) r rs all)) e))
-    (or_cases (lies_in q r) (list_any (lies_in q) rs) h))
-
--- the runs that are left to look at, from a position on
-pub record Left (s : Positions) (at : ℕ) (rs : List (ℕ × ℕ)) : Type 0 where
-  pub some : All (λ r. r.0 < r.1) rs
-  pub rising : AllPairs (λ q r. q.1 < r.0) rs
-  pub has : (q : ℕ) → at ≤ q → contains s q ≡ list_any (lies_in q) rs
-
-module _ (s : Positions) (end : ℕ) where
-  abbrev lacks : ℕ → Bool
-  lacks q = not (contains s q)
-
-  pub missing_is : (at : ℕ) (rs : List (ℕ × ℕ)) → Left s at rs → missing_in end at rs ≡ count lacks at (end - at)
-  missing_is at [] left = sym (count_all lacks at (end - at) (λ q l m. ap not (left.has q l)))
-  missing_is at (r ∷ rs) left =
-      let some = All-head (λ (x : ℕ × ℕ). x.0 < x.1) r rs left.some in
-      let x = min r.0 end - at in
-      let z = min (max at r.1) end - (at + x) in
-      let y = end - (at + x) - z in
-      let whole : end - at ≡ x + (z + y) = omega (arith, some) in
-      let after : Left s (max at r.1) rs = record {
-        some = All-tail (λ (x : ℕ × ℕ). x.0 < x.1) r rs left.some;
-        rising = λ i j d l m. left.rising (suc i) (suc j) d (omega arith) (omega arith);
-        has = λ q l. left.has q (omega arith) ∙ ap (λ b. b || list_any (lies_in q) rs) (past q r (omega arith));
-      } in
-      let rest = missing_is (max at r.1) rs after in
-      let first : count lacks at x ≡ x = count_all lacks at x (λ q l m.
-      ap not (left.has q l ∙ none_below q (r ∷ rs) (All-cons (λ (o : ℕ × ℕ). q < o.0) r rs (omega arith)
-      (λ k d n. (let apart = left.rising 0 (suc k) d (omega arith) (omega arith) in omega (arith, apart, some)))))) in
-      let middle : count lacks (at + x) z ≡ 0 = count_none lacks (at + x) z (λ q l m.
-      ap not (left.has q (omega arith) ∙ or_left _ _ (and_from _ _ (le-leb r.0 q (omega (arith, some, l, m))) (lt-ltb q r.1 (omega (arith, some, l, m)))))) in
-      let cut = count_split lacks at x (z + y) in
-      let cut' = count_split lacks (at + x) z y in
-      let all = ap (count lacks at) whole in
-      let same : count lacks (at + x + z) y ≡ count lacks (max at r.1) (end - max at r.1) =
-      let size : y ≡ end - max at r.1 = omega (arith, some) in
-      ap (count lacks (at + x + z)) size ∙ count_same lacks lacks (at + x + z) (max at r.1) (end - max at r.1) (λ i l.
-      let on : at + x + z + i ≡ max at r.1 + i = omega (arith, some, l) in ap lacks on) in
-      omega (arith, first, middle, same, cut, cut', all, rest)
-    where
-      past : (q : ℕ) (r : ℕ × ℕ) → r.1 ≤ q → lies_in q r ≡ false
-      past q r h = false_from_ne_true _ (λ e. (let l = ltb-true q r.1 (and_parts _ _ e).1 in absurd (omega (arith, l, h))))
-
-  -- no more than there are
-  pub missing_few : (at : ℕ) (rs : List (ℕ × ℕ)) → Left s at rs → missing_in end at rs ≤ end - at
-  missing_few at rs left = grind (arith, nat_tests, count_by-le-length, lacks, length-range_with_len, missing_is)
-
--- all runs of a set are left
-pub left_of : (s : Positions) (at : ℕ) → Left s at (maximal_runs s)
-left_of s at = (let are = are_maximal_runs s in record {
-  some = λ k d l. (are.maximal k d l).some;
-  rising = are.rising;
-  has = λ q _. same_tests (contains s q) (list_any (lies_in q) (maximal_runs s))
-      (λ held. true_from_ne_false _ (λ no.
-      let none = (none_found (lies_in q) (maximal_runs s) no).1 in
-      absurd (omega (arith, are.complete q held, none))))
-      (λ yes.
-      let r = found (lies_in q) (IsMaximalRun s) (maximal_runs s) are.maximal yes in
-      let both = and_parts _ _ r.2 in
-      r.3.inside q (leb-true r.0.0 q both.0) (ltb-true q r.0.1 both.1));
-})
 
 -- ---- Several calls of `newest_runs`: the runs of the positions that were asked for last are listed first.
 -- ---- elements of lists
