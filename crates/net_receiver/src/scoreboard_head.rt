@@ -10,8 +10,8 @@ ghost use Rattle.net_receiver.specs.Scoreboards.{HasNoRoom, IsEnd, IsNextHole, I
 ghost use Rattle.net_receiver.specs.Scoreboards.{reported_by, IsLossBound};
 ghost use Rattle.net_receiver.specs.NewHeads.{scoreboard_head};
 
-use crate::held_runs::HeldRunIter;
-use net_assembler::assembler::laws;
+use crate::held_runs::{HeldRunIter, were_at_most};
+use net_assembler::assembler::{Turns, laws};
 use net_assembler::width::most;
 use net_assembler::{AssemblerHead, Run};
 use thiserror::Error;
@@ -301,17 +301,22 @@ impl ScoreboardHead {
         let most = (duplicates.saturating_sub(1) as u64).saturating_mul(segment_size as u64);
         let used = self.reported.used;
         let enough = duplicates.max(1);
+        let mut turns = Turns::new();
         let mut bytes = 0;
         // From the last run down, and no more of them than are enough.
         for above in 0..used.min(enough) {
+            turns.look();
             let Some((start, end)) = self.reported.run_at(runs, used - 1 - above) else {
                 return 0;
             };
             bytes += (end - start) as u64;
+            prove!(above + 1 <= enough, "in any `usize`");
             if above + 1 == enough || bytes > most {
+                were_at_most(&turns, enough);
                 return self.base + start as u64;
             }
         }
+        were_at_most(&turns, enough);
         0
     }
 

@@ -21,6 +21,8 @@ loop-above-init c =
     record {
       bytes = ap sizes (sym none);
       few = ap (tell_loss d n) none ∙ few_tell d n 0 0 ((d - 1) * n) [] refl refl (omega arith) (omega arith) (omega arith);
+      looks = c.new-turns.ensures.looks;
+      moves = c.new-turns.ensures.moves;
     }
 
 pub returns-in_default : goal.returns-in_default
