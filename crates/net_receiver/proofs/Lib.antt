@@ -5,6 +5,7 @@ pub mod Schedules
 pub mod Places
 pub mod Heads
 pub mod Theorems
+pub mod KeptLists
 pub mod OneStream
 pub mod NewestRuns
 pub mod Scoreboards

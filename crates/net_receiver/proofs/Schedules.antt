@@ -153,11 +153,11 @@ module _ (w : Setting) (s : KeptState) where
     held_within : (p : ℕ) → is_held w s p ≡ true → (missing w s < p) × (p < unread w s + w.capacity)
     held_within p h = grind (arith, nat_tests, and_parts, ltb-true, room)
 
+    pub in_window : (p : ℕ) → is_held w s p ≡ has (filter (is_held w s) (window w s)) p
+    in_window p = grind (arith, nat_tests, has-filter, Bool, held_within, has-range_with_len, and_from, le-leb, lt-ltb)
+
     -- a set of the held positions
     module _ (H : Positions) (same : (p : ℕ) → is_held w s p ≡ contains H p) where
-      in_window : (p : ℕ) → is_held w s p ≡ has (filter (is_held w s) (window w s)) p
-      in_window p = grind (arith, nat_tests, has-filter, Bool, held_within, has-range_with_len, and_from, le-leb, lt-ltb)
-
       held_listed : positions H ≡ filter (is_held w s) (window w s)
       held_listed =
           rising_unique 0 _ _ (positions_rise H)

@@ -5,19 +5,25 @@
 --     KeepReplies      what `keep` returns is the reply to its segment, without the runs
 --     LookShows      what a look shows
 --     RepliesAre w cs rs complete      rs are the replies of the rules to the first of the commands cs
+-- What its words mean.
+--     Contains e p, NoneContains k p      the piece e, or no piece of k, contains the position p
+--     IsLast k p e      e is the last piece of k that contains p
+--     IsLeastMissing f k n      n is the least position from f on that no piece of k contains
+--     ByteOfLast, NextIsLeast, HeldAreAbove      "last", "none kept" and "held"
 -- Two schedules, computed in full by the rules of `Headline.antt`.
 use Rattle.std.specs.Prelude.{◌≡◌, ℕ, ◌-◌, List, [], ◌∷◌, ◌++◌, map, length, take, Result, Ok, Err}
-use Rattle.std.specs.Prelude.{Option, Some, None}
+use Rattle.std.specs.Prelude.{Option, Some, None, ◌↔◌, ◌⊎◌, ◌≤◌, ◌<◌, slice_index, IsTrue, All}
 use Rattle.net_assembler.specs.declared.assembler.error.TooManyHolesError.{TooManyHolesError}
 use Rattle.net_receiver.specs.declared.kept.Kept.{Kept}
 use Rattle.net_receiver.specs.declared.kept.KeptBytes.{KeptBytes}
 use Rattle.net_receiver.specs.Headline.{Setting, CommandValue, Segment, Show, ReplyValue, SegmentReply}
-use Rattle.net_receiver.specs.Headline.{ShowReply, queue, replies, state, Read, ReadReply}
-use Rattle.net_receiver.specs.Schedule.{piece}
+use Rattle.net_receiver.specs.Headline.{ShowReply, queue, replies, state, Read, ReadReply, Piece, byte_at, missing}
+use Rattle.net_receiver.specs.Headline.{held_runs}
+use Rattle.net_receiver.specs.Schedule.{piece, end}
 use Rattle.net_receiver.specs.ReceiverState.{numbers, verdict, ReceiverState, fresh_receiver}
 use Rattle.net_receiver.specs.ReceiverState.{receiver_after_command, receiver_reply, next_position}
 use Rattle.net_receiver.specs.ReceiverState.{domain}
-use Rattle.net_assembler.specs.Positions.{maximal_runs}
+use Rattle.net_assembler.specs.Positions.{Positions, contains, maximal_runs, AreMaximalRuns}
 
 -- calls on a receiver, each by its command and its reply: that it replies this, and what it leaves, is what clauses
 -- `reply` and `state` of its contract say, in these very words
@@ -60,6 +66,50 @@ LookShows = (most_runs : ℕ) (v : ReceiverState) → receiver_reply most_runs v
 -- these are the replies of the rules to the first of some commands, to all if it is complete
 abbrev pub RepliesAre : Setting → List CommandValue → List ReplyValue → Type 0 → Type 0
 RepliesAre w cs rs complete = (rs ≡ take (length rs) (replies w cs)) × (complete → rs ≡ replies w cs)
+
+-- ---- What its words mean.
+-- p is one of the positions of a piece
+abbrev pub Contains : Piece → ℕ → Type 0
+Contains e p = (e.start ≤ p) × (p < end e)
+
+-- no piece of k contains p
+abbrev pub NoneContains : List Piece → ℕ → Type 0
+NoneContains k p = All (λ e. Contains e p → ⊥) k
+
+-- e is the last piece of k that contains p
+pub record IsLast (k : List Piece) (p : ℕ) (e : Piece) : Type 0 where
+  pub before : List Piece
+  pub after : List Piece
+  pub whole : k ≡ before ++ e ∷ after
+  pub there : Contains e p
+  pub last : NoneContains after p
+
+-- some piece contains p
+abbrev pub SomeContains : List Piece → ℕ → Type 0
+SomeContains k p = (e : Piece) × IsLast k p e
+
+-- the byte at a position is that of the last piece that contains it, and there is none if no piece does
+abbrev pub ByteOfLast : Type 0
+ByteOfLast = (k : List Piece) (p : ℕ) →
+    (NoneContains k p × (byte_at k p ≡ None))
+    ⊎ ((e : Piece) × IsLast k p e × (byte_at k p ≡ Some (slice_index e.bytes (p - e.start))))
+
+-- n is the least position from f on that no piece contains
+pub record IsLeastMissing (f : ℕ) (k : List Piece) (n : ℕ) : Type 0 where
+  pub from : f ≤ n
+  pub here : NoneContains k n
+  pub before : (p : ℕ) → f ≤ p → p < n → SomeContains k p
+
+-- the first missing position is that from the first position on, whatever the commands were
+abbrev pub NextIsLeast : Type 0
+NextIsLeast = (w : Setting) (cs : List CommandValue) →
+    IsLeastMissing w.first (state w cs).kept (missing w (state w cs))
+
+-- and the held runs are the maximal runs of the positions above it that some piece contains
+abbrev pub HeldAreAbove : Type 0
+HeldAreAbove = (w : Setting) (cs : List CommandValue) → let s = state w cs in
+    (held : Positions) × AreMaximalRuns held (held_runs w s)
+    × ((p : ℕ) → IsTrue (contains held p) ↔ ((missing w s < p) × SomeContains s.kept p))
 
 -- ---- Two schedules, computed in full by the rules of `Headline.antt`.
 -- the reply to a segment, by how many of its bytes are kept, and how many join the queue
