@@ -1,6 +1,6 @@
 //! A TCP segment that is kept, and its acknowledgement.
 ghost use Rattle.std.specs.Prelude.{◌≡◌, ℕ, ◌+◌, ◌-◌, ◌<◌, ◌^◌, List, length, min};
-ghost use Rattle.net_receiver.specs.OneStream.{ReceivesFrom, MatchesStream};
+ghost use Rattle.net_receiver.specs.OneStream.{ReceivesFrom, MatchesInWindow};
 ghost use Rattle.net_receiver.specs.SequenceNumbers.{number_at, IsNear};
 ghost use Rattle.net_receiver.specs.ReceiverState.{next_position};
 
@@ -22,7 +22,7 @@ pub fn acknowledge(
     ensures window { result.1 ≡ min 65535 (receiver.new.capacity - length receiver.new.queue) }
     ensures receives { (x : List ℕ) (pos : ℕ) → pos + length payload.now < 2 ^ 64 →
         IsNear (next_position receiver.old) pos → number_at initial pos ≡ number →
-        ReceivesFrom 0 x receiver.old → MatchesStream 0 x pos payload.now →
+        ReceivesFrom 0 x receiver.old → MatchesInWindow 0 x receiver.old pos payload.now →
         ReceivesFrom 0 x receiver.new }
 {
     if let Some(pos) = number.position(initial, receiver.next()) {

@@ -1,6 +1,6 @@
 //! Segments that come in any order, and bytes that are read in order.
 ghost use Rattle.std.specs.Prelude.{◌≡◌, ℕ, ◌+◌, List, take, slice_range};
-ghost use Rattle.net_receiver.specs.OneStream.{ReceivesFrom, MatchesStream};
+ghost use Rattle.net_receiver.specs.OneStream.{ReceivesFrom, MatchesInWindow};
 
 use net_receiver::{Receiver, laws};
 use net_ring::ManagedSlice;
@@ -8,9 +8,9 @@ use net_ring::ManagedSlice;
 /// Takes a segment, and reads: the bytes read are the stream's next ones.
 pub fn receive(receiver: &mut Receiver<'_, 4>, pos: u64, payload: &[u8], into: &mut [u8]) -> usize
     ensures receives { (x : List ℕ) → ReceivesFrom 0 x receiver.old →
-        MatchesStream 0 x pos payload.now → ReceivesFrom 0 x receiver.new }
+        MatchesInWindow 0 x receiver.old pos payload.now → ReceivesFrom 0 x receiver.new }
     ensures bytes { (x : List ℕ) → ReceivesFrom 0 x receiver.old →
-        MatchesStream 0 x pos payload.now →
+        MatchesInWindow 0 x receiver.old pos payload.now →
         take result into.new ≡ slice_range x receiver.old.read (receiver.old.read + result) }
 {
     if Receiver::<4>::fits(pos, payload.len()) {

@@ -13,7 +13,8 @@ use Rattle.net_receiver.specs.FiniteHead.{end_of}
 use Rattle.net_receiver.specs.{ReceivesFrom, AcknowledgedGrows, EndIsTaken}
 use Rattle.net_receiver.specs.{AllBytesComplete, SameEndConverges}
 use Rattle.net_receiver.specs.{finite_after_command, bytes_of, bytes_taken}
-use Rattle.net_receiver.specs.{SoundEndStays, EndStays, SegmentOfStream, ReadsTheStream}
+use Rattle.net_receiver.specs.{SoundEndStays, EndStays, SegmentOfStream, ReadsTheStream, OnlyEndsDiffer, KeepsNone}
+use Rattle.net_receiver.specs.{Verdict}
 use Rattle.net_receiver.specs.{plain_of, plain_commands, AreAccepted, BringsByte, BringsEnd, Resends}
 use Rattle.net_receiver.specs.{EndsWithin, FiniteCompletes, FiniteRecovers, ResentIsRead, FiniteCommandFits}
 use Rattle.net_receiver.specs.Finite.{FiniteSchedules}
@@ -43,7 +44,7 @@ use Rattle.net_receiver.proofs.Sets.{piece_at, clip_at, contains-domain, next_jo
 use Rattle.net_receiver.proofs.Sets.{left_above, cond_some, slice_get-take, piece_from}
 use Rattle.net_receiver.proofs.Schedules.{any_verdict, some_of, converge, schedule}
 use Rattle.std.specs.Prelude.{IsOk, Ok}
-use Rattle.net_receiver.proofs.OneStream.{has_all_reaches, segment_receives, read_receives, fresh_receives_from}
+use Rattle.net_receiver.proofs.OneStream.{window_matches, has_all_reaches, segment_receives, read_receives, fresh_receives_from}
 use Rattle.net_receiver.proofs.OneStream.{queue_of, held_of_stream, first_stays, next_position_grows}
 use Rattle.net_receiver.proofs.OneStream.{segment_reads_nothing, read_leaves_next, limit_grows, completes}
 use Rattle.net_receiver.proofs.OneStream.{in_order_reaches, kept_in_order, head_bytes}
@@ -348,7 +349,9 @@ pub segment_of_stream : SegmentOfStream
 segment_of_stream N f x s pos xs last r h = (
   (λ fits. no_other s (pos + length xs) last (by fits last refl)),
   after_by (ReceivesFinite f x) N s pos xs last r (λ e which. record {
-    bytes = segment_receives N f x s.receiver _ pos (below_end s pos xs) refl r.bytes (matches_cut f x pos (bytes_end s - pos) xs h.bytes);
+    bytes =
+        segment_receives N f x s.receiver _ pos (below_end s pos xs) refl r.bytes
+        (window_matches f x s.receiver pos (below_end s pos xs) (matches_cut f x pos (bytes_end s - pos) xs h.bytes));
     end = λ on. ⊎_elim
         (λ (is : e ≡ s.end). is ∙ r.end (ap (λ n. nat_lt n no_end) (sym is) ∙ on))
         (λ (is : (last ≡ true) × (e ≡ pos + length xs) × (can_end s e ≡ true)). is.1 ∙ h.end is.0) which;
@@ -436,6 +439,26 @@ finite_reads_nothing N s pos xs last = grind (arith, nat_tests, after_by, segmen
 
 acknowledged_from : (s : FiniteState) → next_position s.receiver ≤ acknowledged s
 acknowledged_from s = grind (arith, nat_tests, eqb-true)
+
+-- a segment without bytes
+keeps_none : (N : ℕ) (v : ReceiverState) (pos : ℕ) → verdict N v (piece pos []) ≡ KeepsNone
+keeps_none N v pos =
+    let bytes : List ℕ = [] in
+    let below = take (limit_of v - pos) bytes in
+    let none : length (drop (next_position v - pos) below) ≡ 0 =
+    omega (arith, length-drop (next_position v - pos) below, length-take (limit_of v - pos) bytes) in
+    cond-true _ _ _ (eq_tests _ 0 none)
+
+pub only_ends_differ : OnlyEndsDiffer
+only_ends_differ N s pos xs = (
+  (λ l.
+  let v = s.receiver in
+  let zeroth : bytes_end s - pos ≡ 0 = omega (arith, l) in
+  let which : verdict N v (piece pos (below_end s pos xs)) ≡ KeepsNone = ap (λ n. verdict N v (piece pos (take n xs))) zeroth ∙ keeps_none N v pos in
+  let left : Verdict → FiniteState = λ x. record { receiver = state_after v x; end = cond (is_ok (numbers v x)) s.end s.end } in
+  (ap (λ x. with_error (numbers v x)) which, ap left which)),
+  (λ last other. (sym (other_result N s pos xs last other), sym (other_state N s pos xs last other))),
+)
 
 pub one_acknowledged : (N : ℕ) (s : FiniteState) (c : FiniteCommand) → IsSoundEnd s → acknowledged s ≤ acknowledged (finite_after_command N s c)
 one_acknowledged N s c sound = grind (arith, nat_tests, complete_numbers, one_end, known, eqb-true, one_complete, next_grows, acknowledged_from)

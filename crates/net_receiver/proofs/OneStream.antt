@@ -25,9 +25,10 @@ use Rattle.net_receiver.specs.{SegmentReadsNothing, StaysInSetting, KeepsOrRefus
 use Rattle.net_receiver.specs.{QueueIsOfStream, CapacityStays, ReceivesFrom, MatchesStream, AllMatch, ReadReceives}
 use Rattle.net_receiver.specs.{FreshReceivesFrom, AgreeingReceives, ReceivesFromLonger, SegmentReceives, window_part}
 use Rattle.net_receiver.specs.{InOrderReaches, IsHeld, HeldChangesNothing, SecondCopy, HasByteStays, AcceptedBrings}
+use Rattle.net_receiver.specs.{MatchesInWindow, AllMatchInWindow, WindowMatches, OldMatches, AllMatchThere}
 use Rattle.net_receiver.specs.{HasAllReaches, Completes, ReadLeavesNext, ReadLeavesBytes, ReadsAdd, ReadsGiveTogether}
 use Rattle.net_receiver.proofs.Sets.{clip_at, get-with_bytes_at, next_joined, lacks, lacking, updated_has, piece_from}
-use Rattle.net_receiver.proofs.Sets.{piece_some, cond_some, slice_get-drop, slice_get-take, first_unique, clip_byte}
+use Rattle.net_receiver.proofs.Sets.{piece_at, piece_some, cond_some, slice_get-drop, slice_get-take, first_unique, clip_byte}
 use Rattle.net_receiver.proofs.Sets.{same_both, same_bytes, get_from, updated, left_has, left_above}
 use Rattle.net_receiver.proofs.Schedules.{missing_is, part_cases, window_piece, segment_cases, same_next, queue_length}
 use Rattle.net_receiver.proofs.Schedules.{schedule, setting_kept, settings_kept, queue_agrees, agrees_at, some_of}
@@ -47,12 +48,16 @@ use Rattle.std.specs.FinMap as fin
 clip_agrees : (f low high : ℕ) (x : List ℕ) (e : Piece) → PieceAgrees f x e → PieceAgrees f x (piece_within low high e)
 clip_agrees f low high x e h = λ p b from is. h p b from (clip_at low high e p b is).2
 
+part_kept : (f : ℕ) (x : List ℕ) (w : Setting) (s : KeptState) (pos : ℕ) (xs : List ℕ) → Agrees f s.kept x →
+    PieceAgrees f x (window_piece w s (piece pos xs)) → Agrees f (step w s (Segment pos xs)).0.kept x
+part_kept f x w s pos xs all h =
+    let part = window_piece w s (piece pos xs) in
+    part_cases (λ y. Agrees f y.0.kept x) w s part (λ _. all) (λ _ _. all) (λ _. All-push (PieceAgrees f x) s.kept part all h)
+
 one_kept : (w : Setting) (s : KeptState) (x : List ℕ) (c : CommandValue) → Agrees w.first s.kept x → IsTruthful w.first x c →
     Agrees w.first (step w s c).0.kept x
 one_kept w s x (Segment pos xs) all h =
-    let part = window_piece w s (piece pos xs) in
-    part_cases (λ y. Agrees w.first y.0.kept x) w s part (λ _. all) (λ _ _. all)
-    (λ _. All-push (PieceAgrees w.first x) s.kept part all (clip_agrees w.first (missing w s) (unread w s + w.capacity) x (piece pos xs) h))
+    part_kept w.first x w s pos xs all (clip_agrees w.first (missing w s) (unread w s + w.capacity) x (piece pos xs) h)
 one_kept w s x (Read count) all h = all
 one_kept w s x Show all h = all
 
@@ -66,19 +71,57 @@ truthful_is_kept w s x (c ∷ cs) all h =
 pub fresh_receives : (x : List ℕ) (first capacity : ℕ) → Receives x (fresh_receiver first capacity)
 fresh_receives x first capacity = record { state = fresh_kept; refines = fresh_refines first capacity; agrees = All-nil (PieceAgrees first x) }
 
-all_receive : (most : ℕ) (x : List ℕ) (v : ReceiverState) (cs : List CommandValue) → Receives x v → All (IsTruthful v.first x) cs →
+-- what the free window takes of segments that match
+all_in_window : (most f : ℕ) (x : List ℕ) (v : ReceiverState) (cs : List CommandValue) → All (IsTruthful f x) cs → AllMatchInWindow most f x v cs
+unfolding AllMatchInWindow MatchesInWindow
+all_in_window most f x v [] h = tt
+all_in_window most f x v (Segment pos xs ∷ cs) h = (
+  clip_agrees f (next_position v) (limit_of v) x (piece pos xs) (All-head (IsTruthful f x) (Segment pos xs) cs h),
+  all_in_window most f x (receiver_after_command most v (Segment pos xs)) cs (All-tail (IsTruthful f x) (Segment pos xs) cs h),
+)
+all_in_window most f x v (Read count ∷ cs) h =
+    all_in_window most f x (receiver_after_command most v (Read count)) cs (All-tail (IsTruthful f x) (Read count) cs h)
+all_in_window most f x v (Show ∷ cs) h = all_in_window most f x v cs (All-tail (IsTruthful f x) Show cs h)
+
+first_in_window : (most f : ℕ) (x : List ℕ) (v : ReceiverState) (n : ℕ) (cs : List CommandValue) → AllMatchInWindow most f x v cs →
+    AllMatchInWindow most f x v (take n cs)
+unfolding AllMatchInWindow
+first_in_window most f x v zero cs h = tt
+first_in_window most f x v (suc n) [] h = tt
+first_in_window most f x v (suc n) (Segment pos xs ∷ cs) h =
+    (h.0, first_in_window most f x (receiver_after_command most v (Segment pos xs)) n cs h.1)
+first_in_window most f x v (suc n) (Read count ∷ cs) h = first_in_window most f x (receiver_after_command most v (Read count)) n cs h
+first_in_window most f x v (suc n) (Show ∷ cs) h = first_in_window most f x v n cs h
+
+-- a state that v represents is left with pieces that agree
+all_kept : (most f : ℕ) (x : List ℕ) (v : ReceiverState) (s : KeptState) (cs : List CommandValue) → Refines v s → Agrees f s.kept x →
+    AllMatchInWindow most f x v cs → Agrees f (state_from (setting most v) s cs).kept x
+unfolding state_from AllMatchInWindow MatchesInWindow
+all_kept most f x v s [] d all h = all
+all_kept most f x v s (Segment pos xs ∷ cs) d all h =
+    let c = Segment pos xs in
+    let w = setting most v in
+    let room : PieceAgrees f x (piece_within (next_position v) (unread w s + w.capacity) (piece pos xs)) =
+    subst (λ (n : ℕ). PieceAgrees f x (piece_within (next_position v) (v.first + n + v.capacity) (piece pos xs))) d.read h.0 in
+    let part : PieceAgrees f x (window_piece w s (piece pos xs)) =
+    subst (λ (n : ℕ). PieceAgrees f x (piece_within n (unread w s + w.capacity) (piece pos xs))) (same_next v s d) room in
+    subst (λ (z : Setting). Agrees f (state_from z (step w s c).0 cs).kept x) (setting_kept most v c)
+    (all_kept most f x (receiver_after_command most v c) (step w s c).0 cs (schedule most v s d (c ∷ [])).0
+    (part_kept f x w s pos xs all part) h.1)
+all_kept most f x v s (Read count ∷ cs) d all h =
+    let c = Read count in
+    all_kept most f x (receiver_after_command most v c) (step (setting most v) s c).0 cs (schedule most v s d (c ∷ [])).0 all h
+all_kept most f x v s (Show ∷ cs) d all h = all_kept most f x v s cs d all h
+
+all_receive : (most : ℕ) (x : List ℕ) (v : ReceiverState) (cs : List CommandValue) → Receives x v → AllMatchInWindow most v.first x v cs →
     Receives x (receiver_after_commands most v cs)
 all_receive most x v cs r h =
-    let w = setting most v in
+    let t = state_from (setting most v) r.state cs in
     record {
-      state = state_from w r.state cs;
+      state = t;
       refines = (schedule most v r.state r.refines cs).0;
-      agrees = subst (λ f. Agrees f (state_from w r.state cs).kept x) (sym (ap (λ y. y.first) (settings_kept most v cs))) (truthful_is_kept w r.state x cs r.agrees h);
+      agrees = subst (λ f. Agrees f t.kept x) (sym (ap (λ y. y.first) (settings_kept most v cs))) (all_kept most v.first x v r.state cs r.refines r.agrees h);
     }
-
-pub one_receives : (most : ℕ) (x : List ℕ) (v : ReceiverState) (c : CommandValue) → Receives x v → IsTruthful v.first x c →
-    Receives x (receiver_after_command most v c)
-one_receives most x v c r h = all_receive most x v (c ∷ []) r (All-cons (IsTruthful v.first x) c [] h (All-nil (IsTruthful v.first x)))
 
 -- a longer list
 pub longer_at : (x more : List ℕ) (i b : ℕ) → slice_get x i ≡ Some b → slice_get (x ++ more) i ≡ Some b
@@ -128,12 +171,12 @@ queue_is_of x v r =
     }
 
 pub run_receives : {most : ℕ} {v u : ReceiverState} {cs : List CommandValue} {rs : List ReplyValue} {complete : Type 0} (x : List ℕ) →
-    Receives x v → All (IsTruthful v.first x) cs → Executes most v u cs rs complete →
+    Receives x v → AllMatchInWindow most v.first x v cs → Executes most v u cs rs complete →
     Receives x u × (bytes_read rs ++ u.queue ≡ slice_range x v.read (next_position u - u.first))
 run_receives {most} {v} {u} {cs} {rs} x r h run =
     let w = setting most v in
     let prefix = take run.prefix.count cs in
-    let kept = All-take (IsTruthful v.first x) run.prefix.count cs h in
+    let kept = first_in_window most v.first x v run.prefix.count cs h in
     let z = receiver_after_commands most v prefix in
     let t = state_from w r.state prefix in
     let d = schedule most v r.state r.refines prefix in
@@ -142,7 +185,7 @@ run_receives {most} {v} {u} {cs} {rs} x r h run =
     (λ i. same_next z t d.0 i - z.first) ∙ ap (λ y. missing y t - y.first) same in (
       subst (Receives x) (sym run.state) (all_receive most x v prefix r kept),
       (λ i. bytes_read ((run.replies ∙ d.1) i) ++ (ap (λ y. y.queue) run.state ∙ d.0.queue ∙ ap (λ y. queue y t) same) i)
-          ∙ stream w x r.state prefix (truthful_is_kept w r.state x prefix r.agrees kept)
+          ∙ stream w x r.state prefix (all_kept most v.first x v r.state prefix r.refines r.agrees kept)
           ∙ (λ i. slice_range x (sym r.refines.read i) ((sym end ∙ ap (λ y. next_position y - y.first) (sym run.state)) i)),
     )
 
@@ -171,18 +214,36 @@ first_of : (N : ℕ) (v u : ReceiverState) (c : CommandValue) → u ≡ receiver
 first_of N v u c e = ap (λ (y : ReceiverState). y.first) e ∙ first_stays N v c
 
 receives_after : (N f : ℕ) (x : List ℕ) (v u : ReceiverState) (c : CommandValue) → u ≡ receiver_after_command N v c → ReceivesFrom f x v →
-    IsTruthful f x c → ReceivesFrom f x u
+    AllMatchInWindow N f x v (c ∷ []) → ReceivesFrom f x u
 unfolding ReceivesFrom
-receives_after N f x v u c e r h =
-    (first_of N v u c e ∙ r.0, subst (Receives x) (sym e) (one_receives N x v c r.1 (subst (λ b. IsTruthful b x c) (sym r.0) h)))
+receives_after N f x v u c e r h = (
+  first_of N v u c e ∙ r.0,
+  subst (Receives x) (sym e) (all_receive N x v (c ∷ []) r.1 (subst (λ b. AllMatchInWindow N b x v (c ∷ [])) (sym r.0) h)),
+)
 
 pub segment_receives : (N f : ℕ) (x : List ℕ) (v u : ReceiverState) (pos : ℕ) (xs : List ℕ) →
-    u ≡ receiver_after_command N v (Segment pos xs) → ReceivesFrom f x v → MatchesStream f x pos xs → ReceivesFrom f x u
-unfolding MatchesStream
-segment_receives N f x v u pos xs e r h = receives_after N f x v u (Segment pos xs) e r h
+    u ≡ receiver_after_command N v (Segment pos xs) → ReceivesFrom f x v → MatchesInWindow f x v pos xs → ReceivesFrom f x u
+unfolding AllMatchInWindow
+segment_receives N f x v u pos xs e r h = receives_after N f x v u (Segment pos xs) e r (h, tt)
 
 pub read_receives : (f : ℕ) (x : List ℕ) (v u : ReceiverState) (n : ℕ) → u ≡ receiver_after_read v n → ReceivesFrom f x v → ReceivesFrom f x u
+unfolding AllMatchInWindow
 read_receives f x v u n e r = receives_after 0 f x v u (Read n) e r tt
+
+pub window_matches : WindowMatches
+unfolding MatchesStream MatchesInWindow
+window_matches f x v pos xs h = clip_agrees f (next_position v) (limit_of v) x (piece pos xs) h
+
+pub old_matches : OldMatches
+unfolding MatchesInWindow
+old_matches f x v pos xs l = λ p b from is.
+    let there = clip_at (next_position v) (limit_of v) (piece pos xs) p b is in
+    let at = piece_at (piece pos xs) p (ap is_some there.2) in
+    absurd (omega (arith, at.1, there.0, l))
+
+pub all_match_there : AllMatchThere
+unfolding AllMatch
+all_match_there = all_in_window
 
 pub reads_receive : ReadReceives
 reads_receive f n x v r = read_receives f x v _ n refl r
@@ -210,11 +271,11 @@ unfolding ReceivesFrom
 queue_of f x v r = queue_is_of x v r.1
 
 pub run_receives_from : {N : ℕ} {v u : ReceiverState} {cs : List CommandValue} {rs : List ReplyValue} {complete : Type 0} (f : ℕ) (x : List ℕ) →
-    Executes N v u cs rs complete → ReceivesFrom f x v → AllMatch f x cs →
+    Executes N v u cs rs complete → ReceivesFrom f x v → AllMatchInWindow N f x v cs →
     ReceivesFrom f x u × (bytes_read rs ++ u.queue ≡ slice_range x v.read (next_position u - u.first))
-unfolding ReceivesFrom AllMatch
+unfolding ReceivesFrom
 run_receives_from {N} {v} {u} {cs} f x run r h =
-    let both = run_receives x r.1 (subst (λ b. All (IsTruthful b x) cs) (sym r.0) h) run in
+    let both = run_receives x r.1 (subst (λ b. AllMatchInWindow N b x v cs) (sym r.0) h) run in
     ((ap (λ (y : ReceiverState). y.first) run.state ∙ ap (λ w. w.first) (settings_kept N v (take run.prefix.count cs)) ∙ r.0, both.0), both.1)
 
 pub matches_what_is_there : MatchesWhatIsThere
@@ -577,7 +638,7 @@ pub ruleset receives_law = (
   queue_of,
 )
 
-pub ruleset matches_stream_law = (matches_what_is_there, matches_longer)
+pub ruleset matches_stream_law = (matches_what_is_there, matches_longer, window_matches, old_matches)
 
 pub ruleset retransmission_law = (second_copy, held_changes_nothing)
 

@@ -29,7 +29,8 @@
 --     EndsWithin n c      a segment's end is at most n
 -- The others are laws.
 use Rattle.std.specs.Prelude.{◌≡◌, ℕ, ◌+◌, ◌-◌, ◌<◌, ◌≤◌, ◌^◌, max, min, Bool, ◌&&◌, not, if◌then◌else◌, List, length}
-use Rattle.std.specs.Prelude.{take, nat_lt, nat_le, nat_eq, is_ok, Result, Ok, Err, refl, true, IsOk, IsTrue, IsFalse}
+use Rattle.std.specs.Prelude.{take, nat_lt, nat_le, nat_eq, is_ok, Result, Ok, Err, refl, true, false, IsOk, IsTrue}
+use Rattle.std.specs.Prelude.{IsFalse}
 use Rattle.std.specs.Prelude.{[], ◌∷◌, ◌++◌, All, ◌⊎◌}
 use Rattle.std.specs.Coded.{Coded, code_by, coded×, coded_ℕ}
 use Rattle.net_receiver.specs.ReceiverState.{receiver_code, Segment, verdict, numbers, ReceiverState, domain}
@@ -231,6 +232,17 @@ ReadsTheStream = (most_runs f capacity : ℕ) (x : List ℕ) (cs : List FiniteCo
     ReceivesFinite f x t
     × (bytes_taken most_runs (fresh_finite f capacity) cs ≡ take t.receiver.read x)
     × (IsTrue (has_read_all t) → bytes_taken most_runs (fresh_finite f capacity) cs ≡ x)
+
+-- a segment that begins at or above the end is accepted, unless it says that the stream ends elsewhere: nothing of it
+-- is kept, and nothing changes. One that says so is refused
+abbrev pub OnlyEndsDiffer : Type 0
+OnlyEndsDiffer = (most_runs : ℕ) (s : FiniteState) (pos : ℕ) (xs : List ℕ) →
+    (s.end ≤ pos →
+    (finite_result most_runs s pos xs false ≡ Ok (record { kept = 0; queued = 0 }))
+    × (finite_after most_runs s pos xs false ≡ s))
+    × ((last : Bool) → IsTrue (has_other_end s (pos + length xs) last)
+    → (finite_result most_runs s pos xs last ≡ Err errors.OtherEnd)
+    × (finite_after most_runs s pos xs last ≡ s))
 
 -- the number that an acknowledgement carries never falls
 abbrev pub AcknowledgedGrows : Type 0

@@ -1,12 +1,14 @@
 -- Segments that have the bytes of one stream, and receivers that took only such segments.
 --     MatchesStream f x pos xs      the bytes xs at pos are what the stream x, which begins at f, has there
 --     AllMatch f x cs      each segment of the commands has the bytes of x
+--     MatchesInWindow f x v pos xs      those bytes have that the free window of v takes
+--     AllMatchInWindow N f x v cs      of each segment those have that the free window takes when it arrives
 --     ReceivesFrom f x v      the receiver v took only parts of x
 --     QueueIsOf x v      the queue is what x has after the bytes that were read
 --     window_part v pos xs      the bytes of a segment that the free window of v takes
--- The others are laws: when these hold, what follows from them, and what commands leave. `MatchesStream`,
--- `AllMatch` and `ReceivesFrom` are not unfolded by a caller's proofs, which find them by the clauses of the
--- calls and by the laws that make them.
+-- The others are laws: when these hold, what follows from them, and what commands leave. `MatchesStream`, `AllMatch`,
+-- `MatchesInWindow`, `AllMatchInWindow` and `ReceivesFrom` are not unfolded by a caller's proofs, which find them by the
+-- clauses of the calls and by the laws that make them.
 -- Retransmitted segments, segments that together cover a range, and what reads leave.
 --     IsHeld v pos xs      all bytes of a segment in the free window are held already
 --     HasByteAt v p      the position p is below the first missing one, or is held
@@ -15,6 +17,7 @@
 use Rattle.std.specs.Prelude.{◌≡◌, ℕ, ◌+◌, ◌-◌, ◌≤◌, List, [], ◌∷◌, ◌++◌, length, take, drop, slice_get, Some, All}
 use Rattle.std.specs.Prelude.{◌⊎◌, ◌<◌, min, IsTrue, ◌↔◌}
 use Rattle.net_receiver.specs.Schedule.{piece, Setting, KeptState, PieceAgrees, Agrees, piece_byte_at, IsAccepted}
+use Rattle.net_receiver.specs.Schedule.{piece_within}
 use Rattle.net_receiver.specs.ReceiverState.{CommandValue, Segment, Read, Show, ReceiverState, fresh_receiver}
 use Rattle.net_receiver.specs.ReceiverState.{next_position, receiver_after_command, limit_of, Refines, IsSound}
 use Rattle.net_receiver.specs.ReceiverState.{receiver_reply, receiver_after_commands, receiver_replies}
@@ -43,6 +46,20 @@ MatchesStream f x pos xs = PieceAgrees f x (piece pos xs)
 unfoldable pub AllMatch : ℕ → List ℕ → List CommandValue → Type 0
 AllMatch f x cs = All (IsTruthful f x) cs
 
+-- the bytes of a segment that the free window takes are those that x has there, whatever its other bytes are
+unfoldable pub MatchesInWindow : ℕ → List ℕ → ReceiverState → ℕ → List ℕ → Type 0
+MatchesInWindow f x v pos xs = PieceAgrees f x (piece_within (next_position v) (limit_of v) (piece pos xs))
+
+-- and so of each segment, in the free window as it is when the segment arrives
+unfoldable pub AllMatchInWindow : ℕ → ℕ → List ℕ → ReceiverState → List CommandValue → Type 0
+AllMatchInWindow most_runs f x v [] = Unit {0}
+AllMatchInWindow most_runs f x v (Segment pos xs ∷ cs) =
+    MatchesInWindow f x v pos xs
+    × AllMatchInWindow most_runs f x (receiver_after_command most_runs v (Segment pos xs)) cs
+AllMatchInWindow most_runs f x v (Read count ∷ cs) =
+    AllMatchInWindow most_runs f x (receiver_after_command most_runs v (Read count)) cs
+AllMatchInWindow most_runs f x v (Show ∷ cs) = AllMatchInWindow most_runs f x v cs
+
 -- the receiver took only parts of the stream x, whose first byte has position f
 unfoldable pub ReceivesFrom : ℕ → List ℕ → ReceiverState → Type 0
 ReceivesFrom f x v = (v.first ≡ f) × Receives x v
@@ -69,6 +86,16 @@ MatchesWhatIsThere = (f pos : ℕ) (x xs : List ℕ) → f ≤ pos →
 abbrev pub MatchesLonger : Type 0
 MatchesLonger = (f pos : ℕ) (x more xs : List ℕ) → MatchesStream f x pos xs → MatchesStream f (x ++ more) pos xs
 
+-- what the free window takes of a segment that matches
+abbrev pub WindowMatches : Type 0
+WindowMatches = (f : ℕ) (x : List ℕ) (v : ReceiverState) (pos : ℕ) (xs : List ℕ) →
+    MatchesStream f x pos xs → MatchesInWindow f x v pos xs
+
+-- and of one that ends by the first missing position, whatever its bytes are
+abbrev pub OldMatches : Type 0
+OldMatches = (f : ℕ) (x : List ℕ) (v : ReceiverState) (pos : ℕ) (xs : List ℕ) →
+    pos + length xs ≤ next_position v → MatchesInWindow f x v pos xs
+
 -- the empty list of commands
 abbrev pub EmptyMatches : Type 0
 EmptyMatches = (f : ℕ) (x : List ℕ) → AllMatch f x []
@@ -92,6 +119,11 @@ abbrev pub BothMatch : Type 0
 BothMatch = (f : ℕ) (x : List ℕ) (cs ds : List CommandValue) →
     AllMatch f x cs → AllMatch f x ds → AllMatch f x (cs ++ ds)
 
+-- what the free window takes of truthful commands
+abbrev pub AllMatchThere : Type 0
+AllMatchThere = (most_runs f : ℕ) (x : List ℕ) (v : ReceiverState) (cs : List CommandValue) →
+    AllMatch f x cs → AllMatchInWindow most_runs f x v cs
+
 -- what a fresh receiver stores
 abbrev pub FreshReceivesFrom : Type 0
 FreshReceivesFrom = (f : ℕ) (x : List ℕ) (v : ReceiverState) →
@@ -107,10 +139,10 @@ abbrev pub ReceivesFromLonger : Type 0
 ReceivesFromLonger = (f : ℕ) (x more : List ℕ) (v : ReceiverState) →
     ReceivesFrom f x v → ReceivesFrom f (x ++ more) v
 
--- after a truthful segment the receiver still took only parts of x
+-- after a segment that is truthful in the free window the receiver still took only parts of x
 abbrev pub SegmentReceives : Type 0
 SegmentReceives = (most_runs f : ℕ) (x : List ℕ) (v : ReceiverState) (pos : ℕ) (xs : List ℕ) →
-    ReceivesFrom f x v → MatchesStream f x pos xs →
+    ReceivesFrom f x v → MatchesInWindow f x v pos xs →
     ReceivesFrom f x (receiver_after_command most_runs v (Segment pos xs))
 
 -- each byte that is held is what x has at its position
