@@ -452,11 +452,11 @@ keeps_none N v pos =
 pub only_ends_differ : OnlyEndsDiffer
 only_ends_differ N s pos xs = (
   (λ l.
-  let v = s.receiver in
-  let zeroth : bytes_end s - pos ≡ 0 = omega (arith, l) in
-  let which : verdict N v (piece pos (below_end s pos xs)) ≡ KeepsNone = ap (λ n. verdict N v (piece pos (take n xs))) zeroth ∙ keeps_none N v pos in
-  let left : Verdict → FiniteState = λ x. record { receiver = state_after v x; end = cond (is_ok (numbers v x)) s.end s.end } in
-  (ap (λ x. with_error (numbers v x)) which, ap left which)),
+      let v = s.receiver in
+      let zeroth : bytes_end s - pos ≡ 0 = omega (arith, l) in
+      let which : verdict N v (piece pos (below_end s pos xs)) ≡ KeepsNone = ap (λ n. verdict N v (piece pos (take n xs))) zeroth ∙ keeps_none N v pos in
+      let left : Verdict → FiniteState = λ x. record { receiver = state_after v x; end = cond (is_ok (numbers v x)) s.end s.end } in
+      (ap (λ x. with_error (numbers v x)) which, ap left which)),
   (λ last other. (sym (other_result N s pos xs last other), sym (other_state N s pos xs last other))),
 )
 

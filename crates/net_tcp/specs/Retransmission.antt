@@ -305,8 +305,8 @@ abbrev pub opened : ℕ → Bool → ℕ → Connection
 opened t reports first =
     record { timer = new_timer t reports; first = first; sent = first; log = []; due = whole 0 }
 
--- what arms a timer: sending where it doesn't run or nothing is on the way, a start where it doesn't run, what is new where
--- something stays on the way, and that the timeout has passed. A probe doesn't
+-- what arms a timer: sending where it doesn't run or nothing is on the way, a start where it doesn't run, what is new
+-- where something stays on the way, and that the timeout has passed. A probe doesn't
 abbrev pub arms : Connection → Event → Bool
 arms c (Sends pos end now) =
     nat_le c.first pos && nat_lt pos end && (is_none c.timer.ends_at || nat_le c.sent c.first)
@@ -385,8 +385,8 @@ IsEnd c (Acknowledges next now) = IsUnacknowledged c × (next ≡ c.sent)
 IsEnd c Stops = Unit {0}
 IsEnd c _ = ⊥
 
--- the moment at which the timeout of a timer that runs passes is moved by that, by what is new, and by what is sent where
--- nothing is on the way; or the timer is stopped
+-- the moment at which the timeout of a timer that runs passes is moved by that, by what is new, and by what is sent
+-- where nothing is on the way; or the timer is stopped
 abbrev pub IsMove : Connection → Event → Type 0
 IsMove c (Sends pos end now) = (c.first ≤ pos) × (pos < end) × (c.sent ≤ c.first)
 IsMove c (Acknowledges next now) = (c.first < next) × (next ≤ c.sent)

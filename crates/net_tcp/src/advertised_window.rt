@@ -65,8 +65,8 @@ impl AdvertisedWindow {
     /// next multiple: at one scale the number may then be less than what was promised, by less than a
     /// unit. What was promised is still acceptable, and `edge` stays.
     ///
-    /// If the window ends before `next`, there is no room, as where the storage is full and the end, which has a number, is
-    /// acknowledged.
+    /// If the window ends before `next`, there is no room, as where the storage is full and the end, which has a
+    /// number, is acknowledged.
     pub fn announce(&mut self, scale: u8, next: u64, window_end: u64) -> u16
         ensures field { result ≡ field_for (shift_count scale) (window_end - next) }
         ensures edge { self.new.edge ≡ max self.old.edge (announced next (shift_count scale) result) }
@@ -76,9 +76,10 @@ impl AdvertisedWindow {
         ensures within { announced next (shift_count scale) result ≤ max next window_end }
         ensures room { self.old.edge ≤ max next window_end → self.new.edge ≤ max next window_end }
         // Guarantee.
-        ensures most { (f : ℕ) → f ≤ 65535 → announced next (shift_count scale) f ≤ max next window_end →
-            f ≤ result }
-        ensures lost { self.old.edge ≤ max next window_end → self.old.edge ≤ announced next (shift_count scale) 65535 →
+        ensures most { (f : ℕ) → f ≤ 65535 →
+            announced next (shift_count scale) f ≤ max next window_end → f ≤ result }
+        ensures lost { self.old.edge ≤ max next window_end →
+            self.old.edge ≤ announced next (shift_count scale) 65535 →
             self.old.edge < announced next (shift_count scale) result + 2 ^ shift_count scale }
     {
         let shift = scale.min(MAX_SCALE);
@@ -125,8 +126,9 @@ impl AdvertisedWindow {
     /// where it is, below `next` too, by half of the receiver's capacity, rounded up, or by one
     /// segment of `mss` bytes, and by 1 at least.
     ///
-    /// None is due if the window ends before `next`. Pass such a `window_end`, as 0, once all up to the end is acknowledged:
-    /// nothing follows that needs room, and a peer that has closed its connection would answer an update by a reset.
+    /// None is due if the window ends before `next`. Pass such a `window_end`, as 0, once all up to the end is
+    /// acknowledged: nothing follows that needs room, and a peer that has closed its connection would answer an update
+    /// by a reset.
     #[must_use]
     pub fn is_update_due(
         &self,

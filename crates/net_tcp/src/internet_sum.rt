@@ -1,8 +1,8 @@
 //! The Internet checksum (RFC 1071), over one part or several, and its update (RFC 1624).
 #![tactic(auto, using(crate::proofs::WordSums::parts))]
 
-ghost use Rattle.std.specs.Prelude.{◌≡◌, ◌↔◌, ℕ, ◌+◌, ◌-◌, ◌*◌, ◌%◌, ◌^◌, ◌<◌, ◌≤◌, List, [], ◌++◌, ◌/◌, IsTrue, IsFalse};
-ghost use Rattle.std.specs.Prelude.{◌⊎◌, length, nat_eq, if◌then◌else◌};
+ghost use Rattle.std.specs.Prelude.{◌≡◌, ◌↔◌, ℕ, ◌+◌, ◌-◌, ◌*◌, ◌%◌, ◌^◌, ◌<◌, ◌≤◌, List, [], ◌++◌, ◌/◌};
+ghost use Rattle.std.specs.Prelude.{◌⊎◌, length, nat_eq, if◌then◌else◌, IsTrue, IsFalse};
 ghost use Rattle.net_tcp.specs.InternetChecksum.{folded, word_sum, internet_checksum, updated, Sums, is_odd};
 ghost use Rattle.net_tcp.specs.InternetChecksum.{sum_joined, sum_with, word_bytes};
 
@@ -164,7 +164,7 @@ pub fn updated_checksum(checksum: u16, old: u16, new: u16) -> u16
     u16::MAX - fold(without + u32::from(new))
 }
 
-/// Returns the sum of some words and of these bytes, the first of which is a high byte. The words' low byte comes first.
+/// Returns the sum of some words, whose low byte comes first, and of these bytes, the first of which is a high byte.
 fn sum_from(start: u32, bytes: &[u8]) -> PartsSum
     requires { start < 2 ^ 17 }
     ensures sum { result.sum ≡ folded (256 * start + word_sum bytes.now) }
@@ -179,8 +179,8 @@ fn sum_from(start: u32, bytes: &[u8]) -> PartsSum
 /// How many bytes are summed with no fold: their sum has room in 32 bits.
 const BLOCK: usize = 1 << 16;
 
-/// Adds the words of these bytes to a sum. It sums words whose low byte comes first: 256 times their sum folds to that of
-/// the words whose high byte does, since 256 times 256 is one more than a multiple of 65535.
+/// Adds the words of these bytes to a sum. It sums words whose low byte comes first: 256 times their sum folds to that
+/// of the words whose high byte does, since 256 times 256 is one more than a multiple of 65535.
 fn sum_words(start: u32, bytes: &[u8]) -> u32
     requires { start < 2 ^ 17 }
     ensures { folded (256 * result) ≡ folded (256 * start + word_sum bytes.now) }

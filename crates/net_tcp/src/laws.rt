@@ -165,8 +165,9 @@ pub fn timeouts()
 /// it is stopped, the timer runs while something that was sent isn't acknowledged; and unless it is started, only
 /// then. A timer that runs, whatever started it, runs until it is stopped, or until all that was sent is
 /// acknowledged, if some of it wasn't before; and only the timeout, what acknowledges or reports something new, and
-/// what is sent where nothing is on the way move the moment at which the timeout passes. So that is the timeout after the last event that armed the timer,
-/// whatever probes were sent, and the timer expires no later. A timer whose peer reports no blocks has no probe.
+/// what is sent where nothing is on the way move the moment at which the timeout passes. So that is the timeout after
+/// the last event that armed the timer, whatever probes were sent, and the timer expires no later. A timer whose peer
+/// reports no blocks has no probe.
 #[tactic(auto, using(crate::proofs::Timers::timers))]
 pub fn timers()
     ensures once { (b : TimeoutBounds) (t : ℕ) (says : Bool) (first : ℕ) (es : List Event) →
