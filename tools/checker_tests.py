@@ -290,6 +290,35 @@ def growth():
         for changed, wrong in [(rows[2].replace("2,100", "2,300"), 0), (rows[2].replace("2,100", "2,400"), 1), (rows[2].replace("As", "Is"), 1),
                                (rows[2].replace("| 30; 900", "| "), 1)]:
             same(changed, growth.differing([changed], False), told(changed) * wrong)
+        valgrind = growth.HERE / "bin/valgrind"
+        valgrind.parent.mkdir()
+        valgrind.write_text("#!/bin/sh\nfor word; do case $word in --callgrind-out-file=*) out=${word#*=};; esac; done\nprintf 'fn=a\\n5 9\\n"
+                            "cfn=growth::calls::add\\ncalls=2 0\\n7 100\\n8 1\\ncfn=other\\ncalls=1 0\\n9 50\\ncfn=growth::calls::add\\ncalls=2 3\\n7 20\\n' > $out\n")
+        valgrind.chmod(0o755)
+        path, os.environ["PATH"] = os.environ["PATH"], f"{valgrind.parent}:{os.environ['PATH']}"
+        same("counts", growth.counts("a", 32, growth.HERE), {"add": 30})
+        (growth.HERE / "growth/src").mkdir(parents=True)
+        case, counted = growth.HERE / "growth/src/main.rs", growth.counted
+        growth.LEFT_OUT, row = {}, "| `Assembler` | 11; 11 |  | 30; 900 |"
+        (growth.HERE / "public_items.txt").write_text(ITEMS)
+        for words, kind, last, page, wrong in [
+            ([], "passes", "_last", row, []), ([], "looks", "_last", row, ["assembler_add: grows 30.00 times"]), (["--rust", "a"], "passes", "_last", "", []),
+            ([], "passes", "_l", row, ["assembler_add_last: no case in growth/src/main.rs makes it, and LEFT_OUT has no reason"]),
+            ([], "passes", "_last", row.replace("900", "990"), []), ([], "passes", "_last", row.replace("900", "991"), told(row)),
+        ]:
+            case.write_text(f"        {kind} assembler_add {{ }}\n        looks assembler_add{last} {{ }}\n")
+            growth.counted = lambda rust: [{"assembler_add": 30, f"assembler_add{last}": few} for few in [11]] + [{"assembler_add": 900, f"assembler_add{last}": 11}]
+            rows_of = growth.page_table(*growth.counted(0), {"assembler_add": "passes", f"assembler_add{last}": "looks"})[:2]
+            growth.PAGE.write_text("\n".join(["<!-- tools/growth.py: begin -->", *rows_of, page, "<!-- tools/growth.py: end -->"]))
+            sys.argv[1:] = words
+            status, lines = said(growth.main)
+            wrong = wrong + told("| `Assembler` | 30; 900 |  |  |") * (kind == "looks")
+            same((words, kind, last), (status, lines[4:]), (1 if wrong else 0, [it for it in wrong if kind != "looks" or "grows" in it] + lines[5:] * (kind == "looks")))
+        same("cells", lines[2:4], ["| assembler_add | passes | 30 | 900 | 30.00 | 36 |", "| assembler_add_last | looks | 11 | 11 | 1.00 | 1.1 |"])
+        growth.counted, os.environ["PATH"] = counted, ""
+        same("no valgrind", said(growth.main), (2, ["not run: valgrind isn't here"]))
+        os.environ["PATH"] = path
+        growth.PAGE.write_text(f"<!-- tools/growth.py: begin -->\n{rows[2]}\n<!-- tools/growth.py: end -->")
         same("more", growth.differing([*rows[2:], "more"], False), told("more"))
         same("fewer", growth.differing([], False), told("none"))
     growth.TYPES, growth.LEFT_OUT = kept, left
