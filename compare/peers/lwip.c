@@ -1,7 +1,7 @@
 /* lwIP as an end of a connection: `lwip listen`, or `lwip open`.
  *
- * Each message of descriptor 0 is an IP packet. Of descriptor 1, a stream of bytes in both directions, what is read is sent,
- * and what comes is written. The library is Debian's, and runs in this one thread: its own is never started. */
+ * Each message of descriptor 0 is an IP packet. Of descriptor 1, a stream of bytes in both directions, what is read is
+ * sent, and what comes is written. The library is Debian's, and runs in this one thread: its own is never started. */
 #include <fcntl.h>
 #include <lwip/init.h>
 #include <lwip/ip.h>

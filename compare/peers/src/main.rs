@@ -1,11 +1,11 @@
-//! The example's endpoint, lwIP and Linux, joined by a path that loses, doubles, delays, stops, cuts and forges IP packets by
-//! a seed: `run.sh` beside it builds it, and lwIP's program, and runs it in a network namespace of its own.
+//! The example's endpoint, lwIP and Linux, joined by a path that loses, doubles, delays, stops, cuts and forges IP
+//! packets by a seed: `run.sh` beside it builds it, and lwIP's program, and runs it in a network namespace of its own.
 //!
 //!     peers sample|matrix|goodput|runs [WORD [SEED]]
 //!
-//! What each end reads is compared with what the other one sends, byte by byte. With a word only the cases or rows with it
-//! are run; with a seed the sample by that. The status is 1 if a byte differs, a stream ends too early, or a case of the
-//! sample exceeds its bounds.
+//! What each end reads is compared with what the other one sends, byte by byte. With a word only the cases or rows
+//! with it are run; with a seed the sample by that. The status is 1 if a byte differs, a stream ends too early, or a
+//! case of the sample exceeds its bounds.
 mod ends;
 mod relay;
 mod watch;
@@ -151,7 +151,7 @@ fn sample(word: &str, seed: u64) {
     });
     let failed = failed.into_inner();
     if failed > 0 {
-        println!("failed: {failed}, each three times over its bounds in compare/peers/src/main.rs, reset, or not closed");
+        println!("failed: {failed}, each three times over its bounds in main.rs, reset, or not closed");
         exit(1);
     }
 }
@@ -161,7 +161,8 @@ fn median(mut values: Vec<f64>) -> f64 {
     values[values.len() / 2]
 }
 
-/// The median time of some seeds, or infinity, and how many segments of the first end went again for nothing, and by a timeout.
+/// The median time of some seeds, or infinity, and how many segments of the first end went again for nothing, and how
+/// many by a timeout.
 fn median_of(ends: [Kind; 2], path: Path, traffic: Traffic, seeds: u64, most: u64) -> (f64, u64, u64) {
     let what = format!("{} to {}", ends[0].name(), ends[1].name());
     let runs =
@@ -185,10 +186,13 @@ fn matrix(word: &str) {
     let requests = |thinks| Traffic::Requests { count: 50, thinks };
     let slow = Traffic::Send { bytes: 400_000, chunk: 2_000, rest: 5_000 };
     let (stop, stops) = stopped();
-    println!("Seconds, and in brackets segments sent again for nothing in three runs. Round trip 1 ms but where said.");
-    print!("| 1 MiB | endpoint to lwIP | of Linux | of lwIP | lwIP to endpoint | of Linux | of lwIP ");
-    println!("| endpoint to Linux | of Linux | Linux to endpoint | of Linux |");
-    println!("|---|---:|---:|---:|---:|---:|---:|---:|---:|---:|---:|");
+    println!(
+        "Seconds, the median of three runs; in brackets, of all three, segments sent again for nothing, and"
+    );
+    println!("those with Linux (Reno) in the endpoint's place. Then the ratio to that, and to lwIP with itself. 1 MiB;");
+    println!("the round trip is 1 ms but where said.");
+    println!("| Path | endpoint to lwIP | lwIP to endpoint | endpoint to Linux | Linux to endpoint |");
+    println!("|---|---:|---:|---:|---:|");
     for (what, path, traffic) in [
         ("clean, 0 ms", path(0, 0, 0, 0), mib),
         ("clean, 10 ms", path(0, 0, 0, 10_000), mib),
@@ -213,42 +217,28 @@ fn matrix(word: &str) {
             continue;
         }
         let time = |ends| median_of(ends, path, traffic, 3, most);
-        let cell = |it: (f64, u64, u64)| match it.0.is_finite() {
-            true => format!("{:.2} ({})", it.0, it.1),
-            false => format!("> {most}"),
+        let (lwip, linux) = (time([Kind::Lwip; 2]), time([RENO; 2]));
+        let cell = |it: (f64, u64, u64), linux: (f64, u64, u64)| {
+            let seconds = if it.0.is_finite() { format!("{:.2}", it.0) } else { format!("> {most}") };
+            format!("{seconds} ({}/{}); {}", it.1, linux.1, ratio(it.0, linux.0))
         };
-        let (lwip_itself, linux_itself) = (time([Kind::Lwip; 2]), time([RENO; 2]));
-        let (to_lwip, linux_to_lwip) = (time([ENDPOINT, Kind::Lwip]), time([RENO, Kind::Lwip]));
-        let (from_lwip, lwip_to_linux) = (time([Kind::Lwip, ENDPOINT]), time([Kind::Lwip, RENO]));
-        let (to_linux, from_linux) = (time([ENDPOINT, RENO]), time([RENO, ENDPOINT]));
+        let (to, from) = (time([ENDPOINT, Kind::Lwip]), time([Kind::Lwip, ENDPOINT]));
         println!(
-            "| {what} | {} | {} ({}) | {} ({}) | {} | {} ({}) | {} ({}) | {} | {} ({}) | {} | {} ({}) |",
-            cell(to_lwip),
-            ratio(to_lwip.0, linux_to_lwip.0),
-            linux_to_lwip.1,
-            ratio(to_lwip.0, lwip_itself.0),
-            lwip_itself.1,
-            cell(from_lwip),
-            ratio(from_lwip.0, lwip_to_linux.0),
-            lwip_to_linux.1,
-            ratio(from_lwip.0, lwip_itself.0),
-            lwip_itself.1,
-            cell(to_linux),
-            ratio(to_linux.0, linux_itself.0),
-            linux_itself.1,
-            cell(from_linux),
-            ratio(from_linux.0, linux_itself.0),
-            linux_itself.1,
+            "| {what} | {}; {} | {}; {} | {} | {} |",
+            cell(to, time([RENO, Kind::Lwip])),
+            ratio(to.0, lwip.0),
+            cell(from, time([Kind::Lwip, RENO])),
+            ratio(from.0, lwip.0),
+            cell(time([ENDPOINT, RENO]), linux),
+            cell(time([RENO, ENDPOINT]), linux),
         );
     }
 }
 
 fn goodput(word: &str) {
     let (bytes, seeds) = (8 << 20, 5);
-    println!("To Linux, 8 MiB, a round trip of 1 ms, no rate; a delay is up to 2 ms. Each cell: MB/s, the median of {seeds}");
-    println!(
-        "runs; timeouts of all; of 10,000 segments how many were sent again for nothing. Ratios are of MB/s."
-    );
+    println!("To Linux, 8 MiB, a round trip of 1 ms, no rate; a delay is up to 2 ms. Each cell: MB/s, the median of");
+    println!("{seeds} runs; timeouts of all; of 10,000 segments how many were sent again for nothing.");
     println!("| Path | endpoint | Linux, Reno | Linux, CUBIC | of Reno | of CUBIC |");
     println!("|---|---:|---:|---:|---:|---:|");
     for (what, path) in [
@@ -274,31 +264,36 @@ fn goodput(word: &str) {
     }
 }
 
+/// What a queue that overflows asks of a receiver: each second segment of a slow start is lost.
 fn runs(word: &str) {
-    println!("Linux (Reno) sends 4 MiB to an endpoint of 1 MiB, over 20 Mbit/s, 80 ms, and a queue of 200 packets.");
-    println!("| N | seconds of three runs | segments | refused | most held |");
-    println!("|---:|---:|---:|---:|---:|");
-    for n in [32, 64, 128, 256] {
-        if !n.to_string().contains(word) {
-            continue;
+    let (capacity, bytes, seeds) = (1 << 20, 4 << 20, 5);
+    println!(
+        "4 MiB to an endpoint of 1 MiB, over 20 Mbit/s, 80 ms, and a queue of 200 packets: {seeds} runs."
+    );
+    println!("| Sender | N | Seconds: middle, longest | Refused of 100 | Most held |");
+    println!("|---|---:|---:|---:|---:|");
+    let fates = Fates { rate: 2_500_000, queue: 200, ..path(0, 0, 0, 80_000).fates };
+    let path = Path { fates, ..Path::default() };
+    for sender in [RENO, CUBIC, Kind::Example(capacity, 256)] {
+        for n in [32, 64, 128, 256] {
+            let (ends, traffic) = ([sender, Kind::Example(capacity, n)], send(bytes));
+            let what = format!("{} {n}", sender.name());
+            if !what.contains(word) {
+                continue;
+            }
+            let runs = (1..=seeds).map(|seed| run(Case { ends, path, traffic, seed, most: 60 }, &what));
+            let runs = runs.collect::<Vec<_>>();
+            let seconds = runs.iter().map(|it| it.seconds.unwrap_or(f64::INFINITY)).collect::<Vec<_>>();
+            let sum = |of: fn(&Outcome) -> u64| runs.iter().map(of).sum::<u64>() as f64;
+            println!(
+                "| {} | {n} | {:.1}, {:.1} | {:.1} | {} |",
+                sender.name(),
+                median(seconds.clone()),
+                seconds.iter().copied().fold(0.0, f64::max),
+                100.0 * sum(|it| it.refused[1].0) / sum(|it| it.watches[0].segments),
+                runs.iter().map(|it| it.refused[1].1).max().unwrap_or(0),
+            );
         }
-        let fates = Fates { rate: 2_500_000, queue: 200, ..path(0, 0, 0, 80_000).fates };
-        let path = Path { fates, ..Path::default() };
-        let ends = [RENO, Kind::Example(1 << 20, n)];
-        let runs =
-            [1, 2, 3].map(|seed| run(Case { ends, path, traffic: send(4 << 20), seed, most: 60 }, "runs"));
-        let mut seconds = runs.iter().map(|it| it.seconds.unwrap_or(f64::INFINITY)).collect::<Vec<_>>();
-        seconds.sort_by(f64::total_cmp);
-        let sum = |of: fn(&Outcome) -> u64| runs.iter().map(of).sum::<u64>();
-        println!(
-            "| {n} | {:.1}, {:.1}, {:.1} | {} | {} | {} |",
-            seconds[0],
-            seconds[1],
-            seconds[2],
-            sum(|it| it.watches[0].segments),
-            sum(|it| it.refused[1].0),
-            runs.iter().map(|it| it.refused[1].1).max().unwrap_or(0),
-        );
     }
 }
 

@@ -151,9 +151,9 @@ fn hide_blocks(packet: &mut [u8]) {
     seal(packet);
 }
 
-/// Makes a packet from one of the connection that no end has sent, and that RFC 5961 has its target answer or drop, or take
-/// what does no harm for long. `end` is the number after all that the target has sent: what it has sent, and what hasn't
-/// arrived, is never acknowledged.
+/// Makes a packet from one of the connection that no end has sent, and that RFC 5961 has its target answer or drop, or
+/// take what does no harm for long. `end` is the number after all that the target has sent: what it has sent, and what
+/// hasn't arrived, is never acknowledged.
 fn forge(packet: &[u8], end: u32, rand: &mut Rand) -> Vec<u8> {
     let mut forged = packet[..40].to_vec();
     forged[32] = 0x50;
