@@ -40,8 +40,8 @@ RULES = '''\
 10. From an import goes what only contracts name, unless it is a trait or std's, and so do a `pub use` of another crate, and
     names of `UNNAMED`. Rustc refuses a text that uses what isn't imported.
 11. Refused are comments in logic, and texts but of letters, spaces and line feeds; a contract inside of a function, imports
-    of all names, and macros and words that aren't, or are, in `erase_list.py`: `clone` as a call, operators by path, sizes,
-    `isize`, `BITS`.
+    of all names, the rest of a struct from an element, a bound of any `usize` that does more than compare, and macros and
+    words that aren't, or are, in `erase_list.py`: `clone` as a call, operators by path, sizes, `isize`, `BITS`.
 12. All other tokens stay, in their order, and no word of contracts is left. A file that uses it imports
     `rattle::prelude`, where `prove!` is `assert!`, tested when a program is compiled if it is about `N`, and in debug
     builds alone if it is of a `usize` of any width.
@@ -84,6 +84,8 @@ DOCS = {'/// ```rust': '/// ```text', '//! ```rust': '//! ```text'}
 OF_TRAIT = re.compile(r'\bfor\b|\btrait\b')
 # The type that an impl is of, or a trait's name.
 OWNER = re.compile(r'(?:.*?\b(?:for|trait) |impl(?:<(?:[^<>]|<(?:[^<>]|<[^<>]*>)*>)*>)? )(\w+)', re.S)
+# A bound of a `usize` that does something: it assigns, lends to be changed, or calls more than `most` and `len`.
+WIDE = re.compile(r'prove!\(.*(?:\{|\bmut\b|[^=<>!]=[^=]|(?!\b(?:len|most)\()\b[a-z_]\w*\(|\w!\().*"in any `usize`"', re.S)
 LINK = re.compile(r'(?<=\]\()(?:crate|net_\w+)(?=::)')
 
 
@@ -176,6 +178,8 @@ class Eraser(Text):
             self.refuse(at, 'the root of paths, in no path')
         if follows == '!' and self.tokens[self.next(after + 1)][1] in OPEN and word not in given.MACROS[bool(self.by_hand)]:
             self.refuse(at, 'an unknown macro')
+        if word == 'prove' and follows == '!' and WIDE.search(self.source(k, self.group(self.next(after + 1)))):
+            self.refuse(at, 'more than a bound, which a release build leaves out')
         is_call = word in given.OPERATORS and (follows == '::' or before == 'as') or word == 'clone' and before in ('.', '::')
         if (is_call or word in given.UNLIKE) and not given.NO_BYTES.match(self.text, at):
             self.refuse(at, 'Rust may have another meaning')

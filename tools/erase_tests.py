@@ -88,7 +88,7 @@ GIVEN = [
 
 # What looks like a law, or like a bound, and runs: it stays.
 STAYS = [
-    'fn f(x: usize) -> usize {\n    prove!(bump(&mut x) <= 1000, "in any `usize`");\n    x\n}\n',
+    'fn f(x: usize) -> usize {\n    prove!(bump(&mut x) <= 1000, "at most 1,000");\n    x\n}\n',
     'fn f(x: usize) -> usize {\n    laws::raise(&mut x);\n    x\n}\n',
     'impl Settles for A {\n    fn settle(&mut self) {}\n}\n',
     'pub fn law() {}\npub mod laws;\nuse laws::b;\n\nfn f() {\n    b();\n}\n',
@@ -132,6 +132,9 @@ UNLIKE = [
     ('another meaning', 'fn f() -> u32 { usize::BITS }', 'fn f() -> u32 { 64 }'),
     ('another meaning', 'fn f() { Mul::mul(a, 2) }', 'fn f() { a * 2 }'),
     ('another meaning', 'fn f() { <usize as Add>::add(a, 2) }', 'impl Add<A> for B { type Output = A; fn add(self, a: A) -> A { a } }'),
+    *(('more than a bound', f'fn f() {{ prove!({bad} <= b, "in any `usize`"); }}', f'fn f() {{ prove!({right}, "in any `usize`"); }}')
+      for bad, right in (('{ a = 2; a }', 'a <= b'), ('bump(&mut x)', 'a + c <= s.len()'), ('s.grow()', 'a <= s.n'), ('take(&mut a)', '(a + c) as u64 <= most() as u64'),
+                         ('of!(a)', 'a == b'), ('(a += 1, a).1', 'a.n + 1 <= b'))),
     ('from an element', 'fn f() { S { a: 1, ..v[i] } }', 'fn f() { S { a: 1, ..w } }'),
     ('from an element', 'fn f() { S { ..self.v[i] } }', 'fn f() { let S { a, .. } = v[i]; f(&v[..i], &v[1..]) }'),
     ('from an element', 'fn f() { S { a: 1, ..(v[i].b) } }', 'fn f() { let [a, .., b] = v[i]; }'),

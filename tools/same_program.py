@@ -40,7 +40,6 @@ SAME = [(re.compile(pattern), text) for pattern, text in [
     (r'\?:(?:FnOnce|FnMut|Fn)(?:\+\d)?\.\w+', '?:Fn.call'),
     ('Vec:SliceMut.slice_mut', 'Vec.slice_mut'),
     (r'\?:IntoIterator\.0', '?:IntoIterator.into_iter'),
-    (r'\w+:Write\.write_fmt', 'Write.write_fmt'),
 ]]
 # What one side has alone: what is printed by hand, or by a macro, in Rust; a default of std's; modules that aren't erased;
 # what makes a variant; and what the eraser leaves out: of a law, and of a function of its list, rustc refuses a call.
