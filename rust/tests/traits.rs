@@ -3,7 +3,7 @@
 #![allow(clippy::op_ref)]
 use std::collections::HashSet;
 use std::fmt::Write as _;
-use std::hash::{BuildHasher, Hash};
+use std::hash::{Hash, Hasher};
 use std::iter::FusedIterator;
 
 use net_base::finite::{FiniteError, FiniteReceiverOver, FiniteSenderOver};
@@ -13,7 +13,7 @@ use net_base::sender::SenderOver;
 use net_base::sequence_number::SequenceNumber;
 use net_base::storage::{
     Assembler, Empty, FragmentError, FragmentsOver, Full, PacketMetadata, PacketsOver, RingBuffer,
-    RingOver, TooManyHolesError,
+    RingOver, Storage, TooManyHolesError,
 };
 use net_base::tcp::{
     AdvertisedWindow, Announcement, PartsSum, PeerWindow, RetransmissionTimeout,
@@ -30,11 +30,42 @@ fn hashes() {
     assert_eq!(count([5, -5, 5].map(Instant::from_secs)), 2);
     assert_eq!(count([5, 6, 5].map(Duration::from_secs)), 2);
     assert_eq!(count([5, 1 << 16, 5].map(SequenceNumber::new)), 2);
-    let hasher = std::hash::RandomState::new();
-    assert_ne!(hasher.hash_one(SequenceNumber::new(5)), hasher.hash_one(SequenceNumber::new(6)));
     assert_eq!(count([FiniteError::TooManyHoles, FiniteError::OtherEnd]), 2);
     assert_eq!(count([FragmentError::TooLong, FragmentError::OtherSize]), 2);
     assert_eq!((count([Full; 2]), count([Empty; 2]), count([TooManyHolesError; 2])), (1, 1, 1));
+}
+
+/// A sequence number gives a hasher 32 bits.
+#[test]
+fn hashed_bytes() {
+    #[derive(Default)]
+    struct Kept(Vec<u8>);
+    impl Hasher for Kept {
+        fn write(&mut self, bytes: &[u8]) {
+            self.0.extend(bytes);
+        }
+
+        fn finish(&self) -> u64 {
+            0
+        }
+    }
+    let mut kept = Kept::default();
+    SequenceNumber::new(5).hash(&mut kept);
+    assert_eq!(kept.0, 5u32.to_ne_bytes());
+}
+
+/// An index past the end of an array panics.
+#[test]
+fn arrays_as_storage() {
+    let calls: [fn(&mut [u8; 3]); 4] = [
+        |array| assert_eq!(*array.element(3), 0),
+        |array| *array.element_mut(3) = 0,
+        |array| assert_eq!(array.part(2, 4).len(), 1),
+        |array| array.part_mut(2, 4).fill(0),
+    ];
+    for call in calls {
+        assert!(std::panic::catch_unwind(|| call(&mut [0; 3])).is_err());
+    }
 }
 
 #[test]
@@ -196,9 +227,11 @@ fn elements_and_texts() {
     let mut ring = RingOver::over([0u8; 4]);
     assert!(ring.write_str("abc").is_ok() && ring.write_str("de").is_err());
     assert_eq!((ring.len(), write!(ring, "{}", 7), ring.get(3)), (3, Ok(()), Some(&b'7')));
-    // Past the storage's end.
-    let (left, written) = (ring.dequeue_slice(&mut [0; 2]), ring.write_str("de"));
-    assert_eq!((left, written, ring.get(2), ring.get(3)), (2, Ok(()), Some(&b'd'), Some(&b'e')));
+    let mut ring = RingOver::over([0u8; 4]);
+    assert!(ring.write_str("abc").is_ok());
+    ring.dequeue_allocated(2);
+    assert!(ring.write_str("def").is_ok()); // round the end
+    assert_eq!(ring.as_slices(), (&b"cd"[..], &b"ef"[..]));
     let mut numbers = [0; 3];
     let mut ring = RingBuffer::new(&mut numbers[..]);
     let extend = std::panic::AssertUnwindSafe(|| ring.extend([1, 2, 3, 4]));
@@ -227,7 +260,7 @@ mod streams {
         reader.consume(1);
         assert_eq!(reader.fill_buf().unwrap(), b"b");
         let mut into = [0; 2];
-        reader.read_exact(&mut into).unwrap();
+        assert_eq!(reader.read(&mut into).unwrap(), 2);
         assert_eq!((&into, reader.fill_buf().unwrap()), (b"bc", &b"d"[..]));
         let mut text = String::new();
         let (line, text_after) = (reader.read_line(&mut text), "d");
@@ -256,6 +289,14 @@ mod streams {
             assert!(finite.keep(6, b"cd", is_last).is_ok());
             reads(finite, if is_last { None } else { Some(ErrorKind::WouldBlock) });
         }
+    }
+
+    /// More bytes than 16 bits count are written and read at once.
+    #[test]
+    fn many_bytes() {
+        let mut ring = RingOver::over([0u8; 70_000]);
+        assert_eq!(ring.write(&[7; 70_000]).unwrap(), 70_000);
+        assert_eq!(ring.read(&mut [0; 70_000]).unwrap(), 70_000);
     }
 
     /// A text whose middle is missing isn't read as if it ended there, and what came isn't lost.
