@@ -188,6 +188,53 @@ fn a_peer_without_blocks_is_not_probed() {
     assert_eq!(end.timeouts(), 0);
 }
 
+/// Where the segments begin that are sent now, and whether they were sent before.
+fn sent(end: &mut SendingEnd<'_, 4>) -> Vec<(u64, bool)> {
+    core::iter::from_fn(|| end.next_segment(1_000, Instant::ZERO))
+        .map(|it| (it.pos, it.is_again))
+        .collect()
+}
+
+/// Six segments of 10 bytes are sent, from position 10 on.
+fn six_segments(reports: bool) -> SendingEnd<'static, 4> {
+    let mut end = SendingEnd::<4>::new_at(vec![0; 60], 10, SECOND, TimeoutBounds::default());
+    end.open(Announcement { seq: 0, ack: 10, window: 100 }, 10, reports);
+    assert_eq!(end.write(&[7; 60]), 60);
+    assert_eq!(sent(&mut end), [10, 20, 30, 40, 50, 60].map(|pos| (pos, false)));
+    end
+}
+
+fn hear(end: &mut SendingEnd<'_, 4>, ack: u64, blocks: &[(u64, u64)]) -> Acknowledged {
+    end.acknowledged(Announcement { seq: 1, ack, window: 100 }, blocks, true, Instant::ZERO)
+}
+
+/// A peer that reports nothing says the same three times: the first segment is lost. In the recovery an acknowledgement of
+/// something new loses the next one.
+#[test]
+fn the_third_equal_acknowledgement_and_a_partial_one() {
+    let mut end = six_segments(false);
+    for begins in [false, false, true] {
+        assert_eq!(sent(&mut end), []);
+        assert_eq!(hear(&mut end, 10, &[]), Acknowledged::Taken { new: 0, begins });
+    }
+    assert_eq!(sent(&mut end), [(10, true)]);
+    assert_eq!(hear(&mut end, 30, &[]), Acknowledged::Taken { new: 20, begins: false });
+    assert_eq!((sent(&mut end), end.is_recovering()), (vec![(30, true)], true));
+    assert_eq!(hear(&mut end, 70, &[]), Acknowledged::Taken { new: 40, begins: false });
+    assert_eq!((sent(&mut end), end.is_recovering()), (vec![], false));
+}
+
+/// A peer acknowledges up to a segment that it reported: it has dropped that, which is sent again with what it reported
+/// above, and nothing beyond.
+#[test]
+fn reports_that_were_dropped() {
+    let mut end = six_segments(true);
+    assert_eq!(hear(&mut end, 10, &[(30, 50)]), Acknowledged::Taken { new: 0, begins: false });
+    assert_eq!(sent(&mut end), []);
+    assert_eq!(hear(&mut end, 30, &[]), Acknowledged::Taken { new: 20, begins: true });
+    assert_eq!(sent(&mut end), [(30, true), (40, true)]);
+}
+
 /// A peer fills the window and sends its end: what is announced is 0, and nothing panics. After the end no update is sent.
 #[test]
 fn a_full_window_and_an_end() {

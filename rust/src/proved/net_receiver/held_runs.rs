@@ -4,11 +4,14 @@
 
 use crate::rattle::prelude::*;
 use crate::proved::net_assembler::RunIter;
+use crate::proved::net_assembler::assembler::Turns;
 
 /// An iterator over the held runs of a receiver, made by `held`.
 ///
 /// It yields (start, end) of each run as absolute positions in rising order, the end not included,
 /// and then ends.
+///
+/// Contracts: `crates/net_receiver/src/held_runs.rt`.
 #[derive(Clone)]
 pub struct HeldRunIter<'a> {
     runs: RunIter<'a>,
@@ -42,6 +45,8 @@ impl<'a> Iterator for HeldRunIter<'a> {
 }
 
 /// A held run, by absolute positions: from `start` on, up to `end`, which is not included.
+///
+/// Contracts: `crates/net_receiver/src/held_runs.rt`.
 #[repr(C)]
 #[derive(Debug, Clone, Copy, PartialEq, Eq)]
 pub struct HeldRun {
@@ -54,6 +59,8 @@ pub struct HeldRun {
 /// An iterator over held runs, the newest first, made by `newest_runs`: at most `K`.
 ///
 /// It yields (start, end) of each run as absolute positions, the end not included.
+///
+/// Contracts: `crates/net_receiver/src/held_runs.rt`.
 #[derive(Debug)]
 pub struct NewestRunIter<const K: usize> {
     runs: [HeldRun; K],
@@ -101,4 +108,11 @@ pub(crate) fn remember(recent: &mut [u64], listed: &[HeldRun]) {
         let run = &listed[i];
         recent[i] = run.start;
     }
+}
+
+/// States that a loop over runs looked at no more of them than `most`. It does nothing.
+#[inline(always)]
+pub(crate) fn were_at_most(turns: &Turns, most: usize) {
+    let _ = turns;
+    let _ = most;
 }

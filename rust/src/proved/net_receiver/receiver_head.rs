@@ -386,18 +386,13 @@ impl ReceiverHead {
         position: u64,
         len: usize,
     ) -> usize {
+        // The part in the free window, counted from the first missing position.
         let next = self.next();
-        let limit = next.saturating_add(self.window(capacity) as u64);
-        let end = limit.min(position + len as u64);
-        let mut at = next.max(position);
-        let mut count = 0;
-        for (start, past) in self.held(runs) {
-            count += start.min(end).saturating_sub(at);
-            at = at.max(past);
-        }
-        let all = count + end.saturating_sub(at);
-        prove!(all <= len as u64, "in any `usize`");
-        all as usize
+        let window = self.window(capacity);
+        let from = position.saturating_sub(next).min(window as u64) as usize;
+        let end = position + len as u64;
+        let to = end.saturating_sub(next).min(window as u64) as usize;
+        to.saturating_sub(from) - self.held.count_between(runs, from, to)
     }
 
     /// Returns whether the first missing position and the end of each held run are at most a position.

@@ -2,8 +2,8 @@
 //! A scoreboard in parts: a head, and runs that are kept elsewhere.
 
 use crate::rattle::prelude::*;
-use crate::proved::net_receiver::held_runs::HeldRunIter;
-use crate::proved::net_assembler::assembler::laws;
+use crate::proved::net_receiver::held_runs::{HeldRunIter, were_at_most};
+use crate::proved::net_assembler::assembler::{Turns, laws};
 use crate::proved::net_assembler::width::most;
 use crate::proved::net_assembler::{AssemblerHead, Run};
 
@@ -227,17 +227,22 @@ impl ScoreboardHead {
         let most = (duplicates.saturating_sub(1) as u64).saturating_mul(segment_size as u64);
         let used = self.reported.used;
         let enough = duplicates.max(1);
+        let mut turns = Turns::new();
         let mut bytes = 0;
         // From the last run down, and no more of them than are enough.
         for above in 0..used.min(enough) {
+            turns.look();
             let Some((start, end)) = self.reported.run_at(runs, used - 1 - above) else {
                 return 0;
             };
             bytes += (end - start) as u64;
+            prove!(above + 1 <= enough, "in any `usize`");
             if above + 1 == enough || bytes > most {
+                were_at_most(&turns, enough);
                 return self.base + start as u64;
             }
         }
+        were_at_most(&turns, enough);
         0
     }
 

@@ -57,8 +57,8 @@ impl AdvertisedWindow {
     /// next multiple: at one scale the number may then be less than what was promised, by less than a
     /// unit. What was promised is still acceptable, and `edge` stays.
     ///
-    /// If the window ends before `next`, there is no room, as where the storage is full and the end, which has a number, is
-    /// acknowledged.
+    /// If the window ends before `next`, there is no room, as where the storage is full and the end, which has a
+    /// number, is acknowledged.
     ///
     /// # [Guarantees](crate#guarantees)
     ///
@@ -103,8 +103,9 @@ impl AdvertisedWindow {
     /// where it is, below `next` too, by half of the receiver's capacity, rounded up, or by one
     /// segment of `mss` bytes, and by 1 at least.
     ///
-    /// None is due if the window ends before `next`. Pass such a `window_end`, as 0, once all up to the end is acknowledged:
-    /// nothing follows that needs room, and a peer that has closed its connection would answer an update by a reset.
+    /// None is due if the window ends before `next`. Pass such a `window_end`, as 0, once all up to the end is
+    /// acknowledged: nothing follows that needs room, and a peer that has closed its connection would answer an update
+    /// by a reset.
     ///
     /// # [Guarantees](crate#guarantees)
     ///

@@ -131,7 +131,7 @@ pub fn updated_checksum(checksum: u16, old: u16, new: u16) -> u16 {
     u16::MAX - fold(without + u32::from(new))
 }
 
-/// Returns the sum of some words and of these bytes, the first of which is a high byte. The words' low byte comes first.
+/// Returns the sum of some words, whose low byte comes first, and of these bytes, the first of which is a high byte.
 fn sum_from(start: u32, bytes: &[u8]) -> PartsSum {
     PartsSum {
         sum: turned(sum_words(start, bytes)),
@@ -142,8 +142,8 @@ fn sum_from(start: u32, bytes: &[u8]) -> PartsSum {
 /// How many bytes are summed with no fold: their sum has room in 32 bits.
 const BLOCK: usize = 1 << 16;
 
-/// Adds the words of these bytes to a sum. It sums words whose low byte comes first: 256 times their sum folds to that of
-/// the words whose high byte does, since 256 times 256 is one more than a multiple of 65535.
+/// Adds the words of these bytes to a sum. It sums words whose low byte comes first: 256 times their sum folds to that
+/// of the words whose high byte does, since 256 times 256 is one more than a multiple of 65535.
 fn sum_words(start: u32, bytes: &[u8]) -> u32 {
     let mut sum = start;
     let mut rest = bytes;

@@ -68,8 +68,8 @@ pub struct TimerParts {
 ///
 /// Positions and calls are those of a sender. The timer runs while something that was sent isn't
 /// acknowledged; `start` also starts it where something else is waited for, as a window that opens. Then it
-/// runs until `stop`, or until all that was sent is acknowledged, if some of it wasn't before. What is sent where nothing
-/// is on the way starts it anew: its time isn't that of what was waited for.
+/// runs until `stop`, or until all that was sent is acknowledged, if some of it wasn't before. What is sent where
+/// nothing is on the way starts it anew: its time isn't that of what was waited for.
 ///
 /// Contracts: `crates/net_tcp/src/retransmission_timer.rt`.
 #[derive(Copy, Clone, Debug, PartialEq, Eq, Hash)]
@@ -190,8 +190,8 @@ impl RetransmissionTimer {
         self.ends_at = None;
     }
 
-    /// Takes notice that the segment with these positions is sent `now`, and starts the timer, unless it runs and something
-    /// is on the way. `numbers` are the sender's before that. Nothing changes if there are no positions.
+    /// Takes notice that the segment with these positions is sent `now`, and starts the timer, unless it runs and
+    /// something is on the way. `numbers` are the sender's before that. Nothing changes if there are no positions.
     ///
     /// If no segment is timed, one of which nothing was sent before is then. One that was timed is no
     /// longer if it is sent again: which of the copies an acknowledgement is for is not known (Karn).
@@ -217,8 +217,8 @@ impl RetransmissionTimer {
         self.time(positions.start, positions.end, numbers.sent, now);
     }
 
-    /// Starts the timer if it doesn't run, or one segment `is_alone`: what it ran for is no longer waited for. Otherwise a
-    /// second segment that `is_new` brings the probe of one that was alone.
+    /// Starts the timer if it doesn't run, or one segment `is_alone`: what it ran for is no longer waited for. Otherwise
+    /// a second segment that `is_new` brings the probe of one that was alone.
     fn run(&mut self, ack_delay: Duration, is_alone: bool, is_new: bool, now: Instant) {
         if self.ends_at.is_none() || is_alone {
             self.restart(ack_delay, is_alone, now);

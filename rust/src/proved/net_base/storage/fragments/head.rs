@@ -225,8 +225,7 @@ impl FragmentsHead {
     }
 
     /// Returns whether a byte that arrived differs from that of the fragment whose first byte is that of the packet at
-    /// `offset`. The fragment need not be within the buffer. It looks at one run more than the fragment meets, at most,
-    /// and finds the first of these by halves.
+    /// `offset`. The fragment need not be within the buffer.
     ///
     /// # Requires
     ///
@@ -234,6 +233,7 @@ impl FragmentsHead {
     pub fn differs(&self, bytes: &[u8], runs: &[Run], offset: usize, data: &[u8]) -> bool {
         assembler::laws::maximal_runs();
         let mut turns = Turns::new();
+        // The runs before the last one that starts by `offset` end by then.
         let first = self.present.runs_by(runs, offset).saturating_sub(1);
         for k in first..self.present.run_count() {
             turns.step();
