@@ -190,8 +190,7 @@ fn a_peer_without_blocks_is_not_probed() {
 
 /// Where the segments begin that are sent now, and whether they were sent before.
 fn sent(end: &mut SendingEnd<'_, 4>) -> Vec<(u64, bool)> {
-    core::iter::from_fn(|| end.next_segment(1_000, Instant::ZERO))
-        .map(|it| (it.pos, it.is_again))
+    core::iter::from_fn(|| end.next_segment(1_000, Instant::ZERO).map(|it| (it.pos, it.is_again)))
         .collect()
 }
 
