@@ -6,9 +6,9 @@
 --     ReceivesFrom f x v      the receiver v took only parts of x
 --     QueueIsOf x v      the queue is what x has after the bytes that were read
 --     window_part v pos xs      the bytes of a segment that the free window of v takes
--- The others are laws: when these hold, what follows from them, and what commands leave. `MatchesStream`, `AllMatch`,
--- `MatchesInWindow`, `AllMatchInWindow` and `ReceivesFrom` are not unfolded by a caller's proofs, which find them by the
--- clauses of the calls and by the laws that make them.
+-- The others are laws: when these hold, what follows from them, and what commands leave. `ReceivesFrom` and those that
+-- match are not unfolded by a caller's proofs, which find them by the clauses of the calls and by the laws that make
+-- them.
 -- Retransmitted segments, segments that together cover a range, and what reads leave.
 --     IsHeld v pos xs      all bytes of a segment in the free window are held already
 --     HasByteAt v p      the position p is below the first missing one, or is held

@@ -108,6 +108,8 @@ loop-above-preserved c =
     record {
       bytes = counted e ∙ ap (λ j. sizes (drop j (all e))) (here e);
       few = ap (λ j. tell_loss (d e) (n e) (drop j (all e))) (sym (here e)) ∙ few;
+      looks = omega (arith, c.look.ensures.looks, c.loop-above.invariant.looks);
+      moves = omega (arith, c.look.ensures.moves, c.loop-above.invariant.moves);
     }
 
 pub returns : goal.returns
