@@ -5,6 +5,7 @@
     python3 tools/edits.py --log FILE             all edits, by what `rt ci` printed into a file
     python3 tools/edits.py --table                the table of CONTRIBUTING.md alone: edits and tests that it names are there
     python3 tools/edits.py --twins [CRATE ..]     the twins of all edits, or of those of some crates
+    python3 tools/edits.py --rows [CRATE ..]      the rows of all edits, or of those of some crates
 
 CONTRIBUTING.md has a table of wrong bodies. A row names the edit, and the function, as `rt check --only`
 takes it, with the name of one of its `ensures`; or the test that refuses the body. The name is `ensures`
@@ -18,8 +19,12 @@ A right body of the same shape may be refused like the edit. So each `new:` is f
 `# twin:`, which `rt` takes for a comment, the text of a right body in its place. `--twins` checks the
 function with these texts, and it has to be proved.
 
-Ends with status 1 if an edit is in no row, a row names nothing, another goal refuses an edit, or a twin
-isn't proved.
+An edit is the body that its name says: lines `# row: CALL => REPLY` are a block of rows of models/make.py,
+each with what the reply begins with that the wrong body gives, or nothing. `--rows` plays them over the Cargo
+crate with the edited text erased, where each must be so, and over the right text, where one must not.
+
+Ends with status 1 if an edit is in no row, a row names nothing, another goal refuses an edit, a twin isn't
+proved, or rows aren't as they say.
 """
 import os
 import pathlib
@@ -183,6 +188,60 @@ def try_twins(folders):
     return wrong
 
 
+# What compares a reply with a row, if a row has only what the reply begins with.
+BEGINS = """macro_rules! begins {
+    ($given:expr, $reply:expr, $($rest:tt)*) => {
+        assert!($given.starts_with(AsRef::<str>::as_ref(&$reply)), "gives {}, not {}", $given, $reply)
+    };
+}"""
+
+
+def rows_of(edit):
+    """The block of rows of an edit."""
+    rows = re.findall(r"^# row: (.*)$", edit.read_text(), re.M)
+    return [row if " => " in row else f"{row} => " for row in rows]
+
+
+def play(copy, crate, texts, rows):
+    """What is said of the first of the rows that isn't so over a copy of the Cargo crate, with these texts of a crate; nothing
+    if each is so."""
+    import erase
+
+    sources, refused = erase.sources, []
+    erase.sources = lambda *of: ((name, path, texts.get(f"src/{path}", text) if name == crate else text) for name, path, text in sources(*of))
+    for file, text in erase.erased(refused).items():
+        place = copy / file.relative_to(ROOT / "rust")
+        if place.read_text() != text:
+            place.write_text(text)
+    erase.sources = sources
+    (copy / "tests/rows/rows.txt").write_text("".join(f"{row}\n" for row in rows))
+    words = ["cargo", "test", "--offline", "--quiet", "--test", "rows", "--target-dir", copy.parent / "target"]
+    said = "".join(refused) or subprocess.run(words, cwd=copy, capture_output=True, text=True).stdout
+    # The test also wants rows of each kind, which come after those that are wrong.
+    told = re.search(r"gives .*, not .*", said)
+    return "" if re.search(r"no row .* was made|test result: ok", said) else told[0] if told else said or "it doesn't compile"
+
+
+def try_rows(folders):
+    """Plays the rows of each edit that has some; returns how many edits have rows that aren't as they say."""
+    wrong, count = 0, 0
+    with tempfile.TemporaryDirectory() as room:
+        copy = pathlib.Path(room) / "rust"
+        shutil.copytree(ROOT / "rust", copy, ignore=shutil.ignore_patterns("target"))
+        test = copy / "tests/rows/main.rs"
+        test.write_text(re.sub(r"assert_eq!(?=\(.*, \*?repl)", "begins!", test.read_text()).replace("\nuse ", f"\n{BEGINS}\nuse ", 1))
+        for edit in [it for folder in folders for it in sorted(folder.glob("must-fail/*.edit")) if rows_of(it)]:
+            crate, count = edit.parent.parent.name, count + 1
+            said = play(copy, crate, edited(edit.parent.parent, edit), rows_of(edit))
+            how = "its body gives" if not said else f"ITS BODY DOESN'T GIVE\n    {said}"
+            if not said and not play(copy, crate, {}, rows_of(edit)):
+                how = "THE RIGHT BODY GIVES TOO"
+            wrong += how.isupper() or bool(said)
+            print(f"{name_of(edit)}: {how} {len(rows_of(edit))} rows")
+    print(f"of {count} edits with rows {wrong} have others")
+    return wrong
+
+
 def main():
     if sys.argv[1:2] == ["--table"]:
         return 1 if differing() else 0
@@ -190,6 +249,8 @@ def main():
         return 1 if compare(folders_of([]), pathlib.Path(sys.argv[2]).read_text()) else 0
     if sys.argv[1:2] == ["--twins"]:
         return 1 if try_twins(folders_of(sys.argv[2:])) else 0
+    if sys.argv[1:2] == ["--rows"]:
+        return 1 if try_rows(folders_of(sys.argv[2:])) else 0
     folders = folders_of(sys.argv[1:])
     return 1 if compare(folders, must_fail(folders)) else 0
 
