@@ -210,6 +210,23 @@ def edits():
             sys.argv[1:] = words
             same(words, said(edits.main)[0], 1)
         two.write_text("file: src/b.rt\nold: e\nnew: f\n")
+        one = files / "crates/net_a/must-fail/one.edit"
+        one.write_text(one.read_text() + "# row: a 1\n# row: b => c\n")
+        same("rows", edits.rows_of(one), ["a 1 => ", "b => c"])
+        (files / "rust/tests/rows").mkdir()
+        (files / "rust/tests/rows/main.rs").write_text("//! A.\nuse a;\nassert_eq!(given, *reply, \"a\");\nassert_eq!(a, b);\n")
+        kept, test = edits.play, (files / "rust/tests/rows/main.rs").read_text()
+        for of_wrong, of_right, wrong, line in [("", "gives a, not b", 0, "its body gives 2 rows"), ("", "", 1, "THE RIGHT BODY GIVES TOO 2 rows"),
+                                                ("gives a, not c", "", 1, "ITS BODY DOESN'T GIVE")]:
+            def edits_play(copy, crate, texts, rows):
+                same("played", (crate, rows, (copy / "tests/rows/main.rs").read_text()), (
+                    "net_a", ["a 1 => ", "b => c"], test.replace("eq!(given", "", 1).replace("assert_,", "begins!(given,")
+                    .replace("\nuse ", f"\n{edits.BEGINS}\nuse ")))
+                return of_wrong if texts else of_right
+            edits.play = edits_play
+            status, lines = said(edits.try_rows, edits.folders_of([]))
+            same(line, (status, lines[0], lines[-1]), (wrong, f"net_a/one: {line}", f"of 1 edits with rows {wrong} have others"))
+        edits.play = kept
         same("no such text", said(edits.edited, files / "crates/net_a", two), (f"{two}: not in src/b.rt: e", []))
 
 
