@@ -4,12 +4,12 @@
     python3 tools/erase.py             writes rust/src/proved, of the crates that tools/parts/erase_list.py names, and the
                                        program, rust/examples/net_bench/proved
     python3 tools/erase.py --check     writes nothing, and names each file that isn't so
-    python3 tools/erase.py --rules     prints the rules, and the modules that aren't erased
 
-What it does are `RULES`, and no more; what they refuse is said with its file and line. From a function that stays it takes
-no statement and no call; what goes as a whole are functions that nothing in the text calls, by rule 9. What is taken out
-ends where its bracket closes, and texts and comments in it, which may hide a bracket, are refused. That names mean in Rust
-what they mean in Rattle is for tools/same_program.py. tools/parts/erase_says.py adds lines of documentation.
+What it does are the rules of docs/TRUST.md, "The eraser's rules", and no more; what they refuse is said with its file and
+line. From a function that stays it takes no statement and no call; what goes as a whole are functions that nothing in the
+text calls, by rule 9. What is taken out ends where its bracket closes, and texts and comments in it, which may hide a bracket,
+are refused. That the text means in Rust what it means in Rattle is for tools/same_program.py. tools/parts/erase_says.py adds
+lines of documentation.
 """
 import re
 import sys
@@ -21,36 +21,6 @@ from parts import erase_list as given
 from parts import erase_says
 from parts.erase_tokens import OPEN, SPACE, Refused, Text, words
 
-RULES = '''\
-1. Contracts go, `requires` and `ensures` between a function's signature and its body, with their comments; and so do ghost
-   items and members.
-2. Attributes `tactic` and `error` go. The text of `error` becomes that of the error's `Display`; `{0}` in it is the only field.
-3. `Drop` and `Error` go from lists of derives.
-4. Modules that are listed below, and imports from them, go: Rust has them by hand, or not at all.
-5. Before the paths `crate`, `std` and those of crates there is the module where Rust has them. These words in no path are
-   refused.
-6. An impl of `Drop` goes, since rustc drops fields by itself: a `drop` that does more than take apart and drop is refused.
-   So does one of `Model`, which has ghost members alone. An impl of `Clone` is one of the trait of this name in
-   `rattle.rs`, which Rust's `Clone` calls. A bound by `Drop` is one by `Sized`.
-7. A public function whose signature names a head becomes `pub(crate)`. An export loses `extern "C"` and its
-   documentation, and becomes `inline(always)`.
-8. `erase_list.py` has what else differs, with its files and how often: lifetimes, attributes, and types.
-9. A law goes that no text but laws names, and so does a function of `UNCALLED`. These are free functions, and methods
-   whose names no trait has: rustc refuses a text that calls one which isn't there.
-10. From an import goes what only contracts name, unless it is a trait or std's, and so do a `pub use` of another crate, and
-    names of `UNNAMED`. Rustc refuses a text that uses what isn't imported.
-11. Refused are comments in logic, and texts but of letters, spaces and line feeds; a contract inside of a function, imports
-    of all names, the rest of a struct from an element, a bound of any `usize` that does more than compare, and macros and
-    words that aren't, or are, in `erase_list.py`: `clone` as a call, operators by path, sizes, `isize`, `BITS`.
-12. All other tokens stay, in their order, and no word of contracts is left. A file that uses it imports
-    `rattle::prelude`, where `prove!` is `assert!`, tested when a program is compiled if it is about `N`, and in debug
-    builds alone if it is of a `usize` of any width.
-13. In documentation what a public function requires and tests is under "Panics".
-
-Not erased:
-
-''' + ''.join('\n  '.join(textwrap.wrap(f'- {", ".join(f"`{name}`" for name in names)}: {why}', 118)) + '\n'
-                for why, names in given.UNERASED.items())
 REPOSITORY = Path(__file__).resolve().parent.parent
 OUT, EXAMPLE = REPOSITORY / 'rust/src/proved', REPOSITORY / 'rust/examples/net_bench/proved'
 TOP = '''//! The proved code: crates of the repository without their contracts, as `tools/erase.py` writes them.
@@ -393,9 +363,6 @@ def inexact(rust, rattle):
 
 
 def main(arguments):
-    if arguments == ['--rules']:
-        print(RULES, end='')
-        return 0
     said = []
     files, old = erased(said), {file: file.read_text() for out in (OUT, EXAMPLE) for file in out.rglob('*') if file.is_file()}
     differ = [path for path in sorted(files.keys() | old.keys()) if files.get(path) != old.get(path)]
