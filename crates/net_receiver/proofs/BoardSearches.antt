@@ -1,12 +1,10 @@
 -- What a search in the offsets of a scoreboard says of its positions.
-use Rattle.std.proofs.lemmas.Grind.{common_steps}
 use Rattle.net_receiver.proofs.Words.{◌≡◌, ℕ, ◌+◌, ◌-◌, ◌<◌, ◌≤◌, ◌^◌, min, max, true, false, nat_tests, arith, sym}
 use Rattle.net_receiver.proofs.Words.{refl, ap, subst, ◌∙◌, zero, suc, cases_lt, either, both_ways, not, from_bool, cases_Bool, ◌⊎◌, inl, inr}
 use Rattle.net_receiver.proofs.Words.{IsTrue, Some, None, Positions, contains, first_missing, first_missing-is}
 use Rattle.net_receiver.proofs.Words.{first_missing-le, first_missing-has, first_missing-misses, IsNextHole, board}
-use Rattle.std.specs.Prelude.{Option, IsFalse}
 use Rattle.net_assembler.specs.Positions.{EndsHole, missing_count, present_count}
-use Rattle.net_receiver.proofs.Words.{List, [], ◌∷◌, ◌↔◌, ◌*◌, nat_lt, nat_le, length, drop, get_or, slice_get}
+use Rattle.net_receiver.proofs.Words.{List, [], ◌∷◌, ◌↔◌, nat_lt, length, drop, get_or, slice_get}
 use Rattle.net_receiver.proofs.Words.{maximal_runs, IsMaximalRun, runs_shifted_up, set_of, IsRising, sizes, beyond}
 use Rattle.net_receiver.proofs.Words.{reported_by, IsSoundBoard}
 use Rattle.std.proofs.Math.Seq.{drop-cons}

@@ -8,7 +8,7 @@ use Rattle.net_receiver.proofs.Words.{end_at}
 use Rattle.std.proofs.lemmas.List.Elements.{All-get_or}
 use Rattle.std.proofs.lemmas.Option.{slice_get_within, slice_get-get_or, get_or_from_slice_get}
 use Rattle.net_assembler.specs.RunLists.{SplitsRuns, start_at}
-use Rattle.net_assembler.proofs.Joins.{apart, at_run, ends_rise}
+use Rattle.net_assembler.proofs.Joins.{apart, ends_rise}
 use Rattle.net_assembler.proofs.Runs.{are_maximal_runs, rising-maximal_runs}
 use Rattle.net_assembler.proofs.ShiftedRuns.{end_at-up, get_or-up, length-up, start_at-up}
 use Rattle.net_receiver.proofs.NewestRuns.{lies_from, count, count_more, clipped}

@@ -3,9 +3,9 @@ use Rattle.std.proofs.lemmas.Bool.Decides.{nat_tests}
 use Rattle.net_receiver.proofs.Words.{◌≡◌, ◌⊎◌, inl, inr, ℕ, ◌+◌, ◌-◌, ◌<◌, ◌≤◌, ◌||◌, Bool, true, false, cond, List}
 use Rattle.net_receiver.proofs.Words.{[], ◌∷◌, ◌++◌, length, map, take, Some, None, All, slice_get, is_some, refl, sym}
 use Rattle.net_receiver.proofs.Words.{ap, subst, ◌∙◌, arith, ⊎_elim, leb-true, le-leb, le_refl, take_all}
-use Rattle.net_receiver.proofs.Words.{length-append, append_assoc, suc, unwrap_or, zero, min, max, not, ◌&&◌, nat_le}
+use Rattle.net_receiver.proofs.Words.{length-append, append_assoc, suc, unwrap_or, zero, min, max, ◌&&◌, nat_le}
 use Rattle.net_receiver.proofs.Words.{nat_lt, le-ltb, drop, length-take, length-drop, slice_get_within, count_by}
-use Rattle.net_receiver.proofs.Words.{AllPairs, find, list_any, range_with_len, both_ways, and_parts, and_from}
+use Rattle.net_receiver.proofs.Words.{find, list_any, range_with_len, both_ways, and_parts, and_from}
 use Rattle.net_receiver.proofs.Words.{cases_Bool, cases_lt, cond-true, cond-false, ltb-true, lt-ltb, or_left, or_right}
 use Rattle.net_receiver.proofs.Words.{or_cases, false_from_ne_true, lt-leb, length-map, All-nil, All-cons, All-head}
 use Rattle.net_receiver.proofs.Words.{All-tail, All-append, sum_by-cons, Positions, contains, maximal_runs, lies_in}
@@ -21,7 +21,6 @@ use Rattle.std.proofs.lemmas.List.Sums.{sum_by-append}
 use Rattle.net_assembler.proofs.Runs.{are_maximal_runs}
 use Rattle.net_receiver.specs.{with_run, runs_of, starts, AreNewestRuns, NewestRunsAreListed, IsListedBy, HasOneOf}
 use Rattle.net_receiver.specs.{with_starts}
-use Rattle.std.specs.Cmp.{both_ways as same_tests}
 use Rattle.net_receiver.specs.NewestRuns.{Calls, recent_after, StayTogether, AllStayTogether, IsHeldSince}
 use Rattle.net_receiver.specs.NewestRuns.{NewestAreFirst, HeldStayTogether}
 use Rattle.net_receiver.proofs.Sets.{slice_get-take, contains-domain}

@@ -1,4 +1,4 @@
-use Rattle.net_receiver.proofs.Words.{◌≡◌, ◌∙◌, ◌+◌, ◌-◌, ◌^◌, ◌≤◌, ap, max, arith, set_of, position_fits, sym}
+use Rattle.net_receiver.proofs.Words.{◌-◌, ◌^◌, arith, set_of, position_fits}
 use Rattle.net_assembler.specs.Width.{shortfall}
 use Rattle.net_receiver.proofs.BoardSearches.{missing_fits, missing_place}
 use Rattle.net_receiver.proofs.scoreboard_head.ScoreboardHead.first_missing.Goals as goal

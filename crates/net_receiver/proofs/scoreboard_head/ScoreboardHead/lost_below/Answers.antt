@@ -1,5 +1,5 @@
-use Rattle.net_receiver.proofs.Words.{ℕ, ◌≡◌, ◌∙◌, ◌∷◌, ◌+◌, ◌-◌, ◌*◌, ◌≤◌, ◌⊎◌, ◌<◌, ◌↔◌, max, inl, inr, length, sym, ap}
-use Rattle.net_receiver.proofs.Words.{arith, refl, subst, true, false, suc, drop, [], maximal_runs, reported_by, beyond, sizes, cases_lt}
+use Rattle.net_receiver.proofs.Words.{ℕ, ◌≡◌, ◌∙◌, ◌+◌, ◌-◌, ◌*◌, ◌≤◌, ◌⊎◌, ◌<◌, ◌↔◌, max, inl, inr, length, sym, ap}
+use Rattle.net_receiver.proofs.Words.{arith, refl, subst, false, suc, drop, [], maximal_runs, reported_by, beyond, sizes, cases_lt}
 use Rattle.net_receiver.proofs.Words.{both_ways, IsTrue, length-drop, List}
 use Rattle.std.proofs.lemmas.List.{drop_all}
 use Rattle.net_receiver.specs.{runs_above, tell_loss}

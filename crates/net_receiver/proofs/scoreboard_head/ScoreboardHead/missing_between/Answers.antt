@@ -1,4 +1,4 @@
-use Rattle.net_receiver.proofs.Words.{◌∙◌, ◌+◌, ◌-◌, ◌^◌, ap, arith, set_of, position_fits}
+use Rattle.net_receiver.proofs.Words.{◌-◌, ◌^◌, arith, set_of, position_fits}
 use Rattle.net_assembler.specs.Width.{shortfall}
 use Rattle.net_receiver.proofs.BoardSearches.{missing_is, none_from}
 use Rattle.net_receiver.proofs.scoreboard_head.ScoreboardHead.missing_between.Goals as goal
