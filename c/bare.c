@@ -82,10 +82,10 @@ static int run_receiver(void) {
     uint8_t into[8];
     const uint8_t *bytes = (const uint8_t *)"abcdefgh";
     if (net_base_finite_receiver_segment(&receiver, storage, 8, runs, 4, 103, bytes + 3, 5, false, &counts)
-        != NET_BASE_DONE)
+        != NET_BASE_SEGMENT_DONE)
         return 7;
     if (net_base_finite_receiver_segment(&receiver, storage, 8, runs, 4, 100, bytes, 4, false, &counts)
-        != NET_BASE_DONE)
+        != NET_BASE_SEGMENT_DONE)
         return 8;
     if (counts.kept != 4 || counts.queued != 8) return 9;
     if (net_base_finite_receiver_read(&receiver, storage, 8, into, 8) != 8) return 10;

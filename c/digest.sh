@@ -7,7 +7,7 @@ out=$(mktemp -d)
 trap 'rm -rf "$out"' EXIT
 (cd "$here/../crates/net_ffi" && rt lib) > "$out/said" 2>&1 || { cat "$out/said"; exit 1; }
 python3 "$here/../tools/ffi.py" --sequence "$out/sequence.c"
-cc -O2 -I "$here" "$out/sequence.c" "$here/../crates/net_ffi/out/libnet_ffi.a" -o "$out/sequence"
+cc -O2 -DNET_BASE_PLAIN_NAMES -I "$here" "$out/sequence.c" "$here/../crates/net_ffi/out/libnet_ffi.a" -o "$out/sequence"
 "$out/sequence" > "$out/printed"
 grep -q "bits $(sed 's/.* //' "$out/printed")$" "$here/sequence.txt" ||
     { echo "digest.sh: the kit's library has another digest than c/sequence.txt: $(cat "$out/printed")"; exit 1; }

@@ -86,9 +86,9 @@ static void use_packets(void) {
 static void receive(struct net_base_finite_receiver *receiver, uint8_t *storage, struct net_base_run *runs,
     const char *text, unsigned from, unsigned size) {
     struct net_base_kept_counts counts = {0, 0};
-    enum net_base_status status = net_base_finite_receiver_segment(receiver, storage, CAPACITY, runs,
+    enum net_base_segment_status status = net_base_finite_receiver_segment(receiver, storage, CAPACITY, runs,
         MOST_RUNS, from, (const uint8_t *)text + from, size, false, &counts);
-    if (status == NET_BASE_DONE)
+    if (status == NET_BASE_SEGMENT_DONE)
         printf("%u to %u: kept %u, ", from, from + size, (unsigned)counts.kept);
     else
         printf("%u to %u: too many runs, ", from, from + size);

@@ -1,10 +1,11 @@
 #!/bin/sh
 # Builds the library by cargo, and runs the programs of this folder over it: sh c/run.sh [--record]
 #
-# It compares the library's symbols with the header, and the structs' layouts; tries the header in C11 and C++17 by each
-# compiler that is here, and by doxygen; and runs bare (no C library), hosted, those of programs, each export at the values
-# of tools/exports.txt and with each pointer null, and a sequence of 1,000,000 calls, whose digest is in c/sequence.txt.
-# CC and CXX name the compilers of C and C++. It wants cargo, Python and nothing else. --record writes the digest.
+# It compares the library's symbols with the header, and the structs' layouts; tries the headers in four languages by each
+# compiler that is here, and by doxygen; a program of another version, which must not link or load; pkg-config and CMake; and
+# runs bare (no C library), hosted, edges, duties, those of programs, each export at the values of tools/exports.txt and with
+# each pointer null, and a sequence of 1,000,000 calls, whose digest is in c/sequence.txt. CC and CXX name the compilers of C
+# and C++. It wants cargo, Python and nothing else. --record writes the digest.
 set -eu
 
 here=$(cd "$(dirname "$0")" && pwd)
@@ -49,11 +50,10 @@ echo "library: wants only $(tr '\n' ' ' < "$out/wanted")"
 # none is written.
 python3 "$here/../tools/ffi.py" --tests "$out/exports.c" --layouts "$out/layouts.c" --sequence "$out/sequence.c"
 nm -g --defined-only "$out/library.o" | awk '$2 == "T" { print $3 }' | sort -u > "$out/defined"
-grep -oE '\bnet_base_[a-z0-9_]+\(' "$here/net_base.h" | tr -d '(' | sort -u > "$out/declared"
+number=$(sed -n 's/^#define NET_BASE_INTERFACE //p' "$here/net_base.h")
+grep -v '^#' "$here/net_base.h" | sed -n "s/.* NET_BASE_LINK(\([a-z0-9_]*\));/net_base_${number}_\1/p" | sort -u > "$out/declared"
 diff "$out/defined" "$out/declared" || fail "library (<) and header (>) differ"
 echo "header: $(wc -l < "$out/declared") exports"
-
-abi=$(grep '^net_base_abi_' "$out/declared")
 
 at="layouts: a field of a struct isn't where Rust has it"
 "$compiler" -I "$here" "$out/layouts.c" -o "$out/layouts"
@@ -67,6 +67,7 @@ at="a warning of the header"
 for each in "$compiler" gcc clang; do
     command -v "$each" > /dev/null || continue
     "$each" -std=c11 $warnings -x c -fsyntax-only "$here/net_base.h"
+    "$each" -std=c2x $warnings -DNET_BASE_CHECK=2 -x c -fsyntax-only "$here/net_base.h"
 done
 for each in "${CXX:-c++}" g++ clang++; do
     command -v "$each" > /dev/null || continue
@@ -98,10 +99,61 @@ if command -v pkg-config > /dev/null; then
     cp "$here/net_base.h" "$here/net_base.pc" "$out/place"
     ln -s "$target" "$out/place/target"
     words=$(PKG_CONFIG_PATH="$out/place" pkg-config --cflags --libs net_base)
-    printf '#include <net_base.h>\nint main(void) { return (int)%s() - %s; }\n' "$abi" "${abi#net_base_abi_}" > "$out/plain.c"
-    "$compiler" "$out/plain.c" $words -o "$out/plain"
+    "$compiler" -c -I "$here" "$out/plain.c" -o "$out/plain.o"
+    "$compiler" "$out/plain.o" $words -o "$out/plain"
     "$out/plain"
 fi
+
+at="duties.c"
+# Calls that keep the duties aren't told of.
+for each in programs/stream programs/reassembly duties; do
+    "$compiler" -std=c11 -O2 $warnings -DNET_BASE_CHECK=2 -I "$here" "$here/$each.c" "$library" -o "$out/program"
+    "$out/program" > "$out/said" || { cat "$out/said"; exit 1; }
+done
+
+at="another version's library"
+# A program of another version doesn't link with this one's library, and doesn't run over it.
+mkdir "$out/other"
+sed "s/net_base_${number}_/net_base_0_/" "$here/net_base.h" > "$out/other/net_base.h"
+echo 'void net_base_0_ring_init(void); void net_base_0_ring_init(void) {}' > "$out/other/stub.c"
+shared="-shared -fPIC -Wl,-soname,libnet_base.so"
+"$compiler" $shared "$out/other/stub.c" -o "$out/other/libnet_base.so"
+"$compiler" $shared -Wl,--whole-archive "$library" -Wl,--no-whole-archive -o "$out/libnet_base.so"
+for each in "$compiler -x c" "gcc -x c" "clang -x c" "${CXX:-c++} -x c++" "g++ -x c++" "clang++ -x c++"; do
+    command -v "${each% -x*}" > /dev/null || continue
+    $each -c -I "$here" "$out/plain.c" -o "$out/plain.o"
+    "$compiler" "$out/plain.o" "$out/libnet_base.so" -o "$out/plain"
+    LD_LIBRARY_PATH=$out "$out/plain"
+    $each -c -I "$out/other" "$out/plain.c" -o "$out/other.o"
+    ! "$compiler" "$out/other.o" "$library" -o "$out/plain" 2> "$out/said" || fail "a program of another version links"
+    grep -q "net_base_0_ring_init" "$out/said"
+    "$compiler" "$out/other.o" "$out/other/libnet_base.so" -o "$out/plain"
+    ! LD_LIBRARY_PATH=$out "$out/plain" 2> "$out/said" || fail "a program of another version runs"
+    grep -q "net_base_0_ring_init" "$out/said"
+done
+
+at="CMake"
+# The lines of docs/FFI.md, and over what they install another project.
+if command -v cmake > /dev/null; then
+    mkdir "$out/user" "$out/found"
+    cp "$out/plain.c" "$out/user/my.c"
+    ln -s "$here/.." "$out/user/net-base"
+    { printf 'cmake_minimum_required(VERSION 3.16)\nproject(user C)\n'; grep -E '^    (add_|target_)' "$here/../docs/FFI.md"; } > "$out/user/CMakeLists.txt"
+    sed 's/add_subdirectory.*/find_package(net_base REQUIRED)/; s|my\.c|../user/my.c|' "$out/user/CMakeLists.txt" > "$out/found/CMakeLists.txt"
+    for each in user found; do
+        { cmake -S "$out/$each" -B "$out/$each/built" "-DCMAKE_INSTALL_PREFIX=$out/installed" "-DCMAKE_PREFIX_PATH=$out/installed" &&
+            cmake --build "$out/$each/built" && "$out/$each/built/my" &&
+            { [ $each = found ] || cmake --install "$out/user/built"; }; } > "$out/said" 2>&1 || { cat "$out/said"; exit 1; }
+    done
+fi
+
+at="edges.c"
+# Also over a library with debug assertions, which tell of a pointer to nothing that is used.
+(cd "$here" && CARGO_TARGET_DIR="$target" cargo build --offline --locked --quiet)
+for each in "$library" "$target/debug/libnet_base.a"; do
+    "$compiler" $flags -I "$here" "$here/edges.c" "$each" -o "$out/edges"
+    "$out/edges"
+done
 
 at="bare.c"
 "$compiler" $flags -ffreestanding -fno-stack-protector -fno-builtin -nostdlib -static \
@@ -115,11 +167,11 @@ diff "$here/hosted.stdout" "$out/printed" || fail "hosted.c prints something els
 echo "hosted: as in hosted.stdout"
 
 at="tools/exports.txt"
-"$compiler" $flags $sanitizers -I "$here" "$out/exports.c" "$library" -o "$out/exports"
+"$compiler" $flags -O1 $sanitizers -I "$here" "$out/exports.c" "$library" -o "$out/exports"
 "$out/exports" || fail "a value of tools/exports.txt"
 
 at="the sequence"
-"$compiler" $flags $sanitizers -I "$here" "$out/sequence.c" "$library" -o "$out/sequence"
+"$compiler" $flags -O1 $sanitizers -I "$here" "$out/sequence.c" "$library" -o "$out/sequence"
 "$out/sequence" > "$out/printed"
 cat "$out/printed"
 [ "${1:-}" != --record ] || sed -i "s/^$(getconf LONG_BIT) bits .*/$(getconf LONG_BIT) bits $(sed 's/.* //' "$out/printed")/" "$here/sequence.txt"

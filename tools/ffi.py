@@ -1,20 +1,22 @@
 #!/usr/bin/env python3
 """Writes the declarations of the library for C from the exports of crates/net_ffi.
 
-    python3 tools/ffi.py               writes the exports of heads, header, shim and net_base.pc of c, and duties in docs/FFI.md
+    python3 tools/ffi.py               writes the exports of heads, of c header, tests of duties, shim and net_base.pc, and
+                                       duties in docs/FFI.md
     python3 tools/ffi.py --check       compares the files with what it would write; status 1 if one is stale
     python3 tools/ffi.py --tests FILE  writes the program that calls each export at the values of exports.txt
     python3 tools/ffi.py --sequence FILE    writes the program that makes one long sequence of calls of all
 
 It reads, in the order of the modules in lib.rt, but those in FIRST before,
 - each `#[unsafe(no_mangle)] pub extern "C" fn`, with its doc comment;
-- the type `Status`, an enum in C, whose enumerators are the constants `NET_BASE_..` of that type, and as `NET_BASE_NONE` what
-  the function `no_number` returns: no constant knows how many bits a `usize` has;
+- the types `..Status`, each an enum in C, whose enumerators are those constants `NET_BASE_..` of the type `Status` that its
+  comment names, and as `NET_BASE_NONE` what the function `no_number` returns: no constant knows how many bits a `usize` has;
 - each `#[repr(C)]` struct that one of these takes or returns, of this crate or of one that it uses.
 
 A slice is a pointer and then a length, with `_length` after the slice's name; `&T` and `&mut T` are pointers. In
 C a struct's name is in snake case, without `Net` before and `Head` after it, and has the prefix `net_base_`. The doc
-comment of a module heads its section; of a struct of another crate only its first paragraph is taken. The duties and
+comment of a module heads its section, a group of doxygen's, but for what follows its first paragraph: that is in the comment
+of the section's head. Of a struct of another crate only the first paragraph is taken. The duties and
 refusals in the crate's own comment are in the header, and the duties in docs/FFI.md. The index in the header is that of heads.txt.
 """
 import argparse
@@ -46,9 +48,18 @@ END = "/* END */"
 WIDTH = 100
 C_TYPES = {"usize": "size_t", "bool": "bool"}
 C_TYPES |= {f"{sign}{bits}": f"{'u' * (sign == 'u')}int{bits}_t" for sign in "iu" for bits in (8, 16, 32, 64)}
-# The type of the statuses, an alias of `u32`, and what says in C that one of it isn't to be thrown away.
+# The type of the numbers of all statuses, an alias of `u32`, and what says in C that a result isn't to be thrown away.
 STATUS, MUST_USE = "Status", "NET_BASE_MUST_USE"
-C_TYPES[STATUS] = "enum net_base_status"
+# The statuses that a call can answer, by the type of its result: an alias of `u32` whose comment names them. Each is an enum.
+ALIASES = {name: " ".join(re.sub("^///", "", doc, flags=re.M).split()) for doc, name in re.findall(
+    r"((?:^///.*\n)+)^pub type (\w+Status) = u32;", (EXPORTS / "src/refusals.rt").read_text(), flags=re.M)}
+ANSWERS = {name: re.findall(r"`([A-Z_]+)`", doc) for name, doc in ALIASES.items()}
+REFUSED_FOR_NULL = {name for name, doc in ALIASES.items() if "`REFUSED` for null alone" in doc}
+C_TYPES |= {name: f"enum net_base_{re.sub('Status$', '', name).lower()}_status" for name in ANSWERS}
+# Results that a refusal shows in. Of other numbers 0 is returned for null alone.
+REFUSES = {"bool", "usize", "u64", *ANSWERS}
+# Refused for null alone, and there is nothing to do where an older segment's window isn't taken.
+MAY_DROP = {"net_base_peer_window_update"}
 C_LIMITS = {"usize": "SIZE"}
 C_LIMITS |= {f"{sign}{bits}": f"{'U' * (sign == 'u')}INT{bits}" for sign in "iu" for bits in (8, 16, 32, 64)}
 
@@ -140,7 +151,7 @@ def items_of(path):
             kind, value = re.match(r"\s*:\s*(\w+)\s*=\s*(.*?);", text[at:], flags=re.S).groups()
             if name.startswith("NET_BASE_"):
                 yield Item("const", name, doc_of(head), type=kind, text=value)
-        elif match["enum"] and name == STATUS:
+        elif match["enum"] and name in ANSWERS:
             yield Item("enum", name, doc_of(head))
         elif match["struct"] and "#[repr(C)]" in head:
             opening = text.index("{", at)
@@ -194,10 +205,15 @@ def structs_of(name):
     return name
 
 
-def refusal(kind):
-    """What a refused call returns in place of a type, as code: that of a struct has its own function in net_ffi."""
-    names = {"": "", "bool": "false", "usize": "refusals::no_number()", "u64": "u64::MAX", STATUS: "refusals::NET_BASE_REFUSED"}
-    return names.get(kind, "0" if kind in C_TYPES else f"refused_{snake(kind)}()")
+def refusal(item):
+    """What a refused call returns in place of its result, as code: that of a struct has its own function in net_ffi."""
+    from parts import heads
+
+    if item.name in heads.shut(heads.TABLE.read_text()):
+        return "true"
+    names = {"": "", "bool": "false", "usize": "refusals::no_number()", "u64": "u64::MAX"}
+    names |= {name: "refusals::NET_BASE_REFUSED" for name in ANSWERS}
+    return names.get(item.type, "0" if item.type in C_TYPES else f"refused_{snake(item.type)}()")
 
 
 class Library:
@@ -207,17 +223,19 @@ class Library:
         self.structs = self.all_structs(crate)
         self.sections, self.done = [], set()
         for paths in modules_of(crate):
-            section = []
+            section, statuses = [], {}
             for item in [item for path in paths for item in items_of(path)]:
                 if item.kind == "fn":
                     self.need(section, [member.type for member in item.members] + [item.type])
                 if item.type == STATUS and item.kind == "const":
-                    next(it for it in section if it.kind == "enum").members.append(item)
+                    statuses[item.name.removeprefix("NET_BASE_")] = item
                 elif item.kind != "struct":
                     section.append(item)
+            for item in [item for item in section if item.kind == "enum"]:
+                item.members = [statuses[name] for name in ANSWERS[item.name]]
             if section:
                 section.sort(key=lambda item: ["struct", "enum", "const", "fn"].index(item.kind))
-                self.sections.append((module_doc(paths[0]), section))
+                self.sections.append((module_doc(paths[0]), section, paths[0].stem))
 
     def all_structs(self, crate):
         """Each `#[repr(C)]` struct of the crates, by name; the export crate's own take precedence."""
@@ -243,7 +261,13 @@ class Library:
                 section.append(self.structs[name])
 
     def exports(self):
-        return [item for _, section in self.sections for item in section if item.kind == "fn"]
+        return [item for _, section, _ in self.sections for item in section if item.kind == "fn"]
+
+    def answer(self, kind):
+        """The type of the statuses that a type is, or has first; none else."""
+        if kind in self.structs:
+            kind = self.structs[kind].members[0].type
+        return kind if kind in ANSWERS else None
 
 
 def snake(name):
@@ -316,35 +340,64 @@ def filled(head, parts, tail):
     if len(line) <= WIDTH:
         return [line]
     kept = ", ".join(part.replace(" ", "\0") for part in parts) + tail
-    return [head] + [f"    {row}".replace("\0", " ") for row in textwrap.wrap(kept, WIDTH - 4)]
+    return [head] + [f"    {row}".replace("\0", " ") for row in textwrap.wrap(kept, WIDTH - 4, break_long_words=False)]
 
 
-def c_item(item, structs):
-    """The lines that declare an item in C."""
-    lines = c_comment(item.doc, structs)
+def enumerator(answer, name):
+    """C's name of a status, or of the statuses in a text, where the calls of a type answer it."""
+    prefix = re.sub("Status$", "", answer).upper()
+    return re.sub(rf"\bNET_BASE_({'|'.join(ANSWERS[answer])})\b", rf"NET_BASE_{prefix}_\1", name)
+
+
+def said(lines, answer):
+    """A comment with the names of the statuses that a call answers."""
+    return [enumerator(answer, line) for line in lines] if answer else lines
+
+
+def must_use(item, structs):
+    """Whether a result isn't to be thrown away: it may say that the call was refused, or the call does nothing else."""
+    return (item.type in REFUSES or item.type in structs) and item.name not in MAY_DROP
+
+
+def attributes(item):
+    """What a compiler is told of an export's slices."""
+    parts = [part for member in item.members for part in c_members(member)]
+    slices = [(at, part) for at, part in enumerate(parts, start=1) if "*" in part and at < len(parts)
+              and parts[at].endswith(f"{part.rpartition('*')[2]}_length")]
+    return [f"NET_BASE_{'READS' if part.startswith('const') else 'WRITES'}({at}, {at + 1})" for at, part in slices]
+
+
+def restricted(parts):
+    """Parameters, of which none overlaps what a call may write."""
+    pointers = [part for part in parts if "*" in part]
+    if len(pointers) < 2 or all(part.startswith("const") for part in pointers):
+        return parts
+    return [part.replace("*", "*NET_BASE_RESTRICT ") for part in parts]
+
+
+def c_item(item, library, more=()):
+    """The lines that declare an item in C, with `more` lines of its comment."""
+    structs, answer = library.structs, library.answer(item.type)
+    lines = c_comment([*said(item.doc, answer), *more], structs)
     if item.kind == "const":
         return lines + [f"#define {item.name} {c_constant(item)}"]
     if item.kind == "struct":
         lines.append(f"{c_struct(item.name)} {{")
         for field in item.members:
-            lines += c_comment(field.doc, structs, "    ")
+            lines += c_comment(said(field.doc, library.answer(field.type)), structs, "    ")
             lines += [f"    {part};" for part in c_members(field)]
         return lines + ["};"]
     if item.kind == "enum":
-        lines.append(f"{c_type(item.name)} {{")
+        lines.append(f"{c_type(item.name).replace('enum', 'enum NET_BASE_32_BITS')} {{")
         for it in item.members:
-            lines += [*c_comment(it.doc, structs, "    "), f"    {it.name} = {it.text},"]
-        return [*lines, "    /** No status: it makes the type as wide on each processor, 32 bits. */",
-                "    NET_BASE_STATUS_WIDTH = 0x7fffffff", "};"]
+            lines += [*c_comment(it.doc, structs, "    "), f"    {enumerator(item.name, it.name)} = {it.text},"]
+        return [*lines, "};"]
     parameters = [part for member in item.members for part in c_members(member)]
     result = c_type(item.type) if item.type else "void"
-    must = f"{MUST_USE} " * (is_status(item.type, structs) or item.name.endswith("_init") and item.type == "bool")
-    return lines + filled(f"{must}{result} {item.name}(", parameters or ["void"], ");")
-
-
-def is_status(kind, structs):
-    """Whether a type is that of the statuses, or a struct with one first."""
-    return kind == STATUS or kind in structs and structs[kind].members[0].type == STATUS
+    must = f"{MUST_USE} " * must_use(item, structs)
+    label = f" NET_BASE_LINK({item.name.removeprefix('net_base_')});"
+    lines += filled(f"{must}{result} {item.name}(", restricted(parameters) or ["void"], ")" + label)
+    return lines
 
 
 def c_limits(text):
@@ -388,21 +441,70 @@ def index_of(library):
         for prefix, *names in rows:
             named += [f"net_base_{prefix}{name}" for name in names]
             lines += [f"  `net_base_{prefix}`: {', '.join(names)}"]
-    exports = [item.name for item in library.exports() if not item.name.startswith("net_base_abi_")]
+    exports = [item.name for item in library.exports()]
     if sorted(named) != sorted(exports):
         sys.exit(f"ffi: not once in the index of heads.txt: {' '.join(sorted(set(named) ^ set(exports)) or named)}")
     return lines
 
 
-# What isn't to be thrown away: C++17 and C23 say it in their own way, other compilers in that of GCC or not at all.
+# What isn't to be thrown away: C++17 and C23 say it in their own way, where `(void)` allows it; GCC's word allows nothing.
 MUST = f"""/** What is returned isn't to be thrown away. */
 #if defined __cplusplus && __cplusplus >= 201703L || defined __STDC_VERSION__ && __STDC_VERSION__ >= 202311L
 #define {MUST_USE} [[nodiscard]]
-#elif defined __GNUC__
-#define {MUST_USE} __attribute__((warn_unused_result))
 #else
-#define {MUST_USE}
-#endif"""
+#define {MUST_USE} __attribute__((warn_unused_result))
+#endif
+/** An enum is as wide on each processor, also where a compiler makes it short. */
+#define NET_BASE_32_BITS __attribute__((mode(SI)))
+/** What a call may write overlaps nothing else that it is passed. */
+#define NET_BASE_RESTRICT __restrict"""
+
+# What GCC is told of slices: of a pointer's elements as many are read, or may be written, as the parameter of another number
+# says.
+ACCESS = """/** @cond */
+#if defined __has_attribute
+#if __has_attribute(access)
+#define NET_BASE_READS(pointer, length) __attribute__((access(read_only, pointer, length)))
+#define NET_BASE_WRITES(pointer, length) __attribute__((access(read_write, pointer, length)))
+#define NET_BASE_SLICES(name, told) extern __typeof__(net_base_##name) net_base_##name told;
+#pragma GCC diagnostic push
+#pragma GCC diagnostic ignored "-Wredundant-decls\""""
+
+
+def link_names(number):
+    """What the header says of the number in the names that functions are linked by."""
+    return f"""#ifndef __GNUC__
+#error "net_base.h gives functions their names by asm labels: compile it by GCC, Clang or one that is made of them"
+#endif
+/** The number of this interface. It is in the name that each function is linked by, so that no
+ * library of another version links or loads.
+ */
+#define NET_BASE_INTERFACE {number}
+/** @cond */
+#ifdef NET_BASE_PLAIN_NAMES
+#define NET_BASE_LINK(name)
+#else
+#define NET_BASE_TEXT(text) #text
+#define NET_BASE_LABEL(before, name) __asm__(NET_BASE_TEXT(before) name)
+#define NET_BASE_LINK(name) NET_BASE_LABEL(__USER_LABEL_PREFIX__, "net_base_{number}_" #name)
+#endif
+/** @endcond */"""
+
+
+def slices(library):
+    """What GCC is told of slices, apart from the declarations, which stay plain."""
+    told = [(item.name.removeprefix("net_base_"), " ".join(attributes(item))) for item in library.exports()]
+    return [ACCESS, *[f"NET_BASE_SLICES({name}, {it})" for name, it in told if it], "#pragma GCC diagnostic pop", "#endif", "#endif",
+            "/** @endcond */"]
+
+
+def link_name(item, number):
+    return f"net_base_{number}_{item.name.removeprefix('net_base_')}"
+
+
+def interface():
+    """The number of the interface: the last of c/abi.txt."""
+    return int(ABI.read_text().split("\n")[-2].split()[0])
 
 
 def c_part(library, crate):
@@ -424,12 +526,30 @@ def c_part(library, crate):
     for name, number in numbers:
         lines += [f"/** The {name.lower()} number: until 1.0 names and structs may change with each minor one. */",
                   f"#define NET_BASE_VERSION_{name} {number}"]
-    lines += ["", MUST, "", "#ifdef __cplusplus", 'extern "C" {', "#endif", "", BEGIN]
-    for doc, section in library.sections:
-        lines += ["", *(re.sub(r"^/\*\*", "/*", it) for it in c_comment(doc, library.structs))]
+    lines += ["", link_names(interface()), "", MUST, "", "#ifdef __cplusplus", 'extern "C" {', "#endif", "", BEGIN]
+    for doc, section, name in library.sections:
+        head = head_of(section)
+        lines += ["", *group(first_paragraph(doc) if head else doc, name, library.structs)]
         for item in section:
-            lines += [""] + c_item(item, library.structs)
-    return "\n".join(lines + ["", END, "", "#ifdef __cplusplus", "}", "#endif", "#endif"]) + "\n"
+            more = ["", *doc[doc.index("") + 1 :]] if item is head and "" in doc else []
+            lines += [""] + c_item(item, library, more)
+        lines += ["", "/** @} */"]
+    lines += ["", END, "", *slices(library), "", "#ifdef __cplusplus", "}", "#endif", "", "#ifdef NET_BASE_CHECK", '#include "net_base_check.h"', "#endif"]
+    return "\n".join([*lines, "#endif"]) + "\n"
+
+
+def head_of(section):
+    """The struct of a section that its calls are of, to whose comment that of the section is added: tools show it there."""
+    first = next((item for item in section if item.kind == "fn" and item.members), None)
+    kind = first and core_type(first.members[0].type)
+    return next((item for item in section if item.kind == "struct" and item.name == kind), None)
+
+
+def group(doc, name, structs):
+    """The comment of a section, as doxygen's group."""
+    title, *rest = re.split(r"[:.](?= |$)", " ".join(first_paragraph(doc)), maxsplit=1)
+    lines = c_comment([f"@defgroup net_base_{name} {title}\0", "", *doc, "", "@{"], structs)
+    return [line.replace("\0", "") for line in lines]
 
 
 def page(crate, path):
@@ -449,14 +569,14 @@ def between(text, begin, middle):
 
 def abi(text):
     """The lines of c/abi.txt: each number of the interface, with the digest of the header's declarations without comments.
-    A number that has another digest there is refused: the export in crates/net_ffi/src/version.rt wants the next one."""
+    A number that has another digest there is refused: a new line with the next number alone gets the digest."""
     bare = " ".join(re.sub(r"/\*.*?\*/|#define NET_BASE_VERSION_\w+ \d+", "", text, flags=re.S).split())
-    number = re.search(r"net_base_abi_(\d+)", bare)[1]
+    number = str(interface())
     digest = hashlib.sha256(bare.encode()).hexdigest()[:16]
-    known = dict(line.split() for line in ABI.read_text().splitlines()) if ABI.exists() else {}
-    if known.get(number, digest) != digest:
-        sys.exit(f"ffi: structs or functions aren't those of net_base_abi_{number}: raise it in crates/net_ffi/src/version.rt, "
-                 f"or delete its line in {ABI.relative_to(ROOT)} if no release has this number")
+    known = {line.split()[0]: line.split()[-1] for line in ABI.read_text().splitlines()}
+    if known[number] not in (number, digest):
+        sys.exit(f"ffi: structs or functions aren't those of interface {number}: add a line with the next number alone to "
+                 f"{ABI.relative_to(ROOT)}, or make {number} its last line's only word if no release has this number")
     return "".join(f"{it} {said}\n" for it, said in (known | {number: digest}).items())
 
 
@@ -485,6 +605,7 @@ def put(files, only_compares):
 def main():
     from parts import exports  # which import this file
     from parts import heads
+    from parts import checks
     from parts import layouts
     from parts import sequence
     from parts import shim
@@ -503,7 +624,7 @@ def main():
             path.write_text(programs[path](library))
         return
     header = c_part(library, EXPORTS)
-    texts = {HEADER: header, ABI: abi(header), CONFIG: config(), shim.OUT: shim.text(library), PAGE: page(EXPORTS, PAGE)}
+    texts = {HEADER: header, ABI: abi(header), CONFIG: config(), checks.OUT: checks.text(library), shim.OUT: shim.text(library), PAGE: page(EXPORTS, PAGE)}
     stale |= put(texts, options.check)
     sys.exit(stale)
 

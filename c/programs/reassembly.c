@@ -118,14 +118,14 @@ static void take_fragment(const uint8_t *frame, size_t size, int64_t now) {
         return;
     }
     repeated += net_base_fragments_overlaps(&it->fragments, it->runs, RUNS, offset, size - IP);
-    enum net_base_status status = NET_BASE_DONE;
-    if ((frame[6] & 0x20) == 0)
-        status = net_base_fragments_set_total_size(
-            &it->fragments, LONGEST, it->runs, RUNS, offset + size - IP);
-    if (status == NET_BASE_DONE)
+    enum net_base_fragment_status status = NET_BASE_FRAGMENT_OTHER_SIZE;
+    if ((frame[6] & 0x20) != 0
+        || net_base_fragments_set_total_size(
+               &it->fragments, LONGEST, it->runs, RUNS, offset + size - IP)
+               == NET_BASE_SIZE_DONE)
         status = net_base_fragments_add(
             &it->fragments, it->bytes, LONGEST, it->runs, RUNS, offset, frame + IP, size - IP);
-    must(status == NET_BASE_DONE || status == NET_BASE_TOO_MANY_RUNS, "add");
+    must(status == NET_BASE_FRAGMENT_DONE || status == NET_BASE_FRAGMENT_TOO_MANY_RUNS, "add");
     if (net_base_fragments_complete(&it->fragments, LONGEST, it->runs, RUNS, &whole)) {
         deliver(it->bytes, whole);
         it->is_used = false;

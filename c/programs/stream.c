@@ -126,7 +126,7 @@ static void send_segments(struct sending *it, struct link *link, int64_t now) {
     must(net_base_finite_sender_first_number(&it->sender, &first), "first_number");
     must(net_base_finite_sender_numbers_end(&it->sender, &end), "numbers_end");
     bool has_expired =
-        net_base_retransmission_timer_expire(&it->timer, &BOUNDS, now) == NET_BASE_TIMEOUT;
+        net_base_retransmission_timer_expire(&it->timer, &BOUNDS, now) == NET_BASE_EXPIRY_TIMEOUT;
     if (has_expired) {
         /* All is sent again, whatever blocks said (RFC 2018, section 8). */
         net_base_scoreboard_init(&it->scoreboard, first);
@@ -173,9 +173,9 @@ static void take_acknowledgement(struct sending *it, const struct segment *segme
             && net_base_sequence_number_position(
                 segment->blocks[i][1], it->initial, acknowledged, &end)
             && net_base_finite_sender_is_block(&it->sender, start, end)) {
-            enum net_base_status status =
+            enum net_base_room_status status =
                 net_base_scoreboard_report(&it->scoreboard, it->runs, BOARD, start, end, numbers.sent);
-            must(status == NET_BASE_DONE || status == NET_BASE_TOO_MANY_RUNS, "report");
+            must(status == NET_BASE_ROOM_DONE || status == NET_BASE_ROOM_TOO_MANY_RUNS, "report");
         }
     }
 }
@@ -209,15 +209,15 @@ static void take_segment(
     if (!net_base_sequence_number_position(segment->number, it->initial, next, &position)) return;
     struct net_base_segment numbers = {
         position, segment->size + segment->is_last, false, true, false};
-    enum net_base_status arrival =
+    enum net_base_arrival_status arrival =
         net_base_advertised_window_classify(&it->announced, next, &numbers);
-    if (arrival == NET_BASE_TAKE) {
-        enum net_base_status status =
+    if (arrival == NET_BASE_ARRIVAL_TAKE) {
+        enum net_base_segment_status status =
             net_base_finite_receiver_segment(&it->receiver, it->storage, WINDOW, it->runs, RUNS,
                 position, segment->bytes, segment->size, segment->is_last, &counts);
-        must(status == NET_BASE_DONE || status == NET_BASE_TOO_MANY_RUNS, "segment");
+        must(status == NET_BASE_SEGMENT_DONE || status == NET_BASE_SEGMENT_TOO_MANY_RUNS, "segment");
     }
-    if (arrival != NET_BASE_IGNORE) acknowledge(it, link, position, now);
+    if (arrival != NET_BASE_ARRIVAL_IGNORE) acknowledge(it, link, position, now);
 }
 /* The end of what docs/FFI.md shows. */
 

@@ -8,7 +8,7 @@ enum { ROUNDS = 1000, CAPACITY = 64, RUNS = 4, SLOTS = 4 };
 
 static uint8_t storage[CAPACITY], bytes[CAPACITY];
 static struct net_base_run runs[RUNS];
-static volatile enum net_base_status status;
+static volatile unsigned status;
 static struct net_base_packet_slot slots[SLOTS];
 static struct net_base_ring ring;
 static struct net_base_assembler assembler;

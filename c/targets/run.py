@@ -304,6 +304,37 @@ def last(said):
     return (said.strip().splitlines() or ["(nothing)"])[-1]
 
 
+def another_version(programs):
+    """Whether a program of another version of the header isn't linked, for want of a function of that version."""
+    folder = programs.folder / "version"
+    folder.mkdir()
+    text = (C / "net_base.h").read_text()
+    (folder / "net_base.h").write_text(text.replace(f'"net_base_{ffi.interface()}_"', '"net_base_0_"'))
+    (folder / "another.c").write_text('#include "net_base.h"\nint main(void) { net_base_ring_init(NULL); return 0; }\n')
+    try:
+        programs.built("another", [folder / "another.c"])
+    except Failed as failure:
+        return "undefined reference to `net_base_0_ring_init'" in str(failure)
+    return False
+
+
+def by_cmake(programs):
+    """Builds the lines of docs/FFI.md that are for CMake, with the file for a Cortex-M4. Returns whether there is CMake."""
+    folder = programs.folder / "cmake"
+    if not shutil.which("cmake"):
+        return False
+    folder.mkdir()
+    (folder / "net-base").symlink_to(ROOT)
+    (folder / "my.c").write_text('#include "net_base.h"\nint main(void) { net_base_ring_init(NULL); return 0; }\n')
+    lines = re.findall(r"^    ((?:add_|target_).*)$", (ROOT / "docs/FFI.md").read_text(), flags=re.M)
+    (folder / "CMakeLists.txt").write_text("\n".join(["cmake_minimum_required(VERSION 3.21)", "project(user C)", *lines]) + "\n")
+    for words in (["-S", folder, "-B", folder / "built", "--toolchain", HERE / "cortex_m4.cmake"], ["--build", folder / "built"]):
+        status, said = shell(["cmake", *words], env=os.environ | {"RUSTC": str(programs.rustc)})
+        if status:
+            raise Failed(f"CMake: {said[-1500:]}")
+    return True
+
+
 def lines_of_page(programs):
     """Runs the lines that docs/FFI.md has for a target, as they are there, over a copy. Returns whether it has some."""
     text = (ROOT / "docs/FFI.md").read_text()
@@ -375,6 +406,7 @@ def stacks(programs, generated):
     if not painted:
         raise Failed(f"stack: {last(said)}")
     bounds = disassembly.stack_bounds(programs.way.tool("objdump"), programs.folder / "stack")
+    bounds |= {name.replace(f"net_base_{ffi.interface()}_", "net_base_"): size for name, size in bounds.items()}
     for name, size in painted.items():
         if size > bounds[name] + SLACK and programs.way.bare:
             raise Failed(f"{name} left {size} bytes of stack painted, and by the code it takes {bounds[name]}")
@@ -383,11 +415,11 @@ def stacks(programs, generated):
 
 def instructions(programs):
     """Instructions of a round of each main call: by the emulator's count, or valgrind's on this machine."""
-    way, source = programs.way, [HERE / "instructions.c"]
+    way, source, flags = programs.way, [HERE / "instructions.c"], ["-Wno-unused-result"]
     if way.bare:
-        said = programs.run("instructions", source, (), (), ["-icount", "shift=0"])
+        said = programs.run("instructions", source, (), flags, ["-icount", "shift=0"])
     elif way.target == TARGETS[0] and not way.emulator and shutil.which("valgrind"):
-        program, said = programs.built("instructions", source), programs.run("instructions", source)
+        program, said = programs.built("instructions", source, (), flags), programs.run("instructions", source, (), flags)
         counted = ["valgrind", "--tool=callgrind", "--callgrind-out-file=/dev/null", program]
 
         def count(kind, rounds):

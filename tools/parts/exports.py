@@ -13,6 +13,8 @@ TABLE = pathlib.Path(__file__).resolve().parents[1] / "exports.txt"
 TOKEN = re.compile(r'"[^"]*"|[\[\]{}]|[^\s\[\]{}"]+')
 ANY, SAME, EMPTY = "_", "=", ('""', ["["])
 HEAD = r"""/* Calls each export at the values of tools/exports.txt. Written by `python3 tools/ffi.py --tests`. */
+/* Null is passed on purpose. */
+#pragma GCC diagnostic ignored "-Wnonnull"
 #include "net_base.h"
 #include <stdio.h>
 #include <stdlib.h>
@@ -62,7 +64,7 @@ class Table:
         self.rows = {name: [] for name in self.exports}
         for line, text in enumerate(TABLE.read_text().splitlines(), start=1):
             self.take(line, text.split("#")[0].strip() if text.startswith("#") else text.strip())
-        constants = {it.name for _, section in library.sections for item in section
+        constants = {it.name for _, section, _ in library.sections for item in section
                      for it in ([item] if item.kind == "const" else item.members if item.kind == "enum" else [])}
         for name in sorted(constants - {f"NET_BASE_{name}" for name in self.numbers}):
             sys.exit(f"exports.txt: no number of {name}")
@@ -158,7 +160,7 @@ class C:
         if kind == "usize" and 2**64 - 1 - number < 100:
             return "SIZE_MAX" + f" - {2**64 - 1 - number}" * (number < 2**64 - 1)
         self.is_wide |= kind == "usize" and number >= 2**32
-        if kind == ffi.STATUS:
+        if kind in ffi.ANSWERS:
             return str(number)
         bits = 64 if kind.endswith("size") else int(re.sub(r"\D", "", kind))
         sign = "U" if kind[0] == "u" else ""
@@ -188,7 +190,7 @@ class C:
                 passed = member.name if mutable else f"text({tree})"
             else:
                 parts = ", ".join(self.value(part, slice_of[1]) for part in tree[1:])
-                variable = [f"{ffi.c_type(slice_of[1])} {member.name}[] = {{{parts}}};"] if mutable else []
+                variable = [f"{ffi.c_type(slice_of[1])} {member.name}[{length + 1}] = {{{parts}}};"] if mutable else []
                 passed = member.name if mutable else f"({ffi.c_type(slice_of[1])}[]){{{parts}}}"
             return variable, f"{passed}, {length}"
         value = self.value(tree, kind)
@@ -233,8 +235,12 @@ class C:
 
     def program(self):
         lines = [HEAD]
-        lines += [f'_Static_assert(NET_BASE_{name} == {self.literal(it, "usize")}, "a number of net_base.h isn\'t that of the table");'
-                  for name, it in self.table.numbers.items()]
+        named = {f"NET_BASE_{name}": self.table.numbers[name] for name in ("NONE",)}
+        for answer, names in ffi.ANSWERS.items():
+            named |= {ffi.enumerator(answer, f"NET_BASE_{name}"): self.table.numbers[name] for name in names}
+            lines.append(f'_Static_assert(sizeof({ffi.c_type(answer)}) == 4, "an enum isn\'t as wide as a number of the library");')
+        lines += [f'_Static_assert({name} == {self.literal(it, "usize")}, "a number of net_base.h isn\'t that of the table");'
+                  for name, it in named.items()]
         for name in sorted({item.type for item in self.table.exports.values()} & set(self.structs)):
             members = self.structs[name].members
             parameters = [f"{ffi.c_type(name)} it"] + [part for it in members for part in ffi.c_members(it)]

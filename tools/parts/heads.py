@@ -89,6 +89,7 @@ DONE = Result("bool", "{call};\n    true", "false", "IsFalse result", "false")
 STATUS = "NET_BASE_REFUSED", "result ≡ NET_BASE_REFUSED", "`NET_BASE_REFUSED`"
 RESULTS = {
     "bool": Result("bool", "{call}", "false", "IsFalse result", "false"),
+    "true": Result("bool", "{call}", "true", "IsTrue result", "true, as of a packet that isn't to be trusted"),
     "usize": Result("usize", "{call}", "no_number()", "result ≡ no_number", f"`{NONE}`"),
     "Span": Result("Span", "{call}", "refused_span()", "result ≡ nowhere",
                    f"`from` is `{NONE}`, `count` and `contiguous` are 0"),
@@ -97,17 +98,17 @@ RESULTS = {
         "(result.from ≡ no_number) × (result.count ≡ 0) × (result.contiguous ≡ 0) × IsFalse result.is_last",
         f"`from` is `{NONE}`, `count` and `contiguous` are 0, `is_last` is false", ["", "is_last"]),
     "Result<(), TooManyHolesError>": Result(
-        ffi.STATUS, "status_of({call})", *STATUS, "(done_or_many result)", (("status", "result < 2"),)),
+        "RoomStatus", "status_of({call})", *STATUS, "(done_or_many result)", (("status", "result < 2"),)),
     "Result<(), FragmentError>": Result(
-        ffi.STATUS, "status_of_fragment({call})", *STATUS, "(done_or_error result)", (("status", "IsStatus result"),)),
+        "FragmentStatus", "status_of_fragment({call})", *STATUS, "(done_or_error result)", (("status", "IsStatus result"),)),
     "Result<(), ReportError>": Result(
-        ffi.STATUS, "status_of_report({call})", *STATUS, "(done_or_report_error result)", (("status", "result < 3"),)),
+        "RoomStatus", "status_of_report({call})", *STATUS, "(done_or_report_error result)", (("status", "result < 3"),)),
     "Result<usize, TooManyHolesError>": Result(
         "FrontLength", "front_length({call})", "refused_front_length()",
         "(result.status ≡ NET_BASE_REFUSED) × (result.length ≡ 0)", "the status is `NET_BASE_REFUSED`, and the length 0",
         "(length_or_many result.status result.length)",
         (("status", "result.status < 2"), ("none", "result.status ≡ 1 → result.length ≡ 0"))),
-    "Arrival": Result(ffi.STATUS, "number_of({call})", "", "", ""),
+    "Arrival": Result("ArrivalStatus", "number_of({call})", "", "", ""),
     "Option<(usize, usize)>": Result(
         "Run", "run_of({call})", "refused_run()", "result ≡ (no_number, no_number)", f"both are `{NONE}`",
         "unwrap_or"),
@@ -233,6 +234,10 @@ class Export:
             made = f"*{self.head.name} = {{call}};"
             self.result = (Result("bool", f"{made}\n    true", "false", "IsFalse result", "false", f"{self.head.name}.new")
                            if self.tests else Result("", made, "", "", "", f"{self.head.name}.new"))
+        elif word in ffi.ANSWERS:
+            self.result = dataclasses.replace(RESULTS[kind], type=word)
+        elif word == "true":
+            self.result = RESULTS[word]
         elif word and word.startswith("out "):
             name = word[4:]
             self.parameters.append((name, f"&mut {kind}"))
@@ -407,6 +412,13 @@ def tasks_of(text):
     return found
 
 
+def shut(text):
+    """The exports that return true where they are refused: tests of safety."""
+    parts = re.split(r"^head (\w+)", text, flags=re.M)[1:]
+    return {f"net_base_{head}_{name}" for head, lines in zip(parts[::2], parts[1::2])
+            for name in re.findall(r"^(\w+)\b.* -> true$", lines, flags=re.M)}
+
+
 def heads_of(text):
     """The heads of the table, with the exports of each."""
     found, head = [], None
@@ -491,7 +503,7 @@ def file_of(head, exports):
 
 
 CODE = {name: module for module, names in {
-    "crate::refusals": "NET_BASE_ACKNOWLEDGEMENT_ONLY NET_BASE_ANSWER NET_BASE_IGNORE NET_BASE_RESET NET_BASE_TAKE NET_BASE_DONE NET_BASE_REFUSED Status no_number refused_front_length refused_hole refused_run refused_segment_span refused_span",
+    "crate::refusals": "NET_BASE_ACKNOWLEDGEMENT_ONLY NET_BASE_ANSWER NET_BASE_IGNORE NET_BASE_RESET NET_BASE_TAKE NET_BASE_DONE NET_BASE_REFUSED ArrivalStatus FragmentStatus RoomStatus SizeStatus no_number refused_front_length refused_hole refused_run refused_segment_span refused_span",
     "crate::results": "FrontLength Hole SegmentSpan front_length number_of run_of segment_span status_of status_of_fragment status_of_report",
     "crate::receiver": "has_next has_runs", "crate::finite_receiver": "has_number",
     "net_assembler": "AssemblerHead Run", "net_ring": "RingHead Span", "net_base::storage": "FragmentsHead",

@@ -1,13 +1,14 @@
 """What an export returns for a null pointer, by the words of c/net_base.h alone: the rule of its first comment, and what the
-comment of an export says of a refusal. Nothing here asks tools/ffi.py, which writes the shim that refuses."""
+comment of an export says of a refusal. Nothing here asks tools/ffi.py or tools/heads.txt, by which the shim refuses."""
 import pathlib
 import re
 
 HEADER = pathlib.Path(__file__).resolve().parents[2] / "c/net_base.h"
 # "It returns `false` where it returns a `bool`; where it returns one of these alone or as the first field of a struct,
-# `NET_BASE_REFUSED` of a status, `NET_BASE_NONE` of a `size_t`, `UINT64_MAX` of a `uint64_t`; and 0 of another number".
-REFUSED = {"bool": "false", "size_t": "NET_BASE_NONE", "uint64_t": "UINT64_MAX", "net_base_status": "NET_BASE_REFUSED"}
-EXPORT = re.compile(r"/\*\*((?:(?!\*/).)*)\*/\n(?:NET_BASE_MUST_USE )?(?:struct |enum )?(\w+) (net_base_\w+)\(([^;]*)\);", re.S)
+# the `NET_BASE_.._REFUSED` of a status, `NET_BASE_NONE` of a `size_t`, `UINT64_MAX` of a `uint64_t`; and 0 of another number".
+REFUSED = {"bool": "false", "size_t": "NET_BASE_NONE", "uint64_t": "UINT64_MAX"}
+EXPORT = re.compile(r"/\*\*((?:(?!\*/).)*)\*/\n(?:NET_BASE_MUST_USE )?(?:struct |enum )?(\w+) (net_base_\w+)\(([^;]*)\)[^;]*;", re.S)
+STATUS = re.compile(r"^enum NET_BASE_32_BITS (net_base_\w+) \{(.*?)^\};", re.S | re.M)
 STRUCT = re.compile(r"^struct (net_base_\w+) \{\n(.*?)^\};", re.S | re.M)
 # "`from` is `NET_BASE_NONE`, `count` and `contiguous` are 0".
 FIELDS = re.compile(r"((?:`\w+`(?:, | and )?)+) (?:is|are) `?(NET_BASE_NONE|UINT64_MAX|0|false)\b")
@@ -20,14 +21,16 @@ def refusals():
     first = {name: field.groups() for name, field in fields if field}
     said = {name: (" ".join(doc.replace("\n *", " ").split()), kind) for doc, kind, name, _ in EXPORT.findall(text)}
 
+    refused = REFUSED | {name: re.search(r"\w+_REFUSED\b", body)[0] for name, body in STATUS.findall(text)}
     found = {}
     for name, (doc, kind) in said.items():
         if kind in first:
             of_type, field = first[kind]
             sentence = doc.partition("It is refused if")[2]
             values = {it: value for names, value in FIELDS.findall(sentence) for it in re.findall(r"`(\w+)`", names)}
-            values[field] = REFUSED[of_type]
+            values[field] = refused[of_type]
             found[name] = [(f".{it}", value) for it, value in values.items()]
         elif kind != "void":
-            found[name] = [("", REFUSED.get(kind, "0"))]
+            is_shut = kind == "bool" and doc.partition("It is refused if")[2].partition(": ")[2].startswith("true")
+            found[name] = [("", "true" if is_shut else refused.get(kind, "0"))]
     return found

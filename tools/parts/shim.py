@@ -28,7 +28,7 @@ def modules():
 def function(item, library, where):
     """The lines of an export."""
     parameters, lines, is_unsafe = [], [], False
-    refused = ffi.refusal(item.type)
+    refused = ffi.refusal(item)
     give = f"return {where.get(refused[:-2], refused[:-2])}()" if refused.startswith("refused_") else f"return {refused}".rstrip()
     for member in item.members:
         name, kind = member.name, member.type
@@ -43,7 +43,7 @@ def function(item, library, where):
         else:
             parameters.append(f"{name}: {kind}")
     result = f" -> {where.get(item.type, item.type)}" if item.type else ""
-    return ["", "#[unsafe(no_mangle)]",
+    return ["", f'#[unsafe(export_name = "{ffi.link_name(item, ffi.interface())}")]',
             f'pub {"unsafe " * is_unsafe}extern "C" fn {item.name}({", ".join(parameters)}){result} {{', *lines,
             f"    {where[item.name]}({', '.join(member.name for member in item.members)})", "}"]
 

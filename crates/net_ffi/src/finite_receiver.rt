@@ -10,7 +10,7 @@ ghost use Rattle.net_ffi.specs.Results.{status_of_finite};
 
 use crate::receiver::{KeptCounts, has_next, is_plausible};
 use crate::refusals::{
-    NET_BASE_DONE, NET_BASE_OTHER_END, NET_BASE_REFUSED, NET_BASE_TOO_MANY_RUNS, Status,
+    NET_BASE_DONE, NET_BASE_OTHER_END, NET_BASE_REFUSED, NET_BASE_TOO_MANY_RUNS, SegmentStatus,
 };
 use net_assembler::Run;
 use net_receiver::{FiniteError, FiniteReceiverHead};
@@ -50,7 +50,7 @@ pub extern "C" fn net_base_finite_receiver_segment(
     bytes: &[u8],
     is_last: bool,
     counts: &mut KeptCounts,
-) -> Status
+) -> SegmentStatus
     requires sound { IsPlausible (length storage.old) (length runs.old) receiver.old.receiver → HasSoundFinite
         receiver.old (length storage.old) runs.old }
     ensures result { IsPlausible (length storage.old) (length runs.old) receiver.old.receiver → MatchResult

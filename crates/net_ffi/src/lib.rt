@@ -1,5 +1,5 @@
-//! Functions for C over memory that the caller keeps. There is no heap and no global state. Each export, but for the
-//! version, calls a function of a library here, and tests what that function needs, but for the duties below.
+//! Functions for C over memory that the caller keeps. There is no heap and no global state. Each export calls a
+//! function of a library here, and tests what that function needs, but for the duties below.
 //!
 //! # Memory
 //!
@@ -7,8 +7,8 @@
 //! whose name ends in `_init` makes it; one of zeros is new too, as the comment of its kind says. Storage, runs and
 //! slots need no particular values. Lengths are in elements; a length of 0 is allowed, of runs too: then no run is
 //! held. A length, an index or a count is a `size_t`, a position or a time a `uint64_t` or an `int64_t` on every
-//! processor. A flag of a head or a slot is as wide as the number beside it, so that they have no padding; a sum in
-//! parts has a `bool`.
+//! processor. A time is in microseconds. A flag of a head or a slot is as wide as the number beside it, so that they
+//! have no padding; a sum in parts has a `bool`.
 //!
 //! Fields of a head may be read: `length` is how many elements are queued, `used` how many runs are stored. `start`
 //! and `end` of a stored run are offsets from `first_start` of the head, so the first one starts at 0. A run that a
@@ -42,9 +42,13 @@
 //! All else that a call needs is tested, but that a taken slot is the first one. Nonsense in arguments, as a null
 //! pointer but to a slice of length 0, is refused before anything else. A refused call changes nothing. It returns
 //! `false` where it returns a `bool`, and one whose comment names no answer returns `true` where it is done; where it
-//! returns one of these alone or as the first field of a struct, `NET_BASE_REFUSED` of a status, `NET_BASE_NONE` of a
-//! `size_t`, `UINT64_MAX` of a `uint64_t`; and 0 of another number, which is refused for null alone.
-//! `NET_BASE_REFUSED` always means a refusal; the others can also be results of calls that are done.
+//! returns one of these alone or as the first field of a struct, the `NET_BASE_.._REFUSED` of a status, `NET_BASE_NONE` of a
+//! `size_t`, `UINT64_MAX` of a `uint64_t`; and 0 of another number, which is refused for null alone. A test whose failure
+//! makes a packet unsafe returns `true`, as its comment says. `NET_BASE_.._REFUSED` always means a refusal; the others
+//! can also be results of calls that are done.
+//!
+//! A `bool` answers a question, or that a call was done. A status says what became of a call that can end in more ways:
+//! what is done is 0, as in other libraries of C.
 #![tactic(auto)]
 
 pub mod finite_receiver;
@@ -60,4 +64,3 @@ pub mod retransmission;
 pub mod ring;
 pub mod sequence_number;
 pub mod time;
-pub mod version;

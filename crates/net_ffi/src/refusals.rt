@@ -8,8 +8,30 @@ use net_assembler::width::most;
 use net_receiver::HeldRun;
 use net_ring::Span;
 
-/// What a call answers that can be done, refused, or more.
+/// What a call answers that can be done, refused, or more: each kind of call one of some of these numbers.
 pub type Status = u32;
+
+/// Whether runs have room for what is added: `DONE`, `TOO_MANY_RUNS` or `REFUSED`.
+pub type RoomStatus = u32;
+
+/// What became of a fragment: `DONE`, `TOO_MANY_RUNS`, `TOO_LONG`, `OTHER_SIZE` or `REFUSED`.
+pub type FragmentStatus = u32;
+
+/// What became of the size of a packet: `DONE`, `TOO_LONG`, `OTHER_SIZE` or `REFUSED`.
+pub type SizeStatus = u32;
+
+/// What became of a segment: `DONE`, `TOO_MANY_RUNS`, `OTHER_END` or `REFUSED`.
+pub type SegmentStatus = u32;
+
+/// Whether a hole was looked for: `DONE` or `REFUSED`.
+pub type HoleStatus = u32;
+
+/// What to do with a segment that arrives: `TAKE`, `ACKNOWLEDGEMENT_ONLY`, `ANSWER`, `IGNORE`, `RESET`; `REFUSED` for null
+/// alone.
+pub type ArrivalStatus = u32;
+
+/// What is due: `DONE` if nothing is, `PROBE` or `TIMEOUT`; `REFUSED` for null alone.
+pub type ExpiryStatus = u32;
 
 /// The call was done.
 pub const NET_BASE_DONE: Status = 0;

@@ -5,9 +5,9 @@ ghost use Rattle.net_ffi.specs.Results.{IsStatus};
 ghost use Rattle.net_tcp.specs.declared.arriving.Arrival.TheVariants.{Take, AcknowledgementOnly, Answer, Ignore, Reset};
 
 use crate::refusals::{
-    NET_BASE_ACKNOWLEDGEMENT_ONLY, NET_BASE_ANSWER, NET_BASE_DONE, NET_BASE_IGNORE,
+    HoleStatus, NET_BASE_ACKNOWLEDGEMENT_ONLY, NET_BASE_ANSWER, NET_BASE_DONE, NET_BASE_IGNORE,
     NET_BASE_OTHER_SIZE, NET_BASE_REFUSED, NET_BASE_RESET, NET_BASE_TAKE, NET_BASE_TOO_LONG,
-    NET_BASE_TOO_MANY_RUNS, Status,
+    NET_BASE_TOO_MANY_RUNS, RoomStatus, Status,
 };
 use net_assembler::{Run, TooManyHolesError};
 use net_base::storage::FragmentError;
@@ -20,7 +20,7 @@ use net_tcp::Arrival;
 #[derive(Debug, Clone, Copy)]
 pub struct FrontLength {
     /// `NET_BASE_DONE`, `NET_BASE_TOO_MANY_RUNS` or `NET_BASE_REFUSED`.
-    pub status: Status,
+    pub status: RoomStatus,
     /// How many positions the run has, 0 if position 0 is missing or the call wasn't done.
     pub length: usize,
 }
@@ -30,7 +30,7 @@ pub struct FrontLength {
 #[derive(Debug, Clone, Copy)]
 pub struct Hole {
     /// `NET_BASE_DONE` or `NET_BASE_REFUSED`.
-    pub status: Status,
+    pub status: HoleStatus,
     /// The first position; 0 if the call was refused.
     pub start: u64,
     /// The position after the last one; 0 if the call was refused.
