@@ -1,4 +1,5 @@
 -- The timeout and the timer of C, whose flags are numbers beside theirs.
+--     given_or n d      n, or d in place of 0
 --     rtt_of e, bounds_of b, timeout_of t, timer_of t      what those of C represent
 --     numbers_of e, timeout_fields t, timer_fields t      those of C that represent these: 0 and 1 as flags, and 0 where there is nothing
 --     due_of e      the number of what is due
@@ -16,17 +17,27 @@ use Rattle.net_ffi.specs.declared.retransmission.TimeoutBounds.{TimeoutBounds}
 use Rattle.net_ffi.specs.declared.retransmission.RetransmissionTimeout.{RetransmissionTimeout}
 use Rattle.net_ffi.specs.declared.retransmission.RetransmissionTimer.{RetransmissionTimer}
 
--- no more of an estimate counts than samples can give, and a timeout of 0 is 1 second
+abbrev pub given_or : ℕ → ℕ → ℕ
+given_or n d = if nat_eq n 0 then d else n
+
+-- no more of an estimate counts than samples can give
 abbrev pub rtt_of : RttEstimate → Estimate
 rtt_of e = within e.srtt_8 e.rttvar_4
 
+-- 0 in place of a bound is RFC 6298's: 1 second at least (2.4), and 60 seconds at most (2.5)
 abbrev pub bounds_of : TimeoutBounds → Bounds
-bounds_of b = record { least = b.least; most = b.most; tick = b.tick; ack_delay = b.ack_delay }
+bounds_of b = record {
+  least = given_or b.least 1000000;
+  most = given_or b.most 60000000;
+  tick = b.tick;
+  ack_delay = b.ack_delay;
+}
 
+-- a timeout of 0 is 1 second
 abbrev pub timeout_of : RetransmissionTimeout → Timeout
 timeout_of t = record {
   estimate = if nat_eq t.has_estimate 0 then None else Some (rtt_of t.estimate);
-  timeout = if nat_eq t.timeout 0 then 1000000 else t.timeout;
+  timeout = given_or t.timeout 1000000;
 }
 
 abbrev pub timer_of : RetransmissionTimer → Timer

@@ -2,22 +2,25 @@
 //! of time are in microseconds, and so are moments, of one clock.
 //!
 //! A timer of zeros is new, of a peer that reports no blocks: there was no sample, the timer doesn't run, no segment is
-//! timed, and the timeout is 1 second, which the RFC begins with. A call that changes anything writes all fields: 0 where
-//! there is nothing, and 0 or 1 in a flag.
+//! timed, and the timeout is 1 second, which the RFC begins with. Bounds of zeros are the RFC's. A call that changes
+//! anything writes all fields: 0 where there is nothing, 0 or 1 in a flag, and never 0 as a timeout.
 ghost use Rattle.std.specs.Prelude.{◌≡◌, ◌≤◌, pos, unwrap_or, is_some, IsTrue, IsFalse, if◌then◌else◌};
 ghost use Rattle.std.specs.Prelude.{Option, Some, None, not, nat_eq};
 ghost use Rattle.net_tcp.specs.Retransmission.{new_timer, started, stopped, after_sending, with_sample, after_report};
 ghost use Rattle.net_tcp.specs.Retransmission.{after_acknowledged, has_expired, after_expiry, expiry};
 ghost use Rattle.net_ffi.specs.Retransmission.{rtt_of, bounds_of, timeout_of, timer_of, timeout_fields, timer_fields};
-ghost use Rattle.net_ffi.specs.Retransmission.{pos_of, since_of, due_of};
+ghost use Rattle.net_ffi.specs.Retransmission.{given_or, pos_of, since_of, due_of};
 
-use crate::refusals::{NET_BASE_DONE, NET_BASE_PROBE, NET_BASE_TIMEOUT, Status};
+use crate::refusals::{ExpiryStatus, NET_BASE_DONE, NET_BASE_PROBE, NET_BASE_TIMEOUT};
 use net_base::time::{Duration, Instant};
 use net_numbers::SentNumbers;
 use net_tcp::{Expiry, TimedSegment, TimerParts};
 
-/// What a timeout of 0 counts as: 1 second.
+/// What a timeout of 0 counts as, and a least one: 1 second.
 const FIRST_TIMEOUT: u64 = 1_000_000;
+
+/// What a greatest timeout of 0 counts as: 60 seconds.
+const MOST_TIMEOUT: u64 = 60_000_000;
 
 /// An estimate of the time of a round trip; zeros are none.
 #[repr(C)]
@@ -34,11 +37,11 @@ pub struct RttEstimate {
 #[repr(C)]
 #[derive(Copy, Clone, Debug)]
 pub struct TimeoutBounds {
-    /// The least timeout.
+    /// The least timeout. 0 counts as 1 second (RFC 6298, 2.4).
     pub least: u64,
-    /// The greatest, unless `least` is above it.
+    /// The greatest, unless `least` is above it. 0 counts as 60 seconds (2.5).
     pub most: u64,
-    /// The time between two ticks of the clock.
+    /// The time between two ticks of the clock; 0 if it counts each microsecond.
     pub tick: u64,
     /// The longest time for which the peer delays the acknowledgement of one segment: 200,000 for TCP.
     pub ack_delay: u64,
@@ -52,7 +55,7 @@ pub struct RetransmissionTimeout {
     pub estimate: RttEstimate,
     /// Not 0 once there was a sample.
     pub has_estimate: u64,
-    /// The timeout. 0 counts as 1 second.
+    /// The timeout. 0, which only the caller writes, counts as 1 second: `net_base_retransmission_timer_timeout`.
     pub timeout: u64,
 }
 
@@ -88,14 +91,22 @@ pub struct RetransmissionTimer {
     pub reports: u64,
 }
 
+/// Returns a number, or another one in place of 0.
+#[inline(always)]
+fn given_or(number: u64, other: u64) -> u64
+    ensures { result ≡ given_or number other }
+{
+    if number == 0 { other } else { number }
+}
+
 /// Returns the bounds.
 #[inline(always)]
 fn bounds_from(bounds: &TimeoutBounds) -> net_tcp::TimeoutBounds
     ensures { result ≡ bounds_of bounds.now }
 {
     net_tcp::TimeoutBounds {
-        least: Duration::from_micros(bounds.least),
-        most: Duration::from_micros(bounds.most),
+        least: Duration::from_micros(given_or(bounds.least, FIRST_TIMEOUT)),
+        most: Duration::from_micros(given_or(bounds.most, MOST_TIMEOUT)),
         tick: Duration::from_micros(bounds.tick),
         ack_delay: Duration::from_micros(bounds.ack_delay),
     }
@@ -119,11 +130,7 @@ fn timeout_from(fields: RetransmissionTimeout) -> net_tcp::RetransmissionTimeout
     } else {
         Some(rtt_from(fields.estimate))
     };
-    let timeout = if fields.timeout == 0 {
-        FIRST_TIMEOUT
-    } else {
-        fields.timeout
-    };
+    let timeout = given_or(fields.timeout, FIRST_TIMEOUT);
     net_tcp::RetransmissionTimeout::from_parts(estimate, Duration::from_micros(timeout))
 }
 
@@ -302,7 +309,7 @@ fn fields_of_timer(timer: net_tcp::RetransmissionTimer) -> RetransmissionTimer
 
 /// Returns the number of what is due.
 #[inline(always)]
-fn number_of(expiry: Option<Expiry>) -> Status
+fn number_of(expiry: Option<Expiry>) -> ExpiryStatus
     ensures { result ≡ due_of expiry }
 {
     match expiry {
@@ -312,20 +319,30 @@ fn number_of(expiry: Option<Expiry>) -> Status
     }
 }
 
-/// Makes `timer` a timer that doesn't run, with a timeout before any sample. 0 counts as 1 second, which the RFC has.
-/// `reports` says whether the peer reports blocks (SACK): if not, no probe is ever due.
+/// Makes `timer` a timer that doesn't run, with a timeout before any sample. In place of 0 it is 1 second, which the RFC
+/// has. `reports` says whether the peer reports blocks (SACK): if not, no probe is ever due.
 #[unsafe(no_mangle)]
 pub extern "C" fn net_base_retransmission_timer_init(
     timer: &mut RetransmissionTimer,
     timeout: u64,
     reports: bool,
 )
-    ensures { timer.new ≡ timer_fields (new_timer timeout reports) }
+    ensures state { timer.new ≡ timer_fields (new_timer (given_or timeout 1000000) reports) }
+    ensures counted { 1 ≤ timer.new.timeout.timeout }
 {
     *timer = fields_of_timer(net_tcp::RetransmissionTimer::new(
-        Duration::from_micros(timeout),
+        Duration::from_micros(given_or(timeout, FIRST_TIMEOUT)),
         reports,
     ));
+}
+
+/// Returns the timeout: the timer expires as long after it is started.
+#[unsafe(no_mangle)]
+pub extern "C" fn net_base_retransmission_timer_timeout(timer: &RetransmissionTimer) -> u64
+    ensures timeout { result ≡ (timer_of timer.now).timeout.timeout }
+    ensures counted { 1 ≤ result }
+{
+    given_or(timer.timeout.timeout, FIRST_TIMEOUT)
 }
 
 /// Starts the timer, unless it runs, where nothing is on the way: it expires the timeout from `now` on, at `INT64_MAX` if
@@ -387,7 +404,8 @@ pub extern "C" fn net_base_retransmission_timer_take_sample(
     bounds: &TimeoutBounds,
     now: i64,
 )
-    ensures { timer.new ≡ timer_fields (with_sample (bounds_of bounds.now) now (timer_of timer.old)) }
+    ensures state { timer.new ≡ timer_fields (with_sample (bounds_of bounds.now) now (timer_of timer.old)) }
+    ensures counted { 1 ≤ timer.new.timeout.timeout }
 {
     let mut it = timer_from(timer);
     it.take_sample(bounds_from(bounds), Instant::from_micros(now));
@@ -440,10 +458,11 @@ pub extern "C" fn net_base_retransmission_timer_expire(
     timer: &mut RetransmissionTimer,
     bounds: &TimeoutBounds,
     now: i64,
-) -> Status
+) -> ExpiryStatus
     ensures result { result ≡ due_of (expiry (timer_of timer.old) now) }
     ensures state { IsTrue (has_expired (timer_of timer.old) now) →
         timer.new ≡ timer_fields (after_expiry (bounds_of bounds.now) now (timer_of timer.old)) }
+    ensures counted { IsTrue (has_expired (timer_of timer.old) now) → 1 ≤ timer.new.timeout.timeout }
     ensures unchanged { IsFalse (has_expired (timer_of timer.old) now) → timer.new ≡ timer.old }
 {
     let mut it = timer_from(timer);
