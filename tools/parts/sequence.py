@@ -4,30 +4,43 @@ Each call gets sensible arguments mostly, and now and then nonsense. `sequence.c
 returned and left in memory. With -DSTACK it prints instead how many bytes of stack each export takes, as painted: what a
 call leaves changed below its caller's frame, more than an empty function with the same parameters does (`empty.c`).
 
-An export has its arguments in memory of its subject, the first word of its name, so that its calls work on one ring, one
-receiver and so on. A new export is in the sequence by its declaration alone; `USUAL` and `NEAR` make more of its calls
-sensible.
+An export has its arguments in memory of its subject, which is what the index of heads.txt has before its name, so that its
+calls work on one ring, one receiver and so on. One that only looks at a head gets in turn each of that type that is inside
+another subject's head, with that subject's slices. A new export is in the sequence by its declaration alone; `USUAL` and
+`NEAR` make more of its calls sensible.
+
+The program fails with a sentence if a call of an export doesn't reach its results (`least`), or if the length of a slice
+never decided what a call returned or left: now and then a call is made twice, from the same memory, with another length.
 """
 import re
 
 import ffi
+from parts import heads
 
 # What a length or a capacity is mostly; elements of a slice have room for a few more.
 USUAL = {"storage": 40, "capacity": 40, "slot_count": 5, "slots": 5, "runs": 6}
 OTHER_SLICE, ROOM = 7, 8
 # About which number a position is mostly drawn.
-NEAR = {
-    ("receiver", "position"): "receiver_receiver.first + receiver_receiver.count_read + receiver_receiver.{ring}.length",
-    ("sender", "position"): "sender_sender.first_unacknowledged",
-    ("sender", "next"): "sender_sender.first_unacknowledged",
-    ("finite", "next"): "finite_sender.sender.first_unacknowledged",
-}
+RECEIVED = "now.finite_receiver_receiver.receiver.first + now.finite_receiver_receiver.receiver.count_read"
+RECEIVED += " + now.finite_receiver_receiver.receiver.place.length"
+SENT = "now.finite_sender_sender.sender.first_unacknowledged"
+NEAR = {("receiver", "position"): RECEIVED, ("finite_receiver", "position"): RECEIVED,
+        ("finite_sender", "position"): SENT, ("finite_sender", "next"): SENT, ("tcp", "next"): "now.tcp_segment.seq",
+        ("tcp", "window"): "4", ("fragments", "offset"): "0", ("fragments", "size"): "7"}
+NEAR |= {("scoreboard", name): "now.scoreboard_scoreboard.base" for name in ("start", "end", "next", "position", "limit")}
+NEAR |= {("scoreboard", "sent"): "now.scoreboard_scoreboard.base + 40"}
+# A length that decides only where head and runs aren't sound with it: rows of exports.txt have that.
+UNSOUND = {("net_base_fragments_differs", "storage")}
+# How many results a call reaches at least: a `bool` both, a status each, but what null alone is answered; other numbers
+# and structs these.
+REACHED = 4
 
 HEAD = r"""/* sequence [CALLS]: calls of all exports, and a digest of what they return and leave. Written by tools/parts/sequence.py. */
 #include "net_base.h"
 #include <inttypes.h>
 #include <stdio.h>
 #include <stdlib.h>
+#include <string.h>
 
 static uint64_t state = UINT64_C(0x9e3779b97f4a7c15), digest = UINT64_C(0xcbf29ce484222325);
 
@@ -59,12 +72,33 @@ static uint64_t number(void) {
 }
 
 static uint64_t near(uint64_t position) {
-    return below(4) == 0 ? number() : position + below(24) - 4;
+    switch (below(8)) {
+    case 0: return number();
+    case 1: return position;
+    default: return position + below(24) - 4;
+    }
 }
 
 /* A length mostly, now and then a smaller one. */
 static uint64_t length(uint64_t usual, uint64_t room) {
     return below(8) == 0 ? below(room + 1) : usual;
+}
+
+struct reached {
+    uint64_t seen[8];
+    unsigned count;
+};
+
+/* Takes notice of a result, unless eight others are known. */
+static void reach(struct reached *it, uint64_t result) {
+    unsigned at = 0;
+    while (at < it->count && it->seen[at] != result) at++;
+    if (at == it->count && at < 8) it->seen[it->count++] = result;
+}
+
+static uint64_t hashed(uint64_t hash, uint64_t word) {
+    hash = (hash ^ word) * UINT64_C(0x100000001b3);
+    return hash ^ hash >> 29;
 }
 
 /* A capacity mostly, now and then any number. */
@@ -74,12 +108,55 @@ static uint64_t capacity(uint64_t usual) {
 """
 
 TAIL = r"""
+static struct reached reached[EXPORTS];
+static bool decided[EXPORTS][MOST_LENGTHS];
+static struct memory before, after;
+
+/* Makes a call twice, the second time with another length of a slice. */
+static void call_twice(uint64_t which) {
+    unsigned at = (unsigned)below(exports[which].length_count);
+    size_t *length = exports[which].lengths[at], kept = *length;
+    before = now;
+    exports[which].call();
+    uint64_t result = exports[which].result();
+    after = now;
+    now = before;
+    *length = below(exports[which].rooms[at] + 1);
+    if (exports[which].sound() || exports[which].is_of_runs[at]) {
+        exports[which].call();
+        if (exports[which].result() != result || memcmp(&now, &after, sizeof now) != 0) decided[which][at] = true;
+        now = before;
+    }
+    *length = kept;
+}
+
+/* Says what no call reached, and returns how many such things there are. */
+static int say_unreached(uint64_t calls) {
+    int unreached = 0;
+    for (unsigned which = 0; which < EXPORTS; which++) {
+        if (reached[which].count < exports[which].least) {
+            printf("sequence: in %" PRIu64 " calls %s has %u results, of at least %u\n", calls, exports[which].name,
+                   reached[which].count, exports[which].least);
+            unreached++;
+        }
+        for (unsigned at = 0; at < exports[which].length_count; at++) {
+            if (decided[which][at]) continue;
+            printf("sequence: in %" PRIu64 " calls length %u of %s decides nothing\n", calls, at, exports[which].name);
+            unreached++;
+        }
+    }
+    return unreached;
+}
+
 static void digest_calls(uint64_t calls) {
     for (uint64_t done = 0; done < calls; done++) {
         uint64_t which = below(EXPORTS);
+        if (exports[which].makes && below(4) != 0) which = below(EXPORTS);
         if (below(64) == 0) exports[which].spoil();
         exports[which].prepare();
+        if (exports[which].length_count && below(2) == 0) call_twice(which);
         exports[which].call();
+        reach(&reached[which], exports[which].result());
         exports[which].eat();
         if (done % 256 == 255) eat_all();
     }
@@ -133,6 +210,8 @@ int main(int count, char **words) {
     stack_of_calls(calls);
 #else
     digest_calls(calls);
+    /* Fewer calls don't reach all. */
+    if (calls >= 1000000 && say_unreached(calls)) return 1;
 #endif
     return 0;
 }
@@ -143,7 +222,7 @@ class Memory:
     """The static variables of the program: heads and slices, by subject and parameter."""
 
     def __init__(self, library):
-        self.library, self.kinds, self.sizes = library, {}, {}
+        self.library, self.kinds, self.sizes, self.written = library, {}, {}, set()
 
     def name(self, subject, member, kind, size=None):
         """The variable of a parameter."""
@@ -158,15 +237,24 @@ class Memory:
     def of(self, subject):
         return [name for name in self.kinds if name.startswith(f"{subject}_")]
 
+    def inside(self, kind, path, of):
+        """The paths of the values of a type inside one of another."""
+        if of in self.library.structs and of != kind:
+            for field in self.library.structs[of].members:
+                if field.type == kind:
+                    yield f"{path}.{field.name}"
+                yield from self.inside(kind, f"{path}.{field.name}", field.type)
+
     def declared(self):
         bounds = {name: f"[{size}]" for name, size in self.sizes.items()}
-        return [f"static {ffi.c_type(kind)} {name}{bounds.get(name, '')};" for name, kind in self.kinds.items()]
+        return ["static struct memory {", *[f"    {ffi.c_type(kind)} {name}{bounds.get(name, '')};"
+                                            for name, kind in self.kinds.items()], "} now;"]
 
     def each(self, name, act):
         """Lines that do something to each number of a variable; `act` gives the line for one, with its type."""
         if name not in self.sizes:
-            return self.fields(name, self.kinds[name], act)
-        inner = self.fields(f"{name}[i]", self.kinds[name], act)
+            return self.fields(f"now.{name}", self.kinds[name], act)
+        inner = self.fields(f"now.{name}[i]", self.kinds[name], act)
         return [f"for (int i = 0; i < {self.sizes[name]}; i++) {{", *["    " + line for line in inner], "}"]
 
     def fields(self, path, kind, act):
@@ -201,8 +289,9 @@ class Call:
 
     def __init__(self, memory, index, item):
         self.memory, self.index, self.item = memory, index, item
-        self.subject = re.match(r"net_base_([a-z]+)", item.name)[1]
-        self.before, self.arguments, self.statics, self.given = [], [], [], {}
+        self.subject = max((it for it in memory.subjects if item.name.startswith(f"net_base_{it}_")), key=len)
+        self.before, self.arguments, self.statics, self.given, self.lengths = [], [], [], {}, []
+        self.pointers = {}
         for member in item.members:
             count = len(self.arguments)
             self.add(member)
@@ -217,21 +306,63 @@ class Call:
         if inner := re.fullmatch(r"&(?:mut )?\[([^;]+)\]", kind):
             usual = USUAL.get(member.name, OTHER_SLICE)
             variable = self.memory.name(self.subject, member.name, inner[1], usual + ROOM)
-            self.arguments += [variable, self.drawn("size_t", f"{member.name}_length", f"length({usual}, {usual + ROOM})")]
+            size = self.drawn("size_t", f"{member.name}_length", f"length({usual}, {usual + ROOM})")
+            self.arguments += [self.pointer(member, inner[1], f"now.{variable}"), size]
+            if (self.item.name, member.name) not in UNSOUND:
+                self.lengths.append((size, usual + ROOM, inner[1] == "Run"))
         elif inner := re.fullmatch(r"[&*](?:mut |const )?(\w+)", kind):
-            self.arguments.append("&" + self.memory.name(self.subject, member.name, inner[1]))
+            variable = self.memory.name(self.subject, member.name, inner[1])
+            self.arguments.append(self.pointer(member, inner[1], f"&now.{variable}"))
         elif kind in ffi.C_TYPES:
             self.arguments.append(self.drawn(ffi.C_TYPES[kind], member.name, self.number(member.name, kind)))
         else:
             raise SystemExit(f"sequence: {self.item.name}: no argument of type {kind}")
+
+    def pointer(self, member, kind, own):
+        """How an argument is passed: by a variable if it is only looked at, for it may be inside another subject's head."""
+        if member.type.startswith("&mut"):
+            self.memory.written.add(re.sub(r"^&?now\.", "", own))
+            return own
+        variable = f"{member.name}_{self.index}"
+        self.statics.append(f"static const {ffi.c_type(kind)} *{variable};")
+        self.pointers[member.name] = (variable, own, kind)
+        return variable
+
+    def choices(self):
+        """What the pointers may be: those of the own subject, and for each head inside another one, with that one's slices."""
+        found = [{name: own for name, (_, own, _) in self.pointers.items()}]
+        head = self.item.members[0] if self.item.members else None
+        if head and head.name in self.pointers and head.type[1:] in self.memory.library.structs:
+            for name, kind in list(self.memory.kinds.items()):
+                if name in self.memory.sizes:
+                    continue
+                subject = max((it for it in self.memory.subjects if name.startswith(f"{it}_")), key=len)
+                for path in self.memory.inside(head.type[1:], f"now.{name}", kind):
+                    slices = {it: f"now.{subject}_{it}" for it, (_, own, of) in self.pointers.items() if not own.startswith("&")
+                              and self.memory.kinds.get(f"{subject}_{it}") == of}
+                    found.append(found[0] | slices | {head.name: f"&{path}"})
+        for name, (_, own, kind) in self.pointers.items():
+            for of in self.memory.of(self.subject) if own.startswith("&") else ():
+                if self.memory.kinds[of] == kind and of in self.memory.sizes:
+                    found.append(found[0] | {name: f"&now.{of}[below({self.memory.sizes[of] - ROOM})]"})
+        return [[f"{self.pointers[name][0]} = {value};" for name, value in it.items()] for it in found]
+
+    def chosen(self):
+        """Lines that choose the pointers, and those that choose the own ones."""
+        choices = self.choices()
+        if len(choices) == 1:
+            return choices[0], []
+        lines = [f"switch (below({len(choices)})) {{"]
+        for at, it in enumerate(choices):
+            lines += [f"default: {' '.join(it)} break;" if at == 0 else f"case {at}: {' '.join(it)} break;"]
+        return [*lines, "}"], choices[0]
 
     def number(self, name, kind):
         """How a number is drawn."""
         if name in USUAL:
             return f"capacity({USUAL[name]})"
         if near := NEAR.get((self.subject, name)):
-            ring = next(field.name for field in self.memory.library.structs["ReceiverHead"].members if field.type == "RingHead")
-            return f"near({near.format(ring=ring)})"
+            return f"({ffi.C_TYPES[kind]})near({near})"
         return "below(2)" if kind == "bool" else f"({ffi.C_TYPES[kind]})number()"
 
     def drawn(self, kind, name, value):
@@ -242,24 +373,24 @@ class Call:
         return variable
 
     def made_sound(self, sounds):
-        """Lines for an export that requires sound heads and runs: a head that isn't is made that of nothing."""
-        lines = []
-        members = self.item.members if self.item.requires else []
+        """Of each head the export that tests it, and lines that make it that of nothing."""
+        found, members = [], self.item.members
         for at, member in enumerate(members):
             runs = members[at + 1] if at + 1 < len(members) else None
             kind = ffi.core_type(member.type)
-            head = f"{self.subject}_{member.name}"
+            head = f"now.{self.subject}_{member.name}"
             if kind in sounds:
-                lines += self.unless(sounds[kind], head, runs)
+                found.append(self.unless(sounds[kind], self.given[member.name], head, runs))
             for field in self.memory.library.structs[kind].members if kind in self.memory.library.structs else ():
                 slices = [it for it in members if it.type.endswith("[Run]")]
                 if kind not in sounds and field.type in sounds and slices:
-                    lines += self.unless(sounds[field.type], f"{head}.{field.name}", slices[0])
-        return lines
+                    given = f"&({self.given[member.name]})->{field.name}"
+                    found.append(self.unless(sounds[field.type], given, head, slices[0]))
+        return found
 
-    def unless(self, sound, head, after):
-        """Lines that make a head zero unless an export finds it sound with the slice after it and what it has besides."""
-        words = [f"&{head}"]
+    def unless(self, sound, given, head, after):
+        """Whether an export finds a head sound with the slice after it and what it has besides, and lines that make it zero."""
+        words = [given]
         for member in sound.members[1:]:
             same = [it for it in (after, *self.item.members) if it and plain(it.type) == plain(member.type)]
             named = [it for it in same if it is after or it.name == member.name]
@@ -269,9 +400,15 @@ class Call:
             elif member.name == "capacity" and "storage" in self.given:
                 words.append(self.given["storage"].split(", ")[1])
             else:
-                words.append(f"{self.subject}_{member.name}, {size}" if "[" in member.type else str(size))
-        variable = head.split(".")[0]
-        return [f"if (!{sound.name}({', '.join(words)})) {{", *["    " + line for line in self.memory.each(variable, zeroed)], "}"]
+                words.append(f"now.{self.subject}_{member.name}, {size}" if "[" in member.type else str(size))
+        return f"{sound.name}({', '.join(words)})", self.memory.each(head.removeprefix("now."), zeroed)
+
+    def least(self):
+        """How many results are reached at least."""
+        kind, answer = self.item.type, self.memory.library.answer(self.item.type)
+        if answer:
+            return len(ffi.ANSWERS[answer]) - (answer in ffi.REFUSED_FOR_NULL)
+        return {"": 0, "bool": 2}.get(kind, REACHED)
 
     def functions(self, sounds):
         """The functions that prepare a call, make it, make an empty one, and eat what it returned and left."""
@@ -282,9 +419,30 @@ class Call:
         spoils = [line for name in memory if name not in self.memory.sizes for line in self.memory.each(name, spoiled)]
         spoils += [line for name in memory if self.memory.kinds[name] == "u8" for line in self.memory.each(name, spoiled)]
         parts = [part for member in self.item.members for part in ffi.c_members(member)]
+        choose, own = self.chosen()
+        tests = [] if self.item.name.endswith("_is_sound") else self.made_sound(sounds)
+        sound = " && ".join(test for test, _ in tests) if tests and self.item.requires else "true"
+        drawn = [line for _, own, _ in self.pointers.values() if (name := re.sub(r"^&?now\.", "", own)) not in self.memory.written
+                 for line in self.memory.each(name, spoiled)]
+        prepare = [*["if (below(4) == 0) {" if drawn else "", *["    " + line for line in drawn], "}" if drawn else ""],
+                   *choose, *self.before, *([f"if (!({sound})) {{", *["    " + it for it in own], "}"] if sound != "true" and own else [])]
+        # What isn't sound is refused, unless the caller owes that it is.
+        now_and_then = "" if self.item.requires else "below(4) != 0 && "
+        for test, zero in tests:
+            prepare += [f"if ({now_and_then}!{test}) {{", *["    " + line for line in zero], "}"]
+        # Fewer runs than are used are refused.
+        prepare += [f"if (below(16) == 0) {length} = below({length} + 1);" for length, _, is_of_runs in self.lengths if tests and is_of_runs]
+        hashes = [] if self.result == "void" else self.memory.fields(
+            f"result_{index}", self.item.type, lambda path, kind: f"hash = hashed(hash, (uint64_t){path});")
+        rows = [f"static size_t *const lengths_{index}[] = {{{', '.join(f'&{it}' for it, _, _ in self.lengths)}}};",
+                f"static const size_t rooms_{index}[] = {{{', '.join(str(it) for _, it, _ in self.lengths)}}};",
+                f"static const bool is_of_runs_{index}[] = {{{', '.join(str(it).lower() for _, _, it in self.lengths)}}};",
+                ] if self.lengths else []
+        rows += [f"static bool sound_{index}(void) {{", f"    return {sound};", "}", "", f"static uint64_t outcome_{index}(void) {{",
+                 "    uint64_t hash = 0;", *["    " + it for it in hashes], "    return hash;", "}", ""]
         return [*self.statics, "",
                 f"static void spoil_{index}(void) {{", *["    " + line for line in spoils], "}", "",
-                f"static void prepare_{index}(void) {{", *["    " + line for line in self.before + self.made_sound(sounds)], "}", "",
+                f"static void prepare_{index}(void) {{", *["    " + line for line in prepare], "}", "", *rows,
                 f"static void call_{index}(void) {{", f"    {kept}{self.item.name}({', '.join(self.arguments)});", "}", "",
                 f"static void eat_{index}(void) {{", *["    " + line for line in eats], "}", "",
                 "#ifdef STACK", f"{self.result} empty_{self.item.name}({', '.join(parts) or 'void'});",
@@ -295,21 +453,28 @@ class Call:
 def sequence(library):
     """The source of the program."""
     memory = Memory(library)
+    memory.subjects = {row[0].rstrip("_") for _, rows in heads.tasks_of(heads.TABLE.read_text()) for row in rows}
     calls = [Call(memory, index, item) for index, item in enumerate(library.exports())]
     sounds = {ffi.core_type(item.members[0].type): item for item in library.exports()
               if item.name.endswith("_is_sound") and not item.requires}
-    rows = [HEAD, *memory.declared(), ""]
-    for call in calls:
-        rows += call.functions(sounds)
+    functions = [line for call in calls for line in call.functions(sounds)]
+    rows = [HEAD, *memory.declared(), "", *functions]
     rows += ["static void eat_all(void) {",
              *["    " + line for name in memory.kinds for line in memory.each(name, eaten)], "}", "",
              "static const struct {", "    const char *name;", "    void (*spoil)(void), (*prepare)(void), (*call)(void), (*eat)(void);",
+             "    bool makes, (*sound)(void);", "    uint64_t (*result)(void);", "    unsigned least, length_count;",
+             "    size_t *const *lengths;", "    const size_t *rooms;", "    const bool *is_of_runs;",
              "#ifdef STACK", "    void (*empty)(void);", "#endif", "} exports[] = {"]
     for call in calls:
         index = call.index
+        count = len(call.lengths)
+        lengths = f"lengths_{index}, rooms_{index}, is_of_runs_{index}" if count else "NULL, NULL, NULL"
+        makes = str(call.item.name.endswith("_init")).lower()
         rows += [f'    {{"{call.item.name}", spoil_{index}, prepare_{index}, call_{index}, eat_{index},',
+                 f"     {makes}, sound_{index}, outcome_{index}, {call.least()}, {count}, {lengths},",
                  "#ifdef STACK", f"     empty_{index},", "#endif", "    },"]
-    return "\n".join([*rows, "};", "", "enum { EXPORTS = sizeof exports / sizeof exports[0] };", TAIL])
+    most = max(len(call.lengths) for call in calls)
+    return "\n".join([*rows, "};", "", f"enum {{ EXPORTS = sizeof exports / sizeof exports[0], MOST_LENGTHS = {most} }};", TAIL])
 
 
 def empty(library):
