@@ -5,9 +5,10 @@
 
 In a copy, each line of code is written so that it is wrong if the environment's FAULT is the line's number: a condition is
 negated, `<` is `<=`, a number is one more, a statement, a guard or an entry of a match is left out; in the shim two arguments
-of one type are swapped, a slice is one shorter, a refusal is another answer. What the compiler refuses is dropped. Then a
-fault costs one run of each program, until one sees it: the crate's tests, without those of documentation; or the programs of
-c/run.sh. N faults are drawn, or all are tried, of the files whose path has one of the words, if there are any. What is
+of one type are swapped, a slice is one shorter or as long as another, a refusal is another answer; by hand in c/src/lib.rs
+slices are cut, pointers refused or taken, a panic goes on; the class of C++ passes other lengths or has no guard. What the
+compiler refuses is dropped. Then a fault costs one run of each program, until one sees it: the crate's tests, without those of
+documentation; or four programs of c/run.sh. N faults are drawn, or all are tried, of the files whose path has one of the words, if there are any. What is
 drawn depends on the seed alone, which is that of tools/faults.txt if none is given.
 
 A fault that is listed there, with why, may stay unseen. Status 1 if another isn't seen. --by also prints by which program
@@ -31,7 +32,7 @@ sys.dont_write_bytecode = True
 ROOT = Path(__file__).resolve().parent.parent
 KNOWN = ROOT / "tools/faults.txt"
 SECONDS = 30  # of a processor, that a program may take
-CALLS = "200000"
+CALLS = "1000000"
 VALUE = r"([A-Za-z_][\w.]*(?:\(\))?|\d+)"
 OTHER = {"<": "<=", "<=": "<", ">": ">=", ">=": ">", "==": "!=", "!=": "=="}
 # What each faulty line asks. `getenv`, since the library for C has no std.
@@ -39,7 +40,7 @@ ASKS = """
 static FAULT: core::sync::atomic::AtomicU32 = core::sync::atomic::AtomicU32::new(u32::MAX);
 extern "C" { fn getenv(name: *const u8) -> *const u8; }
 #[inline(never)]
-pub(crate) fn m(number: u32) -> bool {
+pub fn m(number: u32) -> bool {
     use core::sync::atomic::Ordering::Relaxed;
     if FAULT.load(Relaxed) == u32::MAX {
         let (mut found, mut at) = (u32::MAX - 1, unsafe { getenv(b"FAULT\\0".as_ptr()) });
@@ -50,7 +51,7 @@ pub(crate) fn m(number: u32) -> bool {
     FAULT.load(Relaxed) == number
 }
 #[inline(never)]
-pub(crate) fn mi<T: From<u8>>(number: u32) -> T { T::from(m(number) as u8) }
+pub fn mi<T: From<u8>>(number: u32) -> T { T::from(m(number) as u8) }
 """
 
 
@@ -91,7 +92,10 @@ def of_shim(line, types):
         for other in sorted({"true", "0", "u64::MAX", "usize::MAX"} - {it[2].replace("refusals::no_number()", "usize::MAX")}):
             if it[2] and "{" not in it[2]:
                 found.append(("refused", f"{it[1]}return if proved::m(@) {{ {other} }} else {{ {it[2]} }} }};"))
-    elif it := re.match(r"^    (\w+(?:::\w+)+)\((.*)\)$", line):
+    if it := re.match(r"^(    let Some\((\w+)\) = slice(?:_mut)?\(\2, )(\w+)(\) else .*)$", line):
+        for other in sorted(name for name in types if name.endswith("_length") and name != it[3]):
+            found.append(("another's length", f"{it[1]}if proved::m(@) {{ {other} }} else {{ {it[3]} }}{it[4]}"))
+    if it := re.match(r"^    (\w+(?:::\w+)+)\((.*)\)$", line):
         words = it[2].split(", ")
         for a, first in enumerate(words):
             def call(new):
@@ -109,6 +113,34 @@ def of_shim(line, types):
     return found
 
 
+def of_glue(line):
+    """The faults of a line of c/src/lib.rs."""
+    found = []
+    if it := re.match(r"^(\s+if )(.*)( \{)$", line):
+        found.append(("negated", f"{it[1]}proved::m(@) != ({it[2]}){it[3]}"))
+        found.append(("left out", f"{it[1]}!proved::m(@) && {it[2]}{it[3]}"))
+        if "pointer" in it[2]:
+            found.append(("low addresses", f"{it[1]}{it[2]} || proved::m(@) && (pointer as usize) < 65536{it[3]}"))
+    if it := re.match(r"^(.* from_raw_parts(?:_mut)?\(pointer, )length(\).*)$", line):
+        for most in ("0xffff", "0xffff_ffff"):
+            found.append(("cut", f"{it[1]}if proved::m(@) {{ length.min({most}) }} else {{ length }}{it[2]}"))
+    if line.startswith("fn trap("):
+        found.append(("goes on", f"{line} if proved::m(@) {{ loop {{}} }}"))
+    return found
+
+
+def of_class(line):
+    """The faults of a line of the class of C++."""
+    found = []
+    if it := re.match(r"^(\s+if )\((.*)\)$", line):
+        found += [("negated", f"{it[1]}(fault(@) != ({it[2]}))"), ("left out", f"{it[1]}(fault(@) || ({it[2]}))")]
+    for it in re.finditer(r"(?<=[(, ])(Capacity|MostRuns|size)(?=[,)])", line):
+        if "size_t " not in line:
+            for kind, sign in (("one more", "+"), ("one less", "-")):
+                found.append((kind, f"{line[: it.start()]}{it[0]} {sign} fault(@){line[it.end() :]}"))
+    return found
+
+
 def sites(files, seed):
     """A fault of each line that can have one, drawn by the seed: its file, line, kind and text."""
     draw, found = random.Random(seed), []
@@ -120,7 +152,9 @@ def sites(files, seed):
                 types = dict(re.findall(r"(\w+): (?:\*(?:const|mut) )?(&?[\w:]+)", line))
                 types = {name: f"[{'mut' if f'{name}: *mut' in line else ''}" if f"{name}_length:" in line else kind
                          for name, kind in types.items()}
-            drawn = of_shim(line, types) if path.name == "shim.rs" else of_line(line) if function == "fn" else []
+            own = {"shim.rs": lambda it: of_shim(it, types), "net_base.hpp": of_class}
+            own |= {"lib.rs": of_glue} if path.parts[-3] == "c" else {}
+            drawn = own[path.name](line) if path.name in own else of_line(line) if function == "fn" else []
             if drawn:
                 found.append((path, number, *draw.choice(drawn)))
     return found
@@ -185,22 +219,36 @@ def of_rust(folder, seed):
     return found, numbers, sorted(programs, key=lambda it: (it[0] in ("endpoint", "assembler"), it[0] != "rows", it[0]))
 
 
+# How the class of C++ asks for a fault.
+ASKS_OF_CLASS = """#include <stdlib.h>
+static inline unsigned fault(unsigned number) {
+    const char *text = getenv("FAULT");
+    return text && strtoul(text, NULL, 10) == number;
+}
+"""
+
+
 def of_c(folder, seed):
-    """Plants faults in the shim, and in the exports' erased text. Returns them, those that compile, and C's programs."""
-    shim = [folder / "c/src/shim.rs"]
-    files = shim + sorted((folder / "rust/src/proved/net_ffi").rglob("*.rs"))
+    """Plants faults in the shim, in what is by hand, in the exports' erased text and in the class of C++. Returns them, those
+    that compile, and C's programs."""
+    own = [folder / "c" / name for name in ("src/shim.rs", "src/lib.rs", "net_base.hpp")]
+    files = own + sorted((folder / "rust/src/proved/net_ffi").rglob("*.rs"))
     found = sites(files, seed)
     target = folder / "target"
     build = ["cargo", "build", "--release", "--offline", "--message-format=json"]
     numbers, _ = planted(folder / "c", files, found, build, os.environ | {"CARGO_TARGET_DIR": str(target)})
-    programs = []
     subprocess.run([sys.executable, ROOT / "tools/ffi.py", "--tests", target / "exports.c", "--sequence", target / "sequence.c"], check=True)
-    for name, words in (("exports", []), ("sequence", [CALLS])):
-        source, library = target / f"{name}.c", target / "release/libnet_base.a"
-        subprocess.run(["cc", "-std=c11", "-O1", f"-I{ROOT}/c", source, library, "-o", target / name], check=True)
-        words = [str(target / name), *words]
-        right = subprocess.run(words, capture_output=True, check=True).stdout
-        programs.append((name, words, target, right))
+    (target / "fault.h").write_text(ASKS_OF_CLASS)
+    programs, library = [], target / "release/libnet_base.a"
+    c, cpp = ["cc", "-std=c11"], ["c++", "-std=c++17", "-include", target / "fault.h"]
+    for compiler, source, words in (
+        (c, target / "exports.c", []), (c, ROOT / "c/edges.c", []), (cpp, ROOT / "c/programs/receiver.cpp", []),
+        (c, target / "sequence.c", [CALLS]),
+    ):
+        program = target / source.stem
+        subprocess.run([*compiler, "-O1", f"-I{folder}/c", source, library, "-o", program], check=True)
+        words = [str(program), *words]
+        programs.append((source.stem, words, target, subprocess.run(words, capture_output=True, check=True).stdout))
     return found, numbers, programs
 
 
@@ -221,12 +269,14 @@ def main():
         for name in ("rust", "c"):
             shutil.copytree(ROOT / name, folder / name, ignore=shutil.ignore_patterns("target"))
         lib = folder / "rust/src/lib.rs"
-        text = lib.read_text().replace("#![deny(missing_docs)]", "#![allow(missing_docs, warnings)]")
+        text = re.sub(r"#!\[deny\(.*\)\]", "#![allow(warnings)]", lib.read_text())
         lib.write_text(text.replace("#![forbid(unsafe_code)]", "") + ASKS)
         found, numbers, programs = {"rust": of_rust, "c": of_c}[options.which](folder, seed)
         if by := seen_by(programs, len(found)):
             sys.exit(f"faults: without a fault {by} fails")
         lines = {it: (ROOT / found[it][0].relative_to(folder)) for it in numbers}
+        if dead := {found[it][0] for it in range(len(found))} - {found[it][0] for it in numbers}:
+            sys.exit(f"faults: no fault compiles of {' '.join(sorted(it.name for it in dead))}")
         chosen = [it for it in numbers if not options.words or any(word in str(lines[it]) for word in options.words)]
         if options.sample and options.sample < len(chosen):
             chosen = sorted(random.Random(seed).sample(chosen, options.sample))

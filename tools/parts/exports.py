@@ -29,6 +29,13 @@ static void check(bool holds, const char *text, int line) {
     exit(1);
 }
 
+/* Whether what is after a slice is as it was. */
+static bool is_zero(const void *at, size_t size) {
+    const uint8_t *bytes = at;
+    while (size && bytes[size - 1] == 0) size--;
+    return size == 0;
+}
+
 #define CHECK(condition) check((condition), #condition, __LINE__)
 
 static const uint8_t *text(const char *bytes) {
@@ -154,7 +161,9 @@ class C:
 
     def left(self, row):
         members = [it for it in row.item.members if it.name in row.left]
-        return [it for member in members for it in self.compared(member.name, row.left[member.name], pointee(member))]
+        after = [f"is_zero(&{it.name}[{length_of(row.arguments[it.name])}], sizeof *{it.name})" for it in members
+                 if "[" in it.type and row.arguments[it.name] not in EMPTY]
+        return [it for member in members for it in self.compared(member.name, row.left[member.name], pointee(member))] + after
 
     def literal(self, number, kind):
         if kind == "usize" and 2**64 - 1 - number < 100:
@@ -182,7 +191,7 @@ class C:
         """The variable that an argument wants, and how it is passed."""
         kind = pointee(member)
         if slice_of := re.fullmatch(r"\[(.+)\]", kind):
-            mutable, length = member.type.startswith("&mut"), len(tree) - (2 if isinstance(tree, str) else 1)
+            mutable, length = member.type.startswith("&mut"), length_of(tree)
             if tree in EMPTY:
                 return [], "NULL, 0"
             if isinstance(tree, str):
@@ -211,7 +220,7 @@ class C:
                     name: row.arguments[name] for name in row.left if name != it.name}), it)]
 
     def lines(self, row, null=None):
-        arguments = [([], "NULL, 1" if "[" in it.type else "NULL") if it is null else
+        arguments = [([], f"NULL, {length_of(row.arguments[it.name]) or 1}" if "[" in it.type else "NULL") if it is null else
                      self.argument(it, row.arguments[it.name]) for it in row.item.members]
         lines = [line for variable, _ in arguments for line in variable]
         call = f"{row.item.name}({', '.join(passed for _, passed in arguments)})"
@@ -252,6 +261,11 @@ class C:
         lines += ["", "static void check_exports(void) {"]
         lines += [f"    check_{name.removeprefix('net_base_')}();" for name in self.table.rows] + ["}"]
         return "\n".join(lines) + "\n" + TAIL
+
+
+def length_of(tree):
+    """How many elements a slice has."""
+    return len(tree) - (2 if isinstance(tree, str) else 1)
 
 
 def pointee(member):
