@@ -93,7 +93,8 @@ else
 fi
 
 at="pkg-config"
-# What pkg-config says is enough, where cargo built the library.
+# What pkg-config says is enough, where cargo built the library. Its words come after what uses them, as in build systems.
+printf '#include <net_base.h>\nint main(void) { struct net_base_ring it; net_base_ring_init(&it); return it.length != 0; }\n' > "$out/plain.c"
 if command -v pkg-config > /dev/null; then
     mkdir "$out/place"
     cp "$here/net_base.h" "$here/net_base.pc" "$out/place"

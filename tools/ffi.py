@@ -427,7 +427,7 @@ def version_of(crate):
 def config():
     """What pkg-config says of the library where cargo builds it."""
     lines = ["prefix=${pcfiledir}", "Name: net_base", "Description: the buffers below a TCP socket, proved",
-             f"Version: {version_of('c')}", "Cflags: -I${prefix}", "Libs: ${prefix}/target/release/libnet_base.a"]
+             f"Version: {version_of('c')}", "Cflags: -I${prefix}", "Libs: -L${prefix}/target/release -lnet_base"]
     return "\n".join(lines) + "\n"
 
 
