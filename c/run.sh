@@ -71,7 +71,8 @@ for each in "$compiler" gcc clang; do
 done
 for each in "${CXX:-c++}" g++ clang++; do
     command -v "$each" > /dev/null || continue
-    "$each" -std=c++17 $warnings -Wold-style-cast -x c++ -fsyntax-only "$here/net_base.h"
+    "$each" -std=c++17 $warnings -Wold-style-cast -x c++ -fsyntax-only "$here/net_base.hpp"
+    "$each" -std=c++20 $warnings -Wold-style-cast -DNET_BASE_CHECK=2 -x c++ -fsyntax-only "$here/net_base.hpp"
 done
 if command -v doxygen > /dev/null; then
     printf 'INPUT = "%s"\nQUIET = YES\nGENERATE_LATEX = NO\nHAVE_DOT = NO\nOUTPUT_DIRECTORY = "%s"\n' \
@@ -85,9 +86,9 @@ for each in stream reassembly; do
     "$out/$each"
 done
 if command -v "${CXX:-c++}" > /dev/null; then
-    "${CXX:-c++}" -std=c++17 -O2 $warnings -Wold-style-cast $sanitizers -I "$here" "$here/programs/wrapper.cpp" "$library" \
-        -o "$out/wrapper"
-    "$out/wrapper"
+    "${CXX:-c++}" -std=c++17 -O2 $warnings -Wold-style-cast $sanitizers -I "$here" "$here/programs/receiver.cpp" "$library" \
+        -o "$out/receiver"
+    "$out/receiver"
 else
     echo "run.sh: there is no C++ compiler here: C++ isn't tried" >&2
 fi

@@ -58,8 +58,8 @@ def main():
                            env=os.environ | {"RUSTC": str(rustc[target]), "CARGO_TARGET_DIR": str(built)})
             packed(ASSETS / f"net_base-{options.tag}-{target}.tar.gz", {
                 "libnet_base.a": (built / target / profile / "libnet_base.a").read_bytes(),
-                "net_base.h": (source / "c/net_base.h").read_bytes(),
-                "net_base.pc": (source / "c/net_base.pc").read_text().replace("target/release/", "").encode(),
+                **{name: (source / "c" / name).read_bytes() for name in ("net_base.h", "net_base_check.h", "net_base.hpp")},
+                "net_base.pc": (source / "c/net_base.pc").read_text().replace("/target/release", "").encode(),
                 "LICENSE": (source / "LICENSE").read_bytes()}, moment)
     finally:
         subprocess.run(["git", "worktree", "remove", "--force", source], cwd=ROOT)

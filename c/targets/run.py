@@ -376,8 +376,12 @@ def tests(programs, generated, options):
             raise Failed(f"programs/{name}.c fails")
         done.append(f"{name}.c")
     if way.target in QUICK:
-        programs.run("wrapper", [C / "programs/wrapper.cpp"])
-        done.append("wrapper.cpp")
+        programs.run("receiver", [C / "programs/receiver.cpp"])
+        done.append("receiver.cpp")
+    if not another_version(programs):
+        raise Failed("a program of another version of the header is linked")
+    if way.target == CORTEX_M4 and not way.features and by_cmake(programs):
+        done.append("CMake")
     if lines_of_page(programs):
         done.append("the lines of docs/FFI.md")
     said = last(programs.run("sequence", [generated / "sequence.c"], [str(options.calls)]))
