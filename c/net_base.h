@@ -4,7 +4,9 @@
  *
  * What for, and which calls
  *
- * - A queue of bytes or other elements, as between an interrupt and a program:
+ * - A queue of bytes or other elements. An interrupt that shares it is masked around each call; a
+ *   ring with one writer for each of its two counts, such as heapless's or bbqueue's, wants no
+ *   masks:
  *   `net_base_ring_`: init, is_sound, enqueue_slice, dequeue_slice, enqueue_one, dequeue_one,
  *     enqueue_span, dequeue_span, rewind_if_empty
  *   `net_base_ring_`: allocated, unallocated, read_allocated, write_unallocated, enqueue, dequeue,
@@ -33,8 +35,8 @@
  *   `net_base_tcp_`: classify, is_acknowledgement, scale_for, scaled
  *   `net_base_sequence_number_`: position
  * - When to send again, and time:
- *   `net_base_retransmission_timer_`: init, sent, acknowledged, reported, expire, take_sample,
- *     start, stop
+ *   `net_base_retransmission_timer_`: init, timeout, sent, acknowledged, reported, expire,
+ *     take_sample, start, stop
  *   `net_base_instant_`: saturating_add, distance
  * - Sets of positions:
  *   `net_base_assembler_`: init, is_sound, add, add_then_remove_front, remove_front, peek_front,
@@ -43,8 +45,8 @@
  *   `net_base_rand_`: u32, source_port, below
  *
  * Functions for C over memory that the caller keeps. There is no heap and no global state. Each
- * export, but for the version, calls a function of a library here, and tests what that function
- * needs, but for the duties below.
+ * export calls a function of a library here, and tests what that function needs, but for the duties
+ * below.
  *
  * Memory
  *
@@ -52,9 +54,9 @@
  * or slots. A call whose name ends in `_init` makes it; one of zeros is new too, as the comment of
  * its kind says. Storage, runs and slots need no particular values. Lengths are in elements; a
  * length of 0 is allowed, of runs too: then no run is held. A length, an index or a count is a
- * `size_t`, a position or a time a `uint64_t` or an `int64_t` on every processor. A flag of a head
- * or a slot is as wide as the number beside it, so that they have no padding; a sum in parts has a
- * `bool`.
+ * `size_t`, a position or a time a `uint64_t` or an `int64_t` on every processor. A time is in
+ * microseconds. A flag of a head or a slot is as wide as the number beside it, so that they have no
+ * padding; a sum in parts has a `bool`.
  *
  * Fields of a head may be read: `length` is how many elements are queued, `used` how many runs are
  * stored. `start` and `end` of a stored run are offsets from `first_start` of the head, so the
@@ -91,9 +93,13 @@
  * arguments, as a null pointer but to a slice of length 0, is refused before anything else. A
  * refused call changes nothing. It returns `false` where it returns a `bool`, and one whose comment
  * names no answer returns `true` where it is done; where it returns one of these alone or as the
- * first field of a struct, `NET_BASE_REFUSED` of a status, `NET_BASE_NONE` of a `size_t`,
- * `UINT64_MAX` of a `uint64_t`; and 0 of another number, which is refused for null alone.
- * `NET_BASE_REFUSED` always means a refusal; the others can also be results of calls that are done.
+ * first field of a struct, the `NET_BASE_.._REFUSED` of a status, `NET_BASE_NONE` of a `size_t`,
+ * `UINT64_MAX` of a `uint64_t`; and 0 of another number, which is refused for null alone. A test
+ * whose failure makes a packet unsafe returns `true`, as its comment says. `NET_BASE_.._REFUSED`
+ * always means a refusal; the others can also be results of calls that are done.
+ *
+ * A `bool` answers a question, or that a call was done. A status says what became of a call that
+ * can end in more ways: what is done is 0, as in other libraries of C.
  */
 #ifndef NET_BASE_H
 #define NET_BASE_H
@@ -108,14 +114,33 @@
 /** The patch number: until 1.0 names and structs may change with each minor one. */
 #define NET_BASE_VERSION_PATCH 0
 
+#ifndef __GNUC__
+#error "net_base.h gives functions their names by asm labels: compile it by GCC, Clang or one that is made of them"
+#endif
+/** The number of this interface. It is in the name that each function is linked by, so that no
+ * library of another version links or loads.
+ */
+#define NET_BASE_INTERFACE 3
+/** @cond */
+#ifdef NET_BASE_PLAIN_NAMES
+#define NET_BASE_LINK(name)
+#else
+#define NET_BASE_TEXT(text) #text
+#define NET_BASE_LABEL(before, name) __asm__(NET_BASE_TEXT(before) name)
+#define NET_BASE_LINK(name) NET_BASE_LABEL(__USER_LABEL_PREFIX__, "net_base_3_" #name)
+#endif
+/** @endcond */
+
 /** What is returned isn't to be thrown away. */
 #if defined __cplusplus && __cplusplus >= 201703L || defined __STDC_VERSION__ && __STDC_VERSION__ >= 202311L
 #define NET_BASE_MUST_USE [[nodiscard]]
-#elif defined __GNUC__
-#define NET_BASE_MUST_USE __attribute__((warn_unused_result))
 #else
-#define NET_BASE_MUST_USE
+#define NET_BASE_MUST_USE __attribute__((warn_unused_result))
 #endif
+/** An enum is as wide on each processor, also where a compiler makes it short. */
+#define NET_BASE_32_BITS __attribute__((mode(SI)))
+/** What a call may write overlaps nothing else that it is passed. */
+#define NET_BASE_RESTRICT __restrict
 
 #ifdef __cplusplus
 extern "C" {
@@ -123,59 +148,135 @@ extern "C" {
 
 /* Written by tools/ffi.py, up to the line END. */
 
-/* What calls answer: a status, or a number in place of one. */
+/** @defgroup net_base_refusals What calls answer
+ *
+ * What calls answer: a status, or a number in place of one.
+ *
+ * @{
+ */
 
-/** What a call answers that can be done, refused, or more. */
-enum net_base_status {
+/** Whether runs have room for what is added: `DONE`, `TOO_MANY_RUNS` or `REFUSED`. */
+enum NET_BASE_32_BITS net_base_room_status {
     /** The call was done. */
-    NET_BASE_DONE = 0,
+    NET_BASE_ROOM_DONE = 0,
     /** There would be more runs than the slice has elements. Nothing changes. */
-    NET_BASE_TOO_MANY_RUNS = 1,
+    NET_BASE_ROOM_TOO_MANY_RUNS = 1,
     /** What was passed is nonsense. Nothing changes. */
-    NET_BASE_REFUSED = 2,
+    NET_BASE_ROOM_REFUSED = 2,
+};
+
+/** What became of a fragment: `DONE`, `TOO_MANY_RUNS`, `TOO_LONG`, `OTHER_SIZE` or `REFUSED`. */
+enum NET_BASE_32_BITS net_base_fragment_status {
+    /** The call was done. */
+    NET_BASE_FRAGMENT_DONE = 0,
+    /** There would be more runs than the slice has elements. Nothing changes. */
+    NET_BASE_FRAGMENT_TOO_MANY_RUNS = 1,
     /** The fragment or the size reaches past the end of the buffer. Nothing changes. */
-    NET_BASE_TOO_LONG = 3,
+    NET_BASE_FRAGMENT_TOO_LONG = 3,
     /** It contradicts the packet's size: another size is known, or a byte at that size or above has
      * arrived, or the fragment reaches past a known size. Nothing changes.
      */
-    NET_BASE_OTHER_SIZE = 4,
+    NET_BASE_FRAGMENT_OTHER_SIZE = 4,
+    /** What was passed is nonsense. Nothing changes. */
+    NET_BASE_FRAGMENT_REFUSED = 2,
+};
+
+/** What became of the size of a packet: `DONE`, `TOO_LONG`, `OTHER_SIZE` or `REFUSED`. */
+enum NET_BASE_32_BITS net_base_size_status {
+    /** The call was done. */
+    NET_BASE_SIZE_DONE = 0,
+    /** The fragment or the size reaches past the end of the buffer. Nothing changes. */
+    NET_BASE_SIZE_TOO_LONG = 3,
+    /** It contradicts the packet's size: another size is known, or a byte at that size or above has
+     * arrived, or the fragment reaches past a known size. Nothing changes.
+     */
+    NET_BASE_SIZE_OTHER_SIZE = 4,
+    /** What was passed is nonsense. Nothing changes. */
+    NET_BASE_SIZE_REFUSED = 2,
+};
+
+/** What became of a segment: `DONE`, `TOO_MANY_RUNS`, `OTHER_END` or `REFUSED`. */
+enum NET_BASE_32_BITS net_base_segment_status {
+    /** The call was done. */
+    NET_BASE_SEGMENT_DONE = 0,
+    /** There would be more runs than the slice has elements. Nothing changes. */
+    NET_BASE_SEGMENT_TOO_MANY_RUNS = 1,
     /** The stream can't end there. Nothing changes. */
-    NET_BASE_OTHER_END = 5,
+    NET_BASE_SEGMENT_OTHER_END = 5,
+    /** What was passed is nonsense. Nothing changes. */
+    NET_BASE_SEGMENT_REFUSED = 2,
+};
+
+/** Whether a hole was looked for: `DONE` or `REFUSED`. */
+enum NET_BASE_32_BITS net_base_hole_status {
+    /** The call was done. */
+    NET_BASE_HOLE_DONE = 0,
+    /** What was passed is nonsense. Nothing changes. */
+    NET_BASE_HOLE_REFUSED = 2,
+};
+
+/** What to do with a segment that arrives: `TAKE`, `ACKNOWLEDGEMENT_ONLY`, `ANSWER`, `IGNORE`,
+ * `RESET`; `REFUSED` for null alone.
+ */
+enum NET_BASE_32_BITS net_base_arrival_status {
     /** Take what a segment acknowledges, its window, its bytes and its end. */
-    NET_BASE_TAKE = 6,
+    NET_BASE_ARRIVAL_TAKE = 6,
     /** Take what a segment acknowledges and its window, but not its bytes, and answer it: the own
      * window is shut, and the peer asks whether it has opened.
      */
-    NET_BASE_ACKNOWLEDGEMENT_ONLY = 7,
+    NET_BASE_ARRIVAL_ACKNOWLEDGEMENT_ONLY = 7,
     /** Send an acknowledgement, and take nothing of a segment. */
-    NET_BASE_ANSWER = 8,
+    NET_BASE_ARRIVAL_ANSWER = 8,
     /** Take nothing of a segment, and send nothing. */
-    NET_BASE_IGNORE = 9,
+    NET_BASE_ARRIVAL_IGNORE = 9,
     /** The peer has reset the connection. */
-    NET_BASE_RESET = 10,
+    NET_BASE_ARRIVAL_RESET = 10,
+    /** What was passed is nonsense. Nothing changes. */
+    NET_BASE_ARRIVAL_REFUSED = 2,
+};
+
+/** What is due: `DONE` if nothing is, `PROBE` or `TIMEOUT`; `REFUSED` for null alone. */
+enum NET_BASE_32_BITS net_base_expiry_status {
+    /** The call was done. */
+    NET_BASE_EXPIRY_DONE = 0,
     /** No answer has come in time: find what is overdue, and send a probe if nothing of it may be
      * sent.
      */
-    NET_BASE_PROBE = 11,
+    NET_BASE_EXPIRY_PROBE = 11,
     /** The timeout has passed: all that was sent and isn't acknowledged is lost. */
-    NET_BASE_TIMEOUT = 12,
-    /** No status: it makes the type as wide on each processor, 32 bits. */
-    NET_BASE_STATUS_WIDTH = 0x7fffffff
+    NET_BASE_EXPIRY_TIMEOUT = 12,
+    /** What was passed is nonsense. Nothing changes. */
+    NET_BASE_EXPIRY_REFUSED = 2,
 };
 
 /** In place of a length, an index or a count: what was passed is nonsense, or there is none. */
 #define NET_BASE_NONE SIZE_MAX
 
-/* Rings: where elements are in a storage that the caller keeps, and the numbers after a call.
+/** @} */
+
+/** @defgroup net_base_ring Rings
  *
- * A head of zeros is new. If the elements aren't bytes, pass only the capacity: the call returns
- * indices, and you copy before the next call. A head that doesn't fit the capacity is refused. An
- * empty queue may begin at any index; `read_at` is 0 if the capacity is. A call that takes the
- * last element off leaves `read_at` after it, and doesn't rewind. In a span of no elements `from`
- * is where the first would be.
+ * Rings: where elements are in a storage that the caller keeps, and the numbers after a call.
+ *
+ * @{
  */
 
-/** The head of a ring: its numbers without its storage. */
+/** The head of a ring: its numbers without its storage.
+ *
+ * A head of zeros is new. If the elements aren't bytes, pass only the capacity: the call returns
+ * indices, and you copy.
+ *
+ * What is lent so, to DMA too, stays where it is. Queued elements stay until they are dequeued or
+ * dropped, whatever is enqueued. Free ones stay until they are enqueued, whatever is dequeued; but
+ * `enqueue_slice` and `enqueue_span` use them, and with `rewind_if_empty` move them to the
+ * storage's beginning where the queue is empty, even if nothing is enqueued, and `drop_last` moves
+ * them too. So while DMA writes free elements, call none of these four, and `enqueue` what it has
+ * written.
+ *
+ * A head that doesn't fit the capacity is refused. An empty queue may begin at any index;
+ * `read_at` is 0 if the capacity is. A call that takes the last element off leaves `read_at` after
+ * it, and doesn't rewind. In a span of no elements `from` is where the first would be.
+ */
 struct net_base_ring {
     /** The index of the first element of the queue, 0 if the storage is empty. */
     size_t read_at;
@@ -196,12 +297,13 @@ struct net_base_span {
 };
 
 /** Makes `place` the head of an empty ring, which is sound for each storage. */
-void net_base_ring_init(struct net_base_ring *place);
+void net_base_ring_init(struct net_base_ring *place) NET_BASE_LINK(ring_init);
 
 /** Returns whether the head is that of a ring of `capacity` elements: its read index is an index of
  * the storage, or 0, and it has no more elements than the storage.
  */
-bool net_base_ring_is_sound(const struct net_base_ring *place, size_t capacity);
+NET_BASE_MUST_USE bool net_base_ring_is_sound(
+    const struct net_base_ring *place, size_t capacity) NET_BASE_LINK(ring_is_sound);
 
 /** Returns where at most `size` free elements are, from the one at `offset` on; none if `offset` is
  * past the free elements.
@@ -209,8 +311,9 @@ bool net_base_ring_is_sound(const struct net_base_ring *place, size_t capacity);
  * It is refused if `place` isn't that of a ring of `capacity` elements: `from` is `NET_BASE_NONE`,
  * `count` and `contiguous` are 0.
  */
-struct net_base_span net_base_ring_unallocated(
-    const struct net_base_ring *place, size_t capacity, size_t offset, size_t size);
+NET_BASE_MUST_USE struct net_base_span net_base_ring_unallocated(
+    const struct net_base_ring *place, size_t capacity, size_t offset, size_t size)
+    NET_BASE_LINK(ring_unallocated);
 
 /** Returns where at most `size` elements of the queue are, from the one at `offset` on; none if
  * `offset` is past the queue.
@@ -218,33 +321,37 @@ struct net_base_span net_base_ring_unallocated(
  * It is refused if `place` isn't that of a ring of `capacity` elements: `from` is `NET_BASE_NONE`,
  * `count` and `contiguous` are 0.
  */
-struct net_base_span net_base_ring_allocated(
-    const struct net_base_ring *place, size_t capacity, size_t offset, size_t size);
+NET_BASE_MUST_USE struct net_base_span net_base_ring_allocated(
+    const struct net_base_ring *place, size_t capacity, size_t offset, size_t size)
+    NET_BASE_LINK(ring_allocated);
 
 /** Moves the read index of an empty ring to the storage's beginning: then all its free elements are
  * contiguous. Otherwise the head stays as it is.
  */
-void net_base_ring_rewind_if_empty(struct net_base_ring *place);
+void net_base_ring_rewind_if_empty(struct net_base_ring *place) NET_BASE_LINK(ring_rewind_if_empty);
 
 /** Enqueues `count` elements, with what the storage has there.
  *
  * It is refused if `place` isn't that of a ring of `capacity` elements, or if fewer than `count`
  * elements are free: false, and nothing changes.
  */
-bool net_base_ring_enqueue(struct net_base_ring *place, size_t capacity, size_t count);
+NET_BASE_MUST_USE bool net_base_ring_enqueue(
+    struct net_base_ring *place, size_t capacity, size_t count) NET_BASE_LINK(ring_enqueue);
 
 /** Dequeues `count` elements.
  *
  * It is refused if `place` isn't that of a ring of `capacity` elements, or if fewer than `count`
  * elements are queued: false, and nothing changes.
  */
-bool net_base_ring_dequeue(struct net_base_ring *place, size_t capacity, size_t count);
+NET_BASE_MUST_USE bool net_base_ring_dequeue(
+    struct net_base_ring *place, size_t capacity, size_t count) NET_BASE_LINK(ring_dequeue);
 
 /** Takes the last `count` elements off the queue: they are then the first free ones.
  *
  * It is refused if fewer than `count` elements are queued: false, and nothing changes.
  */
-bool net_base_ring_drop_last(struct net_base_ring *place, size_t count);
+NET_BASE_MUST_USE bool net_base_ring_drop_last(
+    struct net_base_ring *place, size_t count) NET_BASE_LINK(ring_drop_last);
 
 /** Enqueues as many elements as there is room for, at most `size`, and returns where they are.
  *
@@ -253,16 +360,16 @@ bool net_base_ring_drop_last(struct net_base_ring *place, size_t count);
  * It is refused if `place` isn't that of a ring of `capacity` elements: `from` is `NET_BASE_NONE`,
  * `count` and `contiguous` are 0, and nothing changes.
  */
-struct net_base_span net_base_ring_enqueue_span(
-    struct net_base_ring *place, size_t capacity, size_t size);
+NET_BASE_MUST_USE struct net_base_span net_base_ring_enqueue_span(
+    struct net_base_ring *place, size_t capacity, size_t size) NET_BASE_LINK(ring_enqueue_span);
 
 /** Dequeues as many elements as are queued, at most `size`, and returns where they are.
  *
  * It is refused if `place` isn't that of a ring of `capacity` elements: `from` is `NET_BASE_NONE`,
  * `count` and `contiguous` are 0, and nothing changes.
  */
-struct net_base_span net_base_ring_dequeue_span(
-    struct net_base_ring *place, size_t capacity, size_t size);
+NET_BASE_MUST_USE struct net_base_span net_base_ring_dequeue_span(
+    struct net_base_ring *place, size_t capacity, size_t size) NET_BASE_LINK(ring_dequeue_span);
 
 /** Writes as many elements of `data` as there is room for to the free elements from the one at
  * `offset` on, and returns how many; 0 if `offset` is past the free elements. Nothing is enqueued.
@@ -270,9 +377,10 @@ struct net_base_span net_base_ring_dequeue_span(
  * It is refused if `place` isn't that of a ring of `storage_length` elements: `NET_BASE_NONE`, and
  * nothing changes.
  */
-size_t net_base_ring_write_unallocated(
-    const struct net_base_ring *place, uint8_t *storage, size_t storage_length, size_t offset,
-    const uint8_t *data, size_t data_length);
+NET_BASE_MUST_USE size_t net_base_ring_write_unallocated(
+    const struct net_base_ring *NET_BASE_RESTRICT place, uint8_t *NET_BASE_RESTRICT storage,
+    size_t storage_length, size_t offset, const uint8_t *NET_BASE_RESTRICT data, size_t data_length)
+    NET_BASE_LINK(ring_write_unallocated);
 
 /** Copies as many elements of the queue as `into` has room for, from the one at `offset` on, to the
  * beginning of `into`, and returns how many; 0 if `offset` is past the queue. The rest of `into`
@@ -281,9 +389,10 @@ size_t net_base_ring_write_unallocated(
  * It is refused if `place` isn't that of a ring of `storage_length` elements: `NET_BASE_NONE`, and
  * nothing changes.
  */
-size_t net_base_ring_read_allocated(
-    const struct net_base_ring *place, const uint8_t *storage, size_t storage_length, size_t offset,
-    uint8_t *into, size_t into_length);
+NET_BASE_MUST_USE size_t net_base_ring_read_allocated(
+    const struct net_base_ring *NET_BASE_RESTRICT place, const uint8_t *NET_BASE_RESTRICT storage,
+    size_t storage_length, size_t offset, uint8_t *NET_BASE_RESTRICT into, size_t into_length)
+    NET_BASE_LINK(ring_read_allocated);
 
 /** Enqueues as many elements of `data` as there is room for, and returns how many.
  *
@@ -293,9 +402,10 @@ size_t net_base_ring_read_allocated(
  * It is refused if `place` isn't that of a ring of `storage_length` elements: `NET_BASE_NONE`, and
  * nothing changes.
  */
-size_t net_base_ring_enqueue_slice(
-    struct net_base_ring *place, uint8_t *storage, size_t storage_length, const uint8_t *data,
-    size_t data_length);
+NET_BASE_MUST_USE size_t net_base_ring_enqueue_slice(
+    struct net_base_ring *NET_BASE_RESTRICT place, uint8_t *NET_BASE_RESTRICT storage,
+    size_t storage_length, const uint8_t *NET_BASE_RESTRICT data, size_t data_length)
+    NET_BASE_LINK(ring_enqueue_slice);
 
 /** Dequeues as many elements as `into` has room for and are queued, copies them to the beginning of
  * `into`, and returns how many. The rest of `into` stays as it is.
@@ -303,31 +413,41 @@ size_t net_base_ring_enqueue_slice(
  * It is refused if `place` isn't that of a ring of `storage_length` elements: `NET_BASE_NONE`, and
  * nothing changes.
  */
-size_t net_base_ring_dequeue_slice(
-    struct net_base_ring *place, const uint8_t *storage, size_t storage_length, uint8_t *into,
-    size_t into_length);
+NET_BASE_MUST_USE size_t net_base_ring_dequeue_slice(
+    struct net_base_ring *NET_BASE_RESTRICT place, const uint8_t *NET_BASE_RESTRICT storage,
+    size_t storage_length, uint8_t *NET_BASE_RESTRICT into, size_t into_length)
+    NET_BASE_LINK(ring_dequeue_slice);
 
 /** Enqueues one element, and returns its index in the storage.
  *
  * If none is free, or the place isn't sound: `NET_BASE_NONE`, and nothing changes.
  */
-size_t net_base_ring_enqueue_one(struct net_base_ring *place, size_t capacity);
+NET_BASE_MUST_USE size_t net_base_ring_enqueue_one(
+    struct net_base_ring *place, size_t capacity) NET_BASE_LINK(ring_enqueue_one);
 
 /** Dequeues one element, and returns its index in the storage.
  *
  * If none is queued, or the place isn't sound: `NET_BASE_NONE`, and nothing changes.
  */
-size_t net_base_ring_dequeue_one(struct net_base_ring *place, size_t capacity);
+NET_BASE_MUST_USE size_t net_base_ring_dequeue_one(
+    struct net_base_ring *place, size_t capacity) NET_BASE_LINK(ring_dequeue_one);
 
-/* Packet queues: where a packet has its slots and its bytes, in storages that the caller keeps.
+/** @} */
+
+/** @defgroup net_base_packets Packet queues
+ *
+ * Packet queues: where a packet has its slots and its bytes, in storages that the caller keeps.
+ *
+ * @{
+ */
+
+/** The head of a packet queue: the heads of its two rings.
  *
  * A head of zeros is new. A packet's bytes are contiguous. If it doesn't fit before the storage's
  * end, it is placed at its beginning, and the bytes before the end are a gap. A packet uses one
  * slot, and a gap before it one more. The slots, which calls write, are beside what the program
  * has for each packet. What is refused changes nothing.
  */
-
-/** The head of a packet queue: the heads of its two rings. */
 struct net_base_packets {
     /** The head of the ring of slots. */
     struct net_base_ring slots;
@@ -370,16 +490,16 @@ struct net_base_first_packet {
 };
 
 /** Makes `packets` the head of a queue with no packets. */
-void net_base_packets_init(struct net_base_packets *packets);
+void net_base_packets_init(struct net_base_packets *packets) NET_BASE_LINK(packets_init);
 
 /** Returns whether head and slots are those of a queue over `capacity` bytes: the numbers are those
  * of a ring of the slots and of one of the bytes; the packets and gaps of the slots in use take
  * the bytes in use; each packet is contiguous; and a gap has bytes, ends at the storage's end and
  * has a packet after it. It looks at each slot in use.
  */
-bool net_base_packets_is_sound(
+NET_BASE_MUST_USE bool net_base_packets_is_sound(
     const struct net_base_packets *packets, const struct net_base_packet_slot *slots,
-    size_t slots_length, size_t capacity);
+    size_t slots_length, size_t capacity) NET_BASE_LINK(packets_is_sound);
 
 /** Takes the last `count` bytes off the last packet, lowers the size in its slot, and returns true.
  * It is for a caller that wrote fewer bytes than it placed.
@@ -390,9 +510,10 @@ bool net_base_packets_is_sound(
  * It is refused if the numbers of `packets` aren't those of rings of `slots_length` slots and of
  * `capacity` bytes: false, and nothing changes.
  */
-bool net_base_packets_shorten_last(
-    struct net_base_packets *packets, struct net_base_packet_slot *slots, size_t slots_length,
-    size_t capacity, size_t count);
+NET_BASE_MUST_USE bool net_base_packets_shorten_last(
+    struct net_base_packets *NET_BASE_RESTRICT packets,
+    struct net_base_packet_slot *NET_BASE_RESTRICT slots, size_t slots_length, size_t capacity,
+    size_t count) NET_BASE_LINK(packets_shorten_last);
 
 /** Appends a packet of `size` bytes, writes its slot and that of its gap, whose `is_gap` is 1, and
  * returns where they and the packet's bytes are. If no byte is in use, which is so too where all
@@ -402,9 +523,10 @@ bool net_base_packets_shorten_last(
  * 0, the three others are `NET_BASE_NONE`, and nothing changes. A head whose numbers aren't those
  * of rings of the slots and of `capacity` bytes is refused: then all four are `NET_BASE_NONE`.
  */
-struct net_base_packet_place net_base_packets_enqueue(
-    struct net_base_packets *packets, struct net_base_packet_slot *slots, size_t slots_length,
-    size_t capacity, size_t size);
+NET_BASE_MUST_USE struct net_base_packet_place net_base_packets_enqueue(
+    struct net_base_packets *NET_BASE_RESTRICT packets,
+    struct net_base_packet_slot *NET_BASE_RESTRICT slots, size_t slots_length, size_t capacity,
+    size_t size) NET_BASE_LINK(packets_enqueue);
 
 /** Takes the first packet off, and the gap before it, and returns where it is. Its bytes stay until
  * another packet is placed there.
@@ -414,9 +536,10 @@ struct net_base_packet_place net_base_packets_enqueue(
  * can't be those of a packet: then `gap` is `NET_BASE_NONE` too. The slots of a sound queue are
  * never refused.
  */
-struct net_base_first_packet net_base_packets_dequeue(
-    struct net_base_packets *packets, const struct net_base_packet_slot *slots, size_t slots_length,
-    size_t capacity);
+NET_BASE_MUST_USE struct net_base_first_packet net_base_packets_dequeue(
+    struct net_base_packets *NET_BASE_RESTRICT packets,
+    const struct net_base_packet_slot *NET_BASE_RESTRICT slots, size_t slots_length,
+    size_t capacity) NET_BASE_LINK(packets_dequeue);
 
 /** Returns where the first packet is, which stays.
  *
@@ -424,9 +547,9 @@ struct net_base_first_packet net_base_packets_dequeue(
  * whose numbers aren't those of rings is refused, and so are first slots that can't be those of a
  * packet: then `gap` is `NET_BASE_NONE` too. The slots of a sound queue are never refused.
  */
-struct net_base_first_packet net_base_packets_peek(
+NET_BASE_MUST_USE struct net_base_first_packet net_base_packets_peek(
     const struct net_base_packets *packets, const struct net_base_packet_slot *slots,
-    size_t slots_length, size_t capacity);
+    size_t slots_length, size_t capacity) NET_BASE_LINK(packets_peek);
 
 /** Removes the first slot in use, which the caller passes as `first`, with its bytes, and returns
  * the index of the first of these bytes. `first` must be the slot at the index `slots.read_at`:
@@ -438,16 +561,22 @@ struct net_base_first_packet net_base_packets_peek(
  * contiguous, or if it is a gap's that has no bytes or doesn't end at the storage's end. Then
  * `NET_BASE_NONE` is returned, and nothing changes.
  */
-size_t net_base_packets_take_slot(
-    struct net_base_packets *packets, size_t slot_count, size_t capacity,
-    const struct net_base_packet_slot *first);
+NET_BASE_MUST_USE size_t net_base_packets_take_slot(
+    struct net_base_packets *NET_BASE_RESTRICT packets, size_t slot_count, size_t capacity,
+    const struct net_base_packet_slot *NET_BASE_RESTRICT first) NET_BASE_LINK(packets_take_slot);
 
-/* Assemblers: sets of positions, stored as runs in memory that the caller keeps.
+/** @} */
+
+/** @defgroup net_base_assembler Assemblers
  *
- * A head of zeros is new. At most as many runs are stored as the slice has elements.
+ * Assemblers: sets of positions, stored as runs in memory that the caller keeps.
+ *
+ * @{
  */
 
 /** What an assembler has besides its runs: how many there are, and where the first of them starts.
+ *
+ * A head of zeros is new. At most as many runs are stored as the slice has elements.
  */
 struct net_base_assembler {
     /** How many runs are stored. */
@@ -470,65 +599,69 @@ struct net_base_run {
 
 /** The length of the run at position 0, and whether the call was done. */
 struct net_base_front_length {
-    /** `NET_BASE_DONE`, `NET_BASE_TOO_MANY_RUNS` or `NET_BASE_REFUSED`. */
-    enum net_base_status status;
+    /** `NET_BASE_ROOM_DONE`, `NET_BASE_ROOM_TOO_MANY_RUNS` or `NET_BASE_ROOM_REFUSED`. */
+    enum net_base_room_status status;
     /** How many positions the run has, 0 if position 0 is missing or the call wasn't done. */
     size_t length;
 };
 
 /** Makes `assembler` the head of an assembler with no position, whatever its runs. */
-void net_base_assembler_init(struct net_base_assembler *assembler);
+void net_base_assembler_init(struct net_base_assembler *assembler) NET_BASE_LINK(assembler_init);
 
 /** Returns whether the head is sound with these runs, for any numbers in both: there are `used`
  * runs, which rise, with a hole between neighbours; the first starts at 0; and each end is a
  * `size_t` with `first_start` added, too. It looks at each used run.
  */
-bool net_base_assembler_is_sound(
-    const struct net_base_assembler *assembler, const struct net_base_run *runs,
-    size_t runs_length);
+NET_BASE_MUST_USE bool net_base_assembler_is_sound(
+    const struct net_base_assembler *assembler, const struct net_base_run *runs, size_t runs_length)
+    NET_BASE_LINK(assembler_is_sound);
 
 /** Adds the positions from `offset` to `offset + size - 1`; none if `size` is 0. Ranges that touch
  * form one run.
  *
- * Returns `NET_BASE_TOO_MANY_RUNS`, and changes nothing, if there would be more runs than the
+ * Returns `NET_BASE_ROOM_TOO_MANY_RUNS`, and changes nothing, if there would be more runs than the
  * slice has elements.
  *
  * It is refused if `used` is above `runs_length`, or if `offset + size` doesn't fit a `size_t`:
- * `NET_BASE_REFUSED`, and nothing changes.
+ * `NET_BASE_ROOM_REFUSED`, and nothing changes.
  *
  * Requires: head and runs are sound, as `net_base_assembler_is_sound` tests.
  */
-NET_BASE_MUST_USE enum net_base_status net_base_assembler_add(
-    struct net_base_assembler *assembler, struct net_base_run *runs, size_t runs_length,
-    size_t offset, size_t size);
+NET_BASE_MUST_USE enum net_base_room_status net_base_assembler_add(
+    struct net_base_assembler *NET_BASE_RESTRICT assembler,
+    struct net_base_run *NET_BASE_RESTRICT runs, size_t runs_length, size_t offset, size_t size)
+    NET_BASE_LINK(assembler_add);
 
 /** Adds the positions from `offset` to `offset + size - 1`, and then removes the run at position 0,
  * returns its length, and counts all later positions from its end. If position 0 is missing, it
  * removes nothing, and the length is 0.
  *
- * Returns `NET_BASE_TOO_MANY_RUNS`, and changes nothing, if `offset` isn't 0 and there would be
- * more runs than the slice has elements.
+ * Returns `NET_BASE_ROOM_TOO_MANY_RUNS`, and changes nothing, if `offset` isn't 0 and there would
+ * be more runs than the slice has elements.
  *
  * It is refused if `used` is above `runs_length`, or if `offset + size` doesn't fit a `size_t`:
- * the status is `NET_BASE_REFUSED`, and the length 0, and nothing changes.
+ * the status is `NET_BASE_ROOM_REFUSED`, and the length 0, and nothing changes.
  *
  * Requires: head and runs are sound, as `net_base_assembler_is_sound` tests.
  */
 NET_BASE_MUST_USE struct net_base_front_length net_base_assembler_add_then_remove_front(
-    struct net_base_assembler *assembler, struct net_base_run *runs, size_t runs_length,
-    size_t offset, size_t size);
+    struct net_base_assembler *NET_BASE_RESTRICT assembler,
+    struct net_base_run *NET_BASE_RESTRICT runs, size_t runs_length, size_t offset, size_t size)
+    NET_BASE_LINK(assembler_add_then_remove_front);
 
 /** Removes the run at position 0, counts all later positions from its end, and returns its length.
  *
  * If position 0 is missing it returns 0, and head and runs stay as they were.
  *
- * It is refused if `used` is above `runs_length`: the status is `NET_BASE_REFUSED`, and length 0,
- * and nothing changes.
+ * It is refused if `used` is above `runs_length`: the status is `NET_BASE_ROOM_REFUSED`, and
+ * length 0, and nothing changes.
  *
  * Requires: head and runs are sound, as `net_base_assembler_is_sound` tests.
  */
 NET_BASE_MUST_USE struct net_base_front_length net_base_assembler_remove_front(
-    struct net_base_assembler *assembler, struct net_base_run *runs, size_t runs_length);
+    struct net_base_assembler *NET_BASE_RESTRICT assembler,
+    struct net_base_run *NET_BASE_RESTRICT runs, size_t runs_length)
+    NET_BASE_LINK(assembler_remove_front);
 
 /** Removes the positions below `count`, and counts the others from there, so that position `count`
  * is position 0 then. A run that `count` cuts keeps what is at or after it.
@@ -537,19 +670,21 @@ NET_BASE_MUST_USE struct net_base_front_length net_base_assembler_remove_front(
  *
  * Requires: head and runs are sound, as `net_base_assembler_is_sound` tests.
  */
-bool net_base_assembler_shift(
-    struct net_base_assembler *assembler, struct net_base_run *runs, size_t runs_length,
-    size_t count);
+NET_BASE_MUST_USE bool net_base_assembler_shift(
+    struct net_base_assembler *NET_BASE_RESTRICT assembler,
+    struct net_base_run *NET_BASE_RESTRICT runs, size_t runs_length, size_t count)
+    NET_BASE_LINK(assembler_shift);
 
 /** Returns the length of the run at position 0, or 0 if position 0 is missing.
  *
- * It is refused if `used` is above `runs_length`: the status is `NET_BASE_REFUSED`, and length 0.
+ * It is refused if `used` is above `runs_length`: the status is `NET_BASE_ROOM_REFUSED`, and
+ * length 0.
  *
  * Requires: head and runs are sound, as `net_base_assembler_is_sound` tests.
  */
 NET_BASE_MUST_USE struct net_base_front_length net_base_assembler_peek_front(
-    const struct net_base_assembler *assembler, const struct net_base_run *runs,
-    size_t runs_length);
+    const struct net_base_assembler *assembler, const struct net_base_run *runs, size_t runs_length)
+    NET_BASE_LINK(assembler_peek_front);
 
 /** Returns whether `position` is present.
  *
@@ -557,9 +692,9 @@ NET_BASE_MUST_USE struct net_base_front_length net_base_assembler_peek_front(
  *
  * Requires: head and runs are sound, as `net_base_assembler_is_sound` tests.
  */
-bool net_base_assembler_contains(
+NET_BASE_MUST_USE bool net_base_assembler_contains(
     const struct net_base_assembler *assembler, const struct net_base_run *runs, size_t runs_length,
-    size_t position);
+    size_t position) NET_BASE_LINK(assembler_contains);
 
 /** Returns the maximal run with number `index`, counted from 0 in rising order, as (start, end),
  * the end not included; zeros exactly if there are no more than `index`.
@@ -568,9 +703,9 @@ bool net_base_assembler_contains(
  *
  * Requires: head and runs are sound, as `net_base_assembler_is_sound` tests.
  */
-struct net_base_run net_base_assembler_run_at(
+NET_BASE_MUST_USE struct net_base_run net_base_assembler_run_at(
     const struct net_base_assembler *assembler, const struct net_base_run *runs, size_t runs_length,
-    size_t index);
+    size_t index) NET_BASE_LINK(assembler_run_at);
 
 /** Returns the hole with number `index`, counted from 0 in rising order, as (start, end), the end
  * not included; zeros exactly if there are no more than `index`. Holes are the missing ranges
@@ -580,19 +715,27 @@ struct net_base_run net_base_assembler_run_at(
  *
  * Requires: head and runs are sound, as `net_base_assembler_is_sound` tests.
  */
-struct net_base_run net_base_assembler_hole_at(
+NET_BASE_MUST_USE struct net_base_run net_base_assembler_hole_at(
     const struct net_base_assembler *assembler, const struct net_base_run *runs, size_t runs_length,
-    size_t index);
+    size_t index) NET_BASE_LINK(assembler_hole_at);
 
-/* Packets that arrive in fragments, as those of IPv4 do, over bytes and runs that the caller
+/** @} */
+
+/** @defgroup net_base_fragments Packets that arrive in fragments, as those of IPv4 do, over bytes
+ * and runs that the caller keeps
+ *
+ * Packets that arrive in fragments, as those of IPv4 do, over bytes and runs that the caller
  * keeps.
+ *
+ * @{
+ */
+
+/** What a buffer of fragments has besides its bytes and runs.
  *
  * A head of zeros is that of an empty buffer, whose packet is waited for up to moment 0. The
  * longest packet has as many bytes as the storage. Fragments may overlap: at each position the
  * byte is that of the last fragment there. `present` is an assembler.
  */
-
-/** What a buffer of fragments has besides its bytes and runs. */
 struct net_base_fragments {
     /** The positions that arrived: the head of an assembler. */
     struct net_base_assembler present;
@@ -607,58 +750,62 @@ struct net_base_fragments {
 /** Makes `fragments` the head of an empty buffer, whose packet is waited for up to `expires_at`, in
  * microseconds. It is sound for any memory.
  */
-void net_base_fragments_init(struct net_base_fragments *fragments, int64_t expires_at);
+void net_base_fragments_init(
+    struct net_base_fragments *fragments, int64_t expires_at) NET_BASE_LINK(fragments_init);
 
 /** Returns whether head and runs are those of a buffer of `capacity` bytes, for any numbers:
  * `present` and the runs are those of an assembler, which end at `capacity` or below, and at a
  * known size or below, which is at most `capacity`. It looks at each used run.
  */
-bool net_base_fragments_is_sound(
+NET_BASE_MUST_USE bool net_base_fragments_is_sound(
     const struct net_base_fragments *fragments, size_t capacity, const struct net_base_run *runs,
-    size_t runs_length);
+    size_t runs_length) NET_BASE_LINK(fragments_is_sound);
 
 /** Sets the packet's size to `size` bytes, of a buffer of `capacity` bytes.
  *
- * Returns `NET_BASE_TOO_LONG`, and changes nothing, if the buffer has fewer bytes, or else
- * `NET_BASE_OTHER_SIZE` if another size is known, or a byte at `size` or above has arrived.
+ * Returns `NET_BASE_SIZE_TOO_LONG`, and changes nothing, if the buffer has fewer bytes, or else
+ * `NET_BASE_SIZE_OTHER_SIZE` if another size is known, or a byte at `size` or above has arrived.
  *
- * It is refused if `present.used` is above `runs_length`: `NET_BASE_REFUSED`, and nothing changes.
+ * It is refused if `present.used` is above `runs_length`: `NET_BASE_SIZE_REFUSED`, and nothing
+ * changes.
  *
  * Requires: head and runs are sound, as `net_base_fragments_is_sound` tests.
  */
-NET_BASE_MUST_USE enum net_base_status net_base_fragments_set_total_size(
-    struct net_base_fragments *fragments, size_t capacity, const struct net_base_run *runs,
-    size_t runs_length, size_t size);
+NET_BASE_MUST_USE enum net_base_size_status net_base_fragments_set_total_size(
+    struct net_base_fragments *NET_BASE_RESTRICT fragments, size_t capacity,
+    const struct net_base_run *NET_BASE_RESTRICT runs, size_t runs_length, size_t size)
+    NET_BASE_LINK(fragments_set_total_size);
 
 /** Adds a fragment, whose first byte is that of the packet at `offset`. One without bytes has its
  * end at `offset`, and adds nothing.
  *
- * Returns `NET_BASE_TOO_LONG`, and changes nothing, if the fragment reaches past the buffer's end,
- * or else `NET_BASE_OTHER_SIZE` if it reaches past a known size, or else `NET_BASE_TOO_MANY_RUNS`
- * if there would be more runs than the slice has elements.
+ * Returns `NET_BASE_FRAGMENT_TOO_LONG`, and changes nothing, if the fragment reaches past the
+ * buffer's end, or else `NET_BASE_FRAGMENT_OTHER_SIZE` if it reaches past a known size, or else
+ * `NET_BASE_FRAGMENT_TOO_MANY_RUNS` if there would be more runs than the slice has elements.
  *
  * It is refused if `present.used` is above `runs_length`, or a known size above `storage_length`:
- * `NET_BASE_REFUSED`, and nothing changes.
+ * `NET_BASE_FRAGMENT_REFUSED`, and nothing changes.
  *
  * Requires: head and runs are sound, as `net_base_fragments_is_sound` tests.
  */
-NET_BASE_MUST_USE enum net_base_status net_base_fragments_add(
-    struct net_base_fragments *fragments, uint8_t *storage, size_t storage_length,
-    struct net_base_run *runs, size_t runs_length, size_t offset, const uint8_t *data,
-    size_t data_length);
+NET_BASE_MUST_USE enum net_base_fragment_status net_base_fragments_add(
+    struct net_base_fragments *NET_BASE_RESTRICT fragments, uint8_t *NET_BASE_RESTRICT storage,
+    size_t storage_length, struct net_base_run *NET_BASE_RESTRICT runs, size_t runs_length,
+    size_t offset, const uint8_t *NET_BASE_RESTRICT data, size_t data_length)
+    NET_BASE_LINK(fragments_add);
 
 /** Returns whether a byte that arrived differs from that of the fragment whose first byte is that
  * of the packet at `offset`. The fragment need not be within the buffer.
  *
  * It is refused if `present.used` is above `runs_length`, or a known size above `storage_length`:
- * false.
+ * true, as of a packet that isn't to be trusted.
  *
  * Requires: head and runs are sound, as `net_base_fragments_is_sound` tests.
  */
-bool net_base_fragments_differs(
+NET_BASE_MUST_USE bool net_base_fragments_differs(
     const struct net_base_fragments *fragments, const uint8_t *storage, size_t storage_length,
     const struct net_base_run *runs, size_t runs_length, size_t offset, const uint8_t *data,
-    size_t data_length);
+    size_t data_length) NET_BASE_LINK(fragments_differs);
 
 /** Returns whether one of the `count` positions from `offset` on has arrived: whether a fragment
  * there overlaps bytes that are present. They need not be within the buffer.
@@ -666,16 +813,18 @@ bool net_base_fragments_differs(
  * It is asked before `net_base_fragments_add`, by callers who refuse a packet whose fragments
  * overlap (RFC 5722). A fragment that arrives twice overlaps too.
  *
- * It is refused if `present.used` is above `runs_length`: false.
+ * It is refused if `present.used` is above `runs_length`: true, as of a packet that isn't to be
+ * trusted.
  *
  * Requires: head and runs are sound, as `net_base_fragments_is_sound` tests.
  */
-bool net_base_fragments_overlaps(
+NET_BASE_MUST_USE bool net_base_fragments_overlaps(
     const struct net_base_fragments *fragments, const struct net_base_run *runs, size_t runs_length,
-    size_t offset, size_t count);
+    size_t offset, size_t count) NET_BASE_LINK(fragments_overlaps);
 
 /** Returns whether `now` is after the last moment at which the packet is waited for. */
-bool net_base_fragments_is_expired(const struct net_base_fragments *fragments, int64_t now);
+NET_BASE_MUST_USE bool net_base_fragments_is_expired(
+    const struct net_base_fragments *fragments, int64_t now) NET_BASE_LINK(fragments_is_expired);
 
 /** Returns whether the packet's size is known and all its bytes have arrived, and if so writes the
  * size to `size`: the packet's bytes are the first ones of the storage, which has `capacity`
@@ -686,18 +835,27 @@ bool net_base_fragments_is_expired(const struct net_base_fragments *fragments, i
  *
  * Requires: head and runs are sound, as `net_base_fragments_is_sound` tests.
  */
-bool net_base_fragments_complete(
-    const struct net_base_fragments *fragments, size_t capacity, const struct net_base_run *runs,
-    size_t runs_length, size_t *size);
+NET_BASE_MUST_USE bool net_base_fragments_complete(
+    const struct net_base_fragments *NET_BASE_RESTRICT fragments, size_t capacity,
+    const struct net_base_run *NET_BASE_RESTRICT runs, size_t runs_length,
+    size_t *NET_BASE_RESTRICT size) NET_BASE_LINK(fragments_complete);
 
-/* What the receiver of a stream that ends has of the bytes, and the calls that look at it.
+/** @} */
+
+/** @defgroup net_base_receiver What the receiver of a stream that ends has of the bytes, and the
+ * calls that look at it
+ *
+ * What the receiver of a stream that ends has of the bytes, and the calls that look at it.
+ *
+ * @{
+ */
+
+/** What a receiver has besides its storage and its held runs: numbers.
  *
  * The queue is the ring of `place`. The first missing position is `first`, plus the bytes read,
  * plus those queued. The held runs are those of the assembler `held`, whose position 0 is that
  * position: the first of them starts `held.first_start` after it.
  */
-
-/** What a receiver has besides its storage and its held runs: numbers. */
 struct net_base_receiver {
     /** The position of the stream's first byte. */
     uint64_t first;
@@ -723,16 +881,18 @@ struct net_base_held_run {
  * each held position is in the free window, and the one after it fits 64 bits. It looks at each
  * held run, and at no byte.
  */
-bool net_base_receiver_is_sound(
+NET_BASE_MUST_USE bool net_base_receiver_is_sound(
     const struct net_base_receiver *receiver, size_t capacity, const struct net_base_run *runs,
-    size_t runs_length);
+    size_t runs_length) NET_BASE_LINK(receiver_is_sound);
 
 /** Writes to `next` the first missing position: the first position, plus the count of bytes read,
  * plus those queued.
  *
  * It is refused if `next` doesn't fit 64 bits: false, and nothing changes.
  */
-bool net_base_receiver_next(const struct net_base_receiver *receiver, uint64_t *next);
+NET_BASE_MUST_USE bool net_base_receiver_next(
+    const struct net_base_receiver *NET_BASE_RESTRICT receiver, uint64_t *NET_BASE_RESTRICT next)
+    NET_BASE_LINK(receiver_next);
 
 /** Returns the window, where the storage has `capacity` bytes: how many bytes have room after the
  * queue, held ones among them.
@@ -740,7 +900,8 @@ bool net_base_receiver_next(const struct net_base_receiver *receiver, uint64_t *
  * It is refused if `capacity` is `NET_BASE_NONE`, or if more than `capacity` elements are queued:
  * `NET_BASE_NONE`.
  */
-size_t net_base_receiver_window(const struct net_base_receiver *receiver, size_t capacity);
+NET_BASE_MUST_USE size_t net_base_receiver_window(
+    const struct net_base_receiver *receiver, size_t capacity) NET_BASE_LINK(receiver_window);
 
 /** Copies bytes from the head of the queue to the beginning of `into`, and returns how many: as
  * many as are queued and as `into` has room for. The rest of `into` stays as it is, and the queue
@@ -749,9 +910,10 @@ size_t net_base_receiver_window(const struct net_base_receiver *receiver, size_t
  * It is refused if `receiver.place` isn't that of a ring of `storage_length` elements:
  * `NET_BASE_NONE`, and nothing changes.
  */
-size_t net_base_receiver_peek_slice(
-    const struct net_base_receiver *receiver, const uint8_t *storage, size_t storage_length,
-    uint8_t *into, size_t into_length);
+NET_BASE_MUST_USE size_t net_base_receiver_peek_slice(
+    const struct net_base_receiver *NET_BASE_RESTRICT receiver,
+    const uint8_t *NET_BASE_RESTRICT storage, size_t storage_length,
+    uint8_t *NET_BASE_RESTRICT into, size_t into_length) NET_BASE_LINK(receiver_peek_slice);
 
 /** Lists held runs at the beginning of `into`, the newest first, and returns how many: as many as
  * are held, or as `into` has elements. The rest of `into` stays as it is.
@@ -770,10 +932,12 @@ size_t net_base_receiver_peek_slice(
  *
  * Requires: head and runs are sound, as `net_base_receiver_is_sound` tests.
  */
-size_t net_base_receiver_newest_runs(
-    const struct net_base_receiver *receiver, const struct net_base_run *runs, size_t runs_length,
-    uint64_t position, uint64_t *recent, size_t recent_length, struct net_base_held_run *into,
-    size_t into_length);
+NET_BASE_MUST_USE size_t net_base_receiver_newest_runs(
+    const struct net_base_receiver *NET_BASE_RESTRICT receiver,
+    const struct net_base_run *NET_BASE_RESTRICT runs, size_t runs_length, uint64_t position,
+    uint64_t *NET_BASE_RESTRICT recent, size_t recent_length,
+    struct net_base_held_run *NET_BASE_RESTRICT into, size_t into_length)
+    NET_BASE_LINK(receiver_newest_runs);
 
 /** Returns the held run with number `index`, counted from 0 in rising order. If there are no more
  * than `index`, start and end are 0.
@@ -783,20 +947,27 @@ size_t net_base_receiver_newest_runs(
  *
  * Requires: head and runs are sound, as `net_base_receiver_is_sound` tests.
  */
-struct net_base_held_run net_base_receiver_run_at(
+NET_BASE_MUST_USE struct net_base_held_run net_base_receiver_run_at(
     const struct net_base_receiver *receiver, const struct net_base_run *runs, size_t runs_length,
-    size_t index);
+    size_t index) NET_BASE_LINK(receiver_run_at);
 
-/* Scoreboards: what a sender knows of the positions that the other end has, in runs that the
+/** @} */
+
+/** @defgroup net_base_scoreboard Scoreboards
+ *
+ * Scoreboards: what a sender knows of the positions that the other end has, in runs that the
  * caller keeps.
+ *
+ * @{
+ */
+
+/** What a scoreboard has besides its runs.
  *
  * A head of zeros is new, of a stream that begins at position 0: all positions below `base` count
  * as reported. At most as many runs are stored, beyond the first position that wasn't reported, as
  * the slice has elements. Each call but `net_base_scoreboard_init` looks at each run, and refuses
  * a scoreboard that isn't sound.
  */
-
-/** What a scoreboard has besides its runs. */
 struct net_base_scoreboard {
     /** The first position that wasn't reported. */
     uint64_t base;
@@ -806,8 +977,8 @@ struct net_base_scoreboard {
 
 /** A range of positions that weren't reported, and whether the call was done. */
 struct net_base_hole {
-    /** `NET_BASE_DONE` or `NET_BASE_REFUSED`. */
-    enum net_base_status status;
+    /** `NET_BASE_HOLE_DONE` or `NET_BASE_HOLE_REFUSED`. */
+    enum net_base_hole_status status;
     /** The first position; 0 if the call was refused. */
     uint64_t start;
     /** The position after the last one; 0 if the call was refused. */
@@ -817,77 +988,82 @@ struct net_base_hole {
 /** Makes `scoreboard` a scoreboard of a stream that begins at position `first`, to which nothing
  * was reported, whatever its runs. All positions below `first` count as reported.
  */
-void net_base_scoreboard_init(struct net_base_scoreboard *scoreboard, uint64_t first);
+void net_base_scoreboard_init(
+    struct net_base_scoreboard *scoreboard, uint64_t first) NET_BASE_LINK(scoreboard_init);
 
 /** Returns whether the scoreboard is sound with these runs, for any numbers in both: `reported` and
  * they are those of an assembler, `base` isn't reported, and each end fits 64 bits. It looks at
  * each used run.
  */
-bool net_base_scoreboard_is_sound(
+NET_BASE_MUST_USE bool net_base_scoreboard_is_sound(
     const struct net_base_scoreboard *scoreboard, const struct net_base_run *runs,
-    size_t runs_length);
+    size_t runs_length) NET_BASE_LINK(scoreboard_is_sound);
 
 /** Reports the positions from `start` on and below `end`, as a SACK block of an acknowledgement
  * does. Blocks may overlap. Positions below `base` are known already. `sent` is the position after
  * the last byte that was ever sent.
  *
- * Returns `NET_BASE_REFUSED`, and changes nothing, if no such block can be: `start` isn't below
- * `end`, `end` is above `sent`, or the block begins beyond `base` and ends 2^32 or more above it,
- * while TCP's numbers have 32 bits.
+ * Returns `NET_BASE_ROOM_REFUSED`, and changes nothing, if no such block can be: `start` isn't
+ * below `end`, `end` is above `sent`, or the block begins beyond `base` and ends 2^32 or more
+ * above it, while TCP's numbers have 32 bits.
  *
- * Returns `NET_BASE_TOO_MANY_RUNS`, and changes nothing, if such a block can be, it begins beyond
- * `base`, and there would be more runs than the slice has elements. Then the block isn't known,
- * and its bytes are sent again.
+ * Returns `NET_BASE_ROOM_TOO_MANY_RUNS`, and changes nothing, if such a block can be, it begins
+ * beyond `base`, and there would be more runs than the slice has elements. Then the block isn't
+ * known, and its bytes are sent again.
  *
- * It is refused if `scoreboard` isn't sound with `runs`: `NET_BASE_REFUSED`, and nothing changes.
+ * It is refused if `scoreboard` isn't sound with `runs`: `NET_BASE_ROOM_REFUSED`, and nothing
+ * changes.
  */
-NET_BASE_MUST_USE enum net_base_status net_base_scoreboard_report(
-    struct net_base_scoreboard *scoreboard, struct net_base_run *runs, size_t runs_length,
-    uint64_t start, uint64_t end, uint64_t sent);
+NET_BASE_MUST_USE enum net_base_room_status net_base_scoreboard_report(
+    struct net_base_scoreboard *NET_BASE_RESTRICT scoreboard,
+    struct net_base_run *NET_BASE_RESTRICT runs, size_t runs_length, uint64_t start, uint64_t end,
+    uint64_t sent) NET_BASE_LINK(scoreboard_report);
 
 /** Reports all positions below `next`, whatever the number of runs.
  *
  * It is refused if `scoreboard` isn't sound with `runs`: false, and nothing changes.
  */
-bool net_base_scoreboard_acknowledge(
-    struct net_base_scoreboard *scoreboard, struct net_base_run *runs, size_t runs_length,
-    uint64_t next);
+NET_BASE_MUST_USE bool net_base_scoreboard_acknowledge(
+    struct net_base_scoreboard *NET_BASE_RESTRICT scoreboard,
+    struct net_base_run *NET_BASE_RESTRICT runs, size_t runs_length, uint64_t next)
+    NET_BASE_LINK(scoreboard_acknowledge);
 
 /** Returns whether `position` was reported.
  *
  * It is refused if `scoreboard` isn't sound with `runs`: false.
  */
-bool net_base_scoreboard_contains(
+NET_BASE_MUST_USE bool net_base_scoreboard_contains(
     const struct net_base_scoreboard *scoreboard, const struct net_base_run *runs,
-    size_t runs_length, uint64_t position);
+    size_t runs_length, uint64_t position) NET_BASE_LINK(scoreboard_contains);
 
 /** Returns the next range that wasn't reported, as a start and an end: it begins at the first
  * position from `position` on that wasn't reported, and ends at the next one that was, or at
  * `limit`. If there is none below `limit`, both are `limit`. Most of it may be in flight:
  * `net_base_scoreboard_lost_below` gives the limit of what is lost.
  *
- * It is refused if `scoreboard` isn't sound with `runs`: the status is `NET_BASE_REFUSED`, and
- * start and end 0.
+ * It is refused if `scoreboard` isn't sound with `runs`: the status is `NET_BASE_HOLE_REFUSED`,
+ * and start and end 0.
  */
 NET_BASE_MUST_USE struct net_base_hole net_base_scoreboard_next_hole(
     const struct net_base_scoreboard *scoreboard, const struct net_base_run *runs,
-    size_t runs_length, uint64_t position, uint64_t limit);
+    size_t runs_length, uint64_t position, uint64_t limit) NET_BASE_LINK(scoreboard_next_hole);
 
 /** Writes to `end` the position after the last one that was reported; 0 if none was.
  *
  * It is refused if `scoreboard` isn't sound with `runs`: false, and nothing changes.
  */
-bool net_base_scoreboard_highest_reported(
-    const struct net_base_scoreboard *scoreboard, const struct net_base_run *runs,
-    size_t runs_length, uint64_t *end);
+NET_BASE_MUST_USE bool net_base_scoreboard_highest_reported(
+    const struct net_base_scoreboard *NET_BASE_RESTRICT scoreboard,
+    const struct net_base_run *NET_BASE_RESTRICT runs, size_t runs_length,
+    uint64_t *NET_BASE_RESTRICT end) NET_BASE_LINK(scoreboard_highest_reported);
 
 /** Returns how many positions were reported beyond the first one that wasn't, which is `base`.
  *
  * It is refused if `scoreboard` isn't sound with `runs`: `NET_BASE_NONE`.
  */
-size_t net_base_scoreboard_count_beyond(
+NET_BASE_MUST_USE size_t net_base_scoreboard_count_beyond(
     const struct net_base_scoreboard *scoreboard, const struct net_base_run *runs,
-    size_t runs_length);
+    size_t runs_length) NET_BASE_LINK(scoreboard_count_beyond);
 
 /** Writes to `limit` the position below which all that wasn't reported is lost, by the rule of RFC
  * 6675, section 4: from it on `duplicates` runs were reported (3 in TCP; 0 counts as 1), or more
@@ -898,19 +1074,27 @@ size_t net_base_scoreboard_count_beyond(
  *
  * It is refused if `scoreboard` isn't sound with `runs`: false, and nothing changes.
  */
-bool net_base_scoreboard_lost_below(
-    const struct net_base_scoreboard *scoreboard, const struct net_base_run *runs,
-    size_t runs_length, size_t duplicates, size_t segment_size, uint64_t *limit);
+NET_BASE_MUST_USE bool net_base_scoreboard_lost_below(
+    const struct net_base_scoreboard *NET_BASE_RESTRICT scoreboard,
+    const struct net_base_run *NET_BASE_RESTRICT runs, size_t runs_length, size_t duplicates,
+    size_t segment_size, uint64_t *NET_BASE_RESTRICT limit) NET_BASE_LINK(scoreboard_lost_below);
 
-/* Receivers of a stream of bytes, which ends or not. The end is the position after the last byte.
+/** @} */
+
+/** @defgroup net_base_finite_receiver Receivers of a stream of bytes, which ends or not
+ *
+ * Receivers of a stream of bytes, which ends or not. The end is the position after the last byte.
  * It has a number, as TCP's FIN has, and needs no room. It is known once a segment has said so; a
  * stream whose segments never say so doesn't end.
+ *
+ * @{
+ */
+
+/** What a receiver of a stream that ends has besides its storage and its held runs: numbers.
  *
  * A head of zeros is new, of a stream that begins at position 0. The calls of a receiver look at
  * `receiver`.
  */
-
-/** What a receiver of a stream that ends has besides its storage and its held runs: numbers. */
 struct net_base_finite_receiver {
     /** The receiver of the bytes. */
     struct net_base_receiver receiver;
@@ -937,15 +1121,15 @@ struct net_base_kept_counts {
  * It is refused if `first` is `UINT64_MAX`: false, and nothing changes.
  */
 NET_BASE_MUST_USE bool net_base_finite_receiver_init(
-    struct net_base_finite_receiver *receiver, uint64_t first);
+    struct net_base_finite_receiver *receiver, uint64_t first) NET_BASE_LINK(finite_receiver_init);
 
 /** Returns whether this head, a storage of `capacity` bytes and runs are sound: they are those of a
  * receiver, and the position after its last byte, held ones too, is at most the end, if that is
  * known, and below 2^64 - 1. It looks at each held run, and at no byte.
  */
-bool net_base_finite_receiver_is_sound(
+NET_BASE_MUST_USE bool net_base_finite_receiver_is_sound(
     const struct net_base_finite_receiver *receiver, size_t capacity,
-    const struct net_base_run *runs, size_t runs_length);
+    const struct net_base_run *runs, size_t runs_length) NET_BASE_LINK(finite_receiver_is_sound);
 
 /** Returns whether the stream can end at `position`: it is the end that is known, or none is, and
  * it isn't below the first missing position or a held run's end. 2^64 - 1 is no end.
@@ -954,29 +1138,32 @@ bool net_base_finite_receiver_is_sound(
  *
  * Requires: head and runs are sound, as `net_base_finite_receiver_is_sound` tests.
  */
-bool net_base_finite_receiver_can_end(
+NET_BASE_MUST_USE bool net_base_finite_receiver_can_end(
     const struct net_base_finite_receiver *receiver, const struct net_base_run *runs,
-    size_t runs_length, uint64_t position);
+    size_t runs_length, uint64_t position) NET_BASE_LINK(finite_receiver_can_end);
 
 /** Returns whether all bytes and the end have arrived. Once it is so it stays so.
  *
  * It is refused if the number after `next` doesn't fit 64 bits: false.
  */
-bool net_base_finite_receiver_is_complete(const struct net_base_finite_receiver *receiver);
+NET_BASE_MUST_USE bool net_base_finite_receiver_is_complete(
+    const struct net_base_finite_receiver *receiver) NET_BASE_LINK(finite_receiver_is_complete);
 
 /** Writes to `number` the number that an acknowledgement carries: the first missing position, or,
  * once all bytes and the end have arrived, the end plus 1, since the end has a number.
  *
  * It is refused if the number after `next` doesn't fit 64 bits: false, and nothing changes.
  */
-bool net_base_finite_receiver_acknowledged(
-    const struct net_base_finite_receiver *receiver, uint64_t *number);
+NET_BASE_MUST_USE bool net_base_finite_receiver_acknowledged(
+    const struct net_base_finite_receiver *NET_BASE_RESTRICT receiver,
+    uint64_t *NET_BASE_RESTRICT number) NET_BASE_LINK(finite_receiver_acknowledged);
 
 /** Returns whether all bytes were read, up to the end. Once it is so it stays so.
  *
  * It is refused if the number after `next` doesn't fit 64 bits: false.
  */
-bool net_base_finite_receiver_has_read_all(const struct net_base_finite_receiver *receiver);
+NET_BASE_MUST_USE bool net_base_finite_receiver_has_read_all(
+    const struct net_base_finite_receiver *receiver) NET_BASE_LINK(finite_receiver_has_read_all);
 
 /** Moves bytes from the head of the queue to the beginning of `into`, and returns how many: as many
  * as are queued and as `into` has room for. The rest of `into` stays as it is.
@@ -984,9 +1171,10 @@ bool net_base_finite_receiver_has_read_all(const struct net_base_finite_receiver
  * It is refused if `receiver.receiver.place` isn't that of a ring of `storage_length` elements, or
  * if `next` doesn't fit 64 bits: `NET_BASE_NONE`, and nothing changes.
  */
-size_t net_base_finite_receiver_read(
-    struct net_base_finite_receiver *receiver, const uint8_t *storage, size_t storage_length,
-    uint8_t *into, size_t into_length);
+NET_BASE_MUST_USE size_t net_base_finite_receiver_read(
+    struct net_base_finite_receiver *NET_BASE_RESTRICT receiver,
+    const uint8_t *NET_BASE_RESTRICT storage, size_t storage_length,
+    uint8_t *NET_BASE_RESTRICT into, size_t into_length) NET_BASE_LINK(finite_receiver_read);
 
 /** Removes the first `count` bytes of the queue, as `net_base_finite_receiver_read` does, and
  * copies none. `capacity` is how many bytes the storage has.
@@ -995,8 +1183,9 @@ size_t net_base_finite_receiver_read(
  * fewer than `count` elements are queued, or if `next` doesn't fit 64 bits: false, and nothing
  * changes.
  */
-bool net_base_finite_receiver_remove(
-    struct net_base_finite_receiver *receiver, size_t capacity, size_t count);
+NET_BASE_MUST_USE bool net_base_finite_receiver_remove(
+    struct net_base_finite_receiver *receiver, size_t capacity, size_t count)
+    NET_BASE_LINK(finite_receiver_remove);
 
 /** Returns how many bytes of a segment of `len` bytes at `position` would be new, where the storage
  * has `capacity` bytes: those in the free window and below the end whose positions are not held.
@@ -1009,32 +1198,34 @@ bool net_base_finite_receiver_remove(
  *
  * Requires: head and runs are sound, as `net_base_finite_receiver_is_sound` tests.
  */
-size_t net_base_finite_receiver_count_new(
+NET_BASE_MUST_USE size_t net_base_finite_receiver_count_new(
     const struct net_base_finite_receiver *receiver, size_t capacity,
-    const struct net_base_run *runs, size_t runs_length, uint64_t position, size_t len);
+    const struct net_base_run *runs, size_t runs_length, uint64_t position, size_t len)
+    NET_BASE_LINK(finite_receiver_count_new);
 
 /** Keeps the bytes of a segment that are in the free window and below the end, and writes to
  * `counts` how many. The segment's first byte is at `position`. `is_last` says that the stream
  * ends after the segment; the end is taken if it is at most the end of the free window.
  *
- * Returns `NET_BASE_DONE`, also if no byte is in the free window: then `kept` is 0. Returns
- * `NET_BASE_OTHER_END`, and nothing changes, if the segment says that the stream ends where it
- * can't, as `net_base_finite_receiver_can_end` tells. Else returns `NET_BASE_TOO_MANY_RUNS`, and
- * nothing changes, not the end either, if the segment has bytes in the free window, the first
- * missing position is not one of theirs, and with them there would be more runs than the slice has
- * elements.
+ * Returns `NET_BASE_SEGMENT_DONE`, also if no byte is in the free window: then `kept` is 0.
+ * Returns `NET_BASE_SEGMENT_OTHER_END`, and nothing changes, if the segment says that the stream
+ * ends where it can't, as `net_base_finite_receiver_can_end` tells. Else returns
+ * `NET_BASE_SEGMENT_TOO_MANY_RUNS`, and nothing changes, not the end either, if the segment has
+ * bytes in the free window, the first missing position is not one of theirs, and with them there
+ * would be more runs than the slice has elements.
  *
  * Bytes after which an end has no number are left out.
  *
- * Returns `NET_BASE_REFUSED`, and nothing changes, if `place` isn't that of a ring of
+ * Returns `NET_BASE_SEGMENT_REFUSED`, and nothing changes, if `place` isn't that of a ring of
  * `storage_length` bytes, if `next` doesn't fit 64 bits, or if `held.used` is above `runs_length`.
  *
  * Requires: head, storage and runs are sound, as `net_base_finite_receiver_is_sound` tests.
  */
-NET_BASE_MUST_USE enum net_base_status net_base_finite_receiver_segment(
-    struct net_base_finite_receiver *receiver, uint8_t *storage, size_t storage_length,
-    struct net_base_run *runs, size_t runs_length, uint64_t position, const uint8_t *bytes,
-    size_t bytes_length, bool is_last, struct net_base_kept_counts *counts);
+NET_BASE_MUST_USE enum net_base_segment_status net_base_finite_receiver_segment(
+    struct net_base_finite_receiver *NET_BASE_RESTRICT receiver, uint8_t *NET_BASE_RESTRICT storage,
+    size_t storage_length, struct net_base_run *NET_BASE_RESTRICT runs, size_t runs_length,
+    uint64_t position, const uint8_t *NET_BASE_RESTRICT bytes, size_t bytes_length, bool is_last,
+    struct net_base_kept_counts *NET_BASE_RESTRICT counts) NET_BASE_LINK(finite_receiver_segment);
 
 /** Writes the end of the free window to `end`, for what is announced, where the storage has
  * `capacity` bytes, and returns true: never below the number that
@@ -1044,16 +1235,19 @@ NET_BASE_MUST_USE enum net_base_status net_base_finite_receiver_segment(
  * If more than `capacity` bytes are queued, or the free window's end or the number after `next`
  * doesn't fit 64 bits, it is refused: false, and nothing changes.
  */
-bool net_base_finite_receiver_window_end(
-    const struct net_base_finite_receiver *receiver, size_t capacity, uint64_t *end);
+NET_BASE_MUST_USE bool net_base_finite_receiver_window_end(
+    const struct net_base_finite_receiver *NET_BASE_RESTRICT receiver, size_t capacity,
+    uint64_t *NET_BASE_RESTRICT end) NET_BASE_LINK(finite_receiver_window_end);
 
-/* Senders of a stream of bytes, which ends or not. Once one is closed nothing can be written, and
+/** @} */
+
+/** @defgroup net_base_finite_sender Senders of a stream of bytes, which ends or not
+ *
+ * Senders of a stream of bytes, which ends or not. Once one is closed nothing can be written, and
  * the end has the number after the last byte's: it is sent and acknowledged as a byte is, and
  * takes no room.
  *
- * A head of zeros is new, of a stream that begins at position 0. The queue, of bytes that are not
- * acknowledged, is the ring of `sender.place`. What SACK blocks report is kept in a scoreboard. A
- * number is kept for the end.
+ * @{
  */
 
 /** What a sender has besides its storage: numbers. */
@@ -1064,7 +1258,12 @@ struct net_base_sender {
     struct net_base_ring place;
 };
 
-/** What a sender of a stream that ends has besides its storage: numbers. */
+/** What a sender of a stream that ends has besides its storage: numbers.
+ *
+ * A head of zeros is new, of a stream that begins at position 0. The queue, of bytes that are not
+ * acknowledged, is the ring of `sender.place`. What SACK blocks report is kept in a scoreboard. A
+ * number is kept for the end.
+ */
 struct net_base_finite_sender {
     /** The sender of the bytes. */
     struct net_base_sender sender;
@@ -1094,29 +1293,33 @@ struct net_base_segment_span {
  * It is refused if `first` is `UINT64_MAX`: false, and nothing changes.
  */
 NET_BASE_MUST_USE bool net_base_finite_sender_init(
-    struct net_base_finite_sender *sender, uint64_t first);
+    struct net_base_finite_sender *sender, uint64_t first) NET_BASE_LINK(finite_sender_init);
 
 /** Returns whether this head is sound for a storage of `capacity` bytes: `sender.place` is that of
  * a ring of as many; `closed` and `finished` are 0 or 1, and `finished` is 1 only if `closed` is
  * and the queue is empty; and `sent` is from the first number that isn't acknowledged up to the
  * number after the last one, which fits 64 bits.
  */
-bool net_base_finite_sender_is_sound(const struct net_base_finite_sender *sender, size_t capacity);
+NET_BASE_MUST_USE bool net_base_finite_sender_is_sound(
+    const struct net_base_finite_sender *sender, size_t capacity)
+    NET_BASE_LINK(finite_sender_is_sound);
 
 /** Writes to `number` the first number that isn't acknowledged.
  *
  * It is refused if the number doesn't fit 64 bits: false, and nothing changes.
  */
-bool net_base_finite_sender_first_number(
-    const struct net_base_finite_sender *sender, uint64_t *number);
+NET_BASE_MUST_USE bool net_base_finite_sender_first_number(
+    const struct net_base_finite_sender *NET_BASE_RESTRICT sender,
+    uint64_t *NET_BASE_RESTRICT number) NET_BASE_LINK(finite_sender_first_number);
 
 /** Writes to `number` the number after the last byte's, and after the end's once the sender is
  * closed.
  *
  * It is refused if the number doesn't fit 64 bits: false, and nothing changes.
  */
-bool net_base_finite_sender_numbers_end(
-    const struct net_base_finite_sender *sender, uint64_t *number);
+NET_BASE_MUST_USE bool net_base_finite_sender_numbers_end(
+    const struct net_base_finite_sender *NET_BASE_RESTRICT sender,
+    uint64_t *NET_BASE_RESTRICT number) NET_BASE_LINK(finite_sender_numbers_end);
 
 /** Returns how many bytes `net_base_finite_sender_write` would take: none once the sender is
  * closed. The number 2^64 - 2 is kept for the end, which has one after it.
@@ -1124,7 +1327,8 @@ bool net_base_finite_sender_numbers_end(
  * It is refused if `capacity` is `NET_BASE_NONE`, or if `sender` isn't that of a sender over
  * `capacity` bytes: `NET_BASE_NONE`.
  */
-size_t net_base_finite_sender_room(const struct net_base_finite_sender *sender, size_t capacity);
+NET_BASE_MUST_USE size_t net_base_finite_sender_room(
+    const struct net_base_finite_sender *sender, size_t capacity) NET_BASE_LINK(finite_sender_room);
 
 /** Enqueues the first of these bytes, as many as `net_base_finite_sender_room` says, and returns
  * how many. Unless the sender is closed, an empty queue is rewound before, also for no bytes.
@@ -1132,12 +1336,14 @@ size_t net_base_finite_sender_room(const struct net_base_finite_sender *sender, 
  * It is refused if `sender` isn't that of a sender over `storage_length` bytes: `NET_BASE_NONE`,
  * and nothing changes.
  */
-size_t net_base_finite_sender_write(
-    struct net_base_finite_sender *sender, uint8_t *storage, size_t storage_length,
-    const uint8_t *bytes, size_t bytes_length);
+NET_BASE_MUST_USE size_t net_base_finite_sender_write(
+    struct net_base_finite_sender *NET_BASE_RESTRICT sender, uint8_t *NET_BASE_RESTRICT storage,
+    size_t storage_length, const uint8_t *NET_BASE_RESTRICT bytes, size_t bytes_length)
+    NET_BASE_LINK(finite_sender_write);
 
 /** Ends the stream after what was written. A second call changes nothing. */
-void net_base_finite_sender_close(struct net_base_finite_sender *sender);
+void net_base_finite_sender_close(
+    struct net_base_finite_sender *sender) NET_BASE_LINK(finite_sender_close);
 
 /** Returns where the bytes of a segment from `position` on are, none if the byte at `position`
  * isn't queued, and whether the segment ends the stream: the sender is closed, and the bytes end
@@ -1148,9 +1354,9 @@ void net_base_finite_sender_close(struct net_base_finite_sender *sender);
  * It is refused if `sender` isn't that of a sender over `capacity` bytes: `from` is
  * `NET_BASE_NONE`, `count` and `contiguous` are 0, `is_last` is false.
  */
-struct net_base_segment_span net_base_finite_sender_peek_at(
-    const struct net_base_finite_sender *sender, size_t capacity, uint64_t position,
-    uint64_t limit);
+NET_BASE_MUST_USE struct net_base_segment_span net_base_finite_sender_peek_at(
+    const struct net_base_finite_sender *sender, size_t capacity, uint64_t position, uint64_t limit)
+    NET_BASE_LINK(finite_sender_peek_at);
 
 /** Returns what `net_base_finite_sender_peek_at` does, and notes that the segment was sent: `sent`
  * is the number after its last one, the end's counted, unless that is below. It changes nothing if
@@ -1159,8 +1365,9 @@ struct net_base_segment_span net_base_finite_sender_peek_at(
  * It is refused if `sender` isn't that of a sender over `capacity` bytes: `from` is
  * `NET_BASE_NONE`, `count` and `contiguous` are 0, `is_last` is false, and nothing changes.
  */
-struct net_base_segment_span net_base_finite_sender_send_at(
-    struct net_base_finite_sender *sender, size_t capacity, uint64_t position, uint64_t limit);
+NET_BASE_MUST_USE struct net_base_segment_span net_base_finite_sender_send_at(
+    struct net_base_finite_sender *sender, size_t capacity, uint64_t position, uint64_t limit)
+    NET_BASE_LINK(finite_sender_send_at);
 
 /** Notes that all numbers below `position` were sent, the end's among them if `position` is past
  * it. Returns false, and changes nothing, if `position` is above
@@ -1169,8 +1376,9 @@ struct net_base_segment_span net_base_finite_sender_send_at(
  * It is refused if `sender` isn't that of a sender over `capacity` bytes: false, and nothing
  * changes.
  */
-bool net_base_finite_sender_mark_sent(
-    struct net_base_finite_sender *sender, size_t capacity, uint64_t position);
+NET_BASE_MUST_USE bool net_base_finite_sender_mark_sent(
+    struct net_base_finite_sender *sender, size_t capacity, uint64_t position)
+    NET_BASE_LINK(finite_sender_mark_sent);
 
 /** Drops the bytes below `next`, and notes that the end is acknowledged if `next` is past it.
  * Returns false, and changes nothing, if `next` is below `net_base_finite_sender_first_number` or
@@ -1179,22 +1387,34 @@ bool net_base_finite_sender_mark_sent(
  * It is refused if `sender` isn't that of a sender over `capacity` bytes: false, and nothing
  * changes.
  */
-bool net_base_finite_sender_acknowledge(
-    struct net_base_finite_sender *sender, size_t capacity, uint64_t next);
+NET_BASE_MUST_USE bool net_base_finite_sender_acknowledge(
+    struct net_base_finite_sender *sender, size_t capacity, uint64_t next)
+    NET_BASE_LINK(finite_sender_acknowledge);
 
 /** Returns whether a SACK block can be right: it has a number, and none above those that were sent,
  * of which the end's is one.
  */
-bool net_base_finite_sender_is_block(
-    const struct net_base_finite_sender *sender, uint64_t start, uint64_t end);
+NET_BASE_MUST_USE bool net_base_finite_sender_is_block(
+    const struct net_base_finite_sender *sender, uint64_t start, uint64_t end)
+    NET_BASE_LINK(finite_sender_is_block);
 
 /** Returns whether the sender is closed. */
-bool net_base_finite_sender_is_closed(const struct net_base_finite_sender *sender);
+NET_BASE_MUST_USE bool net_base_finite_sender_is_closed(
+    const struct net_base_finite_sender *sender) NET_BASE_LINK(finite_sender_is_closed);
 
 /** Returns whether all bytes and the end are acknowledged. Once it is so it stays so. */
-bool net_base_finite_sender_is_closed_and_acknowledged(const struct net_base_finite_sender *sender);
+NET_BASE_MUST_USE bool net_base_finite_sender_is_closed_and_acknowledged(
+    const struct net_base_finite_sender *sender)
+    NET_BASE_LINK(finite_sender_is_closed_and_acknowledged);
 
-/* What a TCP computes: acceptable segments, the scale of its window, the Internet checksum. */
+/** @} */
+
+/** @defgroup net_base_tcp What a TCP computes
+ *
+ * What a TCP computes: acceptable segments, the scale of its window, the Internet checksum.
+ *
+ * @{
+ */
 
 /** The positions and the flags of an arriving segment. */
 struct net_base_segment {
@@ -1229,97 +1449,119 @@ struct net_base_sent_numbers {
  * the other's window never hear of one another. Whether a segment may acknowledge what it does is
  * tested afterwards, by `net_base_tcp_is_acknowledgement`.
  */
-NET_BASE_MUST_USE enum net_base_status net_base_tcp_classify(
-    uint64_t next, uint64_t window, const struct net_base_segment *segment);
+NET_BASE_MUST_USE enum net_base_arrival_status net_base_tcp_classify(
+    uint64_t next, uint64_t window, const struct net_base_segment *segment)
+    NET_BASE_LINK(tcp_classify);
 
 /** Returns whether a segment may acknowledge `ack`: it isn't above what was sent, nor below the
  * first unacknowledged position by more than the greatest window that the peer ever announced (RFC
  * 5961, section 5). If it may not, nothing of the segment is taken, and it is answered.
  */
-bool net_base_tcp_is_acknowledgement(
-    const struct net_base_sent_numbers *numbers, uint64_t greatest_window, uint64_t ack);
+NET_BASE_MUST_USE bool net_base_tcp_is_acknowledgement(
+    const struct net_base_sent_numbers *numbers, uint64_t greatest_window, uint64_t ack)
+    NET_BASE_LINK(tcp_is_acknowledgement);
 
 /** Returns the least scale by which this capacity, rounded down to a unit, can be announced, or 14
  * if none can.
  */
-uint8_t net_base_tcp_scale_for(uint64_t capacity);
+uint8_t net_base_tcp_scale_for(uint64_t capacity) NET_BASE_LINK(tcp_scale_for);
 
 /** Returns how many bytes the field of a segment announces. A scale above 14 counts as 14, as RFC
  * 7323, section 2.3, has it.
  */
-uint64_t net_base_tcp_scaled(uint16_t field, uint8_t scale);
+NET_BASE_MUST_USE uint64_t net_base_tcp_scaled(
+    uint16_t field, uint8_t scale) NET_BASE_LINK(tcp_scaled);
 
 /** Returns the checksum of a message in which the word `old`, at an even offset, became `value`,
  * from its checksum before (RFC 1624, equation 3); of one that is all zeros then, 0 in place of
  * 65535. Checksums and words are numbers: in a message the high byte comes first.
  */
-uint16_t net_base_tcp_updated_checksum(uint16_t checksum, uint16_t old, uint16_t value);
+uint16_t net_base_tcp_updated_checksum(
+    uint16_t checksum, uint16_t old, uint16_t value) NET_BASE_LINK(tcp_updated_checksum);
 
-/* What a receiver has announced.
+/** @} */
+
+/** @defgroup net_base_advertised_window What a receiver has announced
+ *
+ * What a receiver has announced.
+ *
+ * @{
+ */
+
+/** What a receiver has announced: how far its promise reaches.
  *
  * A head of zeros is new, before the stream's byte at position 0: nothing was announced.
  */
-
-/** What a receiver has announced: how far its promise reaches. */
 struct net_base_advertised_window {
     /** The position after the last one that was ever promised. */
     uint64_t edge;
 };
 
 /** Makes `advertised` a window of which nothing was announced, before the byte at `first`. */
-void net_base_advertised_window_init(struct net_base_advertised_window *advertised, uint64_t first);
+void net_base_advertised_window_init(
+    struct net_base_advertised_window *advertised, uint64_t first)
+    NET_BASE_LINK(advertised_window_init);
 
 /** Returns what to do with a segment, as `net_base_tcp_classify` says, in the window that was
  * announced: from `next`, the first missing position, up to the edge, whatever is free now.
  */
-NET_BASE_MUST_USE enum net_base_status net_base_advertised_window_classify(
+NET_BASE_MUST_USE enum net_base_arrival_status net_base_advertised_window_classify(
     const struct net_base_advertised_window *advertised, uint64_t next,
-    const struct net_base_segment *segment);
+    const struct net_base_segment *segment) NET_BASE_LINK(advertised_window_classify);
 
-/** Writes to `number` the number to announce, in units of 2^`scale`, if `next` is the first missing
- * position and `window_end` the end of the free room: the greatest that doesn't promise more than
- * there is. In a segment with a SYN the scale is 0. A scale above 14 counts as 14 (RFC 7323,
- * section 2.3).
+/** Returns the number to announce, in units of 2^`scale`, if `next` is the first missing position
+ * and `window_end` the end of the free room: the greatest that doesn't promise more than there is.
+ * In a segment with a SYN the scale is 0. A scale above 14 counts as 14 (RFC 7323, section 2.3).
  *
  * No number keeps a promise whose rest is not a multiple of the unit, unless there is room up to
  * the next multiple: at one scale the number may then be less than what was promised, by less than
  * a unit. What was promised is still acceptable, and `edge` stays.
  *
- * It is refused if `window_end` is below `next`: false, and nothing changes.
+ * If the window ends before `next`, there is no room, as where the storage is full and the end,
+ * which has a number, is acknowledged.
  */
-bool net_base_advertised_window_announce(
+uint16_t net_base_advertised_window_announce(
     struct net_base_advertised_window *advertised, uint8_t scale, uint64_t next,
-    uint64_t window_end, uint16_t *number);
+    uint64_t window_end) NET_BASE_LINK(advertised_window_announce);
 
-/** Writes to `number` the number to announce in a segment that is sent anyway, as
+/** Returns the number to announce in a segment that is sent anyway, as
  * `net_base_advertised_window_announce` does, but moves the edge beyond `next` only if an update
  * would be due: otherwise it announces what was promised before, rounded down. So the edge grows
  * by what is worth an update, or only up to `next` (RFC 9293, section 3.8.6.2.2).
- *
- * It is refused if `window_end` is below `next`: false, and nothing changes.
  */
-bool net_base_advertised_window_announce_in_steps(
+uint16_t net_base_advertised_window_announce_in_steps(
     struct net_base_advertised_window *advertised, uint8_t scale, uint64_t next,
-    uint64_t window_end, uint64_t capacity, uint16_t mss, uint16_t *number);
+    uint64_t window_end, uint64_t capacity, uint16_t mss)
+    NET_BASE_LINK(advertised_window_announce_in_steps);
 
 /** Returns whether an update is worth a segment of its own: whether the edge would move, from where
  * it is, below `next` too, by half of the receiver's capacity, rounded up, or by one segment of
  * `mss` bytes, and by 1 at least.
  *
- * It is refused if `window_end` is below `next`: false.
+ * None is due if the window ends before `next`. Pass such a `window_end`, as 0, once all up to the
+ * end is acknowledged: nothing follows that needs room, and a peer that has closed its connection
+ * would answer an update by a reset.
  */
-bool net_base_advertised_window_is_update_due(
+NET_BASE_MUST_USE bool net_base_advertised_window_is_update_due(
     const struct net_base_advertised_window *advertised, uint8_t scale, uint64_t next,
-    uint64_t window_end, uint64_t capacity, uint16_t mss);
+    uint64_t window_end, uint64_t capacity, uint16_t mss)
+    NET_BASE_LINK(advertised_window_is_update_due);
 
-/* The window that the peer announced, and the segment that it is from.
+/** @} */
+
+/** @defgroup net_base_peer_window The window that the peer announced, and the segment that it is
+ * from
  *
- * A head of zeros is that before any segment: nothing may be sent but a probe, and no segment is
- * older.
+ * The window that the peer announced, and the segment that it is from.
+ *
+ * @{
  */
 
 /** The window that the peer announced, and the segment that it is from. It is kept as its right
  * edge, a position.
+ *
+ * A head of zeros is that before any segment: nothing may be sent but a probe, and no segment is
+ * older.
  */
 struct net_base_peer_window {
     /** The position after the window's last one. */
@@ -1345,7 +1587,7 @@ struct net_base_announcement {
 /** Makes `peer` the window before any segment: nothing may be sent but a probe, and no segment is
  * older.
  */
-void net_base_peer_window_init(struct net_base_peer_window *peer);
+void net_base_peer_window_init(struct net_base_peer_window *peer) NET_BASE_LINK(peer_window_init);
 
 /** Takes over the window of an acceptable segment, unless it acknowledges a position below the
  * first unacknowledged one or above what was sent, or is older than the one before and
@@ -1356,22 +1598,26 @@ void net_base_peer_window_init(struct net_base_peer_window *peer);
  * before this call or after it.
  */
 bool net_base_peer_window_update(
-    struct net_base_peer_window *peer, const struct net_base_sent_numbers *numbers,
-    const struct net_base_announcement *it);
+    struct net_base_peer_window *NET_BASE_RESTRICT peer,
+    const struct net_base_sent_numbers *NET_BASE_RESTRICT numbers,
+    const struct net_base_announcement *NET_BASE_RESTRICT it) NET_BASE_LINK(peer_window_update);
 
 /** Returns how many bytes from `position` on may be sent: none if the edge is at or below it, as it
  * may be after the window shrank.
  */
-uint64_t net_base_peer_window_usable(const struct net_base_peer_window *peer, uint64_t position);
+NET_BASE_MUST_USE uint64_t net_base_peer_window_usable(
+    const struct net_base_peer_window *peer, uint64_t position) NET_BASE_LINK(peer_window_usable);
 
 /** Returns the end of what may be sent of the bytes below `end`. */
-uint64_t net_base_peer_window_send_limit(const struct net_base_peer_window *peer, uint64_t end);
+NET_BASE_MUST_USE uint64_t net_base_peer_window_send_limit(
+    const struct net_base_peer_window *peer, uint64_t end) NET_BASE_LINK(peer_window_send_limit);
 
 /** Returns whether a probe may be sent, the one byte at `first_unacknowledged`: the window has
  * closed, and there are bytes below `end` that wait.
  */
-bool net_base_peer_window_is_probe_allowed(
-    const struct net_base_peer_window *peer, uint64_t first_unacknowledged, uint64_t end);
+NET_BASE_MUST_USE bool net_base_peer_window_is_probe_allowed(
+    const struct net_base_peer_window *peer, uint64_t first_unacknowledged, uint64_t end)
+    NET_BASE_LINK(peer_window_is_probe_allowed);
 
 /** Returns the number of a segment without positions, as an acknowledgement is: `sent`, or the end
  * of the window if that is below it, or the first unacknowledged position if the window ends
@@ -1380,15 +1626,19 @@ bool net_base_peer_window_is_probe_allowed(
  * A peer whose window is shut takes no number beyond it, though a probe was sent there, nor what
  * such a segment acknowledges.
  */
-uint64_t net_base_peer_window_acknowledgement_number(
-    const struct net_base_peer_window *peer, const struct net_base_sent_numbers *numbers);
+NET_BASE_MUST_USE uint64_t net_base_peer_window_acknowledgement_number(
+    const struct net_base_peer_window *peer, const struct net_base_sent_numbers *numbers)
+    NET_BASE_LINK(peer_window_acknowledgement_number);
 
-/* The time until a retransmission (RFC 6298), and its timer, with the one segment that is timed
+/** @} */
+
+/** @defgroup net_base_retransmission The time until a retransmission (RFC 6298), and its timer,
+ * with the one segment that is timed for a sample
+ *
+ * The time until a retransmission (RFC 6298), and its timer, with the one segment that is timed
  * for a sample. Lengths of time are in microseconds, and so are moments, of one clock.
  *
- * A timer of zeros is new, of a peer that reports no blocks: there was no sample, the timer
- * doesn't run, no segment is timed, and the timeout is 1 second, which the RFC begins with. A call
- * that changes anything writes all fields: 0 where there is nothing, and 0 or 1 in a flag.
+ * @{
  */
 
 /** An estimate of the time of a round trip; zeros are none. */
@@ -1406,11 +1656,19 @@ struct net_base_retransmission_timeout {
     struct net_base_rtt_estimate estimate;
     /** Not 0 once there was a sample. */
     uint64_t has_estimate;
-    /** The timeout. 0 counts as 1 second. */
+    /** The timeout. 0, which only the caller writes, counts as 1 second:
+     * `net_base_retransmission_timer_timeout`.
+     */
     uint64_t timeout;
 };
 
-/** The timer of retransmissions. */
+/** The timer of retransmissions.
+ *
+ * A timer of zeros is new, of a peer that reports no blocks: there was no sample, the timer
+ * doesn't run, no segment is timed, and the timeout is 1 second, which the RFC begins with. Bounds
+ * of zeros are the RFC's. A call that changes anything writes all fields: 0 where there is
+ * nothing, 0 or 1 in a flag, and never 0 as a timeout.
+ */
 struct net_base_retransmission_timer {
     /** The timeout. */
     struct net_base_retransmission_timeout timeout;
@@ -1444,11 +1702,11 @@ struct net_base_retransmission_timer {
  * peer delays an acknowledgement.
  */
 struct net_base_timeout_bounds {
-    /** The least timeout. */
+    /** The least timeout. 0 counts as 1 second (RFC 6298, 2.4). */
     uint64_t least;
-    /** The greatest, unless `least` is above it. */
+    /** The greatest, unless `least` is above it. 0 counts as 60 seconds (2.5). */
     uint64_t most;
-    /** The time between two ticks of the clock. */
+    /** The time between two ticks of the clock; 0 if it counts each microsecond. */
     uint64_t tick;
     /** The longest time for which the peer delays the acknowledgement of one segment: 200,000 for
      * TCP.
@@ -1456,20 +1714,28 @@ struct net_base_timeout_bounds {
     uint64_t ack_delay;
 };
 
-/** Makes `timer` a timer that doesn't run, with a timeout before any sample. 0 counts as 1 second,
- * which the RFC has. `reports` says whether the peer reports blocks (SACK): if not, no probe is
- * ever due.
+/** Makes `timer` a timer that doesn't run, with a timeout before any sample. In place of 0 it is 1
+ * second, which the RFC has. `reports` says whether the peer reports blocks (SACK): if not, no
+ * probe is ever due.
  */
 void net_base_retransmission_timer_init(
-    struct net_base_retransmission_timer *timer, uint64_t timeout, bool reports);
+    struct net_base_retransmission_timer *timer, uint64_t timeout, bool reports)
+    NET_BASE_LINK(retransmission_timer_init);
+
+/** Returns the timeout: the timer expires as long after it is started. */
+NET_BASE_MUST_USE uint64_t net_base_retransmission_timer_timeout(
+    const struct net_base_retransmission_timer *timer) NET_BASE_LINK(retransmission_timer_timeout);
 
 /** Starts the timer, unless it runs, where nothing is on the way: it expires the timeout from `now`
  * on, at `INT64_MAX` if that is above it, and no probe is due.
  */
-void net_base_retransmission_timer_start(struct net_base_retransmission_timer *timer, int64_t now);
+void net_base_retransmission_timer_start(
+    struct net_base_retransmission_timer *timer, int64_t now)
+    NET_BASE_LINK(retransmission_timer_start);
 
 /** Stops the timer. A segment that is timed stays so. */
-void net_base_retransmission_timer_stop(struct net_base_retransmission_timer *timer);
+void net_base_retransmission_timer_stop(
+    struct net_base_retransmission_timer *timer) NET_BASE_LINK(retransmission_timer_stop);
 
 /** Takes notice that the segment with the positions from `position` on and below `end` is sent
  * `now`, and starts the timer, unless it runs. `numbers` are the sender's before that. Nothing
@@ -1482,16 +1748,19 @@ void net_base_retransmission_timer_stop(struct net_base_retransmission_timer *ti
  * has something new brings it to two round trips from `now`.
  */
 void net_base_retransmission_timer_sent(
-    struct net_base_retransmission_timer *timer, const struct net_base_timeout_bounds *bounds,
-    uint64_t position, uint64_t end, const struct net_base_sent_numbers *numbers, int64_t now);
+    struct net_base_retransmission_timer *NET_BASE_RESTRICT timer,
+    const struct net_base_timeout_bounds *NET_BASE_RESTRICT bounds, uint64_t position, uint64_t end,
+    const struct net_base_sent_numbers *NET_BASE_RESTRICT numbers, int64_t now)
+    NET_BASE_LINK(retransmission_timer_sent);
 
 /** Takes the sample of the timed segment, if there is one, since it has arrived:
  * `net_base_retransmission_timer_acknowledged` does so of what is acknowledged; a SACK block may
  * say so before.
  */
 void net_base_retransmission_timer_take_sample(
-    struct net_base_retransmission_timer *timer, const struct net_base_timeout_bounds *bounds,
-    int64_t now);
+    struct net_base_retransmission_timer *NET_BASE_RESTRICT timer,
+    const struct net_base_timeout_bounds *NET_BASE_RESTRICT bounds, int64_t now)
+    NET_BASE_LINK(retransmission_timer_take_sample);
 
 /** Takes an acknowledgement of all positions below `next`: the sample of the timed segment, if that
  * is below; then, if it acknowledges something new, it stops the timer if all that was sent is
@@ -1501,32 +1770,43 @@ void net_base_retransmission_timer_take_sample(
  * `numbers` are the sender's before it takes the acknowledgement.
  */
 void net_base_retransmission_timer_acknowledged(
-    struct net_base_retransmission_timer *timer, const struct net_base_timeout_bounds *bounds,
-    const struct net_base_sent_numbers *numbers, uint64_t next, int64_t now);
+    struct net_base_retransmission_timer *NET_BASE_RESTRICT timer,
+    const struct net_base_timeout_bounds *NET_BASE_RESTRICT bounds,
+    const struct net_base_sent_numbers *NET_BASE_RESTRICT numbers, uint64_t next, int64_t now)
+    NET_BASE_LINK(retransmission_timer_acknowledged);
 
 /** Takes notice that a block has reported what wasn't known: a timer that runs is started again. A
  * peer that reports delays no acknowledgement.
  */
 void net_base_retransmission_timer_reported(
-    struct net_base_retransmission_timer *timer, int64_t now);
+    struct net_base_retransmission_timer *timer, int64_t now)
+    NET_BASE_LINK(retransmission_timer_reported);
 
-/** Returns what is due: `NET_BASE_DONE` if nothing is, and then nothing changes; `NET_BASE_PROBE`
- * where no answer has come: the next probe waits twice as long, and the timeout passes when it
- * would have passed; and `NET_BASE_TIMEOUT` where that has: then it is doubled within the bounds,
- * the timer starts again, no segment is timed any longer, and no probe is due until something new
- * is acknowledged or reported.
+/** Returns what is due: `NET_BASE_EXPIRY_DONE` if nothing is, and then nothing changes;
+ * `NET_BASE_EXPIRY_PROBE` where no answer has come: the next probe waits twice as long, and the
+ * timeout passes when it would have passed; and `NET_BASE_EXPIRY_TIMEOUT` where that has: then it
+ * is doubled within the bounds, the timer starts again, no segment is timed any longer, and no
+ * probe is due until something new is acknowledged or reported.
  */
-NET_BASE_MUST_USE enum net_base_status net_base_retransmission_timer_expire(
-    struct net_base_retransmission_timer *timer, const struct net_base_timeout_bounds *bounds,
-    int64_t now);
+NET_BASE_MUST_USE enum net_base_expiry_status net_base_retransmission_timer_expire(
+    struct net_base_retransmission_timer *NET_BASE_RESTRICT timer,
+    const struct net_base_timeout_bounds *NET_BASE_RESTRICT bounds, int64_t now)
+    NET_BASE_LINK(retransmission_timer_expire);
 
-/* The Internet checksum of a message in parts, such as a pseudo-header, a header and data.
+/** @} */
+
+/** @defgroup net_base_parts_sum The Internet checksum of a message in parts, such as a
+ * pseudo-header, a header and data
  *
- * A head of zeros is new: no bytes were added.
+ * The Internet checksum of a message in parts, such as a pseudo-header, a header and data.
+ *
+ * @{
  */
 
 /** The sum of the 16-bit words of a message, which is given in parts of any lengths, one after
  * another. One of zeros is that of no bytes.
+ *
+ * A head of zeros is new: no bytes were added.
  */
 struct net_base_parts_sum {
     /** The sum of the words, folded to 16 bits; 0 only if that sum is 0. */
@@ -1536,43 +1816,53 @@ struct net_base_parts_sum {
 };
 
 /** Makes `sum` the sum of no bytes. */
-void net_base_parts_sum_init(struct net_base_parts_sum *sum);
+void net_base_parts_sum_init(struct net_base_parts_sum *sum) NET_BASE_LINK(parts_sum_init);
 
 /** Adds the bytes that follow those which were added. */
 void net_base_parts_sum_add(
-    struct net_base_parts_sum *sum, const uint8_t *part, size_t part_length);
+    struct net_base_parts_sum *NET_BASE_RESTRICT sum, const uint8_t *NET_BASE_RESTRICT part,
+    size_t part_length) NET_BASE_LINK(parts_sum_add);
 
 /** Returns the checksum of the bytes that were added. It is a number: in a message its high byte
  * comes first.
  */
-uint16_t net_base_parts_sum_checksum(const struct net_base_parts_sum *sum);
+uint16_t net_base_parts_sum_checksum(
+    const struct net_base_parts_sum *sum) NET_BASE_LINK(parts_sum_checksum);
 
 /** Returns whether the bytes that were added, with a checksum among them at an even offset, are
  * valid. No bytes are not.
  */
-bool net_base_parts_sum_is_valid(const struct net_base_parts_sum *sum);
+NET_BASE_MUST_USE bool net_base_parts_sum_is_valid(
+    const struct net_base_parts_sum *sum) NET_BASE_LINK(parts_sum_is_valid);
 
 /** Writes the checksum of the bytes that were added to the first two bytes of `into`, as a message
  * has it, the high byte first, and returns true. The rest of `into` stays as it is.
  *
  * It is refused if `into` has fewer than two bytes: false, and nothing changes.
  */
-bool net_base_parts_sum_write_checksum(
-    const struct net_base_parts_sum *sum, uint8_t *into, size_t into_length);
+NET_BASE_MUST_USE bool net_base_parts_sum_write_checksum(
+    const struct net_base_parts_sum *NET_BASE_RESTRICT sum, uint8_t *NET_BASE_RESTRICT into,
+    size_t into_length) NET_BASE_LINK(parts_sum_write_checksum);
 
-/* Random words, drawn from a state that the caller keeps. Any state is allowed; the words are not
+/** @} */
+
+/** @defgroup net_base_rand Random words, drawn from a state that the caller keeps
+ *
+ * Random words, drawn from a state that the caller keeps. Any state is allowed; the words are not
  * fit for cryptography. The generator is smoltcp's, sPCG32: a step multiplies the state by
  * 0xbb2efcec3c39611d and adds 0x7590ef39, and the word of a state is the low 32 bits of `state >>
  * (29 - (state >> 61))`.
+ *
+ * @{
  */
 
 /** Steps `state` to the next one, and returns its random word, of 32 bits. */
-uint32_t net_base_rand_u32(uint64_t *state);
+uint32_t net_base_rand_u32(uint64_t *state) NET_BASE_LINK(rand_u32);
 
 /** Draws 16 bits until a draw is above 1024, and returns it. It returns from every state, after at
  * most 2^64 draws.
  */
-uint16_t net_base_rand_source_port(uint64_t *state);
+uint16_t net_base_rand_source_port(uint64_t *state) NET_BASE_LINK(rand_source_port);
 
 /** Steps `state` to the next one, and returns its random word times `bound`, divided by 2^32 and
  * rounded down: a number below `bound`. Each number below `bound` is the result for equally many
@@ -1580,9 +1870,15 @@ uint16_t net_base_rand_source_port(uint64_t *state);
  *
  * If `bound` is 0, it is refused: it returns 2^64 - 1, and `state` stays as it is.
  */
-uint64_t net_base_rand_below(uint64_t *state, uint32_t bound);
+NET_BASE_MUST_USE uint64_t net_base_rand_below(
+    uint64_t *state, uint32_t bound) NET_BASE_LINK(rand_below);
 
-/* Sequence numbers of 32 bits, which wrap, and the positions of 64 bits, which don't.
+/** @} */
+
+/** @defgroup net_base_sequence_number Sequence numbers of 32 bits, which wrap, and the positions of
+ * 64 bits, which don't
+ *
+ * Sequence numbers of 32 bits, which wrap, and the positions of 64 bits, which don't.
  *
  * A receiver and a sender count in positions; TCP's segments have numbers. If position 0 has the
  * number `initial`, each position has one number, and a number has at most one position near a
@@ -1590,37 +1886,104 @@ uint64_t net_base_rand_below(uint64_t *state, uint32_t bound);
  * duplicates. If the first byte has position 0, no position near 0 has such a number. If it has
  * the position 2^32 + its number, each has one: then `initial` is 0, and the low 32 bits of a
  * position are its number.
+ *
+ * @{
  */
 
 /** Returns whether a position near `next` has a number, if position 0 has the number `initial`, and
  * if so writes it to `position`: it is less than 2^31 after `next`, or at most 2^31 before it.
  */
-bool net_base_sequence_number_position(
-    uint32_t number, uint32_t initial, uint64_t next, uint64_t *position);
+NET_BASE_MUST_USE bool net_base_sequence_number_position(
+    uint32_t number, uint32_t initial, uint64_t next, uint64_t *position)
+    NET_BASE_LINK(sequence_number_position);
 
-/* Moments (signed, from an origin of the caller's own) and lengths of time, in microseconds.
+/** @} */
+
+/** @defgroup net_base_time Moments (signed, from an origin of the caller's own) and lengths of
+ * time, in microseconds
+ *
+ * Moments (signed, from an origin of the caller's own) and lengths of time, in microseconds.
  *
  * Both are numbers: C adds and compares them, and divides by 1,000 and 1,000,000. Here is what
  * overflows if C computes it.
+ *
+ * @{
  */
 
 /** Returns `instant + duration`, or `INT64_MAX` if that is above it. */
-int64_t net_base_instant_saturating_add(int64_t instant, uint64_t duration);
+int64_t net_base_instant_saturating_add(
+    int64_t instant, uint64_t duration) NET_BASE_LINK(instant_saturating_add);
 
 /** Returns how far apart two moments are, whichever is the later one. Any two have a distance. */
-uint64_t net_base_instant_distance(int64_t instant, int64_t other);
+NET_BASE_MUST_USE uint64_t net_base_instant_distance(
+    int64_t instant, int64_t other) NET_BASE_LINK(instant_distance);
 
-/* The version of this interface. */
-
-/** Returns the version of this interface, which is in the name too: a program that calls this
- * doesn't link with a library of another version. Each version whose structs or functions differ
- * has another number.
- */
-uint32_t net_base_abi_3(void);
+/** @} */
 
 /* END */
 
+/** @cond */
+#if defined __has_attribute
+#if __has_attribute(access)
+#define NET_BASE_READS(pointer, length) __attribute__((access(read_only, pointer, length)))
+#define NET_BASE_WRITES(pointer, length) __attribute__((access(read_write, pointer, length)))
+#define NET_BASE_SLICES(name, told) extern __typeof__(net_base_##name) net_base_##name told;
+#pragma GCC diagnostic push
+#pragma GCC diagnostic ignored "-Wredundant-decls"
+NET_BASE_SLICES(ring_write_unallocated, NET_BASE_WRITES(2, 3) NET_BASE_READS(5, 6))
+NET_BASE_SLICES(ring_read_allocated, NET_BASE_READS(2, 3) NET_BASE_WRITES(5, 6))
+NET_BASE_SLICES(ring_enqueue_slice, NET_BASE_WRITES(2, 3) NET_BASE_READS(4, 5))
+NET_BASE_SLICES(ring_dequeue_slice, NET_BASE_READS(2, 3) NET_BASE_WRITES(4, 5))
+NET_BASE_SLICES(packets_is_sound, NET_BASE_READS(2, 3))
+NET_BASE_SLICES(packets_shorten_last, NET_BASE_WRITES(2, 3))
+NET_BASE_SLICES(packets_enqueue, NET_BASE_WRITES(2, 3))
+NET_BASE_SLICES(packets_dequeue, NET_BASE_READS(2, 3))
+NET_BASE_SLICES(packets_peek, NET_BASE_READS(2, 3))
+NET_BASE_SLICES(assembler_is_sound, NET_BASE_READS(2, 3))
+NET_BASE_SLICES(assembler_add, NET_BASE_WRITES(2, 3))
+NET_BASE_SLICES(assembler_add_then_remove_front, NET_BASE_WRITES(2, 3))
+NET_BASE_SLICES(assembler_remove_front, NET_BASE_WRITES(2, 3))
+NET_BASE_SLICES(assembler_shift, NET_BASE_WRITES(2, 3))
+NET_BASE_SLICES(assembler_peek_front, NET_BASE_READS(2, 3))
+NET_BASE_SLICES(assembler_contains, NET_BASE_READS(2, 3))
+NET_BASE_SLICES(assembler_run_at, NET_BASE_READS(2, 3))
+NET_BASE_SLICES(assembler_hole_at, NET_BASE_READS(2, 3))
+NET_BASE_SLICES(fragments_is_sound, NET_BASE_READS(3, 4))
+NET_BASE_SLICES(fragments_set_total_size, NET_BASE_READS(3, 4))
+NET_BASE_SLICES(fragments_add, NET_BASE_WRITES(2, 3) NET_BASE_WRITES(4, 5) NET_BASE_READS(7, 8))
+NET_BASE_SLICES(fragments_differs, NET_BASE_READS(2, 3) NET_BASE_READS(4, 5) NET_BASE_READS(7, 8))
+NET_BASE_SLICES(fragments_overlaps, NET_BASE_READS(2, 3))
+NET_BASE_SLICES(fragments_complete, NET_BASE_READS(3, 4))
+NET_BASE_SLICES(receiver_is_sound, NET_BASE_READS(3, 4))
+NET_BASE_SLICES(receiver_peek_slice, NET_BASE_READS(2, 3) NET_BASE_WRITES(4, 5))
+NET_BASE_SLICES(receiver_newest_runs, NET_BASE_READS(2, 3) NET_BASE_WRITES(5, 6) NET_BASE_WRITES(7, 8))
+NET_BASE_SLICES(receiver_run_at, NET_BASE_READS(2, 3))
+NET_BASE_SLICES(scoreboard_is_sound, NET_BASE_READS(2, 3))
+NET_BASE_SLICES(scoreboard_report, NET_BASE_WRITES(2, 3))
+NET_BASE_SLICES(scoreboard_acknowledge, NET_BASE_WRITES(2, 3))
+NET_BASE_SLICES(scoreboard_contains, NET_BASE_READS(2, 3))
+NET_BASE_SLICES(scoreboard_next_hole, NET_BASE_READS(2, 3))
+NET_BASE_SLICES(scoreboard_highest_reported, NET_BASE_READS(2, 3))
+NET_BASE_SLICES(scoreboard_count_beyond, NET_BASE_READS(2, 3))
+NET_BASE_SLICES(scoreboard_lost_below, NET_BASE_READS(2, 3))
+NET_BASE_SLICES(finite_receiver_is_sound, NET_BASE_READS(3, 4))
+NET_BASE_SLICES(finite_receiver_can_end, NET_BASE_READS(2, 3))
+NET_BASE_SLICES(finite_receiver_read, NET_BASE_READS(2, 3) NET_BASE_WRITES(4, 5))
+NET_BASE_SLICES(finite_receiver_count_new, NET_BASE_READS(3, 4))
+NET_BASE_SLICES(finite_receiver_segment, NET_BASE_WRITES(2, 3) NET_BASE_WRITES(4, 5) NET_BASE_READS(7, 8))
+NET_BASE_SLICES(finite_sender_write, NET_BASE_WRITES(2, 3) NET_BASE_READS(4, 5))
+NET_BASE_SLICES(parts_sum_add, NET_BASE_READS(2, 3))
+NET_BASE_SLICES(parts_sum_write_checksum, NET_BASE_WRITES(2, 3))
+#pragma GCC diagnostic pop
+#endif
+#endif
+/** @endcond */
+
 #ifdef __cplusplus
 }
+#endif
+
+#ifdef NET_BASE_CHECK
+#include "net_base_check.h"
 #endif
 #endif

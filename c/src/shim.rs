@@ -3,67 +3,67 @@
 use crate::{slice, slice_mut};
 use proved::exports::*;
 
-#[unsafe(no_mangle)]
+#[unsafe(export_name = "net_base_3_ring_init")]
 pub extern "C" fn net_base_ring_init(place: Option<&mut RingHead>) {
     let Some(place) = place else { return };
     heads::ring::net_base_ring_init(place)
 }
 
-#[unsafe(no_mangle)]
+#[unsafe(export_name = "net_base_3_ring_is_sound")]
 pub extern "C" fn net_base_ring_is_sound(place: Option<&RingHead>, capacity: usize) -> bool {
     let Some(place) = place else { return false };
     heads::ring::net_base_ring_is_sound(place, capacity)
 }
 
-#[unsafe(no_mangle)]
+#[unsafe(export_name = "net_base_3_ring_unallocated")]
 pub extern "C" fn net_base_ring_unallocated(place: Option<&RingHead>, capacity: usize, offset: usize, size: usize) -> Span {
     let Some(place) = place else { return refusals::refused_span() };
     heads::ring::net_base_ring_unallocated(place, capacity, offset, size)
 }
 
-#[unsafe(no_mangle)]
+#[unsafe(export_name = "net_base_3_ring_allocated")]
 pub extern "C" fn net_base_ring_allocated(place: Option<&RingHead>, capacity: usize, offset: usize, size: usize) -> Span {
     let Some(place) = place else { return refusals::refused_span() };
     heads::ring::net_base_ring_allocated(place, capacity, offset, size)
 }
 
-#[unsafe(no_mangle)]
+#[unsafe(export_name = "net_base_3_ring_rewind_if_empty")]
 pub extern "C" fn net_base_ring_rewind_if_empty(place: Option<&mut RingHead>) {
     let Some(place) = place else { return };
     heads::ring::net_base_ring_rewind_if_empty(place)
 }
 
-#[unsafe(no_mangle)]
+#[unsafe(export_name = "net_base_3_ring_enqueue")]
 pub extern "C" fn net_base_ring_enqueue(place: Option<&mut RingHead>, capacity: usize, count: usize) -> bool {
     let Some(place) = place else { return false };
     heads::ring::net_base_ring_enqueue(place, capacity, count)
 }
 
-#[unsafe(no_mangle)]
+#[unsafe(export_name = "net_base_3_ring_dequeue")]
 pub extern "C" fn net_base_ring_dequeue(place: Option<&mut RingHead>, capacity: usize, count: usize) -> bool {
     let Some(place) = place else { return false };
     heads::ring::net_base_ring_dequeue(place, capacity, count)
 }
 
-#[unsafe(no_mangle)]
+#[unsafe(export_name = "net_base_3_ring_drop_last")]
 pub extern "C" fn net_base_ring_drop_last(place: Option<&mut RingHead>, count: usize) -> bool {
     let Some(place) = place else { return false };
     heads::ring::net_base_ring_drop_last(place, count)
 }
 
-#[unsafe(no_mangle)]
+#[unsafe(export_name = "net_base_3_ring_enqueue_span")]
 pub extern "C" fn net_base_ring_enqueue_span(place: Option<&mut RingHead>, capacity: usize, size: usize) -> Span {
     let Some(place) = place else { return refusals::refused_span() };
     heads::ring::net_base_ring_enqueue_span(place, capacity, size)
 }
 
-#[unsafe(no_mangle)]
+#[unsafe(export_name = "net_base_3_ring_dequeue_span")]
 pub extern "C" fn net_base_ring_dequeue_span(place: Option<&mut RingHead>, capacity: usize, size: usize) -> Span {
     let Some(place) = place else { return refusals::refused_span() };
     heads::ring::net_base_ring_dequeue_span(place, capacity, size)
 }
 
-#[unsafe(no_mangle)]
+#[unsafe(export_name = "net_base_3_ring_write_unallocated")]
 pub unsafe extern "C" fn net_base_ring_write_unallocated(place: Option<&RingHead>, storage: *mut u8, storage_length: usize, offset: usize, data: *const u8, data_length: usize) -> usize {
     let Some(place) = place else { return refusals::no_number() };
     let Some(storage) = slice_mut(storage, storage_length) else { return refusals::no_number() };
@@ -71,7 +71,7 @@ pub unsafe extern "C" fn net_base_ring_write_unallocated(place: Option<&RingHead
     heads::ring::net_base_ring_write_unallocated(place, storage, offset, data)
 }
 
-#[unsafe(no_mangle)]
+#[unsafe(export_name = "net_base_3_ring_read_allocated")]
 pub unsafe extern "C" fn net_base_ring_read_allocated(place: Option<&RingHead>, storage: *const u8, storage_length: usize, offset: usize, into: *mut u8, into_length: usize) -> usize {
     let Some(place) = place else { return refusals::no_number() };
     let Some(storage) = slice(storage, storage_length) else { return refusals::no_number() };
@@ -79,7 +79,7 @@ pub unsafe extern "C" fn net_base_ring_read_allocated(place: Option<&RingHead>, 
     heads::ring::net_base_ring_read_allocated(place, storage, offset, into)
 }
 
-#[unsafe(no_mangle)]
+#[unsafe(export_name = "net_base_3_ring_enqueue_slice")]
 pub unsafe extern "C" fn net_base_ring_enqueue_slice(place: Option<&mut RingHead>, storage: *mut u8, storage_length: usize, data: *const u8, data_length: usize) -> usize {
     let Some(place) = place else { return refusals::no_number() };
     let Some(storage) = slice_mut(storage, storage_length) else { return refusals::no_number() };
@@ -87,7 +87,7 @@ pub unsafe extern "C" fn net_base_ring_enqueue_slice(place: Option<&mut RingHead
     heads::ring::net_base_ring_enqueue_slice(place, storage, data)
 }
 
-#[unsafe(no_mangle)]
+#[unsafe(export_name = "net_base_3_ring_dequeue_slice")]
 pub unsafe extern "C" fn net_base_ring_dequeue_slice(place: Option<&mut RingHead>, storage: *const u8, storage_length: usize, into: *mut u8, into_length: usize) -> usize {
     let Some(place) = place else { return refusals::no_number() };
     let Some(storage) = slice(storage, storage_length) else { return refusals::no_number() };
@@ -95,157 +95,157 @@ pub unsafe extern "C" fn net_base_ring_dequeue_slice(place: Option<&mut RingHead
     heads::ring::net_base_ring_dequeue_slice(place, storage, into)
 }
 
-#[unsafe(no_mangle)]
+#[unsafe(export_name = "net_base_3_ring_enqueue_one")]
 pub extern "C" fn net_base_ring_enqueue_one(place: Option<&mut RingHead>, capacity: usize) -> usize {
     let Some(place) = place else { return refusals::no_number() };
     ring::net_base_ring_enqueue_one(place, capacity)
 }
 
-#[unsafe(no_mangle)]
+#[unsafe(export_name = "net_base_3_ring_dequeue_one")]
 pub extern "C" fn net_base_ring_dequeue_one(place: Option<&mut RingHead>, capacity: usize) -> usize {
     let Some(place) = place else { return refusals::no_number() };
     ring::net_base_ring_dequeue_one(place, capacity)
 }
 
-#[unsafe(no_mangle)]
+#[unsafe(export_name = "net_base_3_packets_init")]
 pub extern "C" fn net_base_packets_init(packets: Option<&mut PacketsHead>) {
     let Some(packets) = packets else { return };
     heads::packets::net_base_packets_init(packets)
 }
 
-#[unsafe(no_mangle)]
+#[unsafe(export_name = "net_base_3_packets_is_sound")]
 pub unsafe extern "C" fn net_base_packets_is_sound(packets: Option<&PacketsHead>, slots: *const PacketSlot, slots_length: usize, capacity: usize) -> bool {
     let Some(packets) = packets else { return false };
     let Some(slots) = slice(slots, slots_length) else { return false };
     heads::packets::net_base_packets_is_sound(packets, slots, capacity)
 }
 
-#[unsafe(no_mangle)]
+#[unsafe(export_name = "net_base_3_packets_shorten_last")]
 pub unsafe extern "C" fn net_base_packets_shorten_last(packets: Option<&mut PacketsHead>, slots: *mut PacketSlot, slots_length: usize, capacity: usize, count: usize) -> bool {
     let Some(packets) = packets else { return false };
     let Some(slots) = slice_mut(slots, slots_length) else { return false };
     heads::packets::net_base_packets_shorten_last(packets, slots, capacity, count)
 }
 
-#[unsafe(no_mangle)]
+#[unsafe(export_name = "net_base_3_packets_enqueue")]
 pub unsafe extern "C" fn net_base_packets_enqueue(packets: Option<&mut PacketsHead>, slots: *mut PacketSlot, slots_length: usize, capacity: usize, size: usize) -> PacketPlace {
     let Some(packets) = packets else { return packets::refused_packet_place() };
     let Some(slots) = slice_mut(slots, slots_length) else { return packets::refused_packet_place() };
     packets::net_base_packets_enqueue(packets, slots, capacity, size)
 }
 
-#[unsafe(no_mangle)]
+#[unsafe(export_name = "net_base_3_packets_dequeue")]
 pub unsafe extern "C" fn net_base_packets_dequeue(packets: Option<&mut PacketsHead>, slots: *const PacketSlot, slots_length: usize, capacity: usize) -> FirstPacket {
     let Some(packets) = packets else { return packets::refused_first_packet() };
     let Some(slots) = slice(slots, slots_length) else { return packets::refused_first_packet() };
     packets::net_base_packets_dequeue(packets, slots, capacity)
 }
 
-#[unsafe(no_mangle)]
+#[unsafe(export_name = "net_base_3_packets_peek")]
 pub unsafe extern "C" fn net_base_packets_peek(packets: Option<&PacketsHead>, slots: *const PacketSlot, slots_length: usize, capacity: usize) -> FirstPacket {
     let Some(packets) = packets else { return packets::refused_first_packet() };
     let Some(slots) = slice(slots, slots_length) else { return packets::refused_first_packet() };
     packets::net_base_packets_peek(packets, slots, capacity)
 }
 
-#[unsafe(no_mangle)]
+#[unsafe(export_name = "net_base_3_packets_take_slot")]
 pub extern "C" fn net_base_packets_take_slot(packets: Option<&mut PacketsHead>, slot_count: usize, capacity: usize, first: Option<&PacketSlot>) -> usize {
     let Some(packets) = packets else { return refusals::no_number() };
     let Some(first) = first else { return refusals::no_number() };
     packets::net_base_packets_take_slot(packets, slot_count, capacity, first)
 }
 
-#[unsafe(no_mangle)]
+#[unsafe(export_name = "net_base_3_assembler_init")]
 pub extern "C" fn net_base_assembler_init(assembler: Option<&mut AssemblerHead>) {
     let Some(assembler) = assembler else { return };
     heads::assembler::net_base_assembler_init(assembler)
 }
 
-#[unsafe(no_mangle)]
+#[unsafe(export_name = "net_base_3_assembler_is_sound")]
 pub unsafe extern "C" fn net_base_assembler_is_sound(assembler: Option<&AssemblerHead>, runs: *const Run, runs_length: usize) -> bool {
     let Some(assembler) = assembler else { return false };
     let Some(runs) = slice(runs, runs_length) else { return false };
     heads::assembler::net_base_assembler_is_sound(assembler, runs)
 }
 
-#[unsafe(no_mangle)]
-pub unsafe extern "C" fn net_base_assembler_add(assembler: Option<&mut AssemblerHead>, runs: *mut Run, runs_length: usize, offset: usize, size: usize) -> refusals::Status {
+#[unsafe(export_name = "net_base_3_assembler_add")]
+pub unsafe extern "C" fn net_base_assembler_add(assembler: Option<&mut AssemblerHead>, runs: *mut Run, runs_length: usize, offset: usize, size: usize) -> refusals::RoomStatus {
     let Some(assembler) = assembler else { return refusals::NET_BASE_REFUSED };
     let Some(runs) = slice_mut(runs, runs_length) else { return refusals::NET_BASE_REFUSED };
     heads::assembler::net_base_assembler_add(assembler, runs, offset, size)
 }
 
-#[unsafe(no_mangle)]
+#[unsafe(export_name = "net_base_3_assembler_add_then_remove_front")]
 pub unsafe extern "C" fn net_base_assembler_add_then_remove_front(assembler: Option<&mut AssemblerHead>, runs: *mut Run, runs_length: usize, offset: usize, size: usize) -> results::FrontLength {
     let Some(assembler) = assembler else { return refusals::refused_front_length() };
     let Some(runs) = slice_mut(runs, runs_length) else { return refusals::refused_front_length() };
     heads::assembler::net_base_assembler_add_then_remove_front(assembler, runs, offset, size)
 }
 
-#[unsafe(no_mangle)]
+#[unsafe(export_name = "net_base_3_assembler_remove_front")]
 pub unsafe extern "C" fn net_base_assembler_remove_front(assembler: Option<&mut AssemblerHead>, runs: *mut Run, runs_length: usize) -> results::FrontLength {
     let Some(assembler) = assembler else { return refusals::refused_front_length() };
     let Some(runs) = slice_mut(runs, runs_length) else { return refusals::refused_front_length() };
     heads::assembler::net_base_assembler_remove_front(assembler, runs)
 }
 
-#[unsafe(no_mangle)]
+#[unsafe(export_name = "net_base_3_assembler_shift")]
 pub unsafe extern "C" fn net_base_assembler_shift(assembler: Option<&mut AssemblerHead>, runs: *mut Run, runs_length: usize, count: usize) -> bool {
     let Some(assembler) = assembler else { return false };
     let Some(runs) = slice_mut(runs, runs_length) else { return false };
     heads::assembler::net_base_assembler_shift(assembler, runs, count)
 }
 
-#[unsafe(no_mangle)]
+#[unsafe(export_name = "net_base_3_assembler_peek_front")]
 pub unsafe extern "C" fn net_base_assembler_peek_front(assembler: Option<&AssemblerHead>, runs: *const Run, runs_length: usize) -> results::FrontLength {
     let Some(assembler) = assembler else { return refusals::refused_front_length() };
     let Some(runs) = slice(runs, runs_length) else { return refusals::refused_front_length() };
     heads::assembler::net_base_assembler_peek_front(assembler, runs)
 }
 
-#[unsafe(no_mangle)]
+#[unsafe(export_name = "net_base_3_assembler_contains")]
 pub unsafe extern "C" fn net_base_assembler_contains(assembler: Option<&AssemblerHead>, runs: *const Run, runs_length: usize, position: usize) -> bool {
     let Some(assembler) = assembler else { return false };
     let Some(runs) = slice(runs, runs_length) else { return false };
     heads::assembler::net_base_assembler_contains(assembler, runs, position)
 }
 
-#[unsafe(no_mangle)]
+#[unsafe(export_name = "net_base_3_assembler_run_at")]
 pub unsafe extern "C" fn net_base_assembler_run_at(assembler: Option<&AssemblerHead>, runs: *const Run, runs_length: usize, index: usize) -> Run {
     let Some(assembler) = assembler else { return refusals::refused_run() };
     let Some(runs) = slice(runs, runs_length) else { return refusals::refused_run() };
     heads::assembler::net_base_assembler_run_at(assembler, runs, index)
 }
 
-#[unsafe(no_mangle)]
+#[unsafe(export_name = "net_base_3_assembler_hole_at")]
 pub unsafe extern "C" fn net_base_assembler_hole_at(assembler: Option<&AssemblerHead>, runs: *const Run, runs_length: usize, index: usize) -> Run {
     let Some(assembler) = assembler else { return refusals::refused_run() };
     let Some(runs) = slice(runs, runs_length) else { return refusals::refused_run() };
     heads::assembler::net_base_assembler_hole_at(assembler, runs, index)
 }
 
-#[unsafe(no_mangle)]
+#[unsafe(export_name = "net_base_3_fragments_init")]
 pub extern "C" fn net_base_fragments_init(fragments: Option<&mut FragmentsHead>, expires_at: i64) {
     let Some(fragments) = fragments else { return };
     heads::fragments::net_base_fragments_init(fragments, expires_at)
 }
 
-#[unsafe(no_mangle)]
+#[unsafe(export_name = "net_base_3_fragments_is_sound")]
 pub unsafe extern "C" fn net_base_fragments_is_sound(fragments: Option<&FragmentsHead>, capacity: usize, runs: *const Run, runs_length: usize) -> bool {
     let Some(fragments) = fragments else { return false };
     let Some(runs) = slice(runs, runs_length) else { return false };
     heads::fragments::net_base_fragments_is_sound(fragments, capacity, runs)
 }
 
-#[unsafe(no_mangle)]
-pub unsafe extern "C" fn net_base_fragments_set_total_size(fragments: Option<&mut FragmentsHead>, capacity: usize, runs: *const Run, runs_length: usize, size: usize) -> refusals::Status {
+#[unsafe(export_name = "net_base_3_fragments_set_total_size")]
+pub unsafe extern "C" fn net_base_fragments_set_total_size(fragments: Option<&mut FragmentsHead>, capacity: usize, runs: *const Run, runs_length: usize, size: usize) -> refusals::SizeStatus {
     let Some(fragments) = fragments else { return refusals::NET_BASE_REFUSED };
     let Some(runs) = slice(runs, runs_length) else { return refusals::NET_BASE_REFUSED };
     heads::fragments::net_base_fragments_set_total_size(fragments, capacity, runs, size)
 }
 
-#[unsafe(no_mangle)]
-pub unsafe extern "C" fn net_base_fragments_add(fragments: Option<&mut FragmentsHead>, storage: *mut u8, storage_length: usize, runs: *mut Run, runs_length: usize, offset: usize, data: *const u8, data_length: usize) -> refusals::Status {
+#[unsafe(export_name = "net_base_3_fragments_add")]
+pub unsafe extern "C" fn net_base_fragments_add(fragments: Option<&mut FragmentsHead>, storage: *mut u8, storage_length: usize, runs: *mut Run, runs_length: usize, offset: usize, data: *const u8, data_length: usize) -> refusals::FragmentStatus {
     let Some(fragments) = fragments else { return refusals::NET_BASE_REFUSED };
     let Some(storage) = slice_mut(storage, storage_length) else { return refusals::NET_BASE_REFUSED };
     let Some(runs) = slice_mut(runs, runs_length) else { return refusals::NET_BASE_REFUSED };
@@ -253,29 +253,29 @@ pub unsafe extern "C" fn net_base_fragments_add(fragments: Option<&mut Fragments
     heads::fragments::net_base_fragments_add(fragments, storage, runs, offset, data)
 }
 
-#[unsafe(no_mangle)]
+#[unsafe(export_name = "net_base_3_fragments_differs")]
 pub unsafe extern "C" fn net_base_fragments_differs(fragments: Option<&FragmentsHead>, storage: *const u8, storage_length: usize, runs: *const Run, runs_length: usize, offset: usize, data: *const u8, data_length: usize) -> bool {
-    let Some(fragments) = fragments else { return false };
-    let Some(storage) = slice(storage, storage_length) else { return false };
-    let Some(runs) = slice(runs, runs_length) else { return false };
-    let Some(data) = slice(data, data_length) else { return false };
+    let Some(fragments) = fragments else { return true };
+    let Some(storage) = slice(storage, storage_length) else { return true };
+    let Some(runs) = slice(runs, runs_length) else { return true };
+    let Some(data) = slice(data, data_length) else { return true };
     heads::fragments::net_base_fragments_differs(fragments, storage, runs, offset, data)
 }
 
-#[unsafe(no_mangle)]
+#[unsafe(export_name = "net_base_3_fragments_overlaps")]
 pub unsafe extern "C" fn net_base_fragments_overlaps(fragments: Option<&FragmentsHead>, runs: *const Run, runs_length: usize, offset: usize, count: usize) -> bool {
-    let Some(fragments) = fragments else { return false };
-    let Some(runs) = slice(runs, runs_length) else { return false };
+    let Some(fragments) = fragments else { return true };
+    let Some(runs) = slice(runs, runs_length) else { return true };
     heads::fragments::net_base_fragments_overlaps(fragments, runs, offset, count)
 }
 
-#[unsafe(no_mangle)]
+#[unsafe(export_name = "net_base_3_fragments_is_expired")]
 pub extern "C" fn net_base_fragments_is_expired(fragments: Option<&FragmentsHead>, now: i64) -> bool {
     let Some(fragments) = fragments else { return false };
     heads::fragments::net_base_fragments_is_expired(fragments, now)
 }
 
-#[unsafe(no_mangle)]
+#[unsafe(export_name = "net_base_3_fragments_complete")]
 pub unsafe extern "C" fn net_base_fragments_complete(fragments: Option<&FragmentsHead>, capacity: usize, runs: *const Run, runs_length: usize, size: Option<&mut usize>) -> bool {
     let Some(fragments) = fragments else { return false };
     let Some(runs) = slice(runs, runs_length) else { return false };
@@ -283,27 +283,27 @@ pub unsafe extern "C" fn net_base_fragments_complete(fragments: Option<&Fragment
     fragments::net_base_fragments_complete(fragments, capacity, runs, size)
 }
 
-#[unsafe(no_mangle)]
+#[unsafe(export_name = "net_base_3_receiver_is_sound")]
 pub unsafe extern "C" fn net_base_receiver_is_sound(receiver: Option<&ReceiverHead>, capacity: usize, runs: *const Run, runs_length: usize) -> bool {
     let Some(receiver) = receiver else { return false };
     let Some(runs) = slice(runs, runs_length) else { return false };
     heads::receiver::net_base_receiver_is_sound(receiver, capacity, runs)
 }
 
-#[unsafe(no_mangle)]
+#[unsafe(export_name = "net_base_3_receiver_next")]
 pub extern "C" fn net_base_receiver_next(receiver: Option<&ReceiverHead>, next: Option<&mut u64>) -> bool {
     let Some(receiver) = receiver else { return false };
     let Some(next) = next else { return false };
     heads::receiver::net_base_receiver_next(receiver, next)
 }
 
-#[unsafe(no_mangle)]
+#[unsafe(export_name = "net_base_3_receiver_window")]
 pub extern "C" fn net_base_receiver_window(receiver: Option<&ReceiverHead>, capacity: usize) -> usize {
     let Some(receiver) = receiver else { return refusals::no_number() };
     heads::receiver::net_base_receiver_window(receiver, capacity)
 }
 
-#[unsafe(no_mangle)]
+#[unsafe(export_name = "net_base_3_receiver_peek_slice")]
 pub unsafe extern "C" fn net_base_receiver_peek_slice(receiver: Option<&ReceiverHead>, storage: *const u8, storage_length: usize, into: *mut u8, into_length: usize) -> usize {
     let Some(receiver) = receiver else { return refusals::no_number() };
     let Some(storage) = slice(storage, storage_length) else { return refusals::no_number() };
@@ -311,7 +311,7 @@ pub unsafe extern "C" fn net_base_receiver_peek_slice(receiver: Option<&Receiver
     heads::receiver::net_base_receiver_peek_slice(receiver, storage, into)
 }
 
-#[unsafe(no_mangle)]
+#[unsafe(export_name = "net_base_3_receiver_newest_runs")]
 pub unsafe extern "C" fn net_base_receiver_newest_runs(receiver: Option<&ReceiverHead>, runs: *const Run, runs_length: usize, position: u64, recent: *mut u64, recent_length: usize, into: *mut HeldRun, into_length: usize) -> usize {
     let Some(receiver) = receiver else { return refusals::no_number() };
     let Some(runs) = slice(runs, runs_length) else { return refusals::no_number() };
@@ -320,55 +320,55 @@ pub unsafe extern "C" fn net_base_receiver_newest_runs(receiver: Option<&Receive
     heads::receiver::net_base_receiver_newest_runs(receiver, runs, position, recent, into)
 }
 
-#[unsafe(no_mangle)]
+#[unsafe(export_name = "net_base_3_receiver_run_at")]
 pub unsafe extern "C" fn net_base_receiver_run_at(receiver: Option<&ReceiverHead>, runs: *const Run, runs_length: usize, index: usize) -> HeldRun {
     let Some(receiver) = receiver else { return refusals::refused_held_run() };
     let Some(runs) = slice(runs, runs_length) else { return refusals::refused_held_run() };
     receiver::net_base_receiver_run_at(receiver, runs, index)
 }
 
-#[unsafe(no_mangle)]
+#[unsafe(export_name = "net_base_3_scoreboard_init")]
 pub extern "C" fn net_base_scoreboard_init(scoreboard: Option<&mut ScoreboardHead>, first: u64) {
     let Some(scoreboard) = scoreboard else { return };
     heads::scoreboard::net_base_scoreboard_init(scoreboard, first)
 }
 
-#[unsafe(no_mangle)]
+#[unsafe(export_name = "net_base_3_scoreboard_is_sound")]
 pub unsafe extern "C" fn net_base_scoreboard_is_sound(scoreboard: Option<&ScoreboardHead>, runs: *const Run, runs_length: usize) -> bool {
     let Some(scoreboard) = scoreboard else { return false };
     let Some(runs) = slice(runs, runs_length) else { return false };
     heads::scoreboard::net_base_scoreboard_is_sound(scoreboard, runs)
 }
 
-#[unsafe(no_mangle)]
-pub unsafe extern "C" fn net_base_scoreboard_report(scoreboard: Option<&mut ScoreboardHead>, runs: *mut Run, runs_length: usize, start: u64, end: u64, sent: u64) -> refusals::Status {
+#[unsafe(export_name = "net_base_3_scoreboard_report")]
+pub unsafe extern "C" fn net_base_scoreboard_report(scoreboard: Option<&mut ScoreboardHead>, runs: *mut Run, runs_length: usize, start: u64, end: u64, sent: u64) -> refusals::RoomStatus {
     let Some(scoreboard) = scoreboard else { return refusals::NET_BASE_REFUSED };
     let Some(runs) = slice_mut(runs, runs_length) else { return refusals::NET_BASE_REFUSED };
     heads::scoreboard::net_base_scoreboard_report(scoreboard, runs, start, end, sent)
 }
 
-#[unsafe(no_mangle)]
+#[unsafe(export_name = "net_base_3_scoreboard_acknowledge")]
 pub unsafe extern "C" fn net_base_scoreboard_acknowledge(scoreboard: Option<&mut ScoreboardHead>, runs: *mut Run, runs_length: usize, next: u64) -> bool {
     let Some(scoreboard) = scoreboard else { return false };
     let Some(runs) = slice_mut(runs, runs_length) else { return false };
     heads::scoreboard::net_base_scoreboard_acknowledge(scoreboard, runs, next)
 }
 
-#[unsafe(no_mangle)]
+#[unsafe(export_name = "net_base_3_scoreboard_contains")]
 pub unsafe extern "C" fn net_base_scoreboard_contains(scoreboard: Option<&ScoreboardHead>, runs: *const Run, runs_length: usize, position: u64) -> bool {
     let Some(scoreboard) = scoreboard else { return false };
     let Some(runs) = slice(runs, runs_length) else { return false };
     heads::scoreboard::net_base_scoreboard_contains(scoreboard, runs, position)
 }
 
-#[unsafe(no_mangle)]
+#[unsafe(export_name = "net_base_3_scoreboard_next_hole")]
 pub unsafe extern "C" fn net_base_scoreboard_next_hole(scoreboard: Option<&ScoreboardHead>, runs: *const Run, runs_length: usize, position: u64, limit: u64) -> results::Hole {
     let Some(scoreboard) = scoreboard else { return refusals::refused_hole() };
     let Some(runs) = slice(runs, runs_length) else { return refusals::refused_hole() };
     heads::scoreboard::net_base_scoreboard_next_hole(scoreboard, runs, position, limit)
 }
 
-#[unsafe(no_mangle)]
+#[unsafe(export_name = "net_base_3_scoreboard_highest_reported")]
 pub unsafe extern "C" fn net_base_scoreboard_highest_reported(scoreboard: Option<&ScoreboardHead>, runs: *const Run, runs_length: usize, end: Option<&mut u64>) -> bool {
     let Some(scoreboard) = scoreboard else { return false };
     let Some(runs) = slice(runs, runs_length) else { return false };
@@ -376,14 +376,14 @@ pub unsafe extern "C" fn net_base_scoreboard_highest_reported(scoreboard: Option
     heads::scoreboard::net_base_scoreboard_highest_reported(scoreboard, runs, end)
 }
 
-#[unsafe(no_mangle)]
+#[unsafe(export_name = "net_base_3_scoreboard_count_beyond")]
 pub unsafe extern "C" fn net_base_scoreboard_count_beyond(scoreboard: Option<&ScoreboardHead>, runs: *const Run, runs_length: usize) -> usize {
     let Some(scoreboard) = scoreboard else { return refusals::no_number() };
     let Some(runs) = slice(runs, runs_length) else { return refusals::no_number() };
     heads::scoreboard::net_base_scoreboard_count_beyond(scoreboard, runs)
 }
 
-#[unsafe(no_mangle)]
+#[unsafe(export_name = "net_base_3_scoreboard_lost_below")]
 pub unsafe extern "C" fn net_base_scoreboard_lost_below(scoreboard: Option<&ScoreboardHead>, runs: *const Run, runs_length: usize, duplicates: usize, segment_size: usize, limit: Option<&mut u64>) -> bool {
     let Some(scoreboard) = scoreboard else { return false };
     let Some(runs) = slice(runs, runs_length) else { return false };
@@ -391,46 +391,46 @@ pub unsafe extern "C" fn net_base_scoreboard_lost_below(scoreboard: Option<&Scor
     heads::scoreboard::net_base_scoreboard_lost_below(scoreboard, runs, duplicates, segment_size, limit)
 }
 
-#[unsafe(no_mangle)]
+#[unsafe(export_name = "net_base_3_finite_receiver_init")]
 pub extern "C" fn net_base_finite_receiver_init(receiver: Option<&mut FiniteReceiverHead>, first: u64) -> bool {
     let Some(receiver) = receiver else { return false };
     heads::finite_receiver::net_base_finite_receiver_init(receiver, first)
 }
 
-#[unsafe(no_mangle)]
+#[unsafe(export_name = "net_base_3_finite_receiver_is_sound")]
 pub unsafe extern "C" fn net_base_finite_receiver_is_sound(receiver: Option<&FiniteReceiverHead>, capacity: usize, runs: *const Run, runs_length: usize) -> bool {
     let Some(receiver) = receiver else { return false };
     let Some(runs) = slice(runs, runs_length) else { return false };
     heads::finite_receiver::net_base_finite_receiver_is_sound(receiver, capacity, runs)
 }
 
-#[unsafe(no_mangle)]
+#[unsafe(export_name = "net_base_3_finite_receiver_can_end")]
 pub unsafe extern "C" fn net_base_finite_receiver_can_end(receiver: Option<&FiniteReceiverHead>, runs: *const Run, runs_length: usize, position: u64) -> bool {
     let Some(receiver) = receiver else { return false };
     let Some(runs) = slice(runs, runs_length) else { return false };
     heads::finite_receiver::net_base_finite_receiver_can_end(receiver, runs, position)
 }
 
-#[unsafe(no_mangle)]
+#[unsafe(export_name = "net_base_3_finite_receiver_is_complete")]
 pub extern "C" fn net_base_finite_receiver_is_complete(receiver: Option<&FiniteReceiverHead>) -> bool {
     let Some(receiver) = receiver else { return false };
     heads::finite_receiver::net_base_finite_receiver_is_complete(receiver)
 }
 
-#[unsafe(no_mangle)]
+#[unsafe(export_name = "net_base_3_finite_receiver_acknowledged")]
 pub extern "C" fn net_base_finite_receiver_acknowledged(receiver: Option<&FiniteReceiverHead>, number: Option<&mut u64>) -> bool {
     let Some(receiver) = receiver else { return false };
     let Some(number) = number else { return false };
     heads::finite_receiver::net_base_finite_receiver_acknowledged(receiver, number)
 }
 
-#[unsafe(no_mangle)]
+#[unsafe(export_name = "net_base_3_finite_receiver_has_read_all")]
 pub extern "C" fn net_base_finite_receiver_has_read_all(receiver: Option<&FiniteReceiverHead>) -> bool {
     let Some(receiver) = receiver else { return false };
     heads::finite_receiver::net_base_finite_receiver_has_read_all(receiver)
 }
 
-#[unsafe(no_mangle)]
+#[unsafe(export_name = "net_base_3_finite_receiver_read")]
 pub unsafe extern "C" fn net_base_finite_receiver_read(receiver: Option<&mut FiniteReceiverHead>, storage: *const u8, storage_length: usize, into: *mut u8, into_length: usize) -> usize {
     let Some(receiver) = receiver else { return refusals::no_number() };
     let Some(storage) = slice(storage, storage_length) else { return refusals::no_number() };
@@ -438,21 +438,21 @@ pub unsafe extern "C" fn net_base_finite_receiver_read(receiver: Option<&mut Fin
     heads::finite_receiver::net_base_finite_receiver_read(receiver, storage, into)
 }
 
-#[unsafe(no_mangle)]
+#[unsafe(export_name = "net_base_3_finite_receiver_remove")]
 pub extern "C" fn net_base_finite_receiver_remove(receiver: Option<&mut FiniteReceiverHead>, capacity: usize, count: usize) -> bool {
     let Some(receiver) = receiver else { return false };
     heads::finite_receiver::net_base_finite_receiver_remove(receiver, capacity, count)
 }
 
-#[unsafe(no_mangle)]
+#[unsafe(export_name = "net_base_3_finite_receiver_count_new")]
 pub unsafe extern "C" fn net_base_finite_receiver_count_new(receiver: Option<&FiniteReceiverHead>, capacity: usize, runs: *const Run, runs_length: usize, position: u64, len: usize) -> usize {
     let Some(receiver) = receiver else { return refusals::no_number() };
     let Some(runs) = slice(runs, runs_length) else { return refusals::no_number() };
     heads::finite_receiver::net_base_finite_receiver_count_new(receiver, capacity, runs, position, len)
 }
 
-#[unsafe(no_mangle)]
-pub unsafe extern "C" fn net_base_finite_receiver_segment(receiver: Option<&mut FiniteReceiverHead>, storage: *mut u8, storage_length: usize, runs: *mut Run, runs_length: usize, position: u64, bytes: *const u8, bytes_length: usize, is_last: bool, counts: Option<&mut receiver::KeptCounts>) -> refusals::Status {
+#[unsafe(export_name = "net_base_3_finite_receiver_segment")]
+pub unsafe extern "C" fn net_base_finite_receiver_segment(receiver: Option<&mut FiniteReceiverHead>, storage: *mut u8, storage_length: usize, runs: *mut Run, runs_length: usize, position: u64, bytes: *const u8, bytes_length: usize, is_last: bool, counts: Option<&mut receiver::KeptCounts>) -> refusals::SegmentStatus {
     let Some(receiver) = receiver else { return refusals::NET_BASE_REFUSED };
     let Some(storage) = slice_mut(storage, storage_length) else { return refusals::NET_BASE_REFUSED };
     let Some(runs) = slice_mut(runs, runs_length) else { return refusals::NET_BASE_REFUSED };
@@ -461,46 +461,46 @@ pub unsafe extern "C" fn net_base_finite_receiver_segment(receiver: Option<&mut 
     finite_receiver::net_base_finite_receiver_segment(receiver, storage, runs, position, bytes, is_last, counts)
 }
 
-#[unsafe(no_mangle)]
+#[unsafe(export_name = "net_base_3_finite_receiver_window_end")]
 pub extern "C" fn net_base_finite_receiver_window_end(receiver: Option<&FiniteReceiverHead>, capacity: usize, end: Option<&mut u64>) -> bool {
     let Some(receiver) = receiver else { return false };
     let Some(end) = end else { return false };
     finite_receiver::net_base_finite_receiver_window_end(receiver, capacity, end)
 }
 
-#[unsafe(no_mangle)]
+#[unsafe(export_name = "net_base_3_finite_sender_init")]
 pub extern "C" fn net_base_finite_sender_init(sender: Option<&mut FiniteSenderHead>, first: u64) -> bool {
     let Some(sender) = sender else { return false };
     heads::finite_sender::net_base_finite_sender_init(sender, first)
 }
 
-#[unsafe(no_mangle)]
+#[unsafe(export_name = "net_base_3_finite_sender_is_sound")]
 pub extern "C" fn net_base_finite_sender_is_sound(sender: Option<&FiniteSenderHead>, capacity: usize) -> bool {
     let Some(sender) = sender else { return false };
     heads::finite_sender::net_base_finite_sender_is_sound(sender, capacity)
 }
 
-#[unsafe(no_mangle)]
+#[unsafe(export_name = "net_base_3_finite_sender_first_number")]
 pub extern "C" fn net_base_finite_sender_first_number(sender: Option<&FiniteSenderHead>, number: Option<&mut u64>) -> bool {
     let Some(sender) = sender else { return false };
     let Some(number) = number else { return false };
     heads::finite_sender::net_base_finite_sender_first_number(sender, number)
 }
 
-#[unsafe(no_mangle)]
+#[unsafe(export_name = "net_base_3_finite_sender_numbers_end")]
 pub extern "C" fn net_base_finite_sender_numbers_end(sender: Option<&FiniteSenderHead>, number: Option<&mut u64>) -> bool {
     let Some(sender) = sender else { return false };
     let Some(number) = number else { return false };
     heads::finite_sender::net_base_finite_sender_numbers_end(sender, number)
 }
 
-#[unsafe(no_mangle)]
+#[unsafe(export_name = "net_base_3_finite_sender_room")]
 pub extern "C" fn net_base_finite_sender_room(sender: Option<&FiniteSenderHead>, capacity: usize) -> usize {
     let Some(sender) = sender else { return refusals::no_number() };
     heads::finite_sender::net_base_finite_sender_room(sender, capacity)
 }
 
-#[unsafe(no_mangle)]
+#[unsafe(export_name = "net_base_3_finite_sender_write")]
 pub unsafe extern "C" fn net_base_finite_sender_write(sender: Option<&mut FiniteSenderHead>, storage: *mut u8, storage_length: usize, bytes: *const u8, bytes_length: usize) -> usize {
     let Some(sender) = sender else { return refusals::no_number() };
     let Some(storage) = slice_mut(storage, storage_length) else { return refusals::no_number() };
@@ -508,121 +508,119 @@ pub unsafe extern "C" fn net_base_finite_sender_write(sender: Option<&mut Finite
     heads::finite_sender::net_base_finite_sender_write(sender, storage, bytes)
 }
 
-#[unsafe(no_mangle)]
+#[unsafe(export_name = "net_base_3_finite_sender_close")]
 pub extern "C" fn net_base_finite_sender_close(sender: Option<&mut FiniteSenderHead>) {
     let Some(sender) = sender else { return };
     heads::finite_sender::net_base_finite_sender_close(sender)
 }
 
-#[unsafe(no_mangle)]
+#[unsafe(export_name = "net_base_3_finite_sender_peek_at")]
 pub extern "C" fn net_base_finite_sender_peek_at(sender: Option<&FiniteSenderHead>, capacity: usize, position: u64, limit: u64) -> results::SegmentSpan {
     let Some(sender) = sender else { return refusals::refused_segment_span() };
     heads::finite_sender::net_base_finite_sender_peek_at(sender, capacity, position, limit)
 }
 
-#[unsafe(no_mangle)]
+#[unsafe(export_name = "net_base_3_finite_sender_send_at")]
 pub extern "C" fn net_base_finite_sender_send_at(sender: Option<&mut FiniteSenderHead>, capacity: usize, position: u64, limit: u64) -> results::SegmentSpan {
     let Some(sender) = sender else { return refusals::refused_segment_span() };
     heads::finite_sender::net_base_finite_sender_send_at(sender, capacity, position, limit)
 }
 
-#[unsafe(no_mangle)]
+#[unsafe(export_name = "net_base_3_finite_sender_mark_sent")]
 pub extern "C" fn net_base_finite_sender_mark_sent(sender: Option<&mut FiniteSenderHead>, capacity: usize, position: u64) -> bool {
     let Some(sender) = sender else { return false };
     heads::finite_sender::net_base_finite_sender_mark_sent(sender, capacity, position)
 }
 
-#[unsafe(no_mangle)]
+#[unsafe(export_name = "net_base_3_finite_sender_acknowledge")]
 pub extern "C" fn net_base_finite_sender_acknowledge(sender: Option<&mut FiniteSenderHead>, capacity: usize, next: u64) -> bool {
     let Some(sender) = sender else { return false };
     heads::finite_sender::net_base_finite_sender_acknowledge(sender, capacity, next)
 }
 
-#[unsafe(no_mangle)]
+#[unsafe(export_name = "net_base_3_finite_sender_is_block")]
 pub extern "C" fn net_base_finite_sender_is_block(sender: Option<&FiniteSenderHead>, start: u64, end: u64) -> bool {
     let Some(sender) = sender else { return false };
     heads::finite_sender::net_base_finite_sender_is_block(sender, start, end)
 }
 
-#[unsafe(no_mangle)]
+#[unsafe(export_name = "net_base_3_finite_sender_is_closed")]
 pub extern "C" fn net_base_finite_sender_is_closed(sender: Option<&FiniteSenderHead>) -> bool {
     let Some(sender) = sender else { return false };
     heads::finite_sender::net_base_finite_sender_is_closed(sender)
 }
 
-#[unsafe(no_mangle)]
+#[unsafe(export_name = "net_base_3_finite_sender_is_closed_and_acknowledged")]
 pub extern "C" fn net_base_finite_sender_is_closed_and_acknowledged(sender: Option<&FiniteSenderHead>) -> bool {
     let Some(sender) = sender else { return false };
     heads::finite_sender::net_base_finite_sender_is_closed_and_acknowledged(sender)
 }
 
-#[unsafe(no_mangle)]
-pub extern "C" fn net_base_tcp_classify(next: u64, window: u64, segment: Option<&Segment>) -> refusals::Status {
+#[unsafe(export_name = "net_base_3_tcp_classify")]
+pub extern "C" fn net_base_tcp_classify(next: u64, window: u64, segment: Option<&Segment>) -> refusals::ArrivalStatus {
     let Some(segment) = segment else { return refusals::NET_BASE_REFUSED };
     heads::tcp::net_base_tcp_classify(next, window, segment)
 }
 
-#[unsafe(no_mangle)]
+#[unsafe(export_name = "net_base_3_tcp_is_acknowledgement")]
 pub extern "C" fn net_base_tcp_is_acknowledgement(numbers: Option<&SentNumbers>, greatest_window: u64, ack: u64) -> bool {
     let Some(numbers) = numbers else { return false };
     heads::tcp::net_base_tcp_is_acknowledgement(numbers, greatest_window, ack)
 }
 
-#[unsafe(no_mangle)]
+#[unsafe(export_name = "net_base_3_tcp_scale_for")]
 pub extern "C" fn net_base_tcp_scale_for(capacity: u64) -> u8 {
     heads::tcp::net_base_tcp_scale_for(capacity)
 }
 
-#[unsafe(no_mangle)]
+#[unsafe(export_name = "net_base_3_tcp_scaled")]
 pub extern "C" fn net_base_tcp_scaled(field: u16, scale: u8) -> u64 {
     heads::tcp::net_base_tcp_scaled(field, scale)
 }
 
-#[unsafe(no_mangle)]
+#[unsafe(export_name = "net_base_3_tcp_updated_checksum")]
 pub extern "C" fn net_base_tcp_updated_checksum(checksum: u16, old: u16, value: u16) -> u16 {
     heads::tcp::net_base_tcp_updated_checksum(checksum, old, value)
 }
 
-#[unsafe(no_mangle)]
+#[unsafe(export_name = "net_base_3_advertised_window_init")]
 pub extern "C" fn net_base_advertised_window_init(advertised: Option<&mut AdvertisedWindow>, first: u64) {
     let Some(advertised) = advertised else { return };
     heads::advertised_window::net_base_advertised_window_init(advertised, first)
 }
 
-#[unsafe(no_mangle)]
-pub extern "C" fn net_base_advertised_window_classify(advertised: Option<&AdvertisedWindow>, next: u64, segment: Option<&Segment>) -> refusals::Status {
+#[unsafe(export_name = "net_base_3_advertised_window_classify")]
+pub extern "C" fn net_base_advertised_window_classify(advertised: Option<&AdvertisedWindow>, next: u64, segment: Option<&Segment>) -> refusals::ArrivalStatus {
     let Some(advertised) = advertised else { return refusals::NET_BASE_REFUSED };
     let Some(segment) = segment else { return refusals::NET_BASE_REFUSED };
     heads::advertised_window::net_base_advertised_window_classify(advertised, next, segment)
 }
 
-#[unsafe(no_mangle)]
-pub extern "C" fn net_base_advertised_window_announce(advertised: Option<&mut AdvertisedWindow>, scale: u8, next: u64, window_end: u64, number: Option<&mut u16>) -> bool {
-    let Some(advertised) = advertised else { return false };
-    let Some(number) = number else { return false };
-    heads::advertised_window::net_base_advertised_window_announce(advertised, scale, next, window_end, number)
+#[unsafe(export_name = "net_base_3_advertised_window_announce")]
+pub extern "C" fn net_base_advertised_window_announce(advertised: Option<&mut AdvertisedWindow>, scale: u8, next: u64, window_end: u64) -> u16 {
+    let Some(advertised) = advertised else { return 0 };
+    heads::advertised_window::net_base_advertised_window_announce(advertised, scale, next, window_end)
 }
 
-#[unsafe(no_mangle)]
-pub extern "C" fn net_base_advertised_window_announce_in_steps(advertised: Option<&mut AdvertisedWindow>, scale: u8, next: u64, window_end: u64, capacity: u64, mss: u16, number: Option<&mut u16>) -> bool {
-    let Some(advertised) = advertised else { return false };
-    let Some(number) = number else { return false };
-    heads::advertised_window::net_base_advertised_window_announce_in_steps(advertised, scale, next, window_end, capacity, mss, number)
+#[unsafe(export_name = "net_base_3_advertised_window_announce_in_steps")]
+pub extern "C" fn net_base_advertised_window_announce_in_steps(advertised: Option<&mut AdvertisedWindow>, scale: u8, next: u64, window_end: u64, capacity: u64, mss: u16) -> u16 {
+    let Some(advertised) = advertised else { return 0 };
+    heads::advertised_window::net_base_advertised_window_announce_in_steps(advertised, scale, next, window_end, capacity, mss)
 }
 
-#[unsafe(no_mangle)]
+#[unsafe(export_name = "net_base_3_advertised_window_is_update_due")]
 pub extern "C" fn net_base_advertised_window_is_update_due(advertised: Option<&AdvertisedWindow>, scale: u8, next: u64, window_end: u64, capacity: u64, mss: u16) -> bool {
     let Some(advertised) = advertised else { return false };
     heads::advertised_window::net_base_advertised_window_is_update_due(advertised, scale, next, window_end, capacity, mss)
 }
 
-#[unsafe(no_mangle)]
+#[unsafe(export_name = "net_base_3_peer_window_init")]
 pub extern "C" fn net_base_peer_window_init(peer: Option<&mut PeerWindow>) {
     let Some(peer) = peer else { return };
     heads::peer_window::net_base_peer_window_init(peer)
 }
 
-#[unsafe(no_mangle)]
+#[unsafe(export_name = "net_base_3_peer_window_update")]
 pub extern "C" fn net_base_peer_window_update(peer: Option<&mut PeerWindow>, numbers: Option<&SentNumbers>, it: Option<&Announcement>) -> bool {
     let Some(peer) = peer else { return false };
     let Some(numbers) = numbers else { return false };
@@ -630,50 +628,56 @@ pub extern "C" fn net_base_peer_window_update(peer: Option<&mut PeerWindow>, num
     heads::peer_window::net_base_peer_window_update(peer, numbers, it)
 }
 
-#[unsafe(no_mangle)]
+#[unsafe(export_name = "net_base_3_peer_window_usable")]
 pub extern "C" fn net_base_peer_window_usable(peer: Option<&PeerWindow>, position: u64) -> u64 {
     let Some(peer) = peer else { return u64::MAX };
     heads::peer_window::net_base_peer_window_usable(peer, position)
 }
 
-#[unsafe(no_mangle)]
+#[unsafe(export_name = "net_base_3_peer_window_send_limit")]
 pub extern "C" fn net_base_peer_window_send_limit(peer: Option<&PeerWindow>, end: u64) -> u64 {
     let Some(peer) = peer else { return u64::MAX };
     heads::peer_window::net_base_peer_window_send_limit(peer, end)
 }
 
-#[unsafe(no_mangle)]
+#[unsafe(export_name = "net_base_3_peer_window_is_probe_allowed")]
 pub extern "C" fn net_base_peer_window_is_probe_allowed(peer: Option<&PeerWindow>, first_unacknowledged: u64, end: u64) -> bool {
     let Some(peer) = peer else { return false };
     heads::peer_window::net_base_peer_window_is_probe_allowed(peer, first_unacknowledged, end)
 }
 
-#[unsafe(no_mangle)]
+#[unsafe(export_name = "net_base_3_peer_window_acknowledgement_number")]
 pub extern "C" fn net_base_peer_window_acknowledgement_number(peer: Option<&PeerWindow>, numbers: Option<&SentNumbers>) -> u64 {
     let Some(peer) = peer else { return u64::MAX };
     let Some(numbers) = numbers else { return u64::MAX };
     heads::peer_window::net_base_peer_window_acknowledgement_number(peer, numbers)
 }
 
-#[unsafe(no_mangle)]
+#[unsafe(export_name = "net_base_3_retransmission_timer_init")]
 pub extern "C" fn net_base_retransmission_timer_init(timer: Option<&mut retransmission::RetransmissionTimer>, timeout: u64, reports: bool) {
     let Some(timer) = timer else { return };
     retransmission::net_base_retransmission_timer_init(timer, timeout, reports)
 }
 
-#[unsafe(no_mangle)]
+#[unsafe(export_name = "net_base_3_retransmission_timer_timeout")]
+pub extern "C" fn net_base_retransmission_timer_timeout(timer: Option<&retransmission::RetransmissionTimer>) -> u64 {
+    let Some(timer) = timer else { return u64::MAX };
+    retransmission::net_base_retransmission_timer_timeout(timer)
+}
+
+#[unsafe(export_name = "net_base_3_retransmission_timer_start")]
 pub extern "C" fn net_base_retransmission_timer_start(timer: Option<&mut retransmission::RetransmissionTimer>, now: i64) {
     let Some(timer) = timer else { return };
     retransmission::net_base_retransmission_timer_start(timer, now)
 }
 
-#[unsafe(no_mangle)]
+#[unsafe(export_name = "net_base_3_retransmission_timer_stop")]
 pub extern "C" fn net_base_retransmission_timer_stop(timer: Option<&mut retransmission::RetransmissionTimer>) {
     let Some(timer) = timer else { return };
     retransmission::net_base_retransmission_timer_stop(timer)
 }
 
-#[unsafe(no_mangle)]
+#[unsafe(export_name = "net_base_3_retransmission_timer_sent")]
 pub extern "C" fn net_base_retransmission_timer_sent(timer: Option<&mut retransmission::RetransmissionTimer>, bounds: Option<&retransmission::TimeoutBounds>, position: u64, end: u64, numbers: Option<&SentNumbers>, now: i64) {
     let Some(timer) = timer else { return };
     let Some(bounds) = bounds else { return };
@@ -681,14 +685,14 @@ pub extern "C" fn net_base_retransmission_timer_sent(timer: Option<&mut retransm
     retransmission::net_base_retransmission_timer_sent(timer, bounds, position, end, numbers, now)
 }
 
-#[unsafe(no_mangle)]
+#[unsafe(export_name = "net_base_3_retransmission_timer_take_sample")]
 pub extern "C" fn net_base_retransmission_timer_take_sample(timer: Option<&mut retransmission::RetransmissionTimer>, bounds: Option<&retransmission::TimeoutBounds>, now: i64) {
     let Some(timer) = timer else { return };
     let Some(bounds) = bounds else { return };
     retransmission::net_base_retransmission_timer_take_sample(timer, bounds, now)
 }
 
-#[unsafe(no_mangle)]
+#[unsafe(export_name = "net_base_3_retransmission_timer_acknowledged")]
 pub extern "C" fn net_base_retransmission_timer_acknowledged(timer: Option<&mut retransmission::RetransmissionTimer>, bounds: Option<&retransmission::TimeoutBounds>, numbers: Option<&SentNumbers>, next: u64, now: i64) {
     let Some(timer) = timer else { return };
     let Some(bounds) = bounds else { return };
@@ -696,86 +700,81 @@ pub extern "C" fn net_base_retransmission_timer_acknowledged(timer: Option<&mut 
     retransmission::net_base_retransmission_timer_acknowledged(timer, bounds, numbers, next, now)
 }
 
-#[unsafe(no_mangle)]
+#[unsafe(export_name = "net_base_3_retransmission_timer_reported")]
 pub extern "C" fn net_base_retransmission_timer_reported(timer: Option<&mut retransmission::RetransmissionTimer>, now: i64) {
     let Some(timer) = timer else { return };
     retransmission::net_base_retransmission_timer_reported(timer, now)
 }
 
-#[unsafe(no_mangle)]
-pub extern "C" fn net_base_retransmission_timer_expire(timer: Option<&mut retransmission::RetransmissionTimer>, bounds: Option<&retransmission::TimeoutBounds>, now: i64) -> refusals::Status {
+#[unsafe(export_name = "net_base_3_retransmission_timer_expire")]
+pub extern "C" fn net_base_retransmission_timer_expire(timer: Option<&mut retransmission::RetransmissionTimer>, bounds: Option<&retransmission::TimeoutBounds>, now: i64) -> refusals::ExpiryStatus {
     let Some(timer) = timer else { return refusals::NET_BASE_REFUSED };
     let Some(bounds) = bounds else { return refusals::NET_BASE_REFUSED };
     retransmission::net_base_retransmission_timer_expire(timer, bounds, now)
 }
 
-#[unsafe(no_mangle)]
+#[unsafe(export_name = "net_base_3_parts_sum_init")]
 pub extern "C" fn net_base_parts_sum_init(sum: Option<&mut PartsSum>) {
     let Some(sum) = sum else { return };
     heads::parts_sum::net_base_parts_sum_init(sum)
 }
 
-#[unsafe(no_mangle)]
+#[unsafe(export_name = "net_base_3_parts_sum_add")]
 pub unsafe extern "C" fn net_base_parts_sum_add(sum: Option<&mut PartsSum>, part: *const u8, part_length: usize) {
     let Some(sum) = sum else { return };
     let Some(part) = slice(part, part_length) else { return };
     heads::parts_sum::net_base_parts_sum_add(sum, part)
 }
 
-#[unsafe(no_mangle)]
+#[unsafe(export_name = "net_base_3_parts_sum_checksum")]
 pub extern "C" fn net_base_parts_sum_checksum(sum: Option<&PartsSum>) -> u16 {
     let Some(sum) = sum else { return 0 };
     heads::parts_sum::net_base_parts_sum_checksum(sum)
 }
 
-#[unsafe(no_mangle)]
+#[unsafe(export_name = "net_base_3_parts_sum_is_valid")]
 pub extern "C" fn net_base_parts_sum_is_valid(sum: Option<&PartsSum>) -> bool {
     let Some(sum) = sum else { return false };
     heads::parts_sum::net_base_parts_sum_is_valid(sum)
 }
 
-#[unsafe(no_mangle)]
+#[unsafe(export_name = "net_base_3_parts_sum_write_checksum")]
 pub unsafe extern "C" fn net_base_parts_sum_write_checksum(sum: Option<&PartsSum>, into: *mut u8, into_length: usize) -> bool {
     let Some(sum) = sum else { return false };
     let Some(into) = slice_mut(into, into_length) else { return false };
     parts_sum::net_base_parts_sum_write_checksum(sum, into)
 }
 
-#[unsafe(no_mangle)]
+#[unsafe(export_name = "net_base_3_rand_u32")]
 pub extern "C" fn net_base_rand_u32(state: Option<&mut u64>) -> u32 {
     let Some(state) = state else { return 0 };
     rand::net_base_rand_u32(state)
 }
 
-#[unsafe(no_mangle)]
+#[unsafe(export_name = "net_base_3_rand_source_port")]
 pub extern "C" fn net_base_rand_source_port(state: Option<&mut u64>) -> u16 {
     let Some(state) = state else { return 0 };
     rand::net_base_rand_source_port(state)
 }
 
-#[unsafe(no_mangle)]
+#[unsafe(export_name = "net_base_3_rand_below")]
 pub extern "C" fn net_base_rand_below(state: Option<&mut u64>, bound: u32) -> u64 {
     let Some(state) = state else { return u64::MAX };
     rand::net_base_rand_below(state, bound)
 }
 
-#[unsafe(no_mangle)]
+#[unsafe(export_name = "net_base_3_sequence_number_position")]
 pub extern "C" fn net_base_sequence_number_position(number: u32, initial: u32, next: u64, position: Option<&mut u64>) -> bool {
     let Some(position) = position else { return false };
     sequence_number::net_base_sequence_number_position(number, initial, next, position)
 }
 
-#[unsafe(no_mangle)]
+#[unsafe(export_name = "net_base_3_instant_saturating_add")]
 pub extern "C" fn net_base_instant_saturating_add(instant: i64, duration: u64) -> i64 {
     time::net_base_instant_saturating_add(instant, duration)
 }
 
-#[unsafe(no_mangle)]
+#[unsafe(export_name = "net_base_3_instant_distance")]
 pub extern "C" fn net_base_instant_distance(instant: i64, other: i64) -> u64 {
     time::net_base_instant_distance(instant, other)
-}
-
-#[unsafe(no_mangle)]
-pub extern "C" fn net_base_abi_3() -> u32 {
-    version::net_base_abi_3()
 }

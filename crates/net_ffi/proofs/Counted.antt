@@ -23,8 +23,8 @@ after : (b : Bounds) (now : ℤ) (t : Timer) → 1 ≤ b.least → 1 ≤ t.timeo
 after b now t least own =
     let passed : 1 ≤ doubled b t.timeout.timeout = omega arith in
     either (λ it. 1 ≤ it.timeout.timeout) (has_expired t now)
-        (if has_ended t now then timed_out b now t else probed now t) t
-        (either (λ it. 1 ≤ it.timeout.timeout) (has_ended t now) (timed_out b now t) (probed now t) passed own) own
+    (if has_ended t now then timed_out b now t else probed now t) t
+    (either (λ it. 1 ≤ it.timeout.timeout) (has_ended t now) (timed_out b now t) (probed now t) passed own) own
 
 pub counted : (b : TimeoutBounds) (now : ℤ) (t : RetransmissionTimer) →
     1 ≤ (timer_fields (after_expiry (bounds_of b) now (timer_of t))).timeout.timeout

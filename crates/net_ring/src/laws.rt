@@ -5,7 +5,9 @@
 //! as a field after a call.
 ghost use Rattle.std.specs.Prelude.{◌≡◌, ◌+◌, ◌-◌, ◌<◌, ◌≤◌, ◌&&◌, nat_le, nat_lt, ℕ, List, length, slice_index_or};
 ghost use Rattle.std.specs.Prelude.{if◌then◌else◌, IsTrue, ◌≢◌, ◌∷◌, [], slice_get, slice_set, Some};
-ghost use Rattle.net_ring.specs.{overwrite, ring, place, ring_at, IsSound};
+ghost use Rattle.net_ring.specs.{overwrite, ring, place, ring_at, IsSound, free_index, queued_index, rewound};
+ghost use Rattle.net_ring.specs.{enqueued_place, dequeued_place};
+ghost use Rattle.net_ring.specs.declared.head.RingHead.{RingHead};
 
 use crate::error::{Empty, Full};
 use crate::ring_buffer::laws::overwritten;
@@ -45,6 +47,16 @@ pub fn element_set<T>()
 pub fn head_of_zeros<T>()
     ensures sound { (capacity : ℕ) → IsSound capacity (place 0 0) }
     ensures ring { (xs : List T) → ring_at xs (place 0 0) ≡ ring xs 0 0 }
+{}
+
+/// States what is lent across calls: free elements have the same indices after others are dequeued, and queued ones after
+/// others are enqueued. What rewinds an empty ring moves its free elements; one with a queue isn't rewound.
+pub fn lent_stays()
+    ensures free { (c k i : ℕ) (p : RingHead) → IsSound c p → k ≤ p.length → i ≤ c - p.length →
+        free_index c (dequeued_place c k p) i ≡ free_index c p i }
+    ensures queued { (c k i : ℕ) (p : RingHead) → i ≤ p.length →
+        queued_index c (enqueued_place k p) i ≡ queued_index c p i }
+    ensures unmoved { (p : RingHead) → 1 ≤ p.length → rewound p ≡ p }
 {}
 
 /// States that refusals of one kind are equal, and that a clone of one is never refused.

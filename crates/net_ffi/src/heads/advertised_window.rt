@@ -5,8 +5,11 @@
 ghost use Rattle.net_tcp.specs.Windows.{IsArrival, announced, field_for, gain, shift_count, worth};
 ghost use Rattle.std.specs.Prelude.{IsTrue, max, min, ℕ, ◌+◌, ◌-◌, ◌<◌, ◌^◌, ◌↔◌, ◌≡◌, ◌≤◌, ◌⊎◌};
 
-use crate::refusals::{NET_BASE_ACKNOWLEDGEMENT_ONLY, NET_BASE_ANSWER, NET_BASE_IGNORE, NET_BASE_RESET, NET_BASE_TAKE, Status};
-use crate::results::{number_of};
+use crate::refusals::{
+    ArrivalStatus, NET_BASE_ACKNOWLEDGEMENT_ONLY, NET_BASE_ANSWER, NET_BASE_IGNORE, NET_BASE_RESET,
+    NET_BASE_TAKE,
+};
+use crate::results::number_of;
 use net_tcp::{AdvertisedWindow, Segment};
 
 /// Makes `advertised` a window of which nothing was announced, before the byte at `first`.
@@ -24,7 +27,7 @@ pub extern "C" fn net_base_advertised_window_classify(
     advertised: &AdvertisedWindow,
     next: u64,
     segment: &Segment,
-) -> Status
+) -> ArrivalStatus
     ensures { IsArrival NET_BASE_TAKE NET_BASE_ACKNOWLEDGEMENT_ONLY NET_BASE_ANSWER NET_BASE_RESET NET_BASE_IGNORE
         next (advertised.now.edge - next) segment.now result }
 {

@@ -11,7 +11,9 @@ ghost use Rattle.net_ffi.specs.Results.{done_or_many, length_or_many};
 ghost use Rattle.std.specs.List.{slice_get};
 ghost use Rattle.std.specs.Prelude.{IsFalse, IsTrue, List, OnErr, length, unwrap_or, ℕ, ◌+◌, ◌<◌, ◌↔◌, ◌≡◌, ◌≤◌};
 
-use crate::refusals::{NET_BASE_DONE, NET_BASE_REFUSED, Status, refused_front_length, refused_run};
+use crate::refusals::{
+    NET_BASE_DONE, NET_BASE_REFUSED, RoomStatus, refused_front_length, refused_run,
+};
 use crate::results::{FrontLength, front_length, run_of, status_of};
 use net_assembler::{AssemblerHead, Run};
 
@@ -54,7 +56,7 @@ pub extern "C" fn net_base_assembler_add(
     runs: &mut [Run],
     offset: usize,
     size: usize,
-) -> Status
+) -> RoomStatus
     requires sound { assembler.old.used ≤ length runs.old → HasSoundRuns assembler.old runs.old }
     ensures sound { assembler.old.used ≤ length runs.old → HasSoundRuns assembler.new runs.new }
     ensures added { (assembler.old.used ≤ length runs.old) × (RangeFits offset size) → Adds (length runs.old)

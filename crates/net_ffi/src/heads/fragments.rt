@@ -10,11 +10,11 @@ ghost use Rattle.net_assembler.specs.RunLists.{HasSoundRuns, set_of};
 ghost use Rattle.net_base.specs.Fragments.{Adds, Differs, HasSoundParts, IsExact, IsPlausible, Meets, TakesSize};
 ghost use Rattle.net_base.specs.Fragments.{fragments_of, total_of, zero_fragments};
 ghost use Rattle.net_ffi.specs.Results.{IsStatus, done_or_error};
-ghost use Rattle.std.specs.Prelude.{IsFalse, IsTrue, List, OnErr, OnOk, false, length, ℕ, ◌<ℤ◌, ◌↔◌, ◌≡◌, ◌≤◌};
+ghost use Rattle.std.specs.Prelude.{IsTrue, List, OnErr, OnOk, false, length, ℕ, ◌<ℤ◌, ◌↔◌, ◌≡◌, ◌≤◌};
 ghost use Rattle.std.specs.declared.option.Option.TheVariants.{Some};
 
 use crate::fragments::is_plausible;
-use crate::refusals::{NET_BASE_REFUSED, Status};
+use crate::refusals::{FragmentStatus, NET_BASE_REFUSED, SizeStatus};
 use crate::results::status_of_fragment;
 use net_assembler::Run;
 use net_base::storage::FragmentsHead;
@@ -62,7 +62,7 @@ pub extern "C" fn net_base_fragments_set_total_size(
     capacity: usize,
     runs: &[Run],
     size: usize,
-) -> Status
+) -> SizeStatus
     requires sound { fragments.old.present.used ≤ length runs.now → HasSoundRuns fragments.old.present runs.now }
     ensures ok { fragments.old.present.used ≤ length runs.now → OnOk (done_or_error result) (fragments.new ≡ record
         fragments.old { has_total = 1; total = size }) }
@@ -106,7 +106,7 @@ pub extern "C" fn net_base_fragments_add(
     runs: &mut [Run],
     offset: usize,
     data: &[u8],
-) -> Status
+) -> FragmentStatus
     requires sound { IsPlausible (length storage.old) (length runs.old) fragments.old → HasSoundParts fragments.old
         storage.old runs.old }
     ensures sound { IsPlausible (length storage.old) (length runs.old) fragments.old → HasSoundParts fragments.new
@@ -133,7 +133,7 @@ pub extern "C" fn net_base_fragments_add(
 /// of the packet at `offset`. The fragment need not be within the buffer.
 ///
 /// It is refused if `present.used` is above `runs.len()`, or a known size above `storage.len()`:
-/// false.
+/// true, as of a packet that isn't to be trusted.
 ///
 /// # Requires
 ///
@@ -150,10 +150,10 @@ pub extern "C" fn net_base_fragments_differs(
         storage.now runs.now }
     ensures value { IsPlausible (length storage.now) (length runs.now) fragments.now → (IsTrue result ↔ Differs
         (fragments_of fragments.now storage.now runs.now) offset «data».now) }
-    ensures refused { (IsPlausible (length storage.now) (length runs.now) fragments.now → ⊥) → IsFalse result }
+    ensures refused { (IsPlausible (length storage.now) (length runs.now) fragments.now → ⊥) → IsTrue result }
 {
     if !is_plausible(fragments, storage.len(), runs.len()) {
-        return false;
+        return true;
     }
     fragments.differs(storage, runs, offset, data)
 }
@@ -164,7 +164,8 @@ pub extern "C" fn net_base_fragments_differs(
 /// It is asked before `net_base_fragments_add`, by callers who refuse a packet whose fragments
 /// overlap (RFC 5722). A fragment that arrives twice overlaps too.
 ///
-/// It is refused if `present.used` is above `runs.len()`: false.
+/// It is refused if `present.used` is above `runs.len()`: true, as of a packet that isn't to be
+/// trusted.
 ///
 /// # Requires
 ///
@@ -179,10 +180,10 @@ pub extern "C" fn net_base_fragments_overlaps(
     requires sound { fragments.now.present.used ≤ length runs.now → HasSoundRuns fragments.now.present runs.now }
     ensures value { fragments.now.present.used ≤ length runs.now → (IsTrue result ↔ Meets (set_of
         fragments.now.present runs.now) offset count) }
-    ensures refused { (fragments.now.present.used ≤ length runs.now → ⊥) → IsFalse result }
+    ensures refused { (fragments.now.present.used ≤ length runs.now → ⊥) → IsTrue result }
 {
     if fragments.present.used > runs.len() {
-        return false;
+        return true;
     }
     fragments.overlaps(runs, offset, count)
 }

@@ -1,10 +1,18 @@
 //! Rings: where elements are in a storage that the caller keeps, and the numbers after a call.
 //!
 //! A head of zeros is new. If the elements aren't bytes, pass only the capacity: the call returns
-//! indices, and you copy before the next call. A head that doesn't fit the capacity is refused. An
-//! empty queue may begin at any index; `read_at` is 0 if the capacity is. A call that takes the
-//! last element off leaves `read_at` after it, and doesn't rewind. In a span of no elements `from`
-//! is where the first would be.
+//! indices, and you copy.
+//!
+//! What is lent so, to DMA too, stays where it is. Queued elements stay until they are dequeued or
+//! dropped, whatever is enqueued. Free ones stay until they are enqueued, whatever is dequeued; but
+//! `enqueue_slice` and `enqueue_span` use them, and with `rewind_if_empty` move them to the
+//! storage's beginning where the queue is empty, even if nothing is enqueued, and `drop_last` moves
+//! them too. So while DMA writes free elements, call none of these four, and `enqueue` what it has
+//! written.
+//!
+//! A head that doesn't fit the capacity is refused. An empty queue may begin at any index;
+//! `read_at` is 0 if the capacity is. A call that takes the last element off leaves `read_at` after
+//! it, and doesn't rewind. In a span of no elements `from` is where the first would be.
 // Written by tools/ffi.py.
 ghost use Rattle.net_ffi.specs.Refusals.{no_number, nowhere};
 ghost use Rattle.net_ring.specs.Ring.{Dequeues, Enqueues, WritesSpare, queue, rewind_if_empty, spare_index, window};

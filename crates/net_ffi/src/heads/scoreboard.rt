@@ -15,7 +15,7 @@ ghost use Rattle.net_receiver.specs.Scoreboards.{HasNoRoom, IsEnd, IsLossBound, 
 ghost use Rattle.net_receiver.specs.Scoreboards.{beyond, reported_by};
 ghost use Rattle.std.specs.Prelude.{Err, IsFalse, IsTrue, List, OnErr, OnOk, length, ℕ, ◌-◌, ◌<◌, ◌↔◌, ◌≡◌};
 
-use crate::refusals::{NET_BASE_DONE, NET_BASE_REFUSED, Status, no_number, refused_hole};
+use crate::refusals::{NET_BASE_DONE, NET_BASE_REFUSED, RoomStatus, no_number, refused_hole};
 use crate::results::{Hole, status_of_report};
 use net_assembler::Run;
 use net_receiver::{ReportError, ScoreboardHead};
@@ -61,7 +61,7 @@ pub extern "C" fn net_base_scoreboard_report(
     start: u64,
     end: u64,
     sent: u64,
-) -> Status
+) -> RoomStatus
     ensures sound { IsSoundBoard scoreboard.old runs.old → IsSoundBoard scoreboard.new runs.new }
     ensures no_block { IsSoundBoard scoreboard.old runs.old → (((done_or_report_error result) ≡ Err
         ReportError.NoBlock) ↔ (IsReport scoreboard.old.base sent start end → ⊥)) }

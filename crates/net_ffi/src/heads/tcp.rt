@@ -5,8 +5,8 @@ ghost use Rattle.net_tcp.specs.Windows.{IsArrival, IsScaleFor, shift_count};
 ghost use Rattle.std.specs.Prelude.{IsTrue, ◌*◌, ◌+◌, ◌<◌, ◌^◌, ◌↔◌, ◌≡◌, ◌≤◌};
 
 use crate::refusals::{
-    NET_BASE_ACKNOWLEDGEMENT_ONLY, NET_BASE_ANSWER, NET_BASE_IGNORE, NET_BASE_RESET, NET_BASE_TAKE,
-    Status,
+    ArrivalStatus, NET_BASE_ACKNOWLEDGEMENT_ONLY, NET_BASE_ANSWER, NET_BASE_IGNORE, NET_BASE_RESET,
+    NET_BASE_TAKE,
 };
 use crate::results::number_of;
 use net_numbers::SentNumbers;
@@ -21,7 +21,7 @@ use net_tcp::Segment;
 /// the other's window never hear of one another. Whether a segment may acknowledge what it does is
 /// tested afterwards, by `net_base_tcp_is_acknowledgement`.
 #[unsafe(no_mangle)]
-pub extern "C" fn net_base_tcp_classify(next: u64, window: u64, segment: &Segment) -> Status
+pub extern "C" fn net_base_tcp_classify(next: u64, window: u64, segment: &Segment) -> ArrivalStatus
     ensures { IsArrival NET_BASE_TAKE NET_BASE_ACKNOWLEDGEMENT_ONLY NET_BASE_ANSWER NET_BASE_RESET NET_BASE_IGNORE
         next window segment.now result }
 {

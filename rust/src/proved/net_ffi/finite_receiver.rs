@@ -1,7 +1,7 @@
 // Written by tools/erase.py from crates/net_ffi/src/finite_receiver.rt: a change here would be lost.
 use crate::proved::net_ffi::receiver::{KeptCounts, has_next, is_plausible};
 use crate::proved::net_ffi::refusals::{
-    NET_BASE_DONE, NET_BASE_OTHER_END, NET_BASE_REFUSED, NET_BASE_TOO_MANY_RUNS, Status,
+    NET_BASE_DONE, NET_BASE_OTHER_END, NET_BASE_REFUSED, NET_BASE_TOO_MANY_RUNS, SegmentStatus,
 };
 use crate::proved::net_assembler::Run;
 use crate::proved::net_receiver::{FiniteError, FiniteReceiverHead};
@@ -20,7 +20,7 @@ pub fn net_base_finite_receiver_segment(
     bytes: &[u8],
     is_last: bool,
     counts: &mut KeptCounts,
-) -> Status {
+) -> SegmentStatus {
     if !is_plausible(&receiver.receiver, storage.len(), runs.len()) {
         return NET_BASE_REFUSED;
     }

@@ -12,4 +12,3 @@ pub mod retransmission;
 pub mod ring;
 pub mod sequence_number;
 pub mod time;
-pub mod version;

@@ -7,6 +7,20 @@ use crate::proved::net_ring::Span;
 
 pub type Status = u32;
 
+pub type RoomStatus = u32;
+
+pub type FragmentStatus = u32;
+
+pub type SizeStatus = u32;
+
+pub type SegmentStatus = u32;
+
+pub type HoleStatus = u32;
+
+pub type ArrivalStatus = u32;
+
+pub type ExpiryStatus = u32;
+
 pub const NET_BASE_DONE: Status = 0;
 
 pub const NET_BASE_TOO_MANY_RUNS: Status = 1;

@@ -1,8 +1,8 @@
 // Written by tools/erase.py from crates/net_ffi/src/results.rt: a change here would be lost.
 use crate::proved::net_ffi::refusals::{
-    NET_BASE_ACKNOWLEDGEMENT_ONLY, NET_BASE_ANSWER, NET_BASE_DONE, NET_BASE_IGNORE,
+    HoleStatus, NET_BASE_ACKNOWLEDGEMENT_ONLY, NET_BASE_ANSWER, NET_BASE_DONE, NET_BASE_IGNORE,
     NET_BASE_OTHER_SIZE, NET_BASE_REFUSED, NET_BASE_RESET, NET_BASE_TAKE, NET_BASE_TOO_LONG,
-    NET_BASE_TOO_MANY_RUNS, Status,
+    NET_BASE_TOO_MANY_RUNS, RoomStatus, Status,
 };
 use crate::proved::net_assembler::{Run, TooManyHolesError};
 use crate::proved::net_base::storage::FragmentError;
@@ -13,14 +13,14 @@ use crate::proved::net_tcp::Arrival;
 #[repr(C)]
 #[derive(Debug, Clone, Copy)]
 pub struct FrontLength {
-    pub status: Status,
+    pub status: RoomStatus,
     pub length: usize,
 }
 
 #[repr(C)]
 #[derive(Debug, Clone, Copy)]
 pub struct Hole {
-    pub status: Status,
+    pub status: HoleStatus,
     pub start: u64,
     pub end: u64,
 }

@@ -1,10 +1,12 @@
 // Written by tools/erase.py from crates/net_ffi/src/retransmission.rt: a change here would be lost.
-use crate::proved::net_ffi::refusals::{NET_BASE_DONE, NET_BASE_PROBE, NET_BASE_TIMEOUT, Status};
+use crate::proved::net_ffi::refusals::{ExpiryStatus, NET_BASE_DONE, NET_BASE_PROBE, NET_BASE_TIMEOUT};
 use crate::proved::net_base::time::{Duration, Instant};
 use crate::proved::net_numbers::SentNumbers;
 use crate::proved::net_tcp::{Expiry, TimedSegment, TimerParts};
 
 const FIRST_TIMEOUT: u64 = 1_000_000;
+
+const MOST_TIMEOUT: u64 = 60_000_000;
 
 #[repr(C)]
 #[derive(Copy, Clone, Debug)]
@@ -49,10 +51,15 @@ pub struct RetransmissionTimer {
 }
 
 #[inline(always)]
+fn given_or(number: u64, other: u64) -> u64 {
+    if number == 0 { other } else { number }
+}
+
+#[inline(always)]
 fn bounds_from(bounds: &TimeoutBounds) -> crate::proved::net_tcp::TimeoutBounds {
     crate::proved::net_tcp::TimeoutBounds {
-        least: Duration::from_micros(bounds.least),
-        most: Duration::from_micros(bounds.most),
+        least: Duration::from_micros(given_or(bounds.least, FIRST_TIMEOUT)),
+        most: Duration::from_micros(given_or(bounds.most, MOST_TIMEOUT)),
         tick: Duration::from_micros(bounds.tick),
         ack_delay: Duration::from_micros(bounds.ack_delay),
     }
@@ -70,11 +77,7 @@ fn timeout_from(fields: RetransmissionTimeout) -> crate::proved::net_tcp::Retran
     } else {
         Some(rtt_from(fields.estimate))
     };
-    let timeout = if fields.timeout == 0 {
-        FIRST_TIMEOUT
-    } else {
-        fields.timeout
-    };
+    let timeout = given_or(fields.timeout, FIRST_TIMEOUT);
     crate::proved::net_tcp::RetransmissionTimeout::from_parts(estimate, Duration::from_micros(timeout))
 }
 
@@ -213,7 +216,7 @@ fn fields_of_timer(timer: crate::proved::net_tcp::RetransmissionTimer) -> Retran
 }
 
 #[inline(always)]
-fn number_of(expiry: Option<Expiry>) -> Status {
+fn number_of(expiry: Option<Expiry>) -> ExpiryStatus {
     match expiry {
         None => NET_BASE_DONE,
         Some(Expiry::Probe) => NET_BASE_PROBE,
@@ -228,9 +231,14 @@ pub fn net_base_retransmission_timer_init(
     reports: bool,
 ) {
     *timer = fields_of_timer(crate::proved::net_tcp::RetransmissionTimer::new(
-        Duration::from_micros(timeout),
+        Duration::from_micros(given_or(timeout, FIRST_TIMEOUT)),
         reports,
     ));
+}
+
+#[inline(always)]
+pub fn net_base_retransmission_timer_timeout(timer: &RetransmissionTimer) -> u64 {
+    given_or(timer.timeout.timeout, FIRST_TIMEOUT)
 }
 
 #[inline(always)]
@@ -307,7 +315,7 @@ pub fn net_base_retransmission_timer_expire(
     timer: &mut RetransmissionTimer,
     bounds: &TimeoutBounds,
     now: i64,
-) -> Status {
+) -> ExpiryStatus {
     let mut it = timer_from(timer);
     let expiry = it.expire(bounds_from(bounds), Instant::from_micros(now));
     if expiry.is_some() {

@@ -1,8 +1,8 @@
 // Written by tools/erase.py from crates/net_ffi/src/heads/advertised_window.rt: a change here would be lost.
 // Written by tools/ffi.py.
 
-use crate::proved::net_ffi::refusals::Status;
-use crate::proved::net_ffi::results::{number_of};
+use crate::proved::net_ffi::refusals::ArrivalStatus;
+use crate::proved::net_ffi::results::number_of;
 use crate::proved::net_tcp::{AdvertisedWindow, Segment};
 
 #[inline(always)]
@@ -15,7 +15,7 @@ pub fn net_base_advertised_window_classify(
     advertised: &AdvertisedWindow,
     next: u64,
     segment: &Segment,
-) -> Status {
+) -> ArrivalStatus {
     number_of(advertised.classify(next, *segment))
 }
 

@@ -1,7 +1,9 @@
 // Written by tools/erase.py from crates/net_ffi/src/heads/assembler.rt: a change here would be lost.
 // Written by tools/ffi.py.
 
-use crate::proved::net_ffi::refusals::{NET_BASE_DONE, NET_BASE_REFUSED, Status, refused_front_length, refused_run};
+use crate::proved::net_ffi::refusals::{
+    NET_BASE_DONE, NET_BASE_REFUSED, RoomStatus, refused_front_length, refused_run,
+};
 use crate::proved::net_ffi::results::{FrontLength, front_length, run_of, status_of};
 use crate::proved::net_assembler::{AssemblerHead, Run};
 
@@ -21,7 +23,7 @@ pub fn net_base_assembler_add(
     runs: &mut [Run],
     offset: usize,
     size: usize,
-) -> Status {
+) -> RoomStatus {
     if assembler.used > runs.len() || !AssemblerHead::fits(offset, size) {
         return NET_BASE_REFUSED;
     }

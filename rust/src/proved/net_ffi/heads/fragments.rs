@@ -2,7 +2,7 @@
 // Written by tools/ffi.py.
 
 use crate::proved::net_ffi::fragments::is_plausible;
-use crate::proved::net_ffi::refusals::{NET_BASE_REFUSED, Status};
+use crate::proved::net_ffi::refusals::{FragmentStatus, NET_BASE_REFUSED, SizeStatus};
 use crate::proved::net_ffi::results::status_of_fragment;
 use crate::proved::net_assembler::Run;
 use crate::proved::net_base::storage::FragmentsHead;
@@ -27,7 +27,7 @@ pub fn net_base_fragments_set_total_size(
     capacity: usize,
     runs: &[Run],
     size: usize,
-) -> Status {
+) -> SizeStatus {
     if fragments.present.used > runs.len() {
         return NET_BASE_REFUSED;
     }
@@ -41,7 +41,7 @@ pub fn net_base_fragments_add(
     runs: &mut [Run],
     offset: usize,
     data: &[u8],
-) -> Status {
+) -> FragmentStatus {
     if !is_plausible(fragments, storage.len(), runs.len()) {
         return NET_BASE_REFUSED;
     }
@@ -57,7 +57,7 @@ pub fn net_base_fragments_differs(
     data: &[u8],
 ) -> bool {
     if !is_plausible(fragments, storage.len(), runs.len()) {
-        return false;
+        return true;
     }
     fragments.differs(storage, runs, offset, data)
 }
@@ -70,7 +70,7 @@ pub fn net_base_fragments_overlaps(
     count: usize,
 ) -> bool {
     if fragments.present.used > runs.len() {
-        return false;
+        return true;
     }
     fragments.overlaps(runs, offset, count)
 }

@@ -1,7 +1,7 @@
 // Written by tools/erase.py from crates/net_ffi/src/heads/scoreboard.rt: a change here would be lost.
 // Written by tools/ffi.py.
 
-use crate::proved::net_ffi::refusals::{NET_BASE_DONE, NET_BASE_REFUSED, Status, no_number, refused_hole};
+use crate::proved::net_ffi::refusals::{NET_BASE_DONE, NET_BASE_REFUSED, RoomStatus, no_number, refused_hole};
 use crate::proved::net_ffi::results::{Hole, status_of_report};
 use crate::proved::net_assembler::Run;
 use crate::proved::net_receiver::ScoreboardHead;
@@ -23,7 +23,7 @@ pub fn net_base_scoreboard_report(
     start: u64,
     end: u64,
     sent: u64,
-) -> Status {
+) -> RoomStatus {
     if !scoreboard.is_sound(runs) {
         return NET_BASE_REFUSED;
     }

@@ -1,13 +1,13 @@
 // Written by tools/erase.py from crates/net_ffi/src/heads/tcp.rt: a change here would be lost.
 // Written by tools/ffi.py.
 
-use crate::proved::net_ffi::refusals::Status;
+use crate::proved::net_ffi::refusals::ArrivalStatus;
 use crate::proved::net_ffi::results::number_of;
 use crate::proved::net_numbers::SentNumbers;
 use crate::proved::net_tcp::Segment;
 
 #[inline(always)]
-pub fn net_base_tcp_classify(next: u64, window: u64, segment: &Segment) -> Status {
+pub fn net_base_tcp_classify(next: u64, window: u64, segment: &Segment) -> ArrivalStatus {
     number_of(crate::proved::net_tcp::classify(next, window, *segment))
 }
 
