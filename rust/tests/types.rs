@@ -7,6 +7,7 @@ use std::fmt::Debug;
 use std::hash::{Hash, Hasher};
 use std::sync::Mutex;
 
+use net_base::ends::{ReceivingEndOver, SendingEndOver};
 use net_base::finite::{FiniteError, FiniteReceiver, FiniteReceiverOver, FiniteSenderOver};
 use net_base::managed::ManagedSlice;
 use net_base::phy::{
@@ -25,7 +26,7 @@ use net_base::storage::{
 };
 use net_base::tcp::{
     AdvertisedWindow, Announcement, Arrival, PartsSum, PeerWindow, RetransmissionTimeout,
-    RetransmissionTimer, RttEstimate, Segment, Transmission, MAX_SCALE,
+    RetransmissionTimer, RttEstimate, Segment, TimeoutBounds, Transmission, MAX_SCALE,
 };
 use net_base::time::{Duration, Instant};
 
@@ -358,4 +359,9 @@ fn arrays() {
     assert!(receiver.keep(7, b"ab", true).is_ok() && receiver.acknowledged() == 10);
     let mut sender = FiniteSenderOver::over_at([0u8; 4], 7);
     assert_eq!((sender.write(b"ab"), sender.numbers_end()), (2, 9));
+    let bounds = TimeoutBounds::default();
+    let mut end = SendingEndOver::<_, 2>::over_at([0; 4], 7, Duration::from_secs(1), bounds);
+    assert_eq!((end.write(b"abcde"), end.numbers().flight_size()), (4, 0));
+    let mut end = ReceivingEndOver::<_, 2>::over_at([0; 4], 7, 2);
+    assert!(end.arrived(7, b"ab", true).is_ok() && end.receiver().acknowledged() == 10);
 }

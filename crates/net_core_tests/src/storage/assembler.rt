@@ -62,6 +62,7 @@ fn searches(head: &AssemblerHead, runs: &[Run; 2]) -> bool {
 /// Adds a range to an assembler, with counts that were raised before. Returns whether it was taken.
 fn adds_counted(assembler: &mut Assembler<2>) -> bool {
     let mut turns = Turns::new();
+    turns.were_a_pass(&[]);
     turns.look();
     turns.step();
     is_usize(9);
