@@ -102,14 +102,14 @@ fn sample(word: &str, seed: u64) {
     let of_endpoint: [(&str, Path, Traffic, Bounds); 11] = [
         ("clean", path(0, 0, 0, 0), mib, (1.0, 1, 5)),
         ("1 % lost", path(100, 0, 0, 1_000), mib, (1.2, 1, 5)),
-        ("1 % lost, without blocks", hidden, mib, (1.2, 2, 10)),
+        ("1 % lost, without blocks", hidden, mib, (1.2, 1, 10)),
         ("20 % delayed", path(0, 2_000, 0, 1_000), mib, (1.5, 1, 80)),
         ("20 % doubled", path(0, 0, 2_000, 1_000), mib, (1.0, 0, 5)),
         ("both send, 1 % lost", path(100, 0, 0, 1_000), Traffic::Both { bytes: 500_000 }, (4.0, 1, 5)),
         ("a slow reader", path(0, 0, 0, 1_000), slow, (5.0, 1, 10)),
         ("answers after 40 ms", path(0, 0, 0, 1_000), requests(20, 40), (2.0, 0, 0)),
         ("answers after 300 ms", path(0, 0, 0, 1_000), requests(4, 300), (2.0, 0, 0)),
-        ("a stop of 3 s", stop, stops, (6.0, 5, 60)),
+        ("a stop of 3 s", stop, stops, (6.0, 5, 150)),
         ("1 % lost, forged packets", forged, mib, (6.0, 12, 60)),
     ];
     let to_endpoint: [(&str, Path, Traffic, f64); 5] = [
@@ -140,9 +140,8 @@ fn sample(word: &str, seed: u64) {
                         continue;
                     }
                     // A machine that is busy is late: three runs in a row fail.
-                    let mut seeds = seed..seed + 3;
-                    let case = |seed| run(Case { ends, path, traffic, seed, most: 10 }, &what);
-                    if !seeds.any(|seed| judge(&what, &case(seed), bounds)) {
+                    let case = Case { ends, path, traffic, seed, most: 10 };
+                    if !(0..3).any(|_time| judge(&what, &run(case, &what), bounds)) {
                         failed.fetch_add(1, Ordering::Relaxed);
                     }
                 }
@@ -189,7 +188,9 @@ fn matrix(word: &str) {
     println!(
         "Seconds, the median of three runs; in brackets, of all three, segments sent again for nothing, and"
     );
-    println!("those with Linux (Reno) in the endpoint's place. Then the ratio to that, and to lwIP with itself. 1 MiB;");
+    println!(
+        "those with Linux (Reno) in the endpoint's place. Then the ratio to that, and to lwIP itself. 1 MiB;"
+    );
     println!("the round trip is 1 ms but where said.");
     println!("| Path | endpoint to lwIP | lwIP to endpoint | endpoint to Linux | Linux to endpoint |");
     println!("|---|---:|---:|---:|---:|");
@@ -236,8 +237,8 @@ fn matrix(word: &str) {
 }
 
 fn goodput(word: &str) {
-    let (bytes, seeds) = (8 << 20, 5);
-    println!("To Linux, 8 MiB, a round trip of 1 ms, no rate; a delay is up to 2 ms. Each cell: MB/s, the median of");
+    let (bytes, seeds) = (2 << 20, 5);
+    println!("To Linux, 2 MiB, a round trip of 1 ms, no rate; a delay is up to 2 ms. Each cell: MB/s, the median of");
     println!("{seeds} runs; timeouts of all; of 10,000 segments how many were sent again for nothing.");
     println!("| Path | endpoint | Linux, Reno | Linux, CUBIC | of Reno | of CUBIC |");
     println!("|---|---:|---:|---:|---:|---:|");
