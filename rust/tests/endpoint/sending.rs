@@ -318,9 +318,15 @@ fn a_peer_that_is_silent() {
     talk.wait(0);
     talk.wait(180_000_000);
     assert_eq!(talk.endpoint.state, State::Listening);
-    // Nothing was sent: it waits for the peer for good.
-    let mut talk = Talk::<4>::open(100, OPTIONS);
-    assert_eq!((talk.wait(999_000_000), talk.endpoint.state), (vec![], State::Open));
+    // All that was sent is answered: it waits for the peer for good, whichever end opened.
+    let mut listener = Talk::<4>::open(100, OPTIONS);
+    let mut opener = Talk::<4>::new(false, 100);
+    opener.wait(0);
+    opener.say(&peer(u32::MAX, 0).with(SYN));
+    for talk in [&mut listener, &mut opener] {
+        talk.endpoint.options.gives_up = Options::default().gives_up;
+        assert_eq!((talk.wait(999_000_000), talk.endpoint.state), (vec![], State::Open));
+    }
 }
 
 #[test]
