@@ -1,5 +1,6 @@
 """Rustc's program, its MIR of the erased crate, for tools/same_program.py: its functions, under the names that the prover has,
 and one as a graph of steps."""
+import ast
 import collections
 import json
 import re
@@ -216,9 +217,11 @@ class CompiledSide(Side):
             return {'true': TRUE, 'false': FALSE, '()': UNIT}[text]
         if re.fullmatch(r"'[^\\]'", text):
             return ('int', ord(text[1]))
-        if re.fullmatch(r'"[^\\]*"', text):
-            data = list(text[1:-1].encode())
-            return ('slice', ('static', json.dumps({'Ints': {'values': data, 'width': 8}})), ('int', len(data)))
+        written = re.fullmatch(r'(b?)("(?:[^"\\]|\\[^u])*")', text)                   # a text, or a reference to its bytes
+        if written and text.isascii():
+            data = list(ast.literal_eval('b' + written[2]))
+            static = ('static', json.dumps({'Ints': {'values': data, 'width': 8}}))
+            return static if written[1] else ('slice', static, ('int', len(data)))
         if limit and (limit[1] or limit[2]) in WIDTHS.keys() - {'isize'}:           # widths.py knows a `usize`
             width = WIDTHS[limit[1] or limit[2]]
             most, least = (2 ** width - 1, 0) if width > 0 else (2 ** (-width - 1) - 1, 2 ** (-width - 1))
