@@ -225,6 +225,11 @@ def main(arguments):
     given = {crate: Path(path) for crate, _, path in (word.partition('=') for word in arguments if '=' in word)}
     paths = given or {crate: same_program.kept(crate) for crate in same_program.given.CRATES if crate != same_program.given.EXPORTS}
     kit = Path([word for word in arguments if '=' not in word][0]).resolve()
+    if missing := [crate for crate, path in paths.items() if not path.is_file()]:
+        sys.exit(f'same_program_tests: no proved library of {", ".join(missing)}: rt lib')
+    if status := subprocess.run(['sh', widths.REPOSITORY / 'rust/kit.sh', kit]).returncode:
+        print('same_program_tests: not run: no compiler', file=sys.stderr)
+        return status
     assert all(one == two for one, two in EQUAL) and not any(one == two for one, two in UNEQUAL), [pair for pair in EQUAL if pair[0] != pair[1]]
     with tempfile.TemporaryDirectory() as temporary:
         temporary = Path(temporary)
@@ -238,7 +243,8 @@ def main(arguments):
         plants = planted(kit, temporary, paths)
     print(f'{len(EQUAL)} terms are one, {len(UNEQUAL)} are two; {count} pairs of bodies; {seen} changes of programs and {plants} plants are found; '
           f'of {entries} entries without use: {", ".join(unused) or "none"}')
+    return 0
 
 
 if __name__ == '__main__':
-    main(sys.argv[1:])
+    sys.exit(main(sys.argv[1:]))
