@@ -1,6 +1,7 @@
 -- What an expiry leaves is a timeout of a microsecond at least.
-use Rattle.std.proofs.Common.{ℕ, zero, suc, ◌≤◌, ◌*◌, arith, true, false}
-use Rattle.std.specs.Prelude.{Bool, ℤ, max, min, if◌then◌else◌}
+use Rattle.std.proofs.Common.{ℕ, ◌≤◌, arith, true, false}
+use Rattle.std.proofs.lemmas.Grind.{common_steps}
+use Rattle.std.specs.Prelude.{Bool, ℤ, if◌then◌else◌}
 use Rattle.net_tcp.specs.Retransmission.{after_expiry, has_expired, has_ended, timed_out, probed, doubled}
 use Rattle.net_tcp.specs.declared.retransmission.TimeoutBounds.{TimeoutBounds as Bounds}
 use Rattle.net_tcp.specs.declared.retransmission_timer.RetransmissionTimer.{RetransmissionTimer as Timer}
@@ -8,12 +9,8 @@ use Rattle.net_ffi.specs.Retransmission.{given_or, bounds_of, timer_of, timer_fi
 use Rattle.net_ffi.specs.declared.retransmission.TimeoutBounds.{TimeoutBounds}
 use Rattle.net_ffi.specs.declared.retransmission.RetransmissionTimer.{RetransmissionTimer}
 
-above : (n : ℕ) → 1 ≤ suc n
-above n = omega arith
-
 given : (n d : ℕ) → 1 ≤ d → 1 ≤ given_or n d
-given zero d h = h
-given (suc n) d h = above n
+given n d h = grind (arith, common_steps, h)
 
 either : (P : Timer → Type 0) (c : Bool) (x y : Timer) → P x → P y → P (if c then x else y)
 either P true x y px py = px
@@ -28,4 +25,5 @@ after b now t least own =
 
 pub counted : (b : TimeoutBounds) (now : ℤ) (t : RetransmissionTimer) →
     1 ≤ (timer_fields (after_expiry (bounds_of b) now (timer_of t))).timeout.timeout
-counted b now t = after (bounds_of b) now (timer_of t) (given b.least 1000000 (omega arith)) (given t.timeout.timeout 1000000 (omega arith))
+counted b now t = after (bounds_of b) now (timer_of t) (given b.least 1000000 (omega arith))
+    (given t.timeout.timeout 1000000 (omega arith))
