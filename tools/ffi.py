@@ -39,10 +39,6 @@ FIRST += ["finite_receiver", "finite_sender", "tcp", "advertised_window", "peer_
 PAGE = ROOT / "docs/FFI.md"
 PAGE_BEGIN = "<!-- Written by tools/ffi.py from crates/net_ffi/src/lib.rt, up to the line END. -->"
 PAGE_END = "<!-- END -->"
-# A program of which the page has the calls of both ends of a stream, from a comment on up to another.
-STREAM = ROOT / "c/programs/stream.c"
-STREAM_BEGIN = "<!-- Written by tools/ffi.py from c/programs/stream.c, up to the line END. -->"
-FROM, TO = "/* The two ends of a stream. */", "/* The end of what docs/FFI.md shows. */"
 BEGIN = "/* Written by tools/ffi.py, up to the line END. */"
 END = "/* END */"
 WIDTH = 100
@@ -553,12 +549,9 @@ def group(doc, name, structs):
 
 
 def page(crate, path):
-    """The page with its duties written anew, and with the program of a stream."""
-    shown = STREAM.read_text().split(FROM, 1)[1].split(TO, 1)[0]
-    lines = "".join(f"    {it}".rstrip() + "\n" for it in (FROM + shown).rstrip().split("\n"))
-    text = between(path.read_text(), STREAM_BEGIN, "\n" + lines + "\n")
+    """The page with its duties written anew."""
     words = re.sub(r"\n(?! *\d+\. |\n)", " ", dict(root_sections(crate))["Duties"])
-    return between(text, PAGE_BEGIN, "## Duties\n\n" + "\n".join(wrapped_text(words, 120)) + "\n")
+    return between(path.read_text(), PAGE_BEGIN, "## Duties\n\n" + "\n".join(wrapped_text(words, 120)) + "\n")
 
 
 def between(text, begin, middle):

@@ -219,7 +219,6 @@ static void take_segment(
     }
     if (arrival != NET_BASE_ARRIVAL_IGNORE) acknowledge(it, link, position, now);
 }
-/* The end of what docs/FFI.md shows. */
 
 /* One stream, which begins at a position, and whose reader is slow or isn't. */
 static void run(uint64_t first, const uint8_t *data, size_t size, bool is_slow) {
