@@ -4,7 +4,7 @@
 //! They know positions, moments and bytes: no headers, no states of a connection and no clock. How much may be
 //! in flight is the caller's choice.
 //!
-//! A sketch by hand, over the proved parts.
+//! By hand, over proved parts.
 use core::fmt;
 
 use crate::finite::{FiniteError, FiniteReceiverOver, FiniteSenderOver, SentNumbers};

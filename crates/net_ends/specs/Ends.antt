@@ -1,5 +1,5 @@
 -- The sending end of a connection: a sender, what was reported of it, its recovery, its timer, and the peer's window.
---     End      the machine
+--     End, new_end      the machine, and one to which nothing was written
 --     first e, end e      the first number that isn't acknowledged, and the one after the last
 --     is_acceptable e ack      whether a segment may acknowledge that (RFC 5961)
 --     timer_after, peer_after, greatest_after      what an acknowledgement leaves
@@ -15,9 +15,9 @@ use Rattle.std.specs.Coded.{Coded, coded_ℕ}
 use Rattle.std.specs.Int.{from_bool}
 use Rattle.std.specs.FinSet as set
 use Rattle.net_assembler.specs.Positions.{Positions, contains, with_range, nothing}
-use Rattle.net_recovery.specs.LossRecovery.{begun as begun_recovery, forgotten}
+use Rattle.net_recovery.specs.LossRecovery.{begun as begun_recovery, forgotten, new_recovery}
 use Rattle.net_tcp.specs.Retransmission.{after_acknowledged, with_sample, after_expiry, after_sending, started}
-use Rattle.net_tcp.specs.Retransmission.{after_report, has_expired, has_ended, expiry}
+use Rattle.net_tcp.specs.Retransmission.{after_report, has_expired, has_ended, expiry, new_timer}
 use Rattle.net_tcp.specs.Windows.{after_update, replaces}
 use Rattle.net_tcp.specs.declared.peer_window.PeerWindow.{PeerWindow}
 use Rattle.net_tcp.specs.declared.retransmission.TimeoutBounds.{TimeoutBounds}
@@ -27,7 +27,7 @@ use Rattle.net_recovery.specs.declared.loss_recovery.LossRecovery.{LossRecovery}
 use Rattle.net_ends.specs.declared.sending_end.Acknowledged.{Acknowledged}
 use Rattle.net_ends.specs.declared.sending_end.Acknowledged.TheVariants.{Refused, Old, New, Begins}
 use Rattle.net_receiver.specs.FiniteSender.{FiniteSenderState, first_number, numbers_end, accepts, SenderCommand}
-use Rattle.net_receiver.specs.FiniteSender.{Writes, Closes, Marks, Acknowledges, sender_after_command}
+use Rattle.net_receiver.specs.FiniteSender.{Writes, Closes, Marks, Acknowledges, sender_after_command, fresh_finite_sender}
 
 -- the positions as a code
 abbrev pub positions_code : Coded Positions
@@ -44,6 +44,21 @@ pub record End : Type 0 where
   pub size : ℕ
   pub probes : Bool
   pub overdue : Bool
+
+-- one to which nothing was written, over so many bytes of storage, and of a peer whose SYN announced a window
+abbrev pub new_end : ℕ → ℕ → ℕ → TimeoutBounds → PeerWindow → ℕ → ℕ → Bool → End
+new_end capacity first timeout bounds peer window size reports = record {
+  sender = fresh_finite_sender capacity first;
+  reported = with_range nothing 0 first;
+  recovery = record new_recovery { is_blind = not reports; unknown = 0 };
+  timer = new_timer timeout reports;
+  bounds = bounds;
+  peer = peer;
+  greatest = window;
+  size = size;
+  probes = false;
+  overdue = false;
+}
 
 abbrev pub first : End → ℕ
 first e = first_number e.sender

@@ -1,16 +1,17 @@
 //! What sends a stream that ends.
 ghost use Rattle.std.specs.Prelude.{◌≡◌, ◌↔◌, ◌-◌, ◌+◌, ◌<◌, ◌≤◌, ◌&&◌, ◌==◌, ℕ, Option, Some, IsTrue, IsFalse, min, max};
-ghost use Rattle.std.specs.Prelude.{IfSome, IfNone, not, nat_lt, true, false, if◌then◌else◌};
+ghost use Rattle.std.specs.Prelude.{IfSome, IfNone, not, nat_lt, true, false, if◌then◌else◌, length};
 ghost use Rattle.net_assembler.specs.Positions.{contains};
 ghost use Rattle.net_recovery.specs.LossRecovery.{begun, begins_at};
 ghost use Rattle.net_receiver.specs.FiniteSender.{sender_after_command, Writes, Closes, Marks, Acknowledges, accepts, IsLent};
-ghost use Rattle.net_ends.specs.Ends.{first, end, is_acceptable, greatest_of, is_shut, asks, is_in, told};
+ghost use Rattle.net_receiver.specs.Finite.{no_end};
+ghost use Rattle.net_ends.specs.Ends.{new_end, first, end, is_acceptable, greatest_of, is_shut, asks, is_in, told};
 ghost use Rattle.net_ends.specs.Ends.{limit, may_send, waiting, after_event, Wrote, Shut, Heard, Looked, Sent, Rested};
 ghost use Rattle.net_ends.specs.Ends.{timed_out, all_lost, has_timed_out, reports_of};
 ghost use Rattle.net_tcp.specs.Retransmission.{has_expired, after_expiry, after_sending, with_sample, after_acknowledged, expires_at};
-ghost use Rattle.net_tcp.specs.Windows.{after_update};
+ghost use Rattle.net_tcp.specs.Windows.{after_update, window_from};
 
-use net_base::time::Instant;
+use net_base::time::{Duration, Instant};
 use net_numbers::SentNumbers;
 use net_receiver::{FiniteSenderOver, Scoreboard};
 use net_recovery::{Answer, LossRecovery, is_duplicate_block, is_equal_acknowledgement};
@@ -49,6 +50,7 @@ pub enum Expired {
 }
 
 /// What sends a stream that ends: a sender, a scoreboard, a recovery, a timer and the peer's window.
+#[derive(Drop)]
 pub struct SendingEnd<S: Storage<u8>, const N: usize> {
     sender: FiniteSenderOver<S>,
     board: Scoreboard<N>,
@@ -85,6 +87,43 @@ impl<S: Storage<u8>, const N: usize> Model for SendingEnd<S, N> {
 }
 
 impl<S: Storage<u8>, const N: usize> SendingEnd<S, N> {
+    /// Returns the end of a stream that begins at position `first`, to which nothing was written, of a peer whose SYN
+    /// announced this window. A segment has at most `segment_size` bytes, and the peer `reports` blocks (SACK) or doesn't.
+    /// `first_timeout` is that before any sample.
+    ///
+    /// # Requires
+    ///
+    /// `N` is at least 1, and `first` isn't `u64::MAX`: a number is left for the end.
+    pub fn over_at(
+        storage: S,
+        first: u64,
+        first_timeout: Duration,
+        bounds: TimeoutBounds,
+        it: Announcement,
+        segment_size: usize,
+        reports: bool,
+    ) -> Self
+        requires runs { 1 ≤ N }
+        requires end { first < no_end }
+        ensures { result ≡ new_end (length (S.elements storage)) first first_timeout bounds
+            (window_from it.seq it.ack it.window) it.window segment_size reports }
+    {
+        let mut recovery = LossRecovery::new();
+        recovery.expect_reports(reports);
+        SendingEnd {
+            sender: FiniteSenderOver::over_at(storage, first),
+            board: Scoreboard::empty_at(first),
+            recovery,
+            timer: RetransmissionTimer::new(first_timeout, reports),
+            bounds,
+            peer: PeerWindow::of(it),
+            greatest: it.window,
+            size: segment_size,
+            probes: false,
+            overdue: false,
+        }
+    }
+
     /// Enqueues bytes, as many as there is room for.
     pub fn write(&mut self, bytes: &[u8]) -> usize
         ensures { self.new ≡ after_event self.old (Wrote bytes.now) }
