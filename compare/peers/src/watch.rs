@@ -6,7 +6,7 @@ const SYN: u8 = 2;
 pub const RST: u8 = 4;
 const ACK: u8 = 16;
 
-/// The first byte of the segment in a packet of IPv4, behind a header without options.
+/// The first byte of the segment in a packet of IPv4, after a header without options.
 const TCP: usize = 20;
 /// A segment that is sent again after so long a silence is so by a timeout.
 const SILENCE: Duration = Duration::from_millis(180);

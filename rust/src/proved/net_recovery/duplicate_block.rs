@@ -2,7 +2,7 @@
 //! Reports of what came twice.
 
 /// Returns whether the first block of an acknowledgement reports what came twice (RFC 2883, section 4): it has a position, and
-/// it ends at `next` or below, which is what is acknowledged, or it lies in the second block. A block that only says
+/// it ends at `next` or below, which is what is acknowledged, or it is in the second block. A block that only says
 /// again what was reported doesn't: an acknowledgement repeats blocks.
 ///
 /// ```
