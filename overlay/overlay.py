@@ -80,6 +80,7 @@ TESTS = [
     ("src/storage/packet_buffer.rs", r"\buse super::\*;", "use crate::storage::*;"),
     ("src/storage/ring_buffer.rs", r"\bring\.length\b", "ring.head.length"),
     ("src/storage/packet_buffer.rs", r"\bmetadata_ring\.len\(\)", "slots_used()"),
+    ("src/storage/assembler.rs", r"\buse super::\*;", "use super::*;\n    use crate::proved::net_assembler::TooManyHolesError;"),
     ("src/storage/assembler.rs", r"^    impl From<Vec<.*?^    }\n", (MODULES / "storage/assembler_tests.rs").read_text()),
 ]
 

@@ -384,7 +384,7 @@ class Tests:
         print(f"methods: of {len(names)} names none is one of a trait's that is always in scope")
 
     def own_tests(self):
-        texts = [(self.folder / "original/src" / file).read_text() for file in FILES]
+        texts = [(self.folder / "original/src" / file).read_text() for file in FILES if self.smoltcp]
         count = sum(text.count("#[test]") for text in texts)
         done = self.cargo("overlaid", "test -q --lib")
         passed = int(re.search(r"(\d+) passed; 0 failed", done.stdout)[1])
