@@ -52,7 +52,8 @@ fn an_assembler_in_parts(rt: HostRuntime) {
 
 /// Returns whether the searches of an assembler whose runs are 10 to 10 and 13 to 14 find these.
 fn searches(head: &AssemblerHead, runs: &[Run; 2]) -> bool {
-    head.runs_by(runs, 12) == 1
+    head.is_sound(runs)
+        && head.runs_by(runs, 12) == 1
         && head.runs_by(runs, 13) == 2
         && head.first_missing(runs, 12) == 12
         && head.first_missing(runs, 13) == 15
