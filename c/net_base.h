@@ -4,13 +4,14 @@
  *
  * What for, and which calls
  *
- * - A queue of bytes or other elements. An interrupt that shares it is masked around each call; a
- *   ring with one writer for each of its two counts, such as heapless's or bbqueue's, wants no
- *   masks:
+ * - A queue of bytes or other elements:
  *   `net_base_ring_`: init, is_sound, enqueue_slice, dequeue_slice, enqueue_one, dequeue_one,
  *     enqueue_span, dequeue_span, rewind_if_empty
  *   `net_base_ring_`: allocated, unallocated, read_allocated, write_unallocated, enqueue, dequeue,
  *     drop_last
+ * - A queue between an interrupt and a program, or two threads, which neither masks nor waits; for
+ *   bytes through a UART alone a ring of a power of two is quicker (docs/FFI.md):
+ *   `net_base_split_ring_`: is_sound, free, queued
  * - Packets in the order of their arrival:
  *   `net_base_packets_`: init, is_sound, enqueue, shorten_last, peek, dequeue, take_slot
  * - A packet out of its fragments, and its checksum:
@@ -77,7 +78,9 @@
  * 2. What a call may write overlaps nothing else that it is passed.
  * 3. Two calls that share memory aren't made at once, in threads or in an interrupt and what it
  *    interrupts, unless both take it by `const`. So mask the interrupt around each call, with what
- *    copies its elements, and around what reads fields.
+ *    copies its elements, and around what reads fields. Calls of a ring of two counts,
+ *    `net_base_split_ring_..`, share none. There each end alone stores its own count, with release,
+ *    once it has written or read elements; before that it loads the other's, with acquire.
  * 4. There is stack enough for a call.
  * 5. A storage, its runs and its slots have the same lengths in each call on a head.
  * 6. A head, its runs and its slots are written by calls of its own kind alone, those of a finite
@@ -235,9 +238,9 @@ enum NET_BASE_32_BITS net_base_arrival_status {
     NET_BASE_ARRIVAL_REFUSED = 2,
 };
 
-/** What is due: `DONE` if nothing is, `PROBE` or `TIMEOUT`; `REFUSED` for null alone. */
+/** What is due: `DONE`, `PROBE` or `TIMEOUT`; `REFUSED` for null alone. */
 enum NET_BASE_32_BITS net_base_expiry_status {
-    /** The call was done. */
+    /** Nothing is due, and nothing changes. */
     NET_BASE_EXPIRY_DONE = 0,
     /** No answer has come in time: find what is overdue, and send a probe if nothing of it may be
      * sent.
@@ -431,6 +434,77 @@ NET_BASE_MUST_USE size_t net_base_ring_enqueue_one(
  */
 NET_BASE_MUST_USE size_t net_base_ring_dequeue_one(
     struct net_base_ring *place, size_t capacity) NET_BASE_LINK(ring_dequeue_one);
+
+/** @} */
+
+/** @defgroup net_base_split_ring Rings whose two ends have a count each
+ *
+ * Rings whose two ends have a count each: where elements are in a storage that the caller keeps,
+ * beside two counts of its own.
+ *
+ * @{
+ */
+
+/** The two counts of a ring, as one of its ends knows them: its own, and the other's as it last
+ * loaded it.
+ *
+ * Both counts are 0 at first. The end that writes elements alone stores `written`, and the end
+ * that reads them `taken`, each once it has written or read what a span says: the `next` of that
+ * span, or of one of fewer elements by the same counts. The order of memory is the caller's duty:
+ * for each call an end loads the other's count by `memory_order_acquire`, and stores its own by
+ * `memory_order_release`. Between an interrupt and what it interrupts on one processor
+ * `memory_order_relaxed` is enough, with `atomic_signal_fence` of the same order after the load
+ * and before the store. A `known` is loaded for each call anew, and none is older than the one
+ * before it, as C's atomics have it.
+ *
+ * What one end was lent stays as it is and where it is until that end stores its next count,
+ * whatever the other does: DMA may hold it.
+ */
+struct net_base_split_counts {
+    /** How many elements were written, modulo twice the capacity. */
+    size_t written;
+    /** How many elements were taken, modulo twice the capacity. */
+    size_t taken;
+};
+
+/** The elements that one end may write or read, and its count after them. An end that wrote or read
+ * fewer of them stores the count that it gets for so many, by the same counts.
+ */
+struct net_base_split_span {
+    /** Where they are. */
+    struct net_base_span span;
+    /** The count that the end stores once it has written or read them. */
+    size_t next;
+};
+
+/** Returns whether the counts are those of a ring of `capacity` elements: twice the capacity is a
+ * `size_t`, each count is below it, or 0, and at most `capacity` elements were written and not
+ * taken.
+ */
+NET_BASE_MUST_USE bool net_base_split_ring_is_sound(
+    struct net_base_split_counts known, size_t capacity) NET_BASE_LINK(split_ring_is_sound);
+
+/** Returns where the end that writes may write at most `size` elements, and the count to store once
+ * it has.
+ *
+ * It is refused if the counts of `known` aren't those of a ring of `capacity` elements: `from` is
+ * `NET_BASE_NONE`, `count` and `contiguous` are 0, and `next` is `known.written`, which may be
+ * stored.
+ */
+NET_BASE_MUST_USE struct net_base_split_span net_base_split_ring_free(
+    struct net_base_split_counts known, size_t capacity, size_t size)
+    NET_BASE_LINK(split_ring_free);
+
+/** Returns where the end that reads finds at most `size` elements, and the count to store once it
+ * has read them.
+ *
+ * It is refused if the counts of `known` aren't those of a ring of `capacity` elements: `from` is
+ * `NET_BASE_NONE`, `count` and `contiguous` are 0, and `next` is `known.taken`, which may be
+ * stored.
+ */
+NET_BASE_MUST_USE struct net_base_split_span net_base_split_ring_queued(
+    struct net_base_split_counts known, size_t capacity, size_t size)
+    NET_BASE_LINK(split_ring_queued);
 
 /** @} */
 
@@ -1209,7 +1283,10 @@ NET_BASE_MUST_USE size_t net_base_finite_receiver_count_new(
  *
  * Returns `NET_BASE_SEGMENT_DONE`, also if no byte is in the free window: then `kept` is 0.
  * Returns `NET_BASE_SEGMENT_OTHER_END`, and nothing changes, if the segment says that the stream
- * ends where it can't, as `net_base_finite_receiver_can_end` tells. Else returns
+ * ends where it can't, as `net_base_finite_receiver_can_end` tells, and not in order. An end in
+ * order is never refused: that of a last segment which begins at or below the first missing
+ * position, and ends at or above it and within the free window, while something is missing. What
+ * was held beyond it, and an end that was known, go then. Else returns
  * `NET_BASE_SEGMENT_TOO_MANY_RUNS`, and nothing changes, not the end either, if the segment has
  * bytes in the free window, the first missing position is not one of theirs, and with them there
  * would be more runs than the slice has elements.
@@ -1696,6 +1773,8 @@ struct net_base_retransmission_timer {
     uint64_t timeouts;
     /** Not 0 if the peer reports blocks: else no probe is due. */
     uint64_t reports;
+    /** How many acknowledgements of one segment alone in a row weren't late, up to 8. */
+    uint64_t prompt;
 };
 
 /** The bounds of a timeout, the tick of the clock that the samples are read from, and how long a
@@ -1777,6 +1856,10 @@ void net_base_retransmission_timer_acknowledged(
 
 /** Takes notice that a block has reported what wasn't known: a timer that runs is started again. A
  * peer that reports delays no acknowledgement.
+ *
+ * Call it once for an acknowledgement of which `net_base_scoreboard_report` took a block that had
+ * something new, so that the scoreboard isn't as it was before, after
+ * `net_base_retransmission_timer_acknowledged` if it acknowledges something new too.
  */
 void net_base_retransmission_timer_reported(
     struct net_base_retransmission_timer *timer, int64_t now)

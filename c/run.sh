@@ -85,6 +85,14 @@ for each in stream reassembly; do
     "$compiler" -std=c11 -O2 $warnings $sanitizers -I "$here" "$here/programs/$each.c" "$library" -o "$out/$each"
     "$out/$each"
 done
+# Two threads, where clang can tell of a race.
+threads="-std=c11 -O1 -g -fsanitize=thread -pthread"
+if command -v clang > /dev/null && clang $threads "$out/empty.c" -o "$out/empty" 2> "$out/errors"; then
+    clang $threads $warnings -I "$here" "$here/programs/split.c" "$library" -o "$out/split"
+    "$out/split" 10000000
+else
+    echo "run.sh: there is no clang with its thread sanitizer here: programs/split.c isn't tried" >&2
+fi
 if command -v "${CXX:-c++}" > /dev/null; then
     "${CXX:-c++}" -std=c++17 -O2 $warnings -Wold-style-cast $sanitizers -I "$here" "$here/programs/receiver.cpp" "$library" \
         -o "$out/receiver"

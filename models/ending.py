@@ -11,6 +11,11 @@ LAST = Test("ending: a segment is the last one")
 KNOWN = Test("ending: the end is known when a last segment comes")
 OTHER = Test("ending: a last segment says another end")
 BELOW = Test("ending: a last segment ends below a byte that came")
+IN_ORDER = Test("ending: a last segment ends the stream in order")
+FROM = Order("ending: a last segment and the first missing position")
+REACH = Order("ending: end of a last segment and first missing position")
+HELD_BEYOND = Test("ending: an end in order is below a byte that is held")
+MOVES = Test("ending: an end in order isn't the known one")
 CUT = Order("ending: end of a last segment and of the free window")
 BEYOND = Test("ending: a segment has bytes beyond the end")
 ALONE = Test("ending: an end comes without bytes")
@@ -55,10 +60,22 @@ class Ending:
         held = self.bytes.held_runs()
         return held[-1][1] if held else self.bytes.next
 
+    def is_in_order(self, pos, end):
+        """Whether a last segment has all that is missing, with room for it and a number after its end."""
+        missing = self.bytes.next
+        FROM.least(pos, missing)
+        REACH.least(missing, end)
+        return not self.is_complete and pos <= missing <= end <= missing + self.bytes.window and end < TOP
+
     def keep(self, pos, size, seed, last):
         NUMBER.least(pos + size, TOP)
         data, end = pattern(size, seed), pos + size
         if LAST(last == 1):
+            if IN_ORDER(self.is_in_order(pos, end)):
+                HELD_BEYOND(end < self.top())
+                MOVES(self.end not in (None, end))
+                self.bytes.release()
+                self.end = None
             if UNNUMBERED(end >= TOP):
                 return "other_end"
             if KNOWN(self.end is not None):

@@ -15,6 +15,9 @@ NEWEST = Test("receiver: newest_runs, the position is held")
 KNOWN = Test("receiver: newest_runs, a run was listed before")
 LISTED_RUNS = Order("receiver: newest_runs, most and held runs")
 NEW_BYTES = Order("receiver: count_new, held and free positions", ("below", "equal"))
+DUPLICATE = Test("receiver: duplicate_of, a part came before")
+HELD_TWICE = Test("receiver: duplicate_of, it is held")
+TWICE = Test("receiver: duplicate_of, the rest is new")
 NEAR_63 = Test("receiver: the stream passes position 2^63")
 NEAR_64 = Test("receiver: the stream comes within 2^12 of the last position")
 FITS = Order("receiver: end of a segment and last position")
@@ -101,6 +104,10 @@ class Receiver(Positions):
     def take(self, count):
         super().take(count)
         del self.queue[:count]
+
+    def release(self):
+        """Lets go of what is held."""
+        self.held, self.bytes = [], {}
 
     def read(self, room):
         count = READ_SIZE(READ.least(room, len(self.queue)))
@@ -221,6 +228,18 @@ class Pair:
         NEW_BYTES.least(held, max(0, end - start))
         return str(max(0, end - start) - held)
 
+    def duplicate_of(self, pos, size):
+        """The first part of a segment that came before: read, queued, or in a held run."""
+        now, end = self.now, pos + min(size, TOP - pos)
+        there = [(now.first, now.next), *now.held_runs()]
+        parts = [(max(pos, start), min(end, stop)) for start, stop in there if max(pos, start) < min(end, stop)]
+        if not DUPLICATE(bool(parts)):
+            return "none"
+        start, stop = parts[0]
+        HELD_TWICE(start > now.next)
+        TWICE(stop - start < size)
+        return f"{start - now.first} {stop - now.first}"
+
     def newest_runs(self, pos, most):
         """The run of the position, then those last listed, then the others; each once, and as many at most as positions
         are remembered. What isn't written stays 7."""
@@ -305,6 +324,27 @@ SHOWING = ["peek", "peek", "as_slices", "peek_slice", "same_state", "same_state"
            "newest_runs", "newest_runs", "newest_runs", "count_new", "count_new"]
 
 
+OWN = ["duplicate_of"]
+
+
+def draw_own(random, cases, lines):
+    """So many lines of a call that came after the others, which keep their cases."""
+    until = len(cases.lines) + lines
+    while len(cases.lines) < until:
+        capacity = 8 + random.below(60)
+        pair = Pair(capacity, 4, random.of([0, 1 << 32, TOP - capacity // 2]))
+        cases.begin(f"receiver {capacity} 4 {pair.now.first}", pair.show())
+        for _ in range(20):
+            now, name = pair.now, random.of(["segment", "segment", "read", *OWN * 5])
+            if name == "segment":
+                numbers = segment_of(random, now, 6)
+            elif name == "read":
+                numbers = [random.below(len(now.queue) + 2), 0]
+            else:
+                numbers = [position(random, now, 6), random.below(18)]
+            add(cases, pair, name, numbers)
+
+
 def call(random, now, step):
     choice = random.below(20)
     queue = len(now.queue)
@@ -324,7 +364,7 @@ def call(random, now, step):
         return name, [random.offset([queue, now.contiguous_queued()], 8), random.about([queue], 11)]
     if name == "peek_slice":
         return name, [random.about([queue], 9), random.below(40)]
-    if name == "count_new":
+    if name in ("count_new", "duplicate_of"):
         size = random.wide() if random.one_in(8) else random.about([now.window, now.capacity], 11)
         return name, [position(random, now, step), size if random.one_in(3) else random.below(3 * step)]
     if name == "newest_runs":

@@ -23,6 +23,8 @@ PROBE = Test("timer: a probe is due before the timeout")
 SILENT = Test("timer: a probe would be due, but the peer reports nothing")
 NEVER = Test("timer: an acknowledgement of what was never sent")
 LAST = Test("timer: the timeout would pass after the last moment")
+PROMPT = Order("timer: sample of a segment alone and the shorter wait")
+ENOUGH = Test("timer: a segment alone isn't expected to be acknowledged late")
 
 
 class Timer:
@@ -33,6 +35,8 @@ class Timer:
         self.end = self.probe = self.wait = self.timed = None
         # Whether the probe waits for a delayed acknowledgement; where the last segment with something new begins.
         self.delayed, self.last, self.timeouts = False, 0, 0
+        # The last samples of a segment alone, as far as none was late.
+        self.prompt = 0
 
     @property
     def expiry(self):
@@ -59,11 +63,14 @@ class Timer:
         return max(2 * (self.estimate[0] // 8), 2_000) if self.estimate else None
 
     def restart(self, now, alone):
-        """An acknowledgement of one segment that is alone may be delayed."""
+        """An acknowledgement of one segment that is alone may be delayed, by less if eight weren't late."""
         self.arm(now)
         self.delayed = alone
         if self.estimate:
-            self.probe_after(now, self.round_trips() + (self.ack_delay if alone else 0))
+            delay = 0
+            if alone:
+                delay = self.ack_delay // 4 if ENOUGH(self.prompt == 8) else self.ack_delay
+            self.probe_after(now, self.round_trips() + delay)
 
     def start(self, now):
         if not RUNS(self.end is not None):
@@ -97,6 +104,9 @@ class Timer:
     def take_sample(self, now):
         if self.timed is not None:
             sample, self.timed = max(0, now - self.timed[1]), None
+            if self.delayed:
+                shorter = self.round_trips() + self.ack_delay // 4 if self.estimate else sample
+                self.prompt = min(8, self.prompt + 1) if PROMPT.least(sample, shorter) == sample else 0
             words = tcp.next_sample(*self.estimate, sample) if self.estimate else tcp.first_sample(sample)
             self.estimate = [int(word) for word in words.split()]
             self.rto = int(tcp.timeout(*self.estimate, *self.bounds, TICK))
@@ -134,6 +144,8 @@ class Timer:
             return "none"
         if PROBE(now < self.end):
             self.probe_after(now, 2 * self.wait)
+            # One more that isn't late is wanted.
+            self.prompt = min(7, self.prompt)
             return "probe"
         self.rto, self.timed = int(tcp.expired(self.rto, *self.bounds)), None
         self.timeouts += 1
@@ -170,6 +182,11 @@ def draw(random, cases, lines):
         cases.begin(" ".join(["timer", *map(str, numbers)]), timer.show())
         first = sent = random.of_digits(64)
         now = random.of([0, random.of_digits(50), END - random.of_digits(30)])
+        # Some peers have delayed nothing yet.
+        for _ in range(8 if random.one_in(5) else 0):
+            for name, numbers in ("sent", [sent, sent + 1, sent, sent, now]), ("acknowledged", [sent, sent + 1, sent + 1, now]):
+                cases.add(name, numbers, getattr(timer, name)(*numbers), timer.show())
+            first = sent = sent + 1
         for _ in range(10 + random.below(30)):
             name = random.name(CALLS)
             numbers = numbers_of(random, timer, name, (first, sent, now))

@@ -669,6 +669,25 @@ ENDINGS = [
     (4, 1, 18446744073709551613, "keep 18446744073709551613 3 1 1: other_end; keep 18446744073709551613 3 1 0: 1 1|1 1 3 0 - 1 0; "
      "keep 18446744073709551615 3 1 0: 0 0; keep 18446744073709551615 0 1 1: other_end; "
      "keep 18446744073709551614 0 1 1: 0 0|1 1 3 0 1 2 1"),
+    # Four bytes, then an end in order, which is taken, whatever came before it: a byte beyond it; an end beyond it; both; an
+    # end below it; both, and the last segment begins with old bytes.
+    (8, 1, 0, "keep 5 1 9 0: 1 0|0 0 8 1 - 0 0; keep 0 4 1 0: 4 4|4 4 4 1 - 4 0; can_end 4: 0; keep 4 0 0 1: 0 0|4 4 4 0 4 5 1; "
+     "keep 6 0 0 1: other_end|4 4 4 0 4 5 1; read 9: 4:; keep 4 0 0 1: 0 0|4 0 8 0 4 5 2"),
+    (8, 1, 0, "keep 6 0 0 1: 0 0|0 0 8 0 6 0 0; keep 0 4 1 0: 4 4|4 4 4 0 6 4 0; can_end 4: 0; keep 4 0 0 1: 0 0|4 4 4 0 4 5 1"),
+    (8, 1, 0, "keep 5 2 9 1: 2 0|0 0 8 1 7 0 0; keep 0 4 1 1: 4 4|4 4 4 0 4 5 1; keep 5 2 9 1: other_end|4 4 4 0 4 5 1"),
+    (8, 1, 0, "keep 2 0 0 1: 0 0|0 0 8 0 2 0 0; keep 0 4 1 1: 4 4|4 4 4 0 4 5 1"),
+    (8, 1, 0, "keep 0 2 1 0: 2 2|2 2 6 0 - 2 0; keep 3 4 9 1: 4 0|2 2 6 1 7 2 0; keep 1 3 2 1: 2 2|4 4 4 0 4 5 1"),
+    # It isn't in order while a byte before it is missing, or once a byte beyond it is queued.
+    (8, 1, 0, "keep 5 1 9 0: 1 0|0 0 8 1 - 0 0; keep 3 1 2 1: other_end|0 0 8 1 - 0 0; keep 0 3 1 0: 3 3|3 3 5 1 - 3 0; "
+     "keep 3 1 2 1: 1 1|4 4 4 0 4 5 1"),
+    (8, 1, 0, "keep 4 1 9 0: 1 0|0 0 8 1 - 0 0; keep 0 4 1 0: 4 5|5 5 3 0 - 5 0; keep 4 0 0 1: other_end|5 5 3 0 - 5 0"),
+    # With as many runs held as may be, one out of order is refused, end and all; in order it isn't.
+    (8, 1, 0, "keep 2 1 1 0: 1 0|0 0 8 1 - 0 0; keep 4 1 2 1: refused|0 0 8 1 - 0 0; keep 0 5 3 1: 5 5|5 5 3 0 5 6 1"),
+    # Bytes in order up to an end that came early: all has arrived then, and no other end is taken.
+    (8, 1, 0, "keep 2 0 0 1: 0 0|0 0 8 0 2 0 0; keep 0 4 1 0: 2 2|2 2 6 0 2 3 1; keep 2 2 1 1: other_end|2 2 6 0 2 3 1"),
+    # One beyond the free window isn't taken in the place of another one, until there is room.
+    (4, 1, 0, "keep 0 2 1 0: 2 2|2 2 2 0 - 2 0; keep 3 0 0 1: 0 0|2 2 2 0 3 2 0; keep 2 3 2 1: other_end|2 2 2 0 3 2 0; read 1: 1:; "
+     "keep 2 3 2 1: 3 3|5 4 0 0 5 6 1"),
     # The free window's end has no number.
     (4, 1, 18446744073709551611, "window_end: 4; keep 18446744073709551611 1 1 0: 1 1|1 1 3 0 - 1 0; read 1: 1:; "
      "window_end: none"),
@@ -800,6 +819,18 @@ TIMERS = [
     "expire 2100000: timeout|3000000 5100000 - 1; sent 1 2 1 1 3000000: done|3000000 4200000 1 1; "
     "expire 4200000: probe|3000000 6000000 1 1",
 ]
+# Round trips of 0.1 s, one each second. The eighth segment's probe is due after 0.2 + 0.2 s, the next one's after 0.2 + 0.05 s;
+# then one more that isn't late is wanted, here one of 0.25 s, which makes SRTT 0.11875 s; and one that is late by a microsecond, of
+# 0.2875 s, makes it begin again (SRTT is 0.139843 s then).
+PROMPT_TIMER = (
+    "; ".join(f"sent {k} {k + 1} {k} {k} {k}000000: done; acknowledged {k} {k + 1} {k + 1} {k}100000: done" for k in range(7))
+    + "; sent 7 8 7 7 7000000: done|1000000 7400000 7 0; acknowledged 7 8 8 7100000: done; "
+    "sent 8 9 8 8 8000000: done|1000000 8250000 8 0; expire 8250000: probe|1000000 8750000 8 0; "
+    "sent 8 9 8 9 8250000: done|1000000 8750000 - 0; acknowledged 8 9 9 8350000: done|1000000 - - 0; "
+    "sent 9 10 9 9 9000000: done|1000000 9400000 9 0; acknowledged 9 10 10 9250000: done; "
+    "sent 10 11 10 10 10000000: done|1000000 10287500 10 0; acknowledged 10 11 11 10287501: done; "
+    "sent 11 12 11 11 11000000: done|1000000 11479686 11 0"
+)
 # The peer reports no blocks: no probe, and the timeout is where it was.
 SILENT_TIMERS = [
     "sent 0 1 0 0 0: done|1000000 1000000 0; sent 1 2 0 1 0: done; sent 2 3 0 2 0: done|1000000 1000000 0; "
@@ -897,7 +928,7 @@ def add_ends(cases):
     for capacity, first, text in CLOSINGS:
         subject = closing.Closing(capacity, first)
         play(cases, f"closing {capacity} {first}", subject, text)
-    for reports, texts in ((1, TIMERS), (0, SILENT_TIMERS)):
+    for reports, texts in ((1, [*TIMERS, PROMPT_TIMER]), (0, SILENT_TIMERS)):
         for text in texts:
             subject = timer.Timer(1_000_000, 1_000_000, 60_000_000, 200_000, reports)
             play(cases, f"timer 1000000 1000000 60000000 200000 {reports}", subject, text)

@@ -20,6 +20,11 @@ In prose, between backquotes,
 - each name after the word "clause" has to be that of a clause of some function, and where "of" and a function's name
   follow, of one of that name.
 
+README.md and docs/PROVED.md promise no more than a comment says. Their quotations, `> ..`, have to be in a doc comment of
+crates/*/src. An item that begins with a law's name, and a colon, is in the words of the law's comment: between full
+stops, colons and semicolons it says the same, without a leading "states", "that" and "and", and without names of clauses in
+parentheses; but for what says of itself that it is of a clause.
+
 What docs/TRUST.md counts has to be as many in the crates: declarations of C functions, which are axioms, impls that are
 unsafe, proofs by hand, and lines of the definitions to read (`definitions.py`).
 
@@ -259,6 +264,62 @@ def miscounted():
             yield f"the crates have {len(things)} of what is counted by: {form}"
 
 
+PROMISING = ["README.md", "docs/PROVED.md"]
+
+
+def statements(text):
+    """What a text says, between its full stops, colons and semicolons."""
+    text = re.sub(r" ?\((?:`\w+`(?:,? and |, )?)+\)", "", " ".join(text.split()))
+    for part in re.split(r"(?<=[.:;]) ", text):
+        part = re.sub(r"^(?:(?:[Ss]tates|that|and) )+", "", part.rstrip(".:; "))
+        if part:
+            yield part[0].lower() + part[1:]
+
+
+def comments():
+    """Each doc comment of the crates, as one text, with the name of the function after it, if there is one; and whether it
+    is one of a module `laws`."""
+    for path in sorted(ROOT.glob("crates/*/src/**/*.rt")):
+        is_law, comment = "laws" in path.relative_to(ROOT).with_suffix("").parts, []
+        for line in path.read_text().splitlines():
+            said = re.match(r"\s*///? ?(.*)$|\s*#\[", line)
+            if said:
+                comment += [said[1] or ""]
+                continue
+            function = re.match(r"\s*pub (?:const )?fn (\w+)", line)
+            if comment:
+                yield " ".join(" ".join(comment).split()), function and function[1], is_law
+            comment = []
+
+
+def items(page):
+    """Each item of a page that begins with a name and a colon: its line, the names before that, and its text."""
+    text = page.read_text()
+    for found in re.finditer(r"^( *)- ((?:`\w+`(?:, )?)+): (.*(?:\n\1  (?! *- ).*)*)", text, re.M):
+        yield text.count("\n", 0, found.start()) + 1, re.findall(r"\w+", found[2]), found[3]
+
+
+def beyond(page):
+    """What a page promises that no comment does, each with its line."""
+    said, laws = [], collections.defaultdict(set)
+    for comment, name, is_law in comments():
+        said.append(comment)
+        if is_law and name:
+            laws[name] |= set(statements(comment))
+    text = page.read_text()
+    for found in re.finditer(r"(?:^> .*\n)+", text, re.M):
+        quote = " ".join(found[0].replace("\n> ", " ").removeprefix("> ").split())
+        if not any(quote[0].lower() + quote[1:] in comment or quote in comment for comment in said):
+            yield text.count("\n", 0, found.start()) + 1, f"no comment says: {quote[:60]}"
+    for number, names, promise in items(page):
+        if not set(names) & set(laws):
+            continue
+        known = set().union(*(laws[name] for name in names))
+        for part in statements(promise):
+            if part not in known and not re.search(r"\b[Cc]lauses? `", part):
+                yield number, f"no comment of {', '.join(names)} says: {part[:60]}"
+
+
 def main():
     crates = sorted(ROOT.glob("crates/*"))
     sources = [path.read_text().splitlines() for path in sorted(ROOT.glob("crates/*/src/**/*.rt"))]
@@ -319,6 +380,9 @@ def main():
             lines = re.match(r",? (\d+) lines", behind)
             if lines and not has_lines(span, int(lines.group(1))):
                 miss(page, number, f"{span} hasn't {lines.group(1)} lines")
+    for page in (ROOT / name for name in PROMISING):
+        for number, what in beyond(page) if page.is_file() else ():
+            miss(page, number, what)
     for what in [*miscounted(), *definitions.miscounted()]:
         miss(ROOT / "docs/TRUST.md", 1, what)
     print(f"{counts['blocks']} quoted blocks are in the sources")

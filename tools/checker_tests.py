@@ -58,6 +58,8 @@ QUOTED = {
                                "    ensures { x ≡ x }\n{\n    x\n}\n\nimpl Make for A {\n    fn other();\n}\nunsafe impl Make for B {}\nlet Vec;\nfn take_one(antt: u8, rt: u8, a_ke: u8) {}\n",
     "crates/net_a/specs/A.antt": "-- a\n-- b\n-- c\n", "crates/net_a/specs/Lib.antt": "pub use Rattle.net_b.specs.B\n",
     "crates/net_a/proofs/take/Proof.antt": "c.part.ensures-1\nc.part.ensures\n", "crates/net_a/src/out/a.rt": "",
+    "docs/PROVED.md": "> Each is one, and\n> more.\n\n- `sum`: the sum is one; it stays so. Clause `small` of `take` says more.\n  - `take`: what it likes.\n",
+    "crates/net_a/src/laws.rt": "/// States that the sum is one (`one`, `two`); and that it stays\n/// so.\n///\n/// So each is one, and more.\n#[inline]\npub fn sum()\n{}\n",
     "crates/net_examples/src/lib.rt": "fn example() {\n        let a = take(1);\n        let b = 2;\n}\n", "crates.txt": "", "models/a.py": "",
 }
 QUOTES = [
@@ -77,6 +79,10 @@ QUOTES = [
                                                                    "README.md:12: no function has a clause take"]),
     ("README.md", "`take`, clause `small`", "`example`, clause `small`", ["README.md:12: example has no clause small"]),
     ("README.md", "`take`, clause `small`", "`Vec`, clause `small`", []),
+    ("docs/PROVED.md", "and\n> more", "and\n> less", ["docs/PROVED.md:1: no comment says: Each is one, and less."]),
+    ("docs/PROVED.md", "it stays so", "it always stays so", ["docs/PROVED.md:4: no comment of sum says: it always stays so"]),
+    ("docs/PROVED.md", "the sum is one; it stays so. ", "", []),
+    ("crates/net_a/src/laws.rt", "the sum is", "the sum may be", ["docs/PROVED.md:4: no comment of sum says: the sum is one"]),
     ("CONTRIBUTING.md", "`small`", "`large`", ["CONTRIBUTING.md:1: no function has a clause large", "CONTRIBUTING.md:1: no source has the name large"]),
     ("docs/B.md", "AMake", "BMade", ["docs/B.md:1: no source has the name BMade"]),
     ("rust/README.md", "net_a/src", "net_b/src", ["rust/README.md:1: there is no file net_b/src/lib.rt"]),
@@ -118,7 +124,7 @@ def quotes():
             same((path, new), (status, sorted(lines[:-4]), lines[-1]), (bool(wanted), sorted(wanted), f"{len(wanted)} things are in no source"))
             if (path, old, counted) == ("README.md", "", []):
                 same(path, lines[:3], ["1 quoted blocks are in the sources", "1 examples of doc comments are in net_examples, net_core_tests",
-                                       "4 clauses that pages name are those of their functions"])
+                                       "5 clauses that pages name are those of their functions"])
     check_quotes.definitions.miscounted = kept
 
 
@@ -126,8 +132,8 @@ def quotes():
 EDITED = {
     "CONTRIBUTING.md": "| A body | `net_a/one` | `a::A::f` value |\n| B | `net_a/two` | `a::A::g` ensures |\n| C | `net_a/checked` | a test |\n"
                        "| D | `rust/long` | a test |\n",
-    "crates/net_a/must-fail/one.edit": "file: src/a.rt\nold:     1\nnew:     2\n# twin:     1 + 0\n",
-    "crates/net_a/must-fail/two.edit": "file: src/a.rt\nold:     x\nnew:     y\n# twin:     z\nfile: src/b.rt\nold: b\nnew: c\n# twin: d\n",
+    "crates/net_a/must-fail/one.edit": "file: src/a.rt\nold:     1\nnew:     2\n# twin:     1 + 0\n# no row: it counts\n",
+    "crates/net_a/must-fail/two.edit": "# row: b\nfile: src/a.rt\nold:     x\nnew:     y\n# twin:     z\nfile: src/b.rt\nold: b\nnew: c\n# twin: d\n",
     "crates/net_a/src/a.rt": "impl A {\n    fn f() {\n    1\n    }\n    #[inline]\n    fn g() {\n    x\n    }\n}\n#[test]\nfn checked() {}\n",
     "crates/net_a/src/b.rt": "b\n", "rust/tests/a/b.rs": "#[test]\nfn long() {}\n", "crates.txt": "",
 }
@@ -135,6 +141,9 @@ TABLES = [
     ("CONTRIBUTING.md", "", "", []),
     ("CONTRIBUTING.md", "`net_a/one`", "`net_a/none`", ["net_a/one: no row of CONTRIBUTING.md has this edit",
                                                         "net_a/none: CONTRIBUTING.md names this edit, and there is none"]),
+    ("crates/net_a/must-fail/one.edit", "# no row: it counts\n", "", ["net_a/one: it has no rows, and says not why"]),
+    ("crates/net_a/must-fail/one.edit", "# no row: it counts\n", "# no row: \n", ["net_a/one: it has no rows, and says not why"]),
+    ("crates/net_a/must-fail/two.edit", "# row: b\n", "# row: b\n# no row: it counts\n", ["net_a/two: it has no rows, and says not why"]),
     ("crates/net_a/src/a.rt", "#[test]\nfn checked", "fn checked", ["net_a/checked: CONTRIBUTING.md names this test, and there is none"]),
     ("rust/tests/a/b.rs", "long", "short", ["rust/long: CONTRIBUTING.md names this test, and there is none"]),
 ]

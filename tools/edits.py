@@ -21,10 +21,11 @@ function with these texts, and it has to be proved.
 
 An edit is the body that its name says: lines `# row: CALL => REPLY` are a block of rows of models/make.py,
 each with what the reply begins with that the wrong body gives, or nothing. `--rows` plays them over the Cargo
-crate with the edited text erased, where each must be so, and over the right text, where one must not.
+crate with the edited text erased, where each must be so, and over the right text, where one must not. An edit
+of which no call tells has a line `# no row: REASON`.
 
-Ends with status 1 if an edit is in no row, a row names nothing, another goal refuses an edit, a twin isn't
-proved, or rows aren't as they say.
+Ends with status 1 if an edit is in no row of the table, a row of it names nothing, another goal refuses an edit,
+a twin isn't proved, or an edit has neither rows nor a reason, or rows that aren't as they say.
 """
 import os
 import pathlib
@@ -61,6 +62,8 @@ def differing():
     there = {name_of(it) for it in CRATES.glob("*/must-fail/*.edit")}
     wrong = [f"{it}: no row of {PAGE.name} has this edit" for it in sorted(there - set(clauses))]
     wrong += [f"{it}: {PAGE.name} names this edit, and there is none" for it in sorted(set(clauses) - there)]
+    wrong += [f"{name_of(it)}: it has no rows, and says not why" for it in sorted(CRATES.glob("*/must-fail/*.edit"))
+              if bool(rows_of(it)) == bool(re.search(r"^# no row: \w", it.read_text(), re.M))]
     for crate, name in tests:
         files = (CRATES.parent / "rust/tests").rglob("*.rs") if crate == "rust" else (CRATES / crate / "src").rglob("*.rt")
         texts = "".join(path.read_text() for path in files)
@@ -224,21 +227,21 @@ def play(copy, crate, texts, rows):
 
 def try_rows(folders):
     """Plays the rows of each edit that has some; returns how many edits have rows that aren't as they say."""
-    wrong, count = 0, 0
+    wrong = 0
     with tempfile.TemporaryDirectory() as room:
         copy = pathlib.Path(room) / "rust"
         shutil.copytree(ROOT / "rust", copy, ignore=shutil.ignore_patterns("target"))
         test = copy / "tests/rows/main.rs"
         test.write_text(re.sub(r"assert_eq!(?=\(.*, \*?repl)", "begins!", test.read_text()).replace("\nuse ", f"\n{BEGINS}\nuse ", 1))
-        for edit in [it for folder in folders for it in sorted(folder.glob("must-fail/*.edit")) if rows_of(it)]:
-            crate, count = edit.parent.parent.name, count + 1
-            said = play(copy, crate, edited(edit.parent.parent, edit), rows_of(edit))
-            how = "its body gives" if not said else f"ITS BODY DOESN'T GIVE\n    {said}"
-            if not said and not play(copy, crate, {}, rows_of(edit)):
-                how = "THE RIGHT BODY GIVES TOO"
-            wrong += how.isupper() or bool(said)
+        edits = [it for folder in folders for it in sorted(folder.glob("must-fail/*.edit")) if rows_of(it)]
+        # All over the right text first, which is compiled once.
+        right = {it for it in edits if not play(copy, it.parent.parent.name, {}, rows_of(it))}
+        for edit in edits:
+            said = play(copy, edit.parent.parent.name, edited(edit.parent.parent, edit), rows_of(edit))
+            how = f"ITS BODY DOESN'T GIVE\n    {said}" if said else "THE RIGHT BODY GIVES TOO" if edit in right else "its body gives"
+            wrong += bool(said) or edit in right
             print(f"{name_of(edit)}: {how} {len(rows_of(edit))} rows")
-    print(f"of {count} edits with rows {wrong} have others")
+    print(f"of {len(edits)} edits with rows {wrong} have others")
     return wrong
 
 

@@ -1,15 +1,13 @@
 #!/usr/bin/env python3
-"""Erases Rattle to Rust: what can't run goes, all else stays, token by token.
+"""Erases Rattle to Rust: what can't run goes, all else stays.
 
     python3 tools/erase.py             writes rust/src/proved, of the crates that tools/parts/erase_list.py names, and the
                                        program, rust/examples/net_bench/proved
     python3 tools/erase.py --check     writes nothing, and names each file that isn't so
 
 What it does are the rules of docs/TRUST.md, "The eraser's rules", and no more; what they refuse is said with its file and
-line. From a function that stays it takes no statement and no call; what goes as a whole are functions that nothing in the
-text calls, by rule 9. What is taken out ends where its bracket closes, and texts and comments in it, which may hide a bracket,
-are refused. That the text means in Rust what it means in Rattle is for tools/same_program.py. tools/parts/erase_says.py adds
-lines of documentation.
+line. What is taken out ends where its bracket closes. That what is left does in Rust what was proved is for
+tools/same_program.py. tools/parts/erase_says.py adds lines of documentation.
 """
 import re
 import sys
@@ -47,7 +45,6 @@ HEADER = '// Written by tools/erase.py from {}: a change here would be lost.\n'
 PRELUDE = {'prove', 'slice_mut', 'Vec', 'ASSEMBLER_MAX_SEGMENT_COUNT'}, {'String', 'Vec'}
 GHOST_DERIVES = {'Drop', 'Error'}
 PLAIN_ATTRIBUTES = {'allow', 'cfg', 'default', 'derive', 'inline', 'must_use', 'non_exhaustive', 'repr', 'track_caller'}
-CONTRACT_WORDS = {'ghost', 'requires', 'ensures', 'tactic', 'thiserror'}
 MODIFIERS = {'pub', 'const', 'unsafe', 'extern'}
 GONE, NO_CLAUSE = '\0', '\1'                      # where a form, and where a clause, was
 DOCS = {'/// ```rust': '/// ```text', '//! ```rust': '//! ```text'}
@@ -69,7 +66,7 @@ class Eraser(Text):
         self.crate, self.omitted, self.file, self.by_hand = crate, omitted, file, by_hand
         self.key = file.removeprefix('crates/').replace('/src/', '/', 1).removesuffix('.rt')
         self.uncalled, self.gone, self.imports = given.UNCALLED.get(self.key, ()), set(), []
-        self.new, self.after, self.functions, self.errors, self.inside = {}, {}, [], {}, 0
+        self.new, self.after, self.functions, self.errors = {}, {}, [], {}
 
     def put(self, start, end, text):
         """Writes a text for the tokens from start to end."""
@@ -129,14 +126,8 @@ class Eraser(Text):
             if is_public and follows in given.CRATES:
                 return self.put(head, self.until(k, ';') + 1, GONE)
             self.imports.append((head, k, self.until(k, ';'), is_public))
-        if word == 'impl' and (trait := re.match(r'impl\b[^{;]*?\b(Drop|Model) for\b[^{;]*\{', self.text[at:])):
-            body = next(j for j in range(k, len(self.tokens)) if self.tokens[j][2] == at + trait.end() - 1)
-            end = self.group(body)
-            if trait[1] == 'Model' and any(kind not in ('ghost', *SPACE) for kind, *_ in self.tokens[body + 1:end - 1]):
-                self.refuse(at, 'an impl of Model with members')
-            if trait[1] == 'Drop':
-                self.drop_only(body, end)
-            return self.put(head, end, GONE)
+        if word == 'impl' and re.compile(r'impl\b[^{;]*?\b(?:Drop|Model) for\b').match(self.text, at):
+            return self.put(head, self.group(self.until(k, '{')), GONE)
         if word == 'Clone' and follows == 'for':
             return self.put(k, k + 1, f'{RATTLE}::{word}')
         if word == 'Drop' and self.tokens[k - 1][1] != '::':
@@ -144,29 +135,19 @@ class Eraser(Text):
         before, is_member = self.before(k), self.tokens[k - 1][1] == '.' != self.tokens[k - 2][1]
         if follows == '::' and before != '::' and not is_member:
             self.put(k, k + 1, self.path(word))
-        elif self.path(word) != word and before != '::' and not is_member and follows != '(':
-            self.refuse(at, 'the root of paths, in no path')
-        if follows == '!' and self.tokens[self.next(after + 1)][1] in OPEN and word not in given.MACROS[bool(self.by_hand)]:
-            self.refuse(at, 'an unknown macro')
         if word == 'prove' and follows == '!' and WIDE.search(self.source(k, self.group(self.next(after + 1)))):
             self.refuse(at, 'more than a bound, which a release build leaves out')
-        is_call = word in given.OPERATORS and (follows == '::' or before == 'as') or word == 'clone' and before in ('.', '::')
-        if (is_call or word in given.UNLIKE) and not given.NO_BYTES.match(self.text, at):
-            self.refuse(at, 'Rust may have another meaning')
         return k + 1
 
     def function(self, k, head):
         """A signature and its contract, which goes."""
         begin = body = self.until(k, '{', ';')
-        if k < self.inside and self.tokens[begin][0] == 'clause':
-            self.refuse(self.tokens[k][2], 'a contract inside of a function')
         while self.tokens[body][0] == 'clause':
             body = self.next(self.put(body, body + 1, NO_CLAUSE))
         first = max(j for j in range(k, begin) if self.tokens[j][0] not in SPACE) if body != begin else body
         self.new.update({j: NO_CLAUSE for j in range(first, body) if self.tokens[j][0] == 'note'})
         if body != begin and self.tokens[body][1] not in ('{', ';'):
             self.refuse(self.tokens[body][2], 'no body after a contract')
-        self.inside = max(self.inside, self.group(body) if self.tokens[body][1] == '{' else 0)
         impl = re.findall(r'^(?:impl|(?:pub )?trait)\b[^{]*', self.text[:self.tokens[k][2]], re.M)
         owner = OWNER.match(impl[-1])[1] if impl and self.margin(head) else ''
         pub = next((j for j in range(head, k) if self.tokens[j][1] == 'pub' and self.tokens[j + 1][1] != '('), None)
@@ -227,15 +208,6 @@ class Eraser(Text):
                     after = self.next(j + 1) + (self.tokens[self.next(j + 1)][1] == ',')
                     self.put(j, after + (self.tokens[after][0] == 'space'), '')
 
-    def drop_only(self, start, end):
-        """Refuses a `drop` that does more than take apart and drop."""
-        for j in range(start, end):
-            kind, word, at = self.tokens[j]
-            calls = word == '(' and self.before(j)[:1].islower() and self.before(j) != 'drop'
-            assigns = word == '=' and self.tokens[self.next(j + 1)][1] != 'self'
-            if calls or assigns or kind == 'sign' and word in '*.!+-&|[' or word in ('loop', 'while', 'for', 'return'):
-                self.refuse(at, 'a `drop` that does more than drop')
-
     def margin(self, k):
         return re.search(r'[ \t]*$', self.text[:self.tokens[k][2]]).group()
 
@@ -271,12 +243,6 @@ class Eraser(Text):
         out = re.sub(rf'\s*(?:{NO_CLAUSE}\s*)+(?=;)', '', out)
         out = re.sub(rf'(?m)^[ \t]*{GONE}[ \t{GONE}]*\n', '', out).replace(GONE, '')
         out = re.sub(r'\{\n\n+', '{\n', re.sub(r'\n\n+(\s*\})', r'\n\1', re.sub(r'\n{3,}', '\n\n', out))).strip('\n') + '\n'
-        if words(out) != [word for text in kept for word in words(re.sub(f'[{GONE}{NO_CLAUSE}]', '', text))]:
-            raise Refused('the result has other tokens than the source without its ghost forms')
-        for token, text in zip(self.tokens, kept):
-            for word in words(text):
-                if word in CONTRACT_WORDS or not word.isascii() and word[0] not in '"\'b':
-                    self.refuse(token[2], f'a word of contracts is left: {word}')
         texts = ''.join(f'\n{RATTLE}::error_text!({name}, {", ".join(said)});\n' for name, said in self.errors.items())
         top = re.match(r'(?://![^\n]*\n)*\n?', out).end()
         prelude = f'use {RATTLE}::prelude::*;\n' if PRELUDE[bool(self.by_hand)] & {*words(out)} else ''

@@ -160,8 +160,9 @@ def sites(files, seed):
     return found
 
 
-def planted(crate, files, found, build, environment):
-    """Writes the faults that compile, by what the compiler says of the others."""
+def planted(crate, files, found, builds, environment):
+    """Writes the faults that compile, by what the compiler says of the others. Returns their numbers, and what the last of
+    the builds printed."""
     texts, refused = {path: path.read_text().split("\n") for path in files}, set()
     while True:
         lines = {path: list(text) for path, text in texts.items()}
@@ -170,19 +171,27 @@ def planted(crate, files, found, build, environment):
                 lines[path][line] = text.replace("@", str(number))
         for path, text in lines.items():
             path.write_text("\n".join(text))
-        done = subprocess.run(build, cwd=crate, env=environment, capture_output=True, text=True)
+        done = subprocess.run(builds[0], cwd=crate, env=environment, capture_output=True, text=True)
+        if done.returncode == 0 and builds[1:]:
+            builds = builds[1:]
+            continue
         if done.returncode == 0:
             return [it for it in range(len(found)) if it not in refused], done.stdout
         at = {(path.resolve(), line): number for number, (path, line, _, _) in enumerate(found)}
-        wrong = set()
+        wrong, errors = set(), []
         for message in map(json.loads, filter(lambda it: it.startswith("{"), done.stdout.splitlines())):
             if message.get("reason") == "compiler-message" and message["message"]["level"] == "error":
-                for said in (message["message"], *message["message"]["children"]):
-                    for span in said["spans"]:
-                        path = (crate / span["file_name"]).resolve()
-                        wrong |= {at.get((path, line)) for line in range(span["line_start"] - 1, span["line_end"])}
+                errors.append(message["message"]["rendered"])
+                spans = [((crate / span["file_name"]).resolve(), span["line_start"] - 1, span["line_end"] - 1)
+                         for said in (message["message"], *message["message"]["children"]) for span in said["spans"]]
+                here = {at.get((path, line)) for path, first, last in spans for line in range(first, last + 1)}
+                # Else between the lines of the error itself, as in a block whose type isn't known any more.
+                own = spans[: len(message["message"]["spans"])]
+                between = {at.get((path, line)) for path, first, _ in own for other, _, last in own if path == other
+                           for line in range(first, last + 1)}
+                wrong |= here if here - refused - {None} else between
         if not wrong - refused - {None}:
-            sys.exit(f"faults: it doesn't compile: {done.stderr[-2000:]}")
+            sys.exit(f"faults: it doesn't compile: {''.join(errors)[:2000] or done.stderr[-2000:]}")
         refused |= wrong - {None}
 
 
@@ -204,19 +213,35 @@ def seen_by(programs, number):
     return ""
 
 
-def of_rust(folder, seed):
-    """Plants faults in the crate. Returns them, the numbers of those that compile, and its tests, rows first."""
+def drawn(found, options, folder):
+    """The faults of the files that are asked for, and of these a sample, some more than are tried: not all compile."""
+    found = [it for it in found if not options.words or any(word in str(it[0].relative_to(folder)) for word in options.words)]
+    if not options.sample or 2 * options.sample >= len(found):
+        return found
+    return sorted(random.Random(options.seed).sample(found, 2 * options.sample), key=found.index)
+
+
+def of_rust(folder, options):
+    """Plants faults in the crate. Returns them, the numbers of those that compile, and its tests: first those that
+    see most of these."""
     crate = folder / "rust"
     sources = sorted(it for it in (crate / "src").rglob("*.rs") if "net_ffi" not in it.parts and it.name not in (
         "lib.rs", "contracts.rs", "rattle.rs", "config.rs"))
     sources.sort(key=lambda it: "proved" not in it.parts)
-    found = sites(sources, seed)
-    build = ["cargo", "test", "--offline", "--lib", "--tests", "--no-run", "--message-format=json"]
-    numbers, said = planted(crate, sources, found, build, os.environ | {
-        "CARGO_TARGET_DIR": str(folder / "target"), "CARGO_PROFILE_TEST_OPT_LEVEL": "1", "CARGO_PROFILE_DEV_OPT_LEVEL": "1"})
+    found = drawn(sites(sources, options.seed), options, folder)
+    is_erased = any("proved" in it[0].parts for it in found)
+    level = "0" if options.sample else "1"
+    # A check takes less than a build.
+    builds = [["cargo", *words, "--offline", "--lib", "--message-format=json"]
+              for words in (("check",), ("test", "--tests", "--no-run"))]
+    numbers, said = planted(crate, sources, found, builds, os.environ | {
+        "CARGO_TARGET_DIR": str(folder / "target"), "CARGO_PROFILE_TEST_OPT_LEVEL": level, "CARGO_PROFILE_DEV_OPT_LEVEL": level,
+        "CARGO_PROFILE_TEST_DEBUG": "0", "CARGO_PROFILE_DEV_DEBUG": "0"})
     made = [json.loads(line) for line in said.splitlines() if '"executable":"' in line]
     programs = [(it["target"]["name"], [it["executable"]], crate, b"") for it in made]
-    return found, numbers, sorted(programs, key=lambda it: (it[0] in ("endpoint", "assembler"), it[0] != "rows", it[0]))
+    first = {"rows"} if is_erased else {"traits", "types", "phy", "time", "net_base"}
+    last = {"endpoint", "assembler", "net_bench", *({} if is_erased else {"rows", "nonsense"})}
+    return found, numbers, sorted(programs, key=lambda it: (it[0] in last, it[0] not in first, it[0]))
 
 
 # How the class of C++ asks for a fault.
@@ -228,15 +253,15 @@ static inline unsigned fault(unsigned number) {
 """
 
 
-def of_c(folder, seed):
+def of_c(folder, options):
     """Plants faults in the shim, in what is by hand, in the exports' erased text and in the class of C++. Returns them, those
     that compile, and C's programs."""
     own = [folder / "c" / name for name in ("src/shim.rs", "src/lib.rs", "net_base.hpp")]
     files = own + sorted((folder / "rust/src/proved/net_ffi").rglob("*.rs"))
-    found = sites(files, seed)
+    found = sites(files, options.seed)
     target = folder / "target"
     build = ["cargo", "build", "--release", "--offline", "--message-format=json"]
-    numbers, _ = planted(folder / "c", files, found, build, os.environ | {"CARGO_TARGET_DIR": str(target)})
+    numbers, _ = planted(folder / "c", files, found, [build], os.environ | {"CARGO_TARGET_DIR": str(target)})
     subprocess.run([sys.executable, ROOT / "tools/ffi.py", "--tests", target / "exports.c", "--sequence", target / "sequence.c"], check=True)
     (target / "fault.h").write_text(ASKS_OF_CLASS)
     programs, library = [], target / "release/libnet_base.a"
@@ -260,10 +285,10 @@ def main():
     parser.add_argument("--seed", type=int)
     parser.add_argument("--by", action="store_true")
     parser.add_argument("--jobs", type=int, default=os.cpu_count())
-    options = parser.parse_args()
+    options = parser.parse_intermixed_args()
     listed = [line.split(": ", 2) for line in KNOWN.read_text().splitlines() if line[:1] not in ("", "#")]
     known = {tuple(words[:2]) for words in listed if len(words) == 3}
-    seed = options.seed or int(next(words[1] for words in listed if words[0] == "seed"))
+    options.seed = options.seed or int(next(words[1] for words in listed if words[0] == "seed"))
     with tempfile.TemporaryDirectory(prefix="faults-") as room:
         folder = Path(room).resolve()
         for name in ("rust", "c"):
@@ -271,15 +296,15 @@ def main():
         lib = folder / "rust/src/lib.rs"
         text = re.sub(r"#!\[deny\(.*\)\]", "#![allow(warnings)]", lib.read_text())
         lib.write_text(text.replace("#![forbid(unsafe_code)]", "") + ASKS)
-        found, numbers, programs = {"rust": of_rust, "c": of_c}[options.which](folder, seed)
+        found, numbers, programs = {"rust": of_rust, "c": of_c}[options.which](folder, options)
         if by := seen_by(programs, len(found)):
             sys.exit(f"faults: without a fault {by} fails")
         lines = {it: (ROOT / found[it][0].relative_to(folder)) for it in numbers}
-        if dead := {found[it][0] for it in range(len(found))} - {found[it][0] for it in numbers}:
+        if not options.sample and (dead := {found[it][0] for it in range(len(found))} - {found[it][0] for it in numbers}):
             sys.exit(f"faults: no fault compiles of {' '.join(sorted(it.name for it in dead))}")
         chosen = [it for it in numbers if not options.words or any(word in str(lines[it]) for word in options.words)]
         if options.sample and options.sample < len(chosen):
-            chosen = sorted(random.Random(seed).sample(chosen, options.sample))
+            chosen = sorted(random.Random(options.seed).sample(chosen, options.sample))
         counts, unseen = collections.Counter(), 0
         with concurrent.futures.ThreadPoolExecutor(options.jobs) as pool:
             for it, by in zip(chosen, pool.map(lambda it: seen_by(programs, it), chosen)):

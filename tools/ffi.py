@@ -33,7 +33,7 @@ HEADER = ROOT / "c/net_base.h"
 CONFIG = ROOT / "c/net_base.pc"
 ABI = ROOT / "c/abi.txt"
 # Modules whose sections come first: what the others refer to.
-FIRST = ["refusals", "ring", "results", "packets", "assembler", "fragments", "receiver", "sender", "scoreboard"]
+FIRST = ["refusals", "ring", "split_ring", "results", "packets", "assembler", "fragments", "receiver", "sender", "scoreboard"]
 FIRST += ["finite_receiver", "finite_sender", "tcp", "advertised_window", "peer_window",
           "retransmission", "parts_sum"]
 PAGE = ROOT / "docs/FFI.md"
@@ -46,9 +46,13 @@ C_TYPES = {"usize": "size_t", "bool": "bool"}
 C_TYPES |= {f"{sign}{bits}": f"{'u' * (sign == 'u')}int{bits}_t" for sign in "iu" for bits in (8, 16, 32, 64)}
 # The type of the numbers of all statuses, an alias of `u32`, and what says in C that a result isn't to be thrown away.
 STATUS, MUST_USE = "Status", "NET_BASE_MUST_USE"
-# The statuses that a call can answer, by the type of its result: an alias of `u32` whose comment names them. Each is an enum.
-ALIASES = {name: " ".join(re.sub("^///", "", doc, flags=re.M).split()) for doc, name in re.findall(
+# The statuses that a call can answer, by the type of its result: an alias of `u32` whose comment names them in its first
+# paragraph, and then says what one of them means there, if that isn't what it means elsewhere. Each is an enum.
+COMMENTS = {name: re.sub("^/// ?", "", doc, flags=re.M) for doc, name in re.findall(
     r"((?:^///.*\n)+)^pub type (\w+Status) = u32;", (EXPORTS / "src/refusals.rt").read_text(), flags=re.M)}
+ALIASES = {name: " ".join(doc.partition("\n\n")[0].split()) for name, doc in COMMENTS.items()}
+MEANT = {(name, f"NET_BASE_{status}"): f"{words[0].upper()}{words[1:]}" for name, doc in COMMENTS.items()
+         for status, words in re.findall(r"^- `([A-Z_]+)`: (.*)$", doc, flags=re.M)}
 ANSWERS = {name: re.findall(r"`([A-Z_]+)`", doc) for name, doc in ALIASES.items()}
 REFUSED_FOR_NULL = {name for name, doc in ALIASES.items() if "`REFUSED` for null alone" in doc}
 C_TYPES |= {name: f"enum net_base_{re.sub('Status$', '', name).lower()}_status" for name in ANSWERS}
@@ -228,7 +232,9 @@ class Library:
                 elif item.kind != "struct":
                     section.append(item)
             for item in [item for item in section if item.kind == "enum"]:
+                item.doc = first_paragraph(item.doc)
                 item.members = [statuses[name] for name in ANSWERS[item.name]]
+                item.members = [dataclasses.replace(it, doc=[MEANT.get((item.name, it.name)) or "\n".join(it.doc)]) for it in item.members]
             if section:
                 section.sort(key=lambda item: ["struct", "enum", "const", "fn"].index(item.kind))
                 self.sections.append((module_doc(paths[0]), section, paths[0].stem))

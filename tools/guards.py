@@ -31,9 +31,11 @@ use net_base::phy::DeviceCapabilities;
 use net_base::time::{Duration, Instant};
 use net_base::storage::FragmentsOver;
 use net_base::storage::fragments::table::FragmentSlot;
+use net_ends::{ReceivingEndOver, SendingEndOver};
 use net_receiver::{FiniteReceiverOver, FiniteSenderOver, ReceiverOver, Scoreboard};
 use net_ring::{RingOver, Storage};
-use net_tcp::AdvertisedWindow;
+use net_split_ring::SplitCounts;
+use net_tcp::{AdvertisedWindow, TimeoutBounds};
 use std::ops::{Add, AddAssign, Div, DivAssign, Mul, MulAssign, Shl, ShlAssign, Shr, ShrAssign, Sub, SubAssign};
 
 '''
@@ -59,6 +61,7 @@ UNGUARDED = {
                 'prove!(count <= max_size, "more bytes than were lent");'),
     'ReceiverOver::read_with': READ,
     'FiniteReceiverOver::read_with': READ,
+    'ReceivingEndOver::read_with': READ,
     'Instant::earliest': ('Rust knows that an iterator can be asked; whether it ends no call tells', ''),
     'PacketsOver::last_dequeued_mut':
         ('no public call tells where the bytes before the read index begin',

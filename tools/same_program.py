@@ -2,22 +2,25 @@
 """Compares the program that is proved with the one that rustc compiles, function by function, as wholes: what is done, in
 which order, under which condition, and with what:
 
-    python3 tools/same_program.py [--all] [CRATE=MIR_JSON ..] [KIT | MIR FOLDER]
+    python3 tools/same_program.py [--all] [KIT [FOLDER]]
 
-The prover keeps its program beside each library that is proved, `out/rlib/NAME.rlib/toolchain/mir.json`; rustc's is its MIR of
-the erased crate, as tools/widths.py makes it. Both are run side by side with symbols for numbers, from a function's start. What
-one does between two events it does by itself. An event is a call, a store through a reference, a branch, a panic, or the return,
-and both have to come to the same one: the same function with equal arguments, the same place with an equal value, the same
-condition with the same ends. Equal means the same expression over parameters, results of the same calls, and memory as it was
-after the same event. Where ways meet, or a loop comes round, what is equal on each way stays equal, and all else is a new symbol:
-a function is the same if no pair of places that is reached differs.
+The prover keeps its program beside each library that is proved, `out/rlib/NAME.rlib/toolchain/mir.json`, but for a static one, so
+the exports for C are built as another library too, in FOLDER. Rustc's is its MIR of the erased crate, and of the example
+net_bench, by the compiler that is, or is unpacked, in KIT. Both are run side by side with symbols for numbers, from a function's
+start. What one does between two events it does by itself. An event is a call, a store through a reference, a branch, a panic, or
+the return, and both have to come to the same one: the same function with equal arguments, the same place with an equal value, the
+same condition with the same ends. Equal means the same expression over parameters, results of the same calls, and memory as it
+was after the same event. Before each event but a store both have dropped the same values. Where ways meet, or a loop comes round,
+what is equal on each way stays equal, and all else is a new symbol: a function is the same if no pair of places that is reached
+differs.
 
-Not compared are when values are dropped, and the ghosts of proofs (`Snapshot`); the text of a panic; rustc's tests of sums and
-indices, which are proved to hold; types that a callee is given; and the functions of `LEFT`. Names that the two have otherwise
-are in `SAME`, and what one side has alone in `ALONE`. A form that isn't known is an error. The status is 1 if a function differs
-or isn't understood, 2 if there is no compiler.
+Not compared are the order of drops between events, and the ghosts of proofs (`Snapshot`); what is derived; the text of a panic;
+rustc's tests of sums and indices, which are proved to hold; types that a callee is given; and the functions of `LEFT`. Names that
+the two have otherwise are in `SAME`, and what one side has alone in `ALONE`. A form that isn't known is an error. The status is 1
+if a function differs or isn't understood, 2 if there is no compiler.
 """
 import json
+import os
 import re
 import subprocess
 import sys
@@ -27,11 +30,11 @@ from pathlib import Path
 sys.dont_write_bytecode = True
 import widths
 from parts import erase_list as given
-from parts.same_compiled import NUMBERS, Compiled, CompiledSide
+from parts.same_compiled import NUMBERS, Compiled, CompiledSide, split
 from parts.same_proved import Proved, ProvedSide
-from parts.same_terms import FALSE, TRUE, Differ, Unknown, any_part, discriminant, holds_ref, is_test, mentions, met, negated, operation, shown
+from parts.same_terms import FALSE, TRUE, UNIT, Differ, Unknown, any_part, discriminant, holds_ref, is_test, mentions, met, negated, operation, shown
 
-REPOSITORY = widths.REPOSITORY
+REPOSITORY, SCHEDULE = widths.REPOSITORY, given.SCHEDULE.replace('/', '::')
 # Rustc's word, and the one here. `from_micros` and its like are by hand.
 SAME = [(re.compile(pattern), text) for pattern, text in [
     (r'net_base::time::instant::Instant::(from_(?:micros|millis|secs))', r'time.\1'),
@@ -39,6 +42,14 @@ SAME = [(re.compile(pattern), text) for pattern, text in [
     (rf'({NUMBERS}):Ord\.(min|max)', r'\1.\2'),
     (r'\?:(?:FnOnce|FnMut|Fn)(?:\+\d)?\.\w+', '?:Fn.call'),
     ('Vec:SliceMut.slice_mut', 'Vec.slice_mut'),
+    (r'Vec\.filled', 'Vec.from_elem'),
+    (r'Vec\.extend', 'VecExtend.extend'),
+    (r'VecDerefSlice(Mut)?\.(\w+)', r'Vec:Deref\1.\2'),
+    (r'array\+N\+T\.as_slice', 'slice.as_slice'), (r'bytes\.memchr', 'memchr.memchr'), ('net_receiver::laws::schedules', 'laws.schedules'),
+    (r'\?:Write\.0', '?:Write.write'), (r'\?:Write\.1', '?:Write.flush'),
+    ('net_ring::managed::ManagedSliceFromRefMutSlice::from', 'ManagedSlice:From.from'),
+    ('net_assembler::assembler::Assembler::empty', 'net_assembler::assembler::Assembler::new'), (r'bytes\.is_ascii_digit', 'u8.is_ascii_digit'),
+    (r'net_ring::ring_buffer::managed::RingBuffer\+T::new', 'RingOver.new'), (r'net_receiver::receiver::managed::Receiver\+N::new_at', 'ReceiverOver.empty_at'),
     (r'\?:IntoIterator\.0', '?:IntoIterator.into_iter'),
 ]]
 # What one side has alone: what is printed by hand, or by a macro, in Rust; a default of std's; modules that aren't erased;
@@ -46,13 +57,15 @@ SAME = [(re.compile(pattern), text) for pattern, text in [
 ALONE = re.compile('|'.join([
     r'.*::(?:(?:RingOver|PacketsOver|Assembler)Debug::fmt|\w*(?:Empty|Full|Error)Display::fmt|\w*IterIterator::size_hint|Assembler::new): .*',
     r'.*::Instant::from_(?:micros|millis|secs): .*', r'.*::[A-Z]\w*: not proved', r'(?:\w+::)+laws::\w+: not compiled',
-    *(f'{name.replace("/", "::")}::.*' for names in given.UNERASED.values() for name in names),
+    *(f'{name.replace("/", "::")}::.*' for names in given.UNERASED.values() for name in names if name != given.SCHEDULE),
     *(rf'{file.replace("/", "::")}::(?:\w+::)?{name}: not compiled' for file, names in given.UNCALLED.items() for name in names)]))
-# What isn't understood: what prints a number or a run; what a derive prints, clones, and hashes of a variant's number, and equality
-# where rustc's derive compares numbers first.
-LEFT = re.compile('|'.join([
-    r'.*::(?:\w+Display::fmt|(?:Duration|Instant)::text): prints', r'.*Debug::fmt: derived: .*', r'.*Clone::clone: derived: .*can be refused; .*',
-    r'.*Hash::hash: derived: .*usize:Hash.hash; .*isize:Hash.hash', '.*::(?:Kept|LossRecovery|RetransmissionTimer|TimerParts)PartialEq::eq: derived: .*']))
+# What isn't understood: a text of a number with a width; and of the program what calls a list or a text by hand, takes a part of an
+# array, lists texts, or drops a value of several variants; and of a receiving end an array of values, and a binding beside a guard.
+LEFT = re.compile('|'.join(['net_ends::receiving_end::(?:in_front: size of None|ReceivingEndOver::reported: returned: .*)',
+    r'net_base::time::(?:duration::Duration|instant::Instant)::text: a width',
+    r'net_bench_lib::program::tell: proved: Write\.write_fmt; .*', r'net_bench_lib::stream::fits: proved: Vec\.len; .*',
+    r'net_bench_lib::stream::StreamSession::(?:command|next_schedule): compiled: drops .*', 'net_bench_lib::bench::run_lines: a part of .*',
+    'net_bench_lib::(?:mode::Mode::from_words|stream::reply_lines::show_kept): size of .*', 'net_bench_lib::ring::ring_line: .* KeyError: .*']))
 
 
 def common(name, traits):
@@ -68,8 +81,8 @@ class Pair:
     known of a term on this way, ('is', number) or ('not', numbers)."""
     MOST = 1500
 
-    def __init__(self, proved, compiled, traits, is_derived=False):
-        self.a, self.b, self.traits, self.is_derived = proved, compiled, traits, is_derived
+    def __init__(self, proved, compiled, traits, place=str):
+        self.a, self.b, self.traits, self.place = proved, compiled, traits, place
         self.counts, self.states, self.work = {}, {}, []
 
     def settle(self, value, facts, memo=None):
@@ -96,6 +109,8 @@ class Pair:
             return True
         if not isinstance(one, tuple) or not isinstance(two, tuple) or len(one) != len(two) or one[:1] != two[:1] or one[:1] in (('nothing',), ('forgotten',)):
             return False
+        if one[:1] == ('closure',):
+            return self.place(one[1]) == two[1]
         if one[:1] == ('N',):                      # a parameter that is a number, by place and by name
             return self.counts.setdefault(one, two) == two and self.counts.setdefault(two, one) == one
         if one[:1] == ('ref',) and one[1] != two[1]:
@@ -138,7 +153,7 @@ class Pair:
     def compare(self):
         """Raises `Differ` or `Unknown`; gives how many pairs of places are reached."""
         state, count = {'ver': ('sym', 'ver', 0), 'facts': {}}, self.a.function['params']
-        state |= {(word, k): ('par', k) for k in range(1, count + 1) for word in 'AB'}
+        state |= {(word, k): ('par', k) for k in range(1, count + 1) for word in 'AB'} | {(word, 'drops'): UNIT for word in 'AB'}
         if count != self.b.parameters:
             raise Unknown('parameters')
         self.reach((self.a.start, self.b.start), state)
@@ -153,9 +168,9 @@ class Pair:
         """The next event of a side; branches whose end is known are none."""
         for _ in range(500):
             event = side.run(at, state)
-            if event[0] == 'next':                 # a range's: a branch, with what each end does
-                _, where, one, condition, item, place, after = event
-                event = ('branch', condition, {0: ('none', place, after)}, ('some', where, one, item, place, after))
+            if event[0] == 'next':                 # a range's: a branch, with what each end writes
+                _, where, one, condition, item, *last = event
+                event = ('branch', condition, {0: ([(last[0], ('agg', 0))], last[1])}, ([(where, ('next', one)), (last[0], ('agg', 1, item))], last[1]))
             if event[0] != 'branch':
                 return event
             value, ends, other = self.settle(event[1], state['facts']), event[2], event[3]
@@ -177,27 +192,21 @@ class Pair:
 
     @staticmethod
     def enter(side, end, state):
-        """Takes an end of a branch: of a range's `next` it has a value."""
-        if not isinstance(end, tuple) or end[0] not in ('none', 'some'):
-            return end
-        *begin, place, after = end
-        if begin[0] == 'some':
-            side.write(state, begin[1], ('next', begin[2]))
-        side.write(state, place, ('agg', 1, begin[3]) if begin[0] == 'some' else ('agg', 0))
+        """Takes an end of a branch, with what it writes."""
+        writes, after = end if isinstance(end, tuple) and isinstance(end[0], list) else ([], end)
+        for at, value in writes:
+            side.write(state, at, value)
         return after
 
     def step(self, node, state):
         """From a pair of places to the next ones."""
-        before = dict(state)
         one, two = self.event(self.a, node[0], state), self.event(self.b, node[1], state)
         kind = one[0]
+        if kind != 'store':
+            self.drops(state)
         if 'never' in (kind, two[0]):
             if kind != two[0] and 'panic' not in (kind, two[0]):
                 raise Differ(f'proved: {kind}; compiled: {two[0]}')
-        elif self.is_derived and kind == 'branch' and one[1][:2] == ('op', '==') and (two[0] != 'branch' or one[1] != two[1]):
-            for number in (0, 1):                  # a test of variants, of which rustc's has the value
-                self.reach((one[2].get(number, one[3]), node[1]), {
-                    **state, **{key: value for key, value in before.items() if key[0] == 'B'}, 'facts': {**before['facts'], one[1]: ('is', number)}})
         elif kind != two[0]:
             raise Differ('; '.join(f'{side}: {event[0]} {common(event[1], {}) if event[0] == "call" else shown(event[1:2])}'
                                    for side, event in (('proved', one), ('compiled', two))))
@@ -212,6 +221,23 @@ class Pair:
             self.branch(one, two, state)
         elif kind == 'call':
             self.call(node, one[1:], two[1:], state)
+
+    def drops(self, state):
+        """What was dropped since the last event but a store, in whichever order."""
+        one, two = ([self.settle(of, state['facts'])[2:] for of in state[side.word, 'drops'][2:]] for side in (self.a, self.b))
+        state |= {(word, 'drops'): UNIT for word in 'AB'}
+        for value, *_ in (pair for pair in one if self.has_drop(*pair, state)):
+            found = next((k for k, pair in enumerate(two) if self.same(value, pair[0], state)), None)
+            if found is None:
+                raise Differ(f'proved: drops {shown(value)}; compiled: {shown(two)}')
+            two.pop(found)
+        for value, _ in (pair for pair in two if self.has_drop(*pair, state)):
+            raise Differ(f'compiled: drops {shown(value)}')
+
+    def has_drop(self, value, kept, state):
+        """Whether a value has something to drop: not a variant, if it is known, that has nothing."""
+        variant = self.settle(discriminant(value), state['facts'])
+        return len(kept) == 1 or variant[0] != 'int' or variant[1] in kept[1:]
 
     def branch(self, one, two, state):
         self.check(one[1], two[1], state, 'condition')
@@ -245,8 +271,6 @@ class Pair:
         name, other = common(name, self.traits), common(other, self.traits)
         if name != other:
             raise Differ(f'proved: {name}; compiled: {other}')
-        if re.match(r'(?:Formatter|Write)\.', name):
-            raise Unknown('prints')
         if name == '?:Fn.call' and len(given_b) == 2 and given_b[1][:2] == ('agg', None):
             given_b = [given_b[0], *given_b[1][2:]]
         if re.search(r'Partial(?:Eq|Ord)\.', name):
@@ -266,50 +290,65 @@ class Pair:
         state['ver'] = ('ver', result)
         if next_b is None:
             return
-        stores = [side.write(state, to, result) for side, to in ((self.a, to_a), (self.b, to_b))]
-        if any(stores):
-            if not all(stores):
-                raise Differ('the result of a call is stored by one side')
-            self.check(stores[0][1], stores[1][1], state, 'stored at')
-            state['ver'] = self.fresh(state, ('ver', node))
+        if any([side.write(state, to, result) for side, to in ((self.a, to_a), (self.b, to_b))]):
+            raise Unknown('the result of a call is stored')
         self.reach((next_a, next_b), state)
 
 
 def why(proved, rust, name, there, side=ProvedSide):
     """Whether a function is the same, and why not: ('same', pairs), ('differ', reason) or ('unknown', reason)."""
-    is_derived = name in rust.derived
     try:
         if there in rust.twice:
             raise Differ('two functions of this name')
         compiled = CompiledSide(rust, rust.functions.get(there) or rust.constants[there], there)
-        return 'same', Pair(side(proved, name), compiled, rust.traits, is_derived).compare()
+        return 'same', Pair(side(proved, name), compiled, rust.traits, lambda name: place(proved, rust, name)).compare()
     except Unknown as reason:
-        return 'unknown', f'derived: {reason}' if is_derived else str(reason)
+        return 'unknown', str(reason)
     except Differ as reason:
-        return ('unknown', f'derived: {reason}') if is_derived else ('differ', str(reason))
+        return 'differ', str(reason)
     except (RecursionError, AttributeError, IndexError, KeyError, TypeError, ValueError) as reason:
         return 'unknown', f'a form that is not known: {type(reason).__name__}: {reason}'
 
 
 def place(proved, rust, name):
-    """The name that rustc has for a function: a closure has none."""
-    around, _, inner = proved.functions[name].partition('::fn::')
-    return name if not inner or name in rust.functions else f'{around}::{inner.rpartition("::")[0]}::{{closure#0}}'
+    """The name that rustc has for a function: a closure has a number, of those in a function in turn."""
+    around = proved.functions[name].rpartition('::')[0]
+    if name in rust.functions or '::fn::' not in around:
+        return name
+    closures = [other for other, there in proved.functions.items() if there.rpartition('::')[0] == around and other not in rust.functions]
+    return f'{around.replace("fn::", "")}::{{closure#{closures.index(name)}}}'
 
 
-def compared(proved, rust, crate):
-    """Of each function that both have: whether it is the same, with its reason if not; and what one has alone."""
+def compared(proved, rust, within):
+    """Of each function of a crate or a module: whether it is the same, with its reason if not; and what one side has alone."""
     found = {'same': [], 'differ': [], 'unknown': []}
     for name in sorted(proved.functions):
         there = place(proved, rust, name)
+        if not name.startswith(f'{within}::') or within != SCHEDULE and name.startswith(f'{SCHEDULE}::') or there in rust.derived - rust.twice:
+            continue
         if there in rust.functions or there in rust.constants:
             how, reason = why(proved, rust, name, there)
             found[how].append((name, reason))
         elif name not in proved.trivial and not ALONE.fullmatch(f'{name}: not compiled'):         # a drop that only drops isn't erased
             found['differ'].append((name, 'not compiled'))
-    own = {name for name in rust.functions if name.split('::')[0] == crate and '{' not in name} - rust.derived
+    own = {name for name in rust.functions if name.startswith(f'{within}::') and '{' not in name} - rust.derived
     found['differ'] += [(name, 'not proved') for name in sorted(own - proved.functions.keys()) if not ALONE.fullmatch(f'{name}: not proved')]
     return found['same'], found['differ'], found['unknown']
+
+
+def exports(folder):
+    """Where the prover's program of the exports for C is. A static library keeps none, so they are built as another library too,
+    over those that `rt ci` left, which says that they are proved; what is checked stays in the folder for a next time."""
+    kit = Path(subprocess.run(['rt', 'doc'], check=True, capture_output=True, text=True).stdout.strip()).parent
+    used, made = re.search(rf'^{given.EXPORTS} staticlib: (.*)', (REPOSITORY / 'crates.txt').read_text(), re.M)[1].split(), folder / f'{given.EXPORTS}.rlib'
+    rlibs = {'std': kit / 'rlibs/std.rlib'} | {crate: kept(crate).parent.parent for crate in used}
+    words = [word for crate, rlib in rlibs.items() for word in ('--extern', f'{crate}={rlib}', '-L', f'dependency={rlib.parent}')]
+    logic = ['--antt-project', kit / 'rattle/logic/antt-project.json', '--logic-built', kit / 'logic_built', '--incremental', folder / 'incremental']
+    ran = subprocess.run(['rattle', 'build', '--crate-name', given.EXPORTS, 'src/lib.rt', *words, *logic, '--jobs', '2', '-o', made],
+                         cwd=REPOSITORY / 'crates' / given.EXPORTS, stdout=subprocess.PIPE, stderr=subprocess.STDOUT, text=True)
+    if ran.returncode:
+        sys.exit(f'same_program: {given.EXPORTS} is not built as a library:\n{ran.stdout[-3000:]}')
+    return made / 'toolchain/mir.json'
 
 
 def kept(crate):
@@ -317,34 +356,49 @@ def kept(crate):
     return REPOSITORY / f'crates/{crate}/out/rlib/{crate}.rlib/toolchain/mir.json'
 
 
+def compiled(root, kit, target):
+    """Rustc's program of the crate, and of its example."""
+    environment, found = dict(os.environ, RUSTC=str(kit / 'rustc'), RUSTC_BOOTSTRAP='1', CARGO_TARGET_DIR=str(target)), []
+    for what, folder in (('--lib', 'src/proved'), ('--example=net_bench', 'examples/net_bench/proved')):
+        subprocess.run(['cargo', 'rustc', '--offline', '--quiet', what, '--features', 'segmentation-offload,c', '--', *widths.FLAGS],
+                       cwd=root, check=True, env=environment)
+        mir, = target.glob('debug/deps/*.mir' if not found else 'debug/examples/*.mir')
+        found.append(Compiled(root, mir.read_text(), folder, *found))
+    return found
+
+
+def programs(arguments, temporary):
+    """The prover's programs by crate; of each crate or module that is compared its name and rustc's program; and the compiler's
+    folder. Where these can't be had a line says why, and the status is what ends this."""
+    folders = [Path(word).resolve() for word in arguments if word != '--all']
+    kit, folder = [*folders, *[temporary] * 2][:2]
+    folder.mkdir(parents=True, exist_ok=True)
+    missing = [crate for crate in (*given.CRATES, *given.PROGRAM) if crate != given.EXPORTS and not kept(crate).is_file()]
+    if missing:
+        sys.exit(f'{Path(sys.argv[0]).stem}: not compared: no proved library of {", ".join(missing)}: rt ci')
+    if status := subprocess.run(['sh', REPOSITORY / 'rust/kit.sh', kit]).returncode:
+        print(f'{Path(sys.argv[0]).stem}: not run: no compiler', file=sys.stderr)
+        sys.exit(status)
+    library, example = compiled(REPOSITORY / 'rust', kit, temporary / 'target')
+    mirs = {crate: kept(crate) for crate in (*given.CRATES, *given.PROGRAM)} | {given.EXPORTS: exports(folder)}
+    of_example = [(within, example) for within in (SCHEDULE, *given.PROGRAM)]
+    return {crate: Proved(json.loads(mir.read_text())) for crate, mir in mirs.items()}, [*((crate, library) for crate in given.CRATES), *of_example], kit
+
+
 def main(arguments):
-    everything = '--all' in arguments
-    folders = [word for word in arguments if word != '--all' and '=' not in word]
-    mirs = {crate: path for crate, _, path in (word.partition('=') for word in arguments if '=' in word)} or \
-        {crate: kept(crate) for crate in given.CRATES if crate != given.EXPORTS}
     with tempfile.TemporaryDirectory() as temporary:
-        mir, root = (Path(folders[0]), Path(folders[-1])) if folders and folders[0].endswith('.mir') else (None, REPOSITORY / 'rust')
-        if not mir:
-            kit = Path(folders[0] if folders else temporary).resolve()
-            if status := subprocess.run(['sh', REPOSITORY / 'rust/kit.sh', kit]).returncode:
-                print('same_program: not run: no compiler', file=sys.stderr)
-                return status
-            widths.compiled(root, kit, Path(temporary) / 'target')
-            mir, = Path(temporary).glob('target/debug/deps/*.mir')
-        rust = Compiled(root, mir.read_text())
-    bad = 0
-    for crate, path in mirs.items():
-        if not Path(path).is_file():
-            print(f'{crate}: not compared: no proved library: rt lib')
-            bad += 1
-            continue
-        same, differ, unknown = compared(Proved(json.loads(Path(path).read_text())), rust, crate)
-        wrong = differ + [(name, f'not understood: {reason}') for name, reason in unknown if not LEFT.fullmatch(f'{name}: {reason}')]
+        proved, sides, _ = programs(arguments, Path(temporary))
+    shows, bad = '--all' in arguments, 0
+    for within, rust in sides:
+        same, differ, unknown = compared(proved[within.split('::')[0]], rust, within)
+        left = {name for name, reason in differ + unknown if LEFT.fullmatch(f'{name}: {reason}')}
+        unknown += [pair for pair in differ if pair[0] in left]
+        differ = [pair for pair in differ if pair[0] not in left]
+        wrong = differ + [(name, f'not understood: {reason}') for name, reason in unknown if name not in left]
         bad += len(wrong)
         print(*(f'{name}: {reason}' for name, reason in wrong), sep='\n', end='\n' * bool(wrong))
-        if everything:
-            print(*(f'  not understood: {name}: {reason}' for name, reason in unknown), sep='\n')
-        print(f'{crate}: {len(same)} functions are the same, {len(differ)} differ, {len(unknown)} are not understood')
+        print(*(f'  not understood: {name}: {reason}' for name, reason in unknown if shows), sep='\n', end='\n' * bool(shows and unknown))
+        print(f'{within}: {len(same)} functions are the same, {len(differ)} differ, {len(unknown)} are not understood')
     return int(bad > 0)
 
 

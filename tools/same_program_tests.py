@@ -1,5 +1,5 @@
 #!/usr/bin/env python3
-"""What tools/same_program.py says of texts and programs that are wrong: python3 tools/same_program_tests.py [CRATE=MIR_JSON ..] KIT,
+"""What tools/same_program.py says of texts and programs that are wrong: python3 tools/same_program_tests.py [KIT [FOLDER]],
 after the crates were proved. Each part is tested: terms; rustc's side and the pair by bodies that mean the same, or don't; the
 prover's by changes of its programs; the whole by changes of the erased text; and its lists by leaving out each entry."""
 import copy
@@ -18,7 +18,7 @@ import same_program
 import widths
 from parts import same_terms as terms
 from parts.same_compiled import Compiled, CompiledSide
-from parts.same_proved import Proved, ProvedSide
+from parts.same_proved import ProvedSide
 
 X, Y = ('par', 1), ('par', 2)
 # Terms that are one, and terms that aren't.
@@ -45,6 +45,8 @@ MEAN_ONE = [
     ('let mut c = 0; while c < a { go(c); c += 1; } c', 'let mut c = 0; loop { if !(c < a) { break; } let d = c; go(d); c = d + 1; } c'),
     ('for c in 0..a { go(c); } 0', 'for k in 0..a { let d = k; go(d); } 0'), ('match a { 0 => go(b), 1 => 7, _ => 8 }', 'if a == 0 { go(b) } else if a == 1 { 7 } else { 8 }'),
     ('let mut c = (a, b); c.1 = 3; c.0 + c.1', 'let c = (a, 3); c.0 + c.1'), ('let c = &mut s.m; *c = a; 0', 's.m = a; 0'),
+    ('let c = held(a); drop(c); go(b)', '{ let c = held(a); } go(b)'), ('let c = held(a); let d = held(b); 0', 'let d = held(a); let c = held(b); drop(d); 0'),
+    ('let c = Some(held(a)); if let Some(d) = c { keep(d); } 0', 'if let Some(d) = Some(held(a)) { keep(d); } 0'), ('s.h = held(a); 0', 'let c = held(a); s.h = c; 0'),
 ]
 MEAN_TWO = [
     ('a + b', 'b + a'), ('a', 'b'), ('a < b; a', 'b'), ('if a < b { 1 } else { 2 }', 'if a <= b { 1 } else { 2 }'), ('if a < b { go(a); } b', 'if a < b { go(b); } b'),
@@ -61,9 +63,18 @@ MEAN_TWO = [
     ('if let Some(c) = a.checked_add(b) { c } else { 0 }', 'if let Some(c) = a.checked_sub(b) { c } else { 0 }'), ('matches!(pick(a), Ok(_)) as u64', 'matches!(pick(a), Err(_)) as u64'),
     ('let c = [a, b]; c[0]', 'let c = [a, b]; c[1]'), ('if a > 3 { panic!() } b', 'b'), ('go(if a < b { a } else { b })', 'go(if a < b { b } else { a })'),
     ('s.m', 's.n'), ('s.keep()', 'Keeps::keep(s)'),
+    ('let c = held(a); drop(c); go(b)', 'let c = held(a); go(b)'), ('let c = held(a); 0', 'let c = held(a); core::mem::forget(c); 0'),
+    ('let c = held(a); let d = held(b); drop(c); go(a); 0', 'let c = held(a); let d = held(b); drop(d); go(a); 0'), ('let c = held(a); keep(c); 0', 'let c = held(a); keep(held(a)); 0'),
+    ('s.h = held(a); 0', 'core::mem::forget(core::mem::replace(&mut s.h, held(a))); 0'),
+    ('let c = held(a); if a < b { s.m = a; drop(c); } else { s.m = b; } go(a)', 'let c = held(a); if a < b { s.m = a; } else { s.m = b; drop(c); } go(a)'),
+    ('let c = Some(held(a)); if a < b { drop(c); } go(b)', 'let c = Some(held(a)); if a < b { go(b) } else { drop(c); go(b) }'),
 ]
 HEAD = """#![allow(warnings)]
-pub struct S { pub m: u64, pub n: u64 }
+pub struct Held;
+impl Drop for Held { fn drop(&mut self) {} }
+pub fn held(a: u64) -> Held { Held }
+pub fn keep(h: Held) {}
+pub struct S { pub m: u64, pub n: u64, pub h: Held }
 impl S { pub fn keep(&self) -> u64 { 1 } }
 pub trait Keeps { fn keep(&self) -> u64; }
 impl Keeps for S { fn keep(&self) -> u64 { 2 } }
@@ -96,6 +107,12 @@ PLANTS = [
     ('net_ring/head.rs', 'if next < capacity { next } else { 0 }', 'if !(next < capacity) { next } else { 0 }', 'dequeue_contiguous'),
     ('net_base/storage/fragments/table.rs', 'for at in 1..slots.len()', 'for at in 1..slots.len() - 1', 'first_to_expire'),
     ('net_base/storage/fragments/table.rs', '        slot.expire(now);', '        slot.expire(now);\n        return;', 'remove_expired'),
+    # What is written, an export, and the program.
+    ('net_assembler/assembler.rs', '"({}) "', '"({})"', 'ContigDisplay::fmt'),
+    ('net_assembler/assembler.rs', 'write!(f, "{}", self.data_size)', 'write!(f, "{}", self.hole_size)', 'ContigDisplay::fmt'),
+    ('net_ffi/ring.rs', 'place.length > capacity', 'place.length >= capacity', 'net_base_ring_dequeue_one'),
+    ('net_ffi/heads/ring.rs', 'place.enqueue(capacity, count);', 'place.dequeue(capacity, count);', 'net_base_ring_enqueue'),
+    ('net_bench_lib/text.rs', '.wrapping_mul(9)', '.wrapping_mul(8)', 'digit'),
     # Functions that Rust has alone.
     ('net_ring/managed.rs', 'impl<T> Storage<T> for Vec<T> {', 'trait Other { fn len(&self) -> usize; }\n'
      'impl<T> Other for &Vec<T> { fn len(&self) -> usize { 0 } }\nimpl<T> Storage<T> for Vec<T> {', 'RefVecOther::len: not proved'),
@@ -165,15 +182,23 @@ def changed(proved, function, draw):
     return None
 
 
-def programs(paths, rust):
+def drops(proved, name):
+    """A function of the prover's with a drop left out, or made twice."""
+    side, old = ProvedSide(proved, name), proved.all[proved.functions[name]]
+    for k, step in enumerate(old['body']):
+        if isinstance(step, dict) and 'Call' in step and proved.callee(step['Call'][0], old).endswith(':Destruct.drop') and side.needs_drop(side.kind_of(step['Call'][1][0])):
+            for steps in (['Skip'], ['Seq', step, step]):
+                yield {**old, 'body': [*old['body'][:k], *steps, *old['body'][k + 1:]]}
+
+
+def programs(programs, sides):
     """Changes of the prover's programs: each is seen. Returns how many."""
     draw, seen = random.Random(7), 0
-    for crate, path in paths.items():
-        proved = Proved(json.loads(path.read_text()))
-        for name, _ in same_program.compared(proved, rust, crate)[0]:
+    for within, rust in sides:
+        proved = programs[within.split('::')[0]]
+        for name, _ in same_program.compared(proved, rust, within)[0]:
             old = proved.all[proved.functions[name]]
-            for _ in range(2):
-                new = changed(proved, old, draw)
+            for new in (*(changed(proved, old, draw) for _ in range(2)), *drops(proved, name)):
                 if new in (None, old) or '::turns::' in name:                       # of proofs alone
                     continue
                 other = copy.copy(proved)
@@ -183,66 +208,54 @@ def programs(paths, rust):
     return seen
 
 
-def planted(kit, temporary, paths):
+def planted(kit, temporary, proved):
     """Each plant in the erased text is found, and nothing besides."""
     crate = temporary / 'crate'
     shutil.copytree(widths.REPOSITORY / 'rust', crate, ignore=shutil.ignore_patterns('target', 'rows'))
     config = crate / 'src/config.rs'
     config.write_text(config.read_text() + '\npub(crate) fn head() -> crate::proved::net_assembler::AssemblerHead {\n'
                       '    crate::proved::net_assembler::AssemblerHead::new()\n}\n')
-    plants = [plant for plant in PLANTS if plant[0].split('/')[0] in paths]
-    for file, part, plant, _ in plants:
-        path = crate / 'src/proved' / file
+    for file, part, plant, _ in PLANTS:
+        path = crate / ('examples/net_bench/proved' if file.split('/')[0] in same_program.given.PROGRAM else 'src/proved') / file
         assert part in path.read_text(), (file, part)
         path.write_text(path.read_text().replace(part, plant, 1))
-    widths.compiled(crate, kit, temporary / 'target2')
-    mir, = (temporary / 'target2/debug/deps').glob('*.mir')
-    rust, found = Compiled(crate, mir.read_text()), []
-    for name in sorted({file.split('/')[0] for file, *_ in plants}):
-        _, differ, unknown = same_program.compared(Proved(json.loads(paths[name].read_text())), rust, name)
-        found += [one if reason != 'not proved' else f'{one}: {reason}' for one, reason in differ]
+    library, example = same_program.compiled(crate, kit, temporary / 'target2')
+    found = []
+    for name in sorted({file.split('/')[0] for file, *_ in PLANTS}):
+        _, differ, unknown = same_program.compared(proved[name], example if name in same_program.given.PROGRAM else library, name)
+        found += [one if reason != 'not proved' else f'{one}: {reason}' for one, reason in differ if not same_program.LEFT.fullmatch(f'{one}: {reason}')]
         found += [one for one, reason in unknown if not same_program.LEFT.fullmatch(f'{one}: {reason}')]
-    for name in (name for *_, name in plants):
+    for name in (name for *_, name in PLANTS):
         assert any(one.endswith(f'::{name}') for one in found), f'not found: {name}: {found}'
-    others = [one for one in found if not any(one.endswith(f'::{name}') for *_, name in plants)]
+    others = [one for one in found if not any(one.endswith(f'::{name}') for *_, name in PLANTS)]
     assert not others, others
-    return len(plants)
+    return len(PLANTS)
 
 
-def lists(paths, rust):
+def lists(proved, sides):
     """Without one of its entries a list lets less through."""
-    of = lambda: {(name, how) for crate, path in paths.items() for how, found in enumerate(same_program.compared(Proved(json.loads(path.read_text())), rust, crate))
+    of = lambda: {(name, how) for within, rust in sides for how, found in enumerate(same_program.compared(proved[within.split('::')[0]], rust, within))
                   for name, _ in found}
     whole, unused, kept = of(), [], same_program.SAME
     for k, (pattern, _) in enumerate(kept):
         same_program.SAME = kept[:k] + kept[k + 1:]
         unused += [] if of() != whole else [pattern.pattern]
     same_program.SAME = kept
-    return len(kept), unused
+    assert not unused, f'without use: {unused}'
+    return len(kept)
 
 
 def main(arguments):
-    given = {crate: Path(path) for crate, _, path in (word.partition('=') for word in arguments if '=' in word)}
-    paths = given or {crate: same_program.kept(crate) for crate in same_program.given.CRATES if crate != same_program.given.EXPORTS}
-    kit = Path([word for word in arguments if '=' not in word][0]).resolve()
-    if missing := [crate for crate, path in paths.items() if not path.is_file()]:
-        sys.exit(f'same_program_tests: no proved library of {", ".join(missing)}: rt lib')
-    if status := subprocess.run(['sh', widths.REPOSITORY / 'rust/kit.sh', kit]).returncode:
-        print('same_program_tests: not run: no compiler', file=sys.stderr)
-        return status
     assert all(one == two for one, two in EQUAL) and not any(one == two for one, two in UNEQUAL), [pair for pair in EQUAL if pair[0] != pair[1]]
     with tempfile.TemporaryDirectory() as temporary:
         temporary = Path(temporary)
+        proved, sides, kit = same_program.programs(arguments, temporary)
         count = bodies(temporary / 'bodies', str(kit / 'rustc'))
-        widths.compiled(widths.REPOSITORY / 'rust', kit, temporary / 'target')
-        mir, = (temporary / 'target/debug/deps').glob('*.mir')
-        rust = Compiled(widths.REPOSITORY / 'rust', mir.read_text())
-        entries, unused = lists(paths, rust)
-        assert given or not unused, unused
-        seen = programs(paths, rust)
-        plants = planted(kit, temporary, paths)
+        entries = lists(proved, sides)
+        seen = programs(proved, sides)
+        plants = planted(kit, temporary, proved)
     print(f'{len(EQUAL)} terms are one, {len(UNEQUAL)} are two; {count} pairs of bodies; {seen} changes of programs and {plants} plants are found; '
-          f'of {entries} entries without use: {", ".join(unused) or "none"}')
+          f'each of {entries} entries is used')
     return 0
 
 

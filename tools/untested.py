@@ -2,6 +2,7 @@
 """Lists the public functions and methods of the libraries, and of the Cargo crate, that no test and no example names.
 
     python3 tools/untested.py [CRATE ..]
+    python3 tools/untested.py --laws      the laws alone, which take a second
 
 Public are a `pub fn` that a user of the crate reaches by `pub mod` and `pub use`, each `pub fn` of a
 type that is reached so, and each method of a trait of ours, of the trait and of each of its types.
@@ -22,6 +23,10 @@ Named there is
 A call of the Cargo crate, here the crate `rust`, is named by a test or an example of Rust, as the compiler sees it: in a
 copy of the crate each call is deprecated, and each use is warned of. An example in the call's own doc comment counts too.
 A call with a parameter of a type that isn't exported can't be made.
+
+A law counts only if a caller can use it: a proved function of another crate than the law's calls it. Listed is each law
+that README.md or docs/PROVED.md cites, after the word "law" or as the head of an item, and that none calls; of the others
+`--laws` says how many none calls. Those of UNCALLED are left out.
 
 Ends with status 1 if there is something to list.
 """
@@ -182,7 +187,7 @@ class Library:
                 if head := re.search(r"\bhead: (\w+),", body):
                     self.heads[it[1]] = head[1]
         for file, text in texts.items():
-            if "laws" in file.parts or file.stem == "laws":
+            if "laws" in file.relative_to(ROOT).with_suffix("").parts:
                 continue
             inside = list(blocks(text))
             self.implemented |= {it[3] for it in inside if "trait" not in text[it[0] :].split()[:3]}
@@ -297,7 +302,61 @@ def of_rattle():
     return [it for it in library.calls if not library.is_left_to_users(it[1])], named
 
 
+# Laws that pages cite and that no other crate calls.
+UNCALLED = {
+    ("net_receiver", "kept_lists"): "its words are the headline's, which no call returns",
+}
+# A list of names between backquotes, with links' brackets and `and` between them.
+NAMES = r"`[\w:]+`(?:(?:,|,? and)\s+`[\w:]+`)*"
+
+
+def laws():
+    """Each law, a public function of a module `laws`: its crate and its name."""
+    for file in sorted(CRATES.glob("*/src/**/*.rt")):
+        crate, *path = file.relative_to(CRATES).with_suffix("").parts
+        if "laws" in path:
+            yield from ((crate, fn.name) for fn in functions(source(file)) if fn.is_public)
+
+
+def law_calls():
+    """Each law that a function of another crate calls, by the law's crate and its name."""
+    known = collections.defaultdict(set)
+    for crate, name in laws():
+        known[name].add(crate)
+    for file in sorted(CRATES.glob("*/src/**/*.rt")):
+        text, here = source(file), file.relative_to(CRATES).parts[0]
+        uses = re.findall(r"^(?:pub )?use ([^;]*);", text, re.M)
+        crates = {crate for it in uses for crate in re.findall(r"\bnet_\w+", it)} - {here}
+        brought = {word: word for it in uses if "laws" in it for word in re.findall(r"\w+", it)}
+        brought |= {alias: name for it in uses for name, alias in re.findall(r"(\w+) as (\w+)", it) if name in brought}
+        body = re.sub(r"^(?:pub )?use [^;]*;|\bfn \w+", "", text, flags=re.M)
+        for path, name in re.findall(r"((?:\w+::)*)\b(\w+)(?:::<[^()]*>)?\(", body):
+            name = name if "laws::" in path else brought.get(name) if not path else None
+            yield from ((crate, name) for crate in known[name] & (crates | set(re.findall(r"\w+", path))) - {here})
+
+
+def cited_laws():
+    """The names of the laws that README.md and docs/PROVED.md cite."""
+    text = "\n".join(re.sub(r"```.*?```", "", (ROOT / page).read_text(), flags=re.S) for page in ("README.md", "docs/PROVED.md"))
+    lists = re.findall(rf"\b[Ll]aws?\s+({NAMES})", text) + re.findall(rf"^ *- ({NAMES})[:,]", text, re.M)
+    return {name.split("::")[-1] for it in lists for name in re.findall(r"`([\w:]+)`", it)} & {name for _, name in laws()}
+
+
+def unused_laws():
+    """A line for each law that a page cites and that no other crate calls."""
+    every, called, cited = sorted(set(laws())), set(law_calls()), cited_laws()
+    missing = [f"{crate}: law {name} is cited, and no other crate calls it" for crate, name in every
+               if name in cited and (crate, name) not in called | set(UNCALLED)]
+    missing += [f"{crate}: UNCALLED has law {name}, which is called, or isn't cited, or is none" for crate, name in UNCALLED
+                if (crate, name) in called or name not in cited or (crate, name) not in every]
+    return missing, f"{len(every)} laws, {len(set(every) - called)} that no other crate calls; of {len(cited)} cited names {len(missing)}"
+
+
 def main():
+    if sys.argv[1:] == ["--laws"]:
+        missing, count = unused_laws()
+        print(*missing, count, sep="\n")
+        return 1 if missing else 0
     calls, named = of_rattle()
     wanted = [it for it in calls if not sys.argv[1:] or it[0] in sys.argv[1:]]
     missing = [f"{crate}: {subject + '::' if subject else ''}{name}" for crate, subject, name in wanted
@@ -307,6 +366,8 @@ def main():
         calls, named = of_rust()
         missing += [f"rust: {it.removeprefix('::')}" for it in calls if it not in named]
         count += len(calls)
+    if not sys.argv[1:]:
+        missing += unused_laws()[0]
     print(*missing, f"{count} public functions and methods, {len(missing)} that no test or example names", sep="\n")
     return 1 if missing else 0
 

@@ -22,6 +22,7 @@ is one. Any other operation has a cover:
     lesser    a sum or product that stops at the greatest `usize`, of which the lesser and another number is taken
     constant  a literal that has 32 bits
     no bytes  a size that is compared with 0 when the text is compiled
+    derived hash  a field that a derived `Hash` gives to a hasher, of which no clause says the bytes
 
 What isn't known is open: each value or call with a `usize` or an `isize` in its type, that is none of `FORMS` and `KNOWN`.
 
@@ -51,7 +52,8 @@ NARROW = {'u8', 'u16', 'u32', 'bool', 'char'}
 # What gives a `usize` of a value or a function that has one, and nothing new: all else that has one is an operation. Derived
 # hashes give a hasher the number of a variant.
 FORMS = re.compile(r'(?:copy|move|const|&|\(|\[|Len\(|PtrMetadata\(|discriminant\(|(?:Lt|Le|Gt|Ge|Eq|Ne)\(|[\w:]+(?:::)?(?:<.*>)?(?:::\w+)?(?: \{.*\}|\(.*\))?$)')
-KNOWN = re.compile(r"""<[iu]size\ as\ core::(?:cmp::Ord>::(?:min|max|cmp)|cmp::Partial(?:Ord|Eq)>::\w+|clone::Clone>::clone|default::Default>::default|hash::Hash>::hash.*)
+KNOWN = re.compile(r"""<[iu]size\ as\ core::(?:cmp::Ord>::(?:min|max|cmp)|cmp::Partial(?:Ord|Eq)>::\w+|clone::Clone>::clone|default::Default>::default)
+  | <isize\ as\ core::hash::Hash>::hash.*
   | <.*\ as\ core::ops::(?:Index(?:Mut)?<.*>>::index(?:_mut)?|Try>::branch|FromResidual.*|Fn(?:Once|Mut)?<.*>>::call(?:_once|_mut)?)
   | <core::ops::Range<usize>\ as\ core::iter::(?:IntoIterator>::into_iter|Iterator>::next)
   | <core::iter::Filter<core::slice::Iter<.*>\ as\ core::iter::Iterator>::count
@@ -196,7 +198,8 @@ class Reader:
         path = re.sub(r'\b(?:std|alloc)::', 'core::', called(value)) if is_call and value.endswith(')') else ''
         if OWN.match(path):
             return None
-        if re.match(r'<\w+ as core::ops::(?!Index|Fn|Deref|Try|FromResidual)|.*::(?:sum|product)::<', path):
+        if re.match(r'<\w+ as core::ops::(?!Index|Fn|Deref|Try|FromResidual)|<[A-Z]\w* as core::(?:convert::Try|str::FromStr|iter::(?:Sum|Product))'
+                    r'|.*::(?:sum|product)::<', path):
             return f'unknown {path}'               # of any type, so of a `usize` too
         if into and not re.search(r'\b[iu]size\b', f'{into} {path}'):
             return None
@@ -209,6 +212,8 @@ class Reader:
         file = self.file(name)
         if kind.startswith('unknown core::mem::size_of::<') and re.match(r' == 0\)', file.code[end:]):
             return 'no bytes'
+        if kind.startswith('unknown <usize as core::hash::Hash>') and re.fullmatch(r'\w+: usize', file.code[start:end]):
+            return 'derived hash'                  # of a field: no clause says what a hasher is given
         if kind.startswith('unknown') or kind == 'isize':
             return None
         text = re.sub(r'^\(([^()]*)\)$', r'\1', plain(file.code[start:end]))

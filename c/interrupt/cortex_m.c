@@ -19,14 +19,6 @@ void start_timer(void) {
     timer->control = 7; /* the processor's clock, interrupt, enabled */
 }
 
-void mask(void) {
-    __asm__ volatile("cpsid i" ::: "memory");
-}
-
-void unmask(void) {
-    __asm__ volatile("cpsie i" ::: "memory");
-}
-
 void print(const char *text) {
     fputs(text, stdout);
     fflush(stdout);

@@ -11,10 +11,6 @@ void on_tick(void);
 /* Starts the timer. */
 void start_timer(void);
 
-/* Masks the interrupt, and lets it come again. */
-void mask(void);
-void unmask(void);
-
 /* Prints a text. */
 void print(const char *text);
 #endif

@@ -22,14 +22,6 @@ void start_timer(void) {
     *next = *now + CYCLES;
     __asm__ volatile("csrw mtvec, %0" ::"r"(on_trap));
     __asm__ volatile("csrs mie, %0" ::"r"(TIMER));
-    unmask();
-}
-
-void mask(void) {
-    __asm__ volatile("csrc mstatus, %0" ::"r"(ENABLED) : "memory");
-}
-
-void unmask(void) {
     __asm__ volatile("csrs mstatus, %0" ::"r"(ENABLED) : "memory");
 }
 

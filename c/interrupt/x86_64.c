@@ -73,14 +73,6 @@ static void set_gate(unsigned vector, void (*handler)(struct frame *)) {
     gates[vector] = (struct gate){(uint16_t)at, SELECTOR, 0x8e00, (uint16_t)(at >> 16), (uint32_t)(at >> 32), 0};
 }
 
-void mask(void) {
-    __asm__ volatile("cli" ::: "memory");
-}
-
-void unmask(void) {
-    __asm__ volatile("sti" ::: "memory");
-}
-
 void start_timer(void) {
     struct __attribute__((packed)) {
         uint16_t limit;
@@ -97,7 +89,7 @@ void start_timer(void) {
     out(0x43, 0x34);
     out(0x40, (uint8_t)divisor);
     out(0x40, (uint8_t)(divisor >> 8));
-    unmask();
+    __asm__ volatile("sti" ::: "memory");
 }
 
 /* start.S calls this, with 64 bits. */

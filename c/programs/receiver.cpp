@@ -18,7 +18,7 @@ int main() {
     must(receiver && !none && none.keep(0, "a", 1, false).status == NET_BASE_SEGMENT_REFUSED, "first");
     net_base::Kept kept = receiver.keep(105, "order", 5, true);
     must(kept.status == NET_BASE_SEGMENT_DONE && kept.counts.kept == 5 && kept.counts.queued == 0, "beyond a gap");
-    must(receiver.keep(100, "in an", 6, true).status == NET_BASE_SEGMENT_OTHER_END, "another end");
+    must(receiver.keep(101, "n an", 4, true).status == NET_BASE_SEGMENT_OTHER_END, "another end");
 
     Receiver copy = receiver;
     char text[16];

@@ -259,6 +259,8 @@ static void run(uint64_t first, const uint8_t *data, size_t size, bool is_slow) 
         if (is_slow && below(20) > 0) continue;
         count += net_base_finite_receiver_read(
             &to.receiver, to.storage, WINDOW, read + count, LONGEST - count);
+        /* A complete stream needs no room: a peer that is done would answer an update by a reset. */
+        if (net_base_finite_receiver_is_complete(&to.receiver)) continue;
         must(net_base_finite_receiver_acknowledged(&to.receiver, &number), "acknowledged");
         must(net_base_finite_receiver_window_end(&to.receiver, WINDOW, &window_end), "window_end");
         if (net_base_advertised_window_is_update_due(

@@ -107,6 +107,21 @@ pub extern "C" fn net_base_ring_dequeue_one(place: Option<&mut RingHead>, capaci
     ring::net_base_ring_dequeue_one(place, capacity)
 }
 
+#[unsafe(export_name = "net_base_3_split_ring_is_sound")]
+pub extern "C" fn net_base_split_ring_is_sound(known: SplitCounts, capacity: usize) -> bool {
+    heads::split_ring::net_base_split_ring_is_sound(known, capacity)
+}
+
+#[unsafe(export_name = "net_base_3_split_ring_free")]
+pub extern "C" fn net_base_split_ring_free(known: SplitCounts, capacity: usize, size: usize) -> SplitSpan {
+    heads::split_ring::net_base_split_ring_free(known, capacity, size)
+}
+
+#[unsafe(export_name = "net_base_3_split_ring_queued")]
+pub extern "C" fn net_base_split_ring_queued(known: SplitCounts, capacity: usize, size: usize) -> SplitSpan {
+    heads::split_ring::net_base_split_ring_queued(known, capacity, size)
+}
+
 #[unsafe(export_name = "net_base_3_packets_init")]
 pub extern "C" fn net_base_packets_init(packets: Option<&mut PacketsHead>) {
     let Some(packets) = packets else { return };

@@ -1,8 +1,7 @@
 //! A ring in a `static`, which an interrupt fills and a main loop empties: here a thread is the interrupt.
 //!
 //! The two take turns: whoever has the lock has the whole ring. (A firmware has `critical_section::Mutex<RefCell<..>>`
-//! here.) A queue of which one side writes while the other reads, without a lock, is another type: crates `heapless` and
-//! `bbqueue` have one.
+//! here.) A ring of which one side writes while the other reads, without a lock, is the example `split_ring`.
 use std::sync::Mutex;
 use std::thread;
 

@@ -50,7 +50,8 @@ fn main() {
     let file: Vec<u8> = (0..200_000).map(|_| random.rand_u32() as u8).collect();
     let mut path = Path { random, count: 0, datagrams: BTreeMap::new() };
     let mut sending = SendingEnd::<8>::new_at(vec![0; CAPACITY], 0, Duration::from_secs(1), BOUNDS);
-    sending.open(Announcement { seq: 0, ack: 0, window: CAPACITY as u64 }, SIZE, true);
+    let it = Announcement { seq: 0, ack: 0, window: CAPACITY as u64 };
+    sending.open(it, SIZE, true, Instant::ZERO);
     // How many positions may be in flight.
     let mut window = 10 * SIZE as u64;
     let mut receiver = FiniteReceiver::<8>::empty_at(vec![0; CAPACITY], 0);
@@ -64,8 +65,8 @@ fn main() {
             window = (window / 2).max(2 * SIZE as u64);
         }
         while let Some(it) = sending.next_segment(window, now) {
-            let bytes = [it.parts.0, it.parts.1].concat();
-            path.send(now, Datagram::Text(it.pos, bytes, it.is_last));
+            let (front, back, is_last) = sending.bytes(it.pos, it.end);
+            path.send(now, Datagram::Text(it.pos, [front, back].concat(), is_last));
         }
         // The next thing that happens: a datagram arrives, or the timer expires.
         let arrival = path.datagrams.first_key_value().map(|(&(at, _), _)| at);

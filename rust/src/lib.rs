@@ -92,6 +92,7 @@ pub mod exports {
         FiniteReceiverHead, FiniteSenderHead, HeldRun, ReceiverHead, ScoreboardHead, SenderHead,
     };
     pub use proved::net_ring::{RingHead, Span};
+    pub use proved::net_split_ring::{SplitCounts, SplitSpan};
     pub use proved::net_tcp::{AdvertisedWindow, Announcement, PartsSum, PeerWindow, Segment};
 }
 

@@ -32,6 +32,7 @@ fn whatever_arrives() {
             Announcement { seq: 0, ack: first, window },
             any(rand, [0, 1, 5, 1_000]) as usize,
             any(rand, [0, 1]) == 1,
+            Instant::ZERO,
         );
         let mut edge = first.saturating_add(window);
         let (mut written, mut closed, mut now) = (first, false, Instant::ZERO);
@@ -96,14 +97,16 @@ fn whatever_arrives() {
                     let window = any(rand, [0, 1, 30, u64::MAX]);
                     let una = end.numbers().first_unacknowledged;
                     while let Some(it) = end.next_segment(window, now) {
-                        let bytes = [it.parts.0, it.parts.1].concat();
-                        let after = it.pos + bytes.len() as u64 + u64::from(it.is_last);
+                        let (front, back, is_last) = end.bytes(it.pos, it.end);
+                        let bytes = [front, back].concat();
+                        let after = it.pos + bytes.len() as u64 + u64::from(is_last);
+                        assert_eq!(after, it.end);
                         assert!(it.pos < after && after <= written + u64::from(closed));
                         assert!(bytes
                             .iter()
                             .zip(0..)
                             .all(|(found, at)| *found == byte(it.pos + at)));
-                        assert_eq!(it.is_last, closed && after == written + 1);
+                        assert_eq!(is_last, closed && after == written + 1);
                         assert!(
                             after <= edge || (it.pos, after) == (una, una + 1),
                             "beyond the edge"
@@ -121,7 +124,7 @@ fn whatever_arrives() {
 #[test]
 fn a_forged_acknowledgement_stops_no_timer() {
     let mut end = SendingEnd::<4>::new_at(vec![0; 20], 0, SECOND, TimeoutBounds::default());
-    end.open(Announcement { seq: 0, ack: 0, window: 100 }, 10, true);
+    end.open(Announcement { seq: 0, ack: 0, window: 100 }, 10, true, Instant::ZERO);
     assert_eq!(end.write(&[7; 10]), 10);
     assert!(end.next_segment(100, Instant::ZERO).is_some());
     let at = end.expires_at();
@@ -135,12 +138,15 @@ fn a_forged_acknowledgement_stops_no_timer() {
 #[test]
 fn what_is_sent_after_a_pause_is_probed() {
     let mut end = SendingEnd::<4>::new_at(vec![0; 20], 0, SECOND, TimeoutBounds::default());
-    end.open(Announcement { seq: 0, ack: 0, window: 100 }, 10, true);
+    end.open(Announcement { seq: 0, ack: 0, window: 100 }, 10, true, Instant::ZERO);
     assert_eq!(end.write(&[7; 10]), 10);
     assert!(end.next_segment(100, Instant::ZERO).is_some());
     let it = Announcement { seq: 1, ack: 10, window: 100 };
     let taken = end.acknowledged(it, &[], true, Instant::from_millis(10));
-    assert_eq!((taken, end.expires_at()), (Acknowledged::Taken { new: 10, begins: false }, None));
+    assert_eq!(
+        (taken, end.expires_at()),
+        (Acknowledged::Taken { new: 10, reports: false, begins: false }, None)
+    );
     assert_eq!(end.write(&[7; 10]), 10);
     let now = Instant::from_millis(5_000);
     assert!(end.next_segment(100, now).is_some() && end.next_segment(100, now).is_none());
@@ -166,7 +172,7 @@ fn what_is_sent_after_a_pause_is_probed() {
 #[test]
 fn a_peer_without_blocks_is_not_probed() {
     let mut end = SendingEnd::<4>::new_at(vec![0; 30], 0, SECOND, TimeoutBounds::default());
-    end.open(Announcement { seq: 0, ack: 0, window: 100 }, 10, false);
+    end.open(Announcement { seq: 0, ack: 0, window: 100 }, 10, false, Instant::ZERO);
     assert_eq!(end.write(&[7; 30]), 30);
     let mut now = Instant::ZERO;
     for _segment in 0..3 {
@@ -176,7 +182,7 @@ fn a_peer_without_blocks_is_not_probed() {
     let it = Announcement { seq: 1, ack: 10, window: 100 };
     assert_eq!(
         end.acknowledged(it, &[], true, now),
-        Acknowledged::Taken { new: 10, begins: false }
+        Acknowledged::Taken { new: 10, reports: false, begins: false }
     );
     for (timeouts, millis) in [(1, 1_010), (2, 3_010), (3, 7_010)] {
         now = Instant::from_millis(millis);
@@ -197,7 +203,7 @@ fn sent(end: &mut SendingEnd<'_, 4>) -> Vec<(u64, bool)> {
 /// Six segments of 10 bytes are sent, from position 10 on.
 fn six_segments(reports: bool) -> SendingEnd<'static, 4> {
     let mut end = SendingEnd::<4>::new_at(vec![0; 60], 10, SECOND, TimeoutBounds::default());
-    end.open(Announcement { seq: 0, ack: 10, window: 100 }, 10, reports);
+    end.open(Announcement { seq: 0, ack: 10, window: 100 }, 10, reports, Instant::ZERO);
     assert_eq!(end.write(&[7; 60]), 60);
     assert_eq!(sent(&mut end), [10, 20, 30, 40, 50, 60].map(|pos| (pos, false)));
     end
@@ -214,12 +220,18 @@ fn the_third_equal_acknowledgement_and_a_partial_one() {
     let mut end = six_segments(false);
     for begins in [false, false, true] {
         assert_eq!(sent(&mut end), []);
-        assert_eq!(hear(&mut end, 10, &[]), Acknowledged::Taken { new: 0, begins });
+        assert_eq!(hear(&mut end, 10, &[]), Acknowledged::Taken { new: 0, reports: false, begins });
     }
     assert_eq!(sent(&mut end), [(10, true)]);
-    assert_eq!(hear(&mut end, 30, &[]), Acknowledged::Taken { new: 20, begins: false });
+    assert_eq!(
+        hear(&mut end, 30, &[]),
+        Acknowledged::Taken { new: 20, reports: false, begins: false }
+    );
     assert_eq!((sent(&mut end), end.is_recovering()), (vec![(30, true)], true));
-    assert_eq!(hear(&mut end, 70, &[]), Acknowledged::Taken { new: 40, begins: false });
+    assert_eq!(
+        hear(&mut end, 70, &[]),
+        Acknowledged::Taken { new: 40, reports: false, begins: false }
+    );
     assert_eq!((sent(&mut end), end.is_recovering()), (vec![], false));
 }
 
@@ -228,10 +240,33 @@ fn the_third_equal_acknowledgement_and_a_partial_one() {
 #[test]
 fn reports_that_were_dropped() {
     let mut end = six_segments(true);
-    assert_eq!(hear(&mut end, 10, &[(30, 50)]), Acknowledged::Taken { new: 0, begins: false });
+    assert_eq!(
+        hear(&mut end, 10, &[(30, 50)]),
+        Acknowledged::Taken { new: 0, reports: true, begins: false }
+    );
     assert_eq!(sent(&mut end), []);
-    assert_eq!(hear(&mut end, 30, &[]), Acknowledged::Taken { new: 20, begins: true });
+    assert_eq!(
+        hear(&mut end, 30, &[]),
+        Acknowledged::Taken { new: 20, reports: false, begins: true }
+    );
     assert_eq!(sent(&mut end), [(30, true), (40, true)]);
+}
+
+/// What is in flight when a peer is forgotten, and when another one answers, has a timer that runs.
+#[test]
+fn a_timer_runs_for_what_is_in_flight() {
+    let mut end = six_segments(true);
+    let mut now = Instant::from_millis(500);
+    end.forget(now);
+    assert_eq!(end.expires_at(), Some(now + SECOND));
+    now += SECOND;
+    end.open(Announcement { seq: 9, ack: 10, window: 100 }, 10, true, now);
+    assert_eq!(end.expires_at(), Some(now + SECOND));
+    assert_eq!((end.expired(now + SECOND), sent(&mut end)[0]), (Expired::Lost, (10, true)));
+    assert!(matches!(hear(&mut end, 70, &[]), Acknowledged::Taken { new: 60, .. }));
+    assert_eq!(end.expires_at(), None);
+    end.forget(now);
+    assert_eq!(end.expires_at(), None);
 }
 
 /// A peer fills the window and sends its end: what is announced is 0, and nothing panics. After the end no update is sent.
@@ -243,7 +278,8 @@ fn a_full_window_and_an_end() {
     assert!(end.is_due() && end.is_wanted());
     let it = end.acknowledgement();
     assert_eq!((it.next, it.window, end.announce()), (4, 0, (4, 0)));
-    assert_eq!((end.read(&mut [0; 3]), end.is_wanted()), (3, false));
+    assert_eq!(end.read_with(|bytes| (1, bytes.len())), (1, 3));
+    assert_eq!((end.read(&mut [0; 3]), end.is_wanted()), (2, false));
 }
 
 /// Both ends over a path that loses, doubles and reorders.
@@ -256,7 +292,7 @@ fn what_is_read_is_what_was_written() {
             SendingEnd::<4>::new_at(vec![0; 300], 9, SECOND, TimeoutBounds::default());
         let mut receiving = ReceivingEnd::<4>::empty_at(vec![0; 200], 9, 50);
         let window = u64::from(receiving.open(9, 0));
-        sending.open(Announcement { seq: 0, ack: 9, window }, 50, true);
+        sending.open(Announcement { seq: 0, ack: 9, window }, 50, true, Instant::ZERO);
         let (mut rest, mut read, mut now) = (&text[..], Vec::<u8>::new(), Instant::ZERO);
         let (mut there, mut back) = (vec![], vec![]);
         let mut steps = 0;
@@ -272,8 +308,9 @@ fn what_is_read_is_what_was_written() {
             }
             let _is_lost = sending.expired(now);
             while let Some(it) = sending.next_segment(400, now) {
+                let (front, back, is_last) = sending.bytes(it.pos, it.end);
                 for _copy in 0..any(rand, [0, 1, 1, 1, 1, 2]) {
-                    there.push((it.pos, [it.parts.0, it.parts.1].concat(), it.is_last));
+                    there.push((it.pos, [front, back].concat(), is_last));
                 }
             }
             if !there.is_empty() {
@@ -302,4 +339,32 @@ fn what_is_read_is_what_was_written() {
         }
         assert!(read == text);
     }
+}
+
+/// What came twice is the first block of the next acknowledgement, and of no other: below what is acknowledged, or within the
+/// second block.
+#[test]
+fn what_came_twice_is_reported_once() {
+    let mut end = ReceivingEnd::<4>::empty_at(vec![0; 40], 100, 8);
+    let blocks = |end: &mut ReceivingEnd<'_, 4>| {
+        end.acknowledgement().blocks.into_iter().flatten().collect::<Vec<_>>()
+    };
+    assert!(end.arrived(100, b"abcd", false).is_ok());
+    assert_eq!(blocks(&mut end), []);
+    // Some of it was kept; nothing of it was; no byte of it is in the stream.
+    assert!(end.arrived(102, b"cdef", false).is_ok());
+    assert_eq!((blocks(&mut end), blocks(&mut end)), (vec![(102, 104)], vec![]));
+    assert!(end.arrived(90, b"0123456789abcd", false).is_ok());
+    assert_eq!((blocks(&mut end), blocks(&mut end)), (vec![(100, 104)], vec![]));
+    assert!(end.arrived(90, b"0123", false).is_ok());
+    assert_eq!(blocks(&mut end), []);
+    // Beyond the first number that is missing.
+    assert!(end.arrived(110, b"klmn", false).is_ok());
+    assert_eq!(blocks(&mut end), [(110, 114)]);
+    assert!(end.arrived(108, b"ijk", false).is_ok());
+    assert_eq!(blocks(&mut end), [(110, 111), (108, 114)]);
+    assert_eq!(blocks(&mut end), [(108, 114)]);
+    // It is beyond an end in order: it wasn't of the stream.
+    assert!(end.arrived(110, b"k", false).is_ok() && end.arrived(106, b"", true).is_ok());
+    assert_eq!((blocks(&mut end), end.acknowledgement().next), (vec![], 107));
 }

@@ -138,7 +138,12 @@ impl Schedule {
         let mut receiving = ReceivingEnd::empty_at(vec![0; room], FIRST, size);
         let window = u64::from(receiving.open(FIRST, 0));
         let mut sending = SendingEnd::new_at(vec![0; 700], FIRST, Duration::from_secs(1), bounds);
-        sending.open(Announcement { seq: 0, ack: FIRST, window }, size.into(), reports);
+        sending.open(
+            Announcement { seq: 0, ack: FIRST, window },
+            size.into(),
+            reports,
+            Instant::ZERO,
+        );
         Schedule {
             sending,
             receiving,
@@ -176,16 +181,17 @@ impl Schedule {
         }
         let mut is_probe = expired == Expired::Probe;
         while let Some(it) = self.sending.next_segment(self.congestion, self.now) {
-            let bytes = [it.parts.0, it.parts.1].concat();
+            let (front, back, is_last) = self.sending.bytes(it.pos, it.end);
+            let bytes = [front, back].concat();
             let limit = it.pos + bytes.len() as u64;
             assert!((it.pos..).zip(&bytes).all(|(pos, found)| *found == byte(pos)));
-            assert!(!it.is_last || limit == END - 1);
+            assert!(!is_last || limit == END - 1);
             let is_again = (it.pos..limit).any(|pos| self.told.is_reported(pos));
             assert!(!is_again, "what was reported is sent again");
-            let end = limit + u64::from(it.is_last);
-            let is_probe = std::mem::take(&mut is_probe) && end == it.pos + 1;
-            assert!(is_probe || end <= self.told.edge, "beyond the peer's edge");
-            self.path.send(self.now, Datagram::Text(it.pos, bytes.len(), it.is_last));
+            assert_eq!(it.end, limit + u64::from(is_last));
+            let is_probe = std::mem::take(&mut is_probe) && it.end == it.pos + 1;
+            assert!(is_probe || it.end <= self.told.edge, "beyond the peer's edge");
+            self.path.send(self.now, Datagram::Text(it.pos, bytes.len(), is_last));
         }
     }
 

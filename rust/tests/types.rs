@@ -18,7 +18,7 @@ use net_base::rand::Rand;
 use net_base::receiver::{Kept, KeptBytes, Receiver, ReceiverOver};
 use net_base::scoreboard::{ReportError, Scoreboard};
 use net_base::sender::{Sender, SenderOver};
-use net_base::sequence_number::SequenceNumber;
+use net_base::sequence_number::{Numbering, SequenceNumber};
 use net_base::storage::fragment_table::AcceptError;
 use net_base::storage::{
     Assembler, Empty, FragmentBuffer, FragmentError, FragmentsOver, Full, PacketBuffer,
@@ -165,6 +165,8 @@ fn comparisons() {
     let kept = |start| Kept { kept: 1, queued: 2, sack: [Some((start, 9)), None, None] };
     all(kept(7), kept(8));
     all(SequenceNumber::new(3), SequenceNumber::new(4));
+    let numbering = |number| Numbering { first: SequenceNumber::new(number) };
+    all(numbering(3), numbering(4));
     let assembler = |at| {
         let mut assembler = Assembler::<2>::empty();
         assert_eq!(assembler.add(at, 1), Ok(()));

@@ -1,8 +1,6 @@
 """All that tools/erase.py knows by name: the modules that aren't erased, and what else Rust has in place of Rattle's text."""
-import re
-
 # The crates that are erased.
-CRATES = ['net_ring', 'net_packets', 'net_assembler', 'net_numbers', 'net_receiver', 'net_base', 'net_tcp', 'net_recovery', 'net_ffi']
+CRATES = ['net_ring', 'net_packets', 'net_assembler', 'net_split_ring', 'net_numbers', 'net_receiver', 'net_base', 'net_tcp', 'net_recovery', 'net_ends', 'net_ffi']
 
 # The program, erased into an example: its library, and the module of the core that only it has. In it these crates are modules
 # of the example's `rattle.rs`.
@@ -44,14 +42,6 @@ SOURCES = ''
 
 # The exports for C, which the shim of `c` calls: they are compiled with the feature `c` alone, and have no documentation.
 EXPORTS = 'net_ffi'
-
-# The macros that the text calls, and words before a negation, and those of the program; words of which Rust may say otherwise, or that are of a size, a
-# place or a width; operators, which are signs and no calls; and the one size that is read, which rustc compares with 0.
-MACROS = {'prove', 'write', 'matches', 'if', 'while', 'match', 'return', 'in', 'else'}, {'vec', 'write', 'writeln', 'if', 'while', 'match', 'return', 'in', 'else'}
-UNLIKE = {'macro_rules', 'size_of', 'size_of_val', 'align_of', 'align_of_val', 'type_name', 'type_name_of_val', 'TypeId',
-          'isize', 'BITS', 'Location'}
-OPERATORS = {f'{name}{end}' for name in 'Add Sub Mul Div Rem Shl Shr BitAnd BitOr BitXor'.split() for end in ('', 'Assign')} | {'Neg', 'Not'}
-NO_BYTES = re.compile(r'size_of::<\w+>\(\) == 0\);')
 
 RING, PACKETS, ASSEMBLER, PHY = 'net_ring/ring_buffer', 'net_packets/packet_buffer', 'net_assembler/assembler', 'net_base/phy'
 RECEIVER, FINITE, FRAGMENTS = 'net_receiver/receiver', 'net_receiver/finite_receiver', 'net_base/storage/fragments'

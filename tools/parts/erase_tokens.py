@@ -8,8 +8,7 @@ TOKEN = re.compile(r"""
 """, re.X | re.S)
 CLAUSE = re.compile(r'(?:requires|ensures\*?)(?:\s+[a-z_]\w*)?\s*(?=\{)')
 GHOST = re.compile(r'ghost\s+(?:use\b[^;]*|[A-Za-z_]\w*\s*)(?=[=:;])')      # `= {..};`, `: {..};`, `: {..} = {..};`
-# In logic ' is part of names. Texts and comments are refused, but for texts of letters, spaces and line feeds.
-LOGIC = re.compile(r'(?<!\')"(?:[a-z ]|\\n)*"(?!\')|[(\[{)\]}]|"|--|//|\'[(\[{)\]}]')
+BRACKET = re.compile(r'[(\[{)\]}]')
 OPEN, CLOSE, SPACE = '([{', ')]}', ('space', 'doc', 'note')
 
 
@@ -35,17 +34,10 @@ class Text:
 
     def logic(self, i):
         """The end of the bracket of logic that opens at i."""
-        opened = []
-        for m in LOGIC.finditer(self.text, i):
-            if m.group()[0] == m.group()[-1] == '"' != m.group():
-                continue
-            if m.group() not in OPEN + CLOSE or self.text.startswith('{-', m.start()):
-                self.refuse(m.start(), 'a text or a comment in logic')
-            if m.group() in OPEN:
-                opened.append(CLOSE[OPEN.index(m.group())])
-            elif opened.pop() != m.group():
-                self.refuse(m.start(), 'another bracket is open')
-            if not opened:
+        depth = 0
+        for m in BRACKET.finditer(self.text, i):
+            depth += 1 if m.group() in OPEN else -1
+            if not depth:
                 return m.end()
         self.refuse(i, 'a bracket of logic is not closed')
 

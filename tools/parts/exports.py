@@ -146,6 +146,15 @@ class C:
             sys.exit(f"exports.txt: {tree} is no {kind}")
         return fields
 
+    def numbers(self, path, kind, tree=None):
+        """The numbers of a struct and of those in it: where each is, its part of a value, and its type."""
+        parts = self.fields(tree, kind) and tree[1:] if tree else [None] * len(self.structs[kind].members)
+        for field, part in zip(self.structs[kind].members, parts):
+            if field.type in self.structs:
+                yield from self.numbers(f"{path}.{field.name}", field.type, part)
+            else:
+                yield f"{path}.{field.name}", part, field.type
+
     def compared(self, name, tree, kind):
         """Comparisons of what has a name with a value."""
         if tree in (ANY, *EMPTY):
@@ -205,7 +214,9 @@ class C:
         value = self.value(tree, kind)
         if member.type.startswith("&mut"):
             return [f"{ffi.c_type(kind)} {member.name} = {value};"], f"&{member.name}"
-        return [], f"&({ffi.c_type(kind)}){value}" if member.type.startswith("&") else value
+        if kind in self.structs:
+            value = f"({ffi.c_type(kind)}){value}"
+        return [], "&" * member.type.startswith("&") + value
 
     def row(self, row):
         """The lines of a row; one with a length of more than 32 bits is left out where a `size_t` has no more."""
@@ -231,8 +242,7 @@ class C:
             lines.append(f"{ffi.c_type(row.item.type)} refused = {call};")
             lines.append(f"CHECK({' && '.join(f'refused{field} == {value}' for field, value in refused)});")
         elif row.item.type in self.structs:
-            values = ", ".join(self.value(part, field.type) for field, part in
-                               zip(self.fields(row.result, row.item.type), row.result[1:]))
+            values = ", ".join(self.value(part, kind) for _, part, kind in self.numbers("it", row.item.type, row.result))
             lines.append(f"CHECK({is_name(row.item.type)}({call}, {values}));")
         elif row.item.type == "bool":
             lines.append(f"CHECK({'' if row.result == 'true' else '!'}{call});")
@@ -251,10 +261,10 @@ class C:
         lines += [f'_Static_assert({name} == {self.literal(it, "usize")}, "a number of net_base.h isn\'t that of the table");'
                   for name, it in named.items()]
         for name in sorted({item.type for item in self.table.exports.values()} & set(self.structs)):
-            members = self.structs[name].members
-            parameters = [f"{ffi.c_type(name)} it"] + [part for it in members for part in ffi.c_members(it)]
+            numbers = [(path, path.removeprefix("it.").replace(".", "_"), kind) for path, _, kind in self.numbers("it", name)]
+            parameters = [f"{ffi.c_type(name)} it", *[f"{ffi.c_type(kind)} {given}" for _, given, kind in numbers]]
             lines += [""] + ffi.filled(f"static bool {is_name(name)}(", parameters, ") {")
-            lines += [f"    return {' && '.join(f'it.{it.name} == {it.name}' for it in members)};", "}"]
+            lines += [f"    return {' && '.join(f'{path} == {given}' for path, given, _ in numbers)};", "}"]
         for name, rows in self.table.rows.items():
             lines += ["", f"static void check_{name.removeprefix('net_base_')}(void) {{"]
             lines += [line for row in rows for line in self.row(row)] + self.nulls(rows[0]) + ["}"]

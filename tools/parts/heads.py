@@ -24,6 +24,8 @@ TERM = r"(\([^()]*\)|\S+)"
 TESTS = [
     (rf"IsSound(?:Place)? {TERM} {TERM}", "{all}", "!{c1}.is_sound({c0})",
      "`{c1}` isn't that of a ring of `{c0}` elements", True),
+    (rf"AreCounts {TERM} {TERM}", "{all}", "!{c1}.is_sound({c0})",
+     "the counts of `{c1}` aren't those of a ring of `{c0}` elements", True),
     (rf"IsSoundHead {TERM} {TERM}", "{all}", "!{c1}.is_sound({c0})",
      "`{c1}` isn't that of a sender over `{c0}` bytes", True),
     (rf"IsSoundHead {TERM} {TERM} {TERM}", "{all}", "!{c2}.is_sound({c0}, {c1})",
@@ -67,6 +69,8 @@ TESTS = [
 # Clauses of what a call leaves, which hold too where nothing changes; the last where the call counts no bytes.
 STAY = {"canonical", "exact", "others", "sends"}
 NONE = "NET_BASE_NONE"
+# Heads that are passed by value: numbers that a program has just loaded.
+BY_VALUE = {"SplitCounts"}
 # In place of a head's type: functions of a crate, whose name is in place of the parameter.
 FREE = "-"
 
@@ -182,7 +186,8 @@ class Export:
         self.parameters, self.copied, given = [], [], of.parameters
         self.is_new = of.result == "Self"
         if head.type != FREE:
-            self.parameters = [(head.name, f"&{'mut ' * (self.is_new or given[0] == '&mut self')}{head.type}")]
+            lent = f"&{'mut ' * (self.is_new or given[0] == '&mut self')}" if head.type not in BY_VALUE else ""
+            self.parameters = [(head.name, f"{lent}{head.type}")]
             given = given[0 if self.is_new else 1 :]
         for it in given:
             name, kind = it.split(": ", 1)
@@ -211,7 +216,7 @@ class Export:
         for name in self.copied:
             clause = re.sub(rf"(?<![\w.]){name}\b", f"{name}.now", clause)
         clause = re.sub(r"\bself(?=\.(?:old|new|now)\b)", self.head.name, clause)
-        return re.sub(r"\bself\b", f"{self.head.name}.now", clause)
+        return re.sub(r"\bself\b", f"{self.head.name}{'.now' * (self.head.type not in BY_VALUE)}", clause)
 
     def take(self, clause):
         """The test of a clause that the method requires."""
@@ -242,6 +247,10 @@ class Export:
             name = word[4:]
             self.parameters.append((name, f"&mut {kind}"))
             self.result = Result("bool", f"*{name} = {{call}};\n    true", "false", "IsFalse result", "false", f"{name}.new")
+        elif word and word.startswith("stays "):
+            field = f"{self.head.name}.{word[6:]}"
+            self.result = Result(kind, "{call}", f"refused_{ffi.snake(kind)}({field})", f"(result.span ≡ nowhere) × (result.next ≡ {field})",
+                                 f"`from` is `{NONE}`, `count` and `contiguous` are 0, and `next` is `{field}`, which may be stored")
         elif word:
             struct, *fields = re.findall(r"\w+", word)
             made = ", ".join(["status: NET_BASE_DONE", *fields])
@@ -503,10 +512,10 @@ def file_of(head, exports):
 
 
 CODE = {name: module for module, names in {
-    "crate::refusals": "NET_BASE_ACKNOWLEDGEMENT_ONLY NET_BASE_ANSWER NET_BASE_IGNORE NET_BASE_RESET NET_BASE_TAKE NET_BASE_DONE NET_BASE_REFUSED ArrivalStatus FragmentStatus RoomStatus SizeStatus no_number refused_front_length refused_hole refused_run refused_segment_span refused_span",
+    "crate::refusals": "NET_BASE_ACKNOWLEDGEMENT_ONLY NET_BASE_ANSWER NET_BASE_IGNORE NET_BASE_RESET NET_BASE_TAKE NET_BASE_DONE NET_BASE_REFUSED ArrivalStatus FragmentStatus RoomStatus SizeStatus no_number refused_front_length refused_hole refused_run refused_segment_span refused_span refused_split_span",
     "crate::results": "FrontLength Hole SegmentSpan front_length number_of run_of segment_span status_of status_of_fragment status_of_report",
     "crate::receiver": "has_next has_runs", "crate::finite_receiver": "has_number",
-    "net_assembler": "AssemblerHead Run", "net_ring": "RingHead Span", "net_base::storage": "FragmentsHead",
+    "net_assembler": "AssemblerHead Run", "net_ring": "RingHead Span", "net_split_ring": "SplitCounts SplitSpan", "net_base::storage": "FragmentsHead",
     "net_packets": "PacketSlot PacketsHead", "net_receiver": "FiniteReceiverHead FiniteSenderHead HeldRun ReceiverHead ReportError ScoreboardHead SenderHead",
     "net_numbers": "SentNumbers", "net_tcp": "AdvertisedWindow Announcement PartsSum PeerWindow Segment",
 }.items() for name in names.split()}

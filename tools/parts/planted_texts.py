@@ -2,7 +2,7 @@
 what finds the difference: `eraser`, `rustc`, `same`, `std`, `widths`; or `runs`, if it does what was proved."""
 
 TEXTS = [
-    ('a1_size', 'a1_size() == 12', 'eraser', r"""
+    ('a1_size', 'a1_size() == 12', 'same', r"""
 /// A layout.
 #[derive(Drop)]
 pub struct Laid {
@@ -18,7 +18,7 @@ pub fn a1_size() -> usize
     size_of::<Laid>()
 }
 """),
-    ('a2_niche', 'a2_niche()', 'eraser', r"""
+    ('a2_niche', 'a2_niche()', 'same', r"""
 /// F.
 pub fn a2_niche() -> bool
     ensures { IsTrue result }
@@ -26,7 +26,7 @@ pub fn a2_niche() -> bool
     size_of::<Option<bool>>() == 2
 }
 """),
-    ('a9_drop', 'a9_drop() == 7', 'eraser', r"""
+    ('a9_drop', 'a9_drop() == 7', 'same', r"""
 /// A guard.
 pub struct Guard<'a>(&'a mut u64);
 
@@ -50,7 +50,7 @@ pub fn a9_drop() -> u64
     x
 }
 """),
-    ('a12_quote', 'a12_quote(5) == 6', 'eraser', r"""
+    ('a12_quote', 'a12_quote(5) == 6', 'runs', r"""
 /// F.
 pub fn a12_quote(n: u64) -> u64
     requires { n < 1000 }
@@ -79,7 +79,7 @@ pub fn a15_range_path() -> usize
     r.end
 }
 """),
-    ('w1_word', 'w1_word() == 8', 'eraser', r"""
+    ('w1_word', 'w1_word() == 8', 'same', r"""
 /// F.
 pub fn w1_word() -> usize
     ensures { result ≡ 8 }
@@ -87,7 +87,7 @@ pub fn w1_word() -> usize
     size_of::<usize>()
 }
 """),
-    ('w2_reference', 'w2_reference() == 16', 'eraser', r"""
+    ('w2_reference', 'w2_reference() == 16', 'same', r"""
 /// F.
 pub fn w2_reference() -> usize
     ensures { result ≡ 16 }
@@ -95,7 +95,7 @@ pub fn w2_reference() -> usize
     size_of::<&[u8]>()
 }
 """),
-    ('w3_path', 'w3_path(2147483648) == 4294967296', 'eraser', r"""
+    ('w3_path', 'w3_path(2147483648) == 4294967296', 'same', r"""
 use std::ops::{Add, Mul};
 
 /// F.
@@ -105,7 +105,7 @@ pub fn w3_path(a: usize) -> usize
     Mul::mul(a.min(2147483648), 2)
 }
 """),
-    ('w4_signed', 'w4_signed() == 9223372036854775807', 'eraser', r"""
+    ('w4_signed', 'w4_signed() == 9223372036854775807', 'same', r"""
 /// F.
 pub fn w4_signed() -> usize
     ensures { result ≡ 9223372036854775807 }
@@ -113,7 +113,7 @@ pub fn w4_signed() -> usize
     isize::MAX.unsigned_abs()
 }
 """),
-    ('a16_root', 'a16_root() == 9', 'eraser', r"""
+    ('a16_root', 'a16_root() == 9', 'same', r"""
 use crate as root;
 
 /// F.
@@ -123,7 +123,17 @@ pub fn a16_root() -> usize
     root::config::ASSEMBLER_MAX_SEGMENT_COUNT
 }
 """),
-    ('a20_module', 'a20_module() == 19', 'eraser', r"""
+    ('glob_import', 'glob_import() == 9', 'eraser', r"""
+use crate::config::*;
+
+/// F.
+pub fn glob_import() -> usize
+    ensures { result ≡ 9 }
+{
+    ASSEMBLER_MAX_SEGMENT_COUNT
+}
+"""),
+    ('a20_module', 'a20_module() == 19', 'same', r"""
 /// F.
 pub fn a20_module() -> usize
     ensures { result ≡ 19 }
@@ -131,7 +141,7 @@ pub fn a20_module() -> usize
     module_path!().len()
 }
 """),
-    ('a21_text', 'a21_text() == 3', 'eraser', r"""
+    ('a21_text', 'a21_text() == 3', 'same', r"""
 /// F.
 pub fn a21_text() -> usize
     ensures { result ≡ 3 }
@@ -139,7 +149,7 @@ pub fn a21_text() -> usize
     stringify!(a+b).len()
 }
 """),
-    ('a18_clone', 'a18_clone(Ok(Err(Failed))) == Ok(true)', 'eraser', r"""
+    ('a18_clone', 'a18_clone(Ok(Err(Failed))) == Ok(true)', 'same', r"""
 use std::alloc::AllocError;
 
 /// Failed.
@@ -160,7 +170,7 @@ pub fn a18_clone(r: Result<Result<u8, Failed>, Failed>) -> Result<bool, Failed>
     Ok(x.is_ok())
 }
 """),
-    ('a27_quote', 'a27_quote(5) == 6', 'eraser', r"""
+    ('a27_quote', 'a27_quote(5) == 6', 'runs', r"""
 /// F.
 pub fn a27_quote(n: u64) -> u64
     requires { n < 1000 }
@@ -181,7 +191,7 @@ pub fn a27_quote(n: u64) -> u64
     m
 }
 """),
-    ('a92_passed', 'a92_passed() == 9', 'eraser', r"""
+    ('a92_passed', 'a92_passed() == 9', 'same', r"""
 macro_rules! of {
     ($($p:tt)*) => {
         $($p)*::config::ASSEMBLER_MAX_SEGMENT_COUNT
@@ -195,7 +205,7 @@ pub fn a92_passed() -> usize
     of!(crate)
 }
 """),
-    ('w5_named', 'w5_named(5) == 4294967300', 'eraser', r"""
+    ('w5_named', 'w5_named(5) == 4294967300', 'same', r"""
 use std::ops::{Add, AddAssign, Mul};
 
 /// F.
@@ -216,7 +226,7 @@ pub fn w6_saturating(a: usize) -> usize
     f(4294967295, 2) + 2
 }
 """),
-    ('w7_bits', 'w7_bits() == 64', 'eraser', r"""
+    ('w7_bits', 'w7_bits() == 64', 'same', r"""
 /// F.
 pub fn w7_bits() -> u32
     ensures { result ≡ 64 }
@@ -224,7 +234,7 @@ pub fn w7_bits() -> u32
     isize::BITS
 }
 """),
-    ('a12b_pick', 'a12b_pick() == 1', 'eraser', r"""
+    ('a12b_pick', 'a12b_pick() == 1', 'same', r"""
 /// Shows.
 pub trait Shows: Copy {
     fn show(&self) -> u64
@@ -754,6 +764,192 @@ pub fn moved_copy() -> u64
     let b = a;
     a[0] = 7;
     b[0]
+}
+"""),
+    ('guard_of_alternatives', 'guard_of_alternatives() == 5', 'runs', r"""
+/// F.
+pub fn guard_of_alternatives() -> u64
+    ensures { result ≡ 5 }
+{
+    let pair = (Some(1u64), Some(5u64));
+    match pair {
+        (Some(x), _) | (_, Some(x)) if x > 3 => x,
+        _ => 0,
+    }
+}
+"""),
+    ('rest_first', 'rest_first() == 4', 'runs', r"""
+/// F.
+pub fn rest_first() -> u64
+    ensures { result ≡ 4 }
+{
+    let mut x = 1u64;
+    x += {
+        x = 2;
+        2
+    };
+    x
+}
+"""),
+    ('derived_lower', '!derived_lower(Order::First, Order::Last)', 'runs', r"""
+/// Order.
+#[derive(Clone, Copy, PartialEq, PartialOrd)]
+pub enum Order {
+    First = 5,
+    Last = 1,
+}
+
+/// F.
+pub fn derived_lower(a: Order, b: Order) -> bool {
+    a < b
+}
+"""),
+    ('generic_sum', 'generic_sum(4294967295) == 4294967296', 'widths', r"""
+use std::ops::Add;
+
+fn twice<T: Add<T, Output = T>>(a: T, b: T) -> T
+    requires { T.can_add a b }
+{
+    a + b
+}
+
+/// F.
+pub fn generic_sum(a: usize) -> usize
+    requires { a < 4294967296 }
+{
+    twice(a, 1)
+}
+"""),
+    ('generic_fit', 'generic_fit(5000000000)', 'widths', r"""
+fn made<T: TryFrom<u64>>(n: u64) -> Result<T, T::Error> {
+    T::try_from(n)
+}
+
+/// F.
+pub fn generic_fit(n: u64) -> bool {
+    match made::<usize>(n) {
+        Ok(_n) => true,
+        Err(_e) => false,
+    }
+}
+"""),
+    ('own_model', 'own_model() == 1', 'rustc', r"""
+/// Model.
+pub trait Model {
+    fn told(&self) -> u64;
+}
+
+/// It.
+#[derive(Clone, Copy)]
+pub struct It;
+
+impl Model for It {
+    fn told(&self) -> u64
+        ensures { result ≡ 1 }
+    {
+        1
+    }
+}
+
+impl<T> Model for &T {
+    fn told(&self) -> u64
+        ensures { result ≡ 2 }
+    {
+        2
+    }
+}
+
+/// F.
+pub fn own_model() -> u64
+    ensures { result ≡ 1 }
+{
+    It.told()
+}
+"""),
+    ('raw_text', 'raw_text() == 17', 'eraser', r"""
+/// F.
+pub fn raw_text() -> usize
+{
+    r##"ensures { "# "##.len() + /* } /* { */ */ "-- }".len()
+}
+"""),
+    ('literal_given', 'literal_given() == 1131', 'runs', r"""
+/// Kinds.
+pub trait Kind: Copy {
+    fn kind(self) -> u64;
+}
+
+impl Kind for i32 {
+    fn kind(self) -> u64
+        ensures { result ≡ 1 }
+    {
+        1
+    }
+}
+
+impl Kind for u64 {
+    fn kind(self) -> u64
+        ensures { result ≡ 2 }
+    {
+        2
+    }
+}
+
+impl Kind for u8 {
+    fn kind(self) -> u64
+        ensures { result ≡ 3 }
+    {
+        3
+    }
+}
+
+fn kind_of<T: Kind>(t: T) -> u64 {
+    t.kind() % 10
+}
+
+/// F.
+pub fn literal_given() -> u64 {
+    let x = 7;
+    (kind_of(5) % 10) * 1000 + (kind_of(1 << 3u8) % 10) * 100 + (kind_of(5 + 3u8) % 10) * 10 + kind_of(x) % 10
+}
+"""),
+    ('macro_statement', 'macro_statement() == 1', 'same', r"""
+/// Nothing.
+#[derive(Clone, Copy)]
+pub struct Nothing;
+
+/// Kinds.
+pub trait Kind {
+    fn kind() -> u64;
+}
+
+impl Kind for () {
+    fn kind() -> u64 {
+        1
+    }
+}
+
+impl Kind for Nothing {
+    fn kind() -> u64 {
+        2
+    }
+}
+
+fn kind_of<T: Kind + Drop>(_t: T) -> u64 {
+    T::kind()
+}
+
+macro_rules! nothing {
+    () => {};
+}
+
+macro_rules! block {
+    ($s:stmt) => {{ $s nothing! {} }};
+}
+
+/// F.
+pub fn macro_statement() -> u64 {
+    kind_of(block!(Nothing))
 }
 """),
 ]

@@ -6,7 +6,7 @@ import json
 import re
 
 import widths
-from parts.same_proved import PLAIN_EQ, WRAPPING, bits, tail
+from parts.same_proved import WRAPPING, bits, tail
 from parts.same_terms import FALSE, SIGNS, TRUE, UNIT, Side, Unknown, cast, discriminant, length, negated, operation, pointer, sliced, take
 from std_calls import called, without
 
@@ -44,15 +44,20 @@ def split(text):
 class Compiled:
     """Rustc's program."""
 
-    def __init__(self, root, mir):
-        self.root, self.files, self.places = root, {}, collections.defaultdict(set)
-        self.functions, self.constants, self.traits, self.derived, self.promoted, self.twice = {}, {}, {}, set(), {}, set()
+    def __init__(self, root, mir, folder='src/proved', library=None):
+        """The crate's folder, its MIR, and where the erased text is in it; of an example its library, too."""
+        self.root, self.folder, self.files, self.places = root, f'{folder}/', {}, collections.defaultdict(set)
+        self.library = {} if library is None else library.short()
+        mir = mir if library is None else re.sub(r'(?<![\w:])std::', 'core::', mir)
+        self.functions, self.constants, self.traits, self.derived, self.promoted, self.twice, self.fields, self.closures = {}, {}, {}, set(), {}, set(), {'String': ['Vec<u8>']}, {}
         self.enums = {name: list(names) for name, names in VARIANTS.items()}
-        for file in (root / 'src/proved').rglob('*.rs'):
-            module = '::'.join(part for part in file.relative_to(root / 'src/proved').with_suffix('').parts if part != 'mod')
+        for file in (root / folder).rglob('*.rs'):
+            module = '::'.join(part for part in file.relative_to(root / folder).with_suffix('').parts if part != 'mod')
             code = re.sub(r'//[^\n]*', '', file.read_text())
             for name in re.findall(r'\b(?:struct|enum) (\w+)', code):
                 self.places[name].add(module)
+            for name, body in re.findall(r'\bstruct (\w+)[^{;(]*\{([^}]*)\}', code):
+                self.fields[name] = re.findall(r'^ *(?:pub(?:\([^)]*\))? )?\w+: (.*?),?$', re.sub(r'#\[[^\]]*\]', '', body), re.M)
             for name, body in re.findall(r'\benum (\w+)[^{;]*\{((?:[^{}]|\{[^{}]*\})*)\}', code):
                 body = re.sub(r'\([^()]*(?:\([^()]*\)[^()]*)*\)|\{[^{}]*\}|<[^<>]*>', '', re.sub(r'#\[[^\]]*\]', '', body))
                 self.enums[name] = re.findall(r'(?:^|,)\s*([A-Z]\w*)', body)
@@ -68,15 +73,23 @@ class Compiled:
             if path and inner:
                 self.promoted.setdefault((path, inner[2]), item)
             elif path and 'promoted[' not in head:
+                self.closures |= {place: path for place in re.findall(r'#\d+\}\(_1: (?:&|&mut )?(\{closure@[^}]*\})', head)}
                 kept = self.functions if name[1] == 'fn ' else self.constants
                 self.twice |= {path} if path in self.functions and kept[path].split('\n', 1)[0] != head else set()
                 kept.setdefault(path, item)
+
+    def short(self):
+        """The functions by the last two words of their names, where these tell them apart."""
+        found = collections.defaultdict(set)
+        for path in self.functions:
+            found['::'.join(path.split('::')[-2:])].add(path)
+        return {short: next(iter(paths)) for short, paths in found.items() if len(paths) == 1}
 
     def path(self, text):
         """A function's path in the prover's words."""
         impl = re.search(r'<impl at ([^:]*):(\d+):(\d+): (\d+):(\d+)>', text)
         if impl:
-            if not impl[1].startswith('src/proved/'):
+            if not impl[1].startswith(self.folder):
                 return None
             name, kind, trait = self.impl(impl[1], *map(int, impl.groups()[1:]))
             text = text.replace(impl[0], name)
@@ -127,14 +140,17 @@ class Compiled:
             if tail(trait) in ('Index', 'IndexMut') and re.match(r'core::ops::Index(?:Mut)?<core::ops::Range\w*<', trait) and \
                     re.match(r'\[|core::vec::Vec<', kind):
                 return 'slice of a range'
-            if tail(trait) == 'Iterator' and method != 'next' and 'proved::' not in without(kind):
+            if tail(trait) == 'Iterator' and method != 'next' and f'{self.kind(kind)}:Iterator.{method}' not in self.traits.values():
                 return f'Iterator.{method}'
             return f'{self.kind(kind)}:{tail(trait)}.{method}'
         of_type = re.match(r'(?:core|std|alloc)::(?:\w+::)*<impl (.*?)>::(\w+)', path)
         if of_type:
             return f'{self.kind(of_type[1])}.{of_type[2]}'
+        if impl := re.match(r'net_base::[\w:]*<impl net_base::(?:\w+::)*(\w+)<', path):
+            path = f'net_base::{impl[1]}{path[closing(path, impl.end()) + 2:]}'
         parts = without(path).split('::')
-        return '::'.join(parts[1:]) if parts[0] == 'proved' else '.'.join(parts[-2:])
+        of_library = self.library.get('::'.join(parts[-2:])) if parts[0] == 'net_base' else None
+        return of_library or '::'.join(parts[1:]) if of_library or parts[0] == 'proved' else '.'.join(parts[-2:])
 
     @staticmethod
     def kind(text):
@@ -158,7 +174,8 @@ class CompiledSide(Side):
     def __init__(self, program, item, name):
         self.program, self.path, self.nodes, block = program, name, {}, None
         head, *lines = item.split('\n')
-        parameters = re.findall(r'[(,] ?_(\d+): ([^,]*)', head)
+        begin = head.find('(_1: ') + 1
+        parameters = [re.match(r'_(\d+): (.*)', one).groups() for one in split(head[begin:closing(head, begin)])] if begin else []
         self.types = dict(parameters) | dict(re.findall(r'let (?:mut )?_(\d+): (.*?);\s+//', item))
         self.parameters = len(dict(parameters))
         for line in lines:
@@ -287,17 +304,17 @@ class CompiledSide(Side):
         if value[0] in '([':
             return ('agg', None, *(self.value(state, one) for one in split(value[1:-1])))
         head, fields = called(value), re.match(r'(\{closure@[^}]*\}|[\w:<].*?)(?: \{ (.*) \})?$', value)
+        closure = []
         if fields and fields[1][0] == '{':
-            if f'{self.path}::{{closure#1}}' in self.program.functions:
-                raise Unknown('closures')
-            head, variant = '', None
+            head, variant, closure = '', None, [('closure', self.program.closures[fields[1]])]
         elif fields:
             head = fields[1] if fields[2] else head
             variant = self.program.variant_of(without(head).split('::'))
         else:
             raise Unknown(f'value {value[:60]}')
         parts = [one.split(': ', 1)[1] for one in split(fields[2])] if fields[2] else split(value[len(head) + 1:-1]) if head and head != value else []
-        return ('agg', variant, *(self.value(state, one) for one in parts))
+        values = [self.value(state, one) for one in parts]
+        return ('agg', variant, *(values if not closure else [one for one in values if one != UNIT]), *closure)
 
     @staticmethod
     def count(text):
@@ -320,10 +337,13 @@ class CompiledSide(Side):
                 other = ends.pop('otherwise', None)
                 other = None if other is not None and self.nodes[other[0]][:1] == ['unreachable'] else other
                 return ('branch', self.value(state, value), {int(number): end for number, end in ends.items()}, other)
-            jump = re.match(r'goto -> bb(\d+)|(?:drop|assert)\(.*\[(?:return|success): bb(\d+)|falseEdge.*real: bb(\d+)|falseUnwind -> \[real: bb(\d+)', step)
+            drop = re.match(r'drop\((.*)\) -> \[return: bb(\d+)', step)
+            jump = drop or re.match(r'(goto) -> bb(\d+)|(assert)\(.*\[success: bb(\d+)|(falseEdge).*real: bb(\d+)|(falseUnwind) -> \[real: bb(\d+)', step)
             call = re.match(r'(.*?) = (.*\)) -> (?:\[return: bb(\d+)|unwind|bb\d).*$', step)
+            if drop:
+                self.drop_parts(state, self.read(state, self.at_place(state, drop[1])), self.kind_of(drop[1]) or '')
             if jump:
-                node = (int(jump[1] or jump[2] or jump[3] or jump[4]), 0)
+                node = (int(next(number for number in jump.groups()[1::2] if number)), 0)
             elif call:
                 after = (int(call[3]), 0) if call[3] else None
                 event = self.call(state, call[1], call[2], after)
@@ -343,6 +363,24 @@ class CompiledSide(Side):
                     return (*store, node)
         raise Unknown('runs without an event')
 
+    def drop_parts(self, state, value, kind):
+        """Notes a drop, of a struct by its fields, and of an enum with the variants that have something to drop."""
+        if 'io::Error' in kind:                    # a value of the kit's has nothing to drop
+            return
+        fields = split(kind[1:-1]) if kind[:1] == '(' else self.program.fields.get(tail(without(kind)), ())
+        if kept := [(k, field) for k, field in enumerate(fields) if self.has_drop(field)]:
+            for k, field in kept:
+                self.drop_parts(state, take(value, ('f', k)), field)
+        else:
+            of = re.match(r'core::(?:option::(Option)|result::Result)<', kind)
+            parts = [''] * bool(of and of[1]) + (split(kind[of.end():-1]) if of else [])
+            self.dropped(state, value, ('kept', *(k for k, part in enumerate(parts) if self.has_drop(part))))
+
+    def has_drop(self, kind):
+        """Whether a value of a type has something to drop: of a type parameter, or memory."""
+        kind = re.sub(r"&(?:'\w+ )?(?:mut )?(?:\[.*?\]|[\w:]+)", '', kind)
+        return bool(re.search(r'\b(?:[A-Z]|Vec|String)\b', kind)) or any(map(self.has_drop, self.program.fields.get(tail(without(kind)), ())))
+
     def call(self, state, place, text, after):
         """The event of a call, or what it is without one, written."""
         head = called(re.sub(r'^(?:move |copy )', '', text))
@@ -352,9 +390,8 @@ class CompiledSide(Side):
             raise Unknown('a call of a value')
         if name.startswith(('panicking.', 'panic.')):
             return ('panic',)
-        is_text = re.match(r'(?:Arguments|Argument|Placeholder|UnsafeArg)\.', name)         # of a panic, or of what prints
-        arguments = [self.value(state, one) for one in words] if not is_text else []
-        made = self.pure(state, head, name, arguments, words) if not is_text else ('text',)
+        arguments = [self.value(state, one) for one in words]
+        made = self.pure(state, head, name, arguments, words)
         if made is None:
             return ('call', name, arguments, self.at_place(state, place), after)
         if made[0] == 'next':
@@ -386,15 +423,22 @@ class CompiledSide(Side):
             return self.part(head, *arguments)
         if wraps:
             return operation(wraps[3], *arguments, bits(wraps[2]))
+        if name == 'mem.drop':
+            self.drop_parts(state, arguments[0], self.kind_of(words[0]) or '')
         if name.startswith('Snapshot.') or name == 'mem.drop':
             return UNIT
-        if PLAIN_EQ.fullmatch(name):
-            return operation('==', *(self.target(state, one) for one in arguments))
-        if name == 'intrinsics.discriminant_value':
-            return discriminant(self.target(state, arguments[0]))
-        if name in ('slice.iter', 'slice.iter_mut'):
+        if name == 'Argument.new_display':         # a reference's text is that of what it refers to
+            shown, kind = arguments[0], self.kind_of(words[0]) or ''
+            while kind.startswith('&&'):
+                shown, kind = self.target(state, shown), kind[1:]
+            return shown
+        if name in ('Arguments.new_v1', 'Arguments.new_const'):                      # what is written, in turn
+            texts, given = [*(self.target(state, one)[2:] for one in arguments), ()][:2]
+            both = [one for k, text in enumerate(texts) for one in (text, *given[k:k + 1])]
+            return ('agg', None, ('agg', None, *(one for one in both if one[-1] != FALSE)))
+        if name in ('slice.iter', 'slice.iter_mut', 'slice:IntoIterator.into_iter'):
             return ('agg', None, ('iter', arguments[0]), FALSE)
-        if name.endswith(':IntoIterator.into_iter') and (kind in ('Range', 'Iter', 'IterMut') or f'{kind}:Iterator.next' in self.program.traits.values()):
+        if name.endswith(':IntoIterator.into_iter') and (kind in ('Range', 'Iter', 'IterMut', 'Zip') or f'{kind}:Iterator.next' in self.program.traits.values()):
             return arguments[0]
         if name != 'Range:Iterator.next' and not (kind in ('Iter', 'IterMut') and name.endswith('Iterator.next') and '<core::slice::' in head):
             return None

@@ -4,17 +4,21 @@ import json
 import re
 
 from parts import erase_list as given
-from parts.same_terms import FALSE, SIGNS, TRUE, UNIT, Side, Unknown, cast, discriminant, negated, operation, pointer, sliced
+from parts.same_terms import FALSE, SIGNS, TRUE, UNIT, Side, Unknown, cast, discriminant, negated, operation, pointer, sliced, take
 
 # The name of an impl of std's: a type's, and a trait's.
 IMPL = re.compile(r'(?:RefMut|Ref)?([A-Z]\w*?)(TryFrom|Try|FromResidual|PartialEq|PartialOrd|Ord|Hash|IndexMut|Index|From|Clone|Default|'
                   r'Iterator|IntoIterator)(?:[A-Z]\w*)?')
-PLAIN_EQ = re.compile(r'(?:bool|char|[iu](?:8|16|32|64|size)):PartialEq\.eq')
 WRAPPING = re.compile(r'([iu])(8|16|32|64|128|size)\.(wrapping_(?:add|sub|mul))(?:_unsigned)?')
 
 
 def tail(path):
     return path.split('<')[0].split('::')[-1]
+
+
+def is_own(name):
+    """Whether a name is of a crate that is erased."""
+    return name.split('::')[0] in (*given.CRATES, *given.PROGRAM)
 
 
 def bits(number):
@@ -67,9 +71,9 @@ class Proved:
             order = self.order.get(bound['of'], [])
             return f'?:{tail(bound["of"])}.{order[number] if number < len(order) else number}'
         name = head['Fn'][0].replace('fn::', '')
-        if tail(name) == 'clone' and name.split('::')[0] not in given.CRATES:
+        if tail(name) == 'clone' and not is_own(name):
             return f'{name}, which can be refused'
-        if name in self.impls or name.split('::')[0] in given.CRATES:
+        if name in self.impls or is_own(name):
             return self.impls.get(name, name)
         *_, owner, method = name.split('::')
         impl = IMPL.fullmatch(owner)
@@ -108,9 +112,13 @@ class ProvedSide(Side):
         if tag == 'Seq':
             return self.link(parts[0], self.link(parts[1], after, exits), exits)
         if tag in ('If', 'Switch'):
-            kept = [self.drops(arm) for arm in parts]
-            if None not in kept and any('drop' in arm for arm in kept):             # drops of a part that may be there
-                return self.node('forget', [local for arm in kept for local in arm if local != 'drop'], after)
+            kept, of = [self.drops(arm) for arm in parts], rest[0].get('Copy') if tag == 'Switch' and isinstance(rest[0], dict) else None
+            if None not in kept and of and any('of a part' in arm for arm in kept):                # drops of each part that may be there
+                whole, words = {**of, 'steps': of['steps'][:-2]}, [word for arm in kept for word in arm]
+                parts_dropped = [word for word in words if isinstance(word, tuple)]
+                variants = self.shape(self.place(whole)[1]).get('Variants', ()) if self.place(of)[0][-1:] == ['discr'] else ()
+                if len(parts_dropped) == len({*parts_dropped}) == sum(self.needs_drop(part) for variant in variants for part in variant):
+                    return self.node('forget', [word for word in words if isinstance(word, int)], whole, after)
             return self.node(tag, rest, [self.link(arm, after, exits) for arm in parts])
         if tag == 'Block':
             return self.link(parts[0], after, (after, *exits))
@@ -118,11 +126,6 @@ class ProvedSide(Side):
             head = self.node('goto', None)
             self.nodes[head] = ('goto', self.link(parts[0], head, (head, *exits)))
             return head
-        if tag == 'Call' and rest[0].get('Fn', [''])[0] == 'core::cmp::Ordering::and_eq':             # equal parts, in turn
-            head, (before, *both), place = rest
-            of = head['Fn'][1]['dicts'][0]
-            equal = {'Fn': [f'{of["Impl"][0]}::eq', {}]} if 'Impl' in of else {'Method': [of, 0, {}]}
-            return self.node('If', before, [self.node('Call', [equal, both, place], after), self.node('Assign', [place, {'Opd': 'False'}], after)])
         if tag in ('Skip', 'Exit'):
             return after if tag == 'Skip' else exits[rest]
         return self.node('return') if tag == 'Return' else self.node(tag, rest, after)
@@ -134,7 +137,7 @@ class ProvedSide(Side):
             both = [self.drops(one) for one in parts]
             return None if None in both else both[0] + both[1]
         if tag == 'Call' and self.program.is_trivial(self.program.callee(rest[0], self.function)):
-            return [rest[2]['local'], 'drop']
+            return [rest[2]['local'], 'of a part', *(('part', json.dumps(one)) for one in rest[1] if self.needs_drop(self.kind_of(one)))]
         is_plain = tag == 'Assign' and 'Opd' in rest[1] and not rest[0]['steps']
         return [] if tag == 'Skip' else [rest[0]['local']] if is_plain else None
 
@@ -219,6 +222,30 @@ class ProvedSide(Side):
             total, most = -(-total // align) * align + size, max(most, align)
         return -(-total // most) * most, most
 
+    def needs_drop(self, kind):
+        """Whether a value of a type has something to drop: of a type parameter, or memory."""
+        if not isinstance(kind, dict) or 'Ref' in kind or 'Int' in kind:
+            return False
+        if 'Struct' in kind:
+            return any(map(self.needs_drop, kind['Struct'][1]))
+        if 'Named' not in kind:
+            return True
+        shape = self.shape(kind)
+        return any(map(self.needs_drop, [*shape.get('Fields', ()), *(part for parts in shape.get('Variants', ()) for part in parts)]))
+
+    def drop(self, state, place):
+        """Notes a drop of what is in a place, by its fields."""
+        self.drop_parts(state, self.read(state, self.at_place(state, place)), self.place(place)[1])
+
+    def drop_parts(self, state, value, kind):
+        shape = self.shape(kind) if self.of(kind, 'Named') else {}
+        if 'Fields' in shape and (is_own(kind['Named'][0]['name']) or kind['Named'][0]['name'] == '(,)'):
+            for k, field in enumerate(shape['Fields']):
+                self.drop_parts(state, take(value, ('f', k)), field)
+        elif self.needs_drop(kind):
+            kept = tuple(k for k, parts in enumerate(shape.get('Variants', ())) if any(map(self.needs_drop, parts)))
+            self.dropped(state, value, ('kept', *kept))
+
     def compute(self, state, place, value):
         (tag, rest), = value.items()
         kind = self.place(place)[1]
@@ -243,7 +270,10 @@ class ProvedSide(Side):
             parts = [self.value(state, one) for one in rest]
             if self.of(kind, 'Struct') and kind['Struct'][0] == '&[]':
                 return sliced(*parts)
-            return ('agg', parts[0][1], *parts[1:]) if self.of(kind, 'Named') and 'Variants' in self.shape(kind) else ('agg', None, *parts)
+            name = kind['Named'][0]['name'] if self.of(kind, 'Named') else ''
+            if name.endswith('+Self'):
+                return ('agg', None, *(one for one in parts if one != UNIT), ('closure', name.removesuffix('+Self').replace('fn::', '')))
+            return ('agg', parts[0][1], *parts[1:]) if name and 'Variants' in self.shape(kind) else ('agg', None, *parts)
         if tag == 'Repeat':
             return ('repeat', self.value(state, rest[0]), self.number(rest[1]))
         raise Unknown(f'value {str(value)[:60]}')
@@ -254,8 +284,10 @@ class ProvedSide(Side):
             index = by[2] if by[3][0] in ('int', 'size') else by[3] if by[2][0] in ('int', 'size') else None
         elif by == ('size',) or by == ('int', 0):
             index = ('int', int(by == ('size',)))
+        elif by[0] == 'int':
+            index = ('int', by[1] // self.size(of)[0]) if by[1] % self.size(of)[0] == 0 else None
         else:
-            index = ('int', by[1] // self.size(of)[0]) if by[0] == 'int' else by if of == {'Int': 8} else None
+            index = by if of == {'Int': 8} else None
         if index is None:
             raise Unknown('offset')
         if base[0] == 'ref':
@@ -269,6 +301,7 @@ class ProvedSide(Side):
             rest, node = parts[0] if parts else None, parts[-1] if parts else None
             if kind == 'forget':
                 state.update({(self.word, local): ('forgotten',) for local in rest})
+                self.drop(state, parts[1])
             elif kind == 'return':
                 return ('return', state.get((self.word, 0), UNIT))
             elif kind == 'Unreachable':
@@ -299,8 +332,10 @@ class ProvedSide(Side):
         if name in ('assertions.unreachable', 'assertions.panic', 'panicking.panic'):
             return ('panic',)
         if name == 'literal.laid_out':
-            raise Unknown('prints')
+            raise Unknown('a width')
         if self.program.is_trivial(name):
+            for one in operands if not name.startswith('Snapshot.') else []:
+                self.drop(state, one['Copy']) if 'Copy' in one else None
             if not place['steps']:
                 state[self.word, place['local']] = UNIT
             return None
@@ -311,8 +346,6 @@ class ProvedSide(Side):
             made = operation(wraps[3], *arguments, bits(wraps[2]))
         elif name in ('slice.iter', 'slice.iter_mut'):
             made = ('agg', None, ('iter', arguments[0]), FALSE)
-        elif PLAIN_EQ.fullmatch(name):
-            made = operation('==', *(self.target(state, one) for one in arguments))
         if made:
             store = self.write(state, self.at_place(state, place), made)
             return (*store, after) if store else None

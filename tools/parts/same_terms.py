@@ -189,6 +189,10 @@ class Side:
             return ('constant', at[1])
         raise Unknown('the address of a value')
 
+    def dropped(self, state, *values):
+        """Notes that a value is dropped, and what else is said of it."""
+        state[self.word, 'drops'] = (*state.get((self.word, 'drops'), UNIT), ('agg', None, *values))
+
     def write(self, state, at, value):
         """Writes, and gives the store if it is one to memory."""
         if at[0] == 'local':

@@ -1,6 +1,6 @@
 """Writes for C one long sequence of calls of all exports, the same on every processor.
 
-Each call gets sensible arguments mostly, and now and then nonsense. `sequence.c` prints a digest of all that the calls
+Each call gets sensible arguments mostly, and now and then nonsense; a head that is passed by value is drawn. `sequence.c` prints a digest of all that the calls
 returned and left in memory. With -DSTACK it prints instead how many bytes of stack each export takes, as painted: what a
 call leaves changed below its caller's frame, more than an empty function with the same parameters does (`empty.c`).
 
@@ -291,7 +291,7 @@ class Call:
         self.memory, self.index, self.item = memory, index, item
         self.subject = max((it for it in memory.subjects if item.name.startswith(f"net_base_{it}_")), key=len)
         self.before, self.arguments, self.statics, self.given, self.lengths = [], [], [], {}, []
-        self.pointers = {}
+        self.pointers, self.values = {}, []
         for member in item.members:
             count = len(self.arguments)
             self.add(member)
@@ -315,6 +315,9 @@ class Call:
             self.arguments.append(self.pointer(member, inner[1], f"&now.{variable}"))
         elif kind in ffi.C_TYPES:
             self.arguments.append(self.drawn(ffi.C_TYPES[kind], member.name, self.number(member.name, kind)))
+        elif kind in self.memory.library.structs:
+            self.values.append(self.memory.name(self.subject, member.name, kind))
+            self.arguments.append(f"now.{self.values[-1]}")
         else:
             raise SystemExit(f"sequence: {self.item.name}: no argument of type {kind}")
 
@@ -424,6 +427,7 @@ class Call:
         sound = " && ".join(test for test, _ in tests) if tests and self.item.requires else "true"
         drawn = [line for _, own, _ in self.pointers.values() if (name := re.sub(r"^&?now\.", "", own)) not in self.memory.written
                  for line in self.memory.each(name, spoiled)]
+        drawn += [line for name in self.values for line in self.memory.each(name, spoiled)]
         prepare = [*["if (below(4) == 0) {" if drawn else "", *["    " + line for line in drawn], "}" if drawn else ""],
                    *choose, *self.before, *([f"if (!({sound})) {{", *["    " + it for it in own], "}"] if sound != "true" and own else [])]
         # What isn't sound is refused, unless the caller owes that it is.

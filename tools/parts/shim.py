@@ -41,7 +41,7 @@ def function(item, library, where):
             parameters.append(f"{name}: Option<{kind[: -len(bare)]}{where.get(bare, bare)}>")
             lines.append(f"    let Some({name}) = {name} else {{ {give} }};")
         else:
-            parameters.append(f"{name}: {kind}")
+            parameters.append(f"{name}: {where.get(kind, kind)}")
     result = f" -> {where.get(item.type, item.type)}" if item.type else ""
     return ["", f'#[unsafe(export_name = "{ffi.link_name(item, ffi.interface())}")]',
             f'pub {"unsafe " * is_unsafe}extern "C" fn {item.name}({", ".join(parameters)}){result} {{', *lines,

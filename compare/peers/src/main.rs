@@ -183,6 +183,7 @@ fn matrix(word: &str) {
     let (mib, most) = (send(1 << 20), 20);
     let hidden = |path| Path { without_blocks: true, ..path };
     let requests = |thinks| Traffic::Requests { count: 50, thinks };
+    let hundred = Traffic::Requests { count: 100, thinks: 0 };
     let slow = Traffic::Send { bytes: 400_000, chunk: 2_000, rest: 5_000 };
     let (stop, stops) = stopped();
     println!(
@@ -209,6 +210,7 @@ fn matrix(word: &str) {
         ("20 % delayed, no blocks", hidden(path(0, 2_000, 0, 1_000)), mib),
         ("20 % doubled", path(0, 0, 2_000, 1_000), mib),
         ("a slow reader", path(0, 0, 0, 1_000), slow),
+        ("100 answers at once, 10 % lost", path(1_000, 0, 0, 1_000), hundred),
         ("50 answers after 20 ms", path(0, 0, 0, 1_000), requests(20)),
         ("50 answers after 40 ms", path(0, 0, 0, 1_000), requests(40)),
         ("50 answers after 300 ms", path(0, 0, 0, 1_000), requests(300)),

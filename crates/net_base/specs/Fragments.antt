@@ -10,6 +10,7 @@
 --     IsBelow s n      a set has no position from n on
 --     Contradicts s total n      the packet can't have n bytes
 --     Meets s o n      a set has one of the n positions from o on
+--     HasRange s o n      it has all of them
 --     HasOther bytes offset data' p, Differs b offset data'      a fragment has another byte at p than some bytes; than
 --         one that arrived
 --     total_of h      the packet's size, once it is known
@@ -24,12 +25,13 @@
 --     key_for, buffer_for      its key and its buffer, begun for that packet if it wasn't
 --     refusal_of e, answer_of at s      a buffer's refusal and answer, as those of its table
 --     Accepts      what a slot's call of `accept` returns, and leaves
+--     is_overdue now key e      whether a slot is for a packet that was waited for up to e, which is before now
 --     ExpiresFirst expires xs at      where the first of those is that expire earliest
 --     is_in_writes p writes, newest_element writes p x      what the writes have at a position
 --     Reassembles writes buffer present      a buffer and a set of positions are what the writes make
 use Rattle.std.specs.Prelude.{◌≡◌, ◌≢◌, ◌+◌, ◌-◌, ◌<◌, ◌≤◌, ℕ, ℤ, List, Option, length, slice_index_or, unwrap_or}
 use Rattle.std.specs.Prelude.{◌⊎◌, IsTrue, IsFalse, Bool, if◌then◌else◌, refl, ◌&&◌, false, [], ◌∷◌, nat_eq}
-use Rattle.std.specs.Prelude.{nat_lt, nat_le, ◌↔◌, ◌<ℤ◌, ◌≤ℤ◌, is_none, Result, Ok, Err, OnOk, IsErr}
+use Rattle.std.specs.Prelude.{nat_lt, nat_le, ◌↔◌, not, int_lt, ◌<ℤ◌, ◌≤ℤ◌, is_none, Result, Ok, Err, OnOk, IsErr}
 use Rattle.std.specs.Coded.{Coded, code_by, coded×, coded_ℕ, coded_ℤ, coded_list, coded_option}
 use Rattle.std.specs.declared.option.Option.TheVariants.{Some, None}
 use Rattle.net_ring.specs.Overwrite.{overwrite}
@@ -127,6 +129,10 @@ pub record TakesSize {T : Type 0} (capacity : ℕ) (s : Positions) (total : Opti
 abbrev pub Meets : Positions → ℕ → ℕ → Type 0
 Meets s o n = (p : ℕ) × (o ≤ p) × (p < o + n) × IsTrue (contains s p)
 
+-- each of the n positions from o on is in the set
+abbrev pub HasRange : Positions → ℕ → ℕ → Type 0
+HasRange s o n = (p : ℕ) → o ≤ p → p < o + n → IsTrue (contains s p)
+
 -- a fragment has a byte at p, and not that of some bytes
 pub record HasOther (bytes : List ℕ) (offset : ℕ) (data' : List ℕ) (p : ℕ) : Type 0 where
   pub from : offset ≤ p
@@ -191,6 +197,10 @@ last_byte p d (f ∷ fs) = last_byte p (if covers p f then slice_index_or f.1 (p
 abbrev pub is_for : {K : Type 0} → (K → K → Bool) → K → Option K → Bool
 is_for eq key None = false
 is_for eq key (Some own) = eq own key
+
+-- whether a slot with this key, which expires after e, is for a packet that isn't waited for any more
+abbrev pub is_overdue : {K : Type 0} → ℤ → Option K → ℤ → Bool
+is_overdue now key e = not (is_none key) && int_lt e now
 
 -- none expires earlier than the one at an index, and each one before it later
 pub record ExpiresFirst {X : Type 0} (expires : X → ℤ) (xs : List X) (at : ℕ) : Type 0 where

@@ -1,5 +1,4 @@
-//! The tests of `net_tcp` and `net_ends`, with values from outside: the RFCs' examples, and numbers worked by hand.
+//! The tests of `net_tcp`, with values from outside: the RFCs' examples, and numbers worked by hand.
 
 mod receiving;
-mod sending_end;
 mod timeouts;

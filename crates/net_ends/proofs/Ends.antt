@@ -14,7 +14,7 @@ use Rattle.net_assembler.specs.Positions.{Positions}
 use Rattle.net_recovery.specs.declared.loss_recovery.LossRecovery.{LossRecovery}
 use Rattle.net_receiver.specs.FiniteSender.{FiniteSenderState, first_number, acknowledged_below, accepts, SenderCommand}
 use Rattle.net_receiver.specs.FiniteSender.{sender_after_commands, sender_after_command, numbers_end, IsSoundSent, Marks}
-use Rattle.net_ends.specs.Ends.{End, Event, Wrote, Shut, Heard, Looked, Sent, Rested, after_event, after_events}
+use Rattle.net_ends.specs.Ends.{End, Event, Opened, Forgot, Opening, Wrote, Shut, Heard, Looked, Sent, Rested, after_event, after_events}
 use Rattle.net_ends.specs.Ends.{commands, commands_of, Run, run, run_on, begun, IsAllowed, first, rest, IsUnacknowledged}
 use Rattle.net_ends.specs.Ends.{runs, sends_of, SentRange, end, may_send, limit}
 
@@ -25,10 +25,13 @@ appended s [] ds = refl
 appended s (c ∷ cs) ds = appended (sender_after_command s c) cs ds
 
 pub step_refines : (e : End) (v : Event) → (after_event e v).sender ≡ sender_after_commands e.sender (commands_of e v)
+step_refines e (Opened seq ack window size reports now) = search rules
+step_refines e (Forgot now) = search rules
+step_refines e (Opening now) = search rules
 step_refines e (Wrote xs) = search rules
 step_refines e Shut = search rules
 step_refines e (Heard s r says seq ack window now) = search rules
-step_refines e (Looked s r now) = search rules
+step_refines e (Looked r now) = search rules
 step_refines e (Sent r from to now) = search rules
 step_refines e (Rested now) = search rules
 
@@ -90,10 +93,13 @@ sent_runs e r from to now is = runs_by (may_send e from to) e
     (λ g some. sending_runs e.bounds from to (first e) e.sender.sent now e.timer (some_of e from to g)) is
 
 runs_on : (e : End) (v : Event) → Runs e → Runs (after_event e v)
+runs_on e (Opened seq ack window size reports now) is = search rules
+runs_on e (Forgot now) is = search rules
+runs_on e (Opening now) is = search rules
 runs_on e (Wrote xs) is = search rules
 runs_on e Shut is = search rules
 runs_on e (Heard s r says seq ack window now) is = search rules
-runs_on e (Looked s r now) is = search rules
+runs_on e (Looked r now) is = search rules
 runs_on e (Sent r from to now) is = sent_runs e r from to now is
 runs_on e (Rested now) is = search rules
 
@@ -110,10 +116,13 @@ pub record IsKept (u : Run) : Type 0 where
   pub allowed : All IsAllowed u.log
 
 keeps : (u : Run) (v : Event) → IsKept u → IsKept (run_on u v)
+keeps u (Opened seq ack window size reports now) is = record { told = search rules; allowed = is.allowed }
+keeps u (Forgot now) is = record { told = search rules; allowed = is.allowed }
+keeps u (Opening now) is = record { told = search rules; allowed = is.allowed }
 keeps u (Wrote xs) is = record { told = search rules; allowed = is.allowed }
 keeps u Shut is = record { told = search rules; allowed = is.allowed }
 keeps u (Heard s r says seq ack window now) is = record { told = search rules; allowed = is.allowed }
-keeps u (Looked s r now) is = record { told = search rules; allowed = is.allowed }
+keeps u (Looked r now) is = record { told = search rules; allowed = is.allowed }
 keeps u (Sent r from to now) is = record { told = search rules; allowed = search rules }
 keeps u (Rested now) is = record { told = search rules; allowed = is.allowed }
 

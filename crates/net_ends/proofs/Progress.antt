@@ -13,7 +13,7 @@ use Rattle.std.proofs.lemmas.List.Elements.{All-head, All-tail}
 use Rattle.std.proofs.lemmas.Bool.Decides.{nat_tests}
 use Rattle.net_receiver.specs.FiniteSender.{FiniteSenderState, first_number, numbers_end, acknowledged_below, accepts}
 use Rattle.net_receiver.specs.FiniteSender.{IsSoundSent, SenderCommand, Marks, sender_after_command, sender_after_commands}
-use Rattle.net_ends.specs.Ends.{End, Event, Wrote, Shut, Heard, Looked, Sent, Rested, after_event, after_events, rest}
+use Rattle.net_ends.specs.Ends.{End, Event, Opened, Forgot, Opening, Wrote, Shut, Heard, Looked, Sent, Rested, after_event, after_events, rest}
 use Rattle.net_ends.specs.Ends.{commands_of, may_send, is_news, news, IsNoWrite}
 use Rattle.net_ends.proofs.Ends.{step_refines, less}
 
@@ -69,11 +69,17 @@ sent_step false s to is = (omega arith, is)
 
 step : (e : End) (v : Event) → IsSoundSent e.sender → IsNoWrite v →
     (left (after_event e v).sender + from_bool (is_news e v) ≤ left e.sender) × IsSoundSent (after_event e v).sender
+step e (Opened seq ack window size reports now) is none = (omega arith, is)
+step e (Forgot now) is none = (omega arith, is)
+step e (Opening now) is none = (omega arith, is)
 step e (Wrote xs) is none = absurd none
 step e Shut is none = absurd none
-step e (Heard s r says seq ack window now) is none = heard_step (accepts e.sender ack) e.sender ack (accept_says e.sender ack) is
-step e (Looked s r now) is none = subst (λ t. (left t + 0 ≤ left e.sender) × IsSoundSent t)
-    (sym (step_refines e (Looked s r now))) (omega arith, is)
+step e (Heard s r says seq ack window now) is none =
+    subst (λ t. (left t + from_bool (is_news e (Heard s r says seq ack window now)) ≤ left e.sender) × IsSoundSent t)
+    (sym (step_refines e (Heard s r says seq ack window now)))
+    (heard_step (accepts e.sender ack) e.sender ack (accept_says e.sender ack) is)
+step e (Looked r now) is none = subst (λ t. (left t + 0 ≤ left e.sender) × IsSoundSent t)
+    (sym (step_refines e (Looked r now))) (omega arith, is)
 step e (Sent r from to now) is none = subst (λ t. (left t + 0 ≤ left e.sender) × IsSoundSent t)
     (sym (step_refines e (Sent r from to now))) (sent_step (may_send e from to) e.sender to is)
 step e (Rested now) is none = (omega arith, is)
@@ -122,11 +128,14 @@ shut_step s is = record {
 }
 
 sound_step : (e : End) (v : Event) → IsSoundSent e.sender → IsSoundSent (after_event e v).sender
+sound_step e (Opened seq ack window size reports now) is = is
+sound_step e (Forgot now) is = is
+sound_step e (Opening now) is = is
 sound_step e (Wrote xs) is =
     wrote_step (nat_eq e.sender.closed 0) e.sender (take (min (length xs) (finite_room e.sender)) xs) (open_says e.sender) is
 sound_step e Shut is = shut_step e.sender is
 sound_step e (Heard s r says seq ack window now) is = (step e (Heard s r says seq ack window now) is tt).1
-sound_step e (Looked s r now) is = (step e (Looked s r now) is tt).1
+sound_step e (Looked r now) is = (step e (Looked r now) is tt).1
 sound_step e (Sent r from to now) is = (step e (Sent r from to now) is tt).1
 sound_step e (Rested now) is = is
 

@@ -1,31 +1,36 @@
 -- The sending end of a connection: a sender, what was reported of it, its recovery, its timer, and the peer's window.
 --     End, new_end      the machine, and one to which nothing was written
 --     first e, end e      the first number that isn't acknowledged, and the one after the last
+--     renewed e reports now      the timer of one that begins with a peer, or without one
 --     is_acceptable e ack      whether a segment may acknowledge that (RFC 5961)
---     timer_after, peer_after, greatest_after      what an acknowledgement leaves
+--     timer_after, peer_after, greatest_after, heard      what an acknowledgement leaves
+--     kept s ack sent      what counts as reported then
 --     is_shut e, limit e      whether a probe may be sent; the end of what may be
 --     asks e      whether the next segment is a probe
+--     IsSegment s from to xs last      the bytes of a range
 --     Event, after_event, after_events      what happens to an end, and what that leaves
 --     commands      the sender's commands that they come to
 --     Run, run      an end, the greatest edge that the peer gave, and what was sent
-use Rattle.std.specs.Prelude.{◌≡◌, ℕ, ℤ, ◌+◌, ◌-◌, ◌<◌, ◌≤◌, ◌⊎◌, min, max, Option, Some, None, is_some}
-use Rattle.std.specs.Prelude.{Bool, true, false, not, ◌&&◌, nat_lt, nat_le, nat_eq, IsTrue, if◌then◌else◌, List, []}
-use Rattle.std.specs.Prelude.{◌∷◌, ◌++◌, All}
+use Rattle.std.specs.Prelude.{◌≡◌, ℕ, ℤ, ◌+◌, ◌-◌, ◌/◌, ◌<◌, ◌≤◌, ◌⊎◌, min, max, Option, Some, None, is_some}
+use Rattle.std.specs.Prelude.{Bool, true, false, not, ◌&&◌, nat_lt, nat_le, IsTrue, if◌then◌else◌, List, [], ◌||◌, ◌↔◌, take, drop, length}
+use Rattle.std.specs.Prelude.{◌∷◌, ◌++◌}
 use Rattle.std.specs.Coded.{Coded, coded_ℕ}
 use Rattle.std.specs.Int.{from_bool}
 use Rattle.std.specs.FinSet as set
 use Rattle.net_assembler.specs.Positions.{Positions, contains, with_range, nothing}
 use Rattle.net_recovery.specs.LossRecovery.{begun as begun_recovery, forgotten, new_recovery}
+use Rattle.net_tcp.specs.Estimate.{Estimate}
 use Rattle.net_tcp.specs.Retransmission.{after_acknowledged, with_sample, after_expiry, after_sending, started}
-use Rattle.net_tcp.specs.Retransmission.{after_report, has_expired, has_ended, expiry, new_timer}
-use Rattle.net_tcp.specs.Windows.{after_update, replaces}
+use Rattle.net_tcp.specs.Retransmission.{after_report, has_expired, has_ended, new_timer, stopped}
+use Rattle.net_tcp.specs.Windows.{after_update, replaces, window_from, no_window}
 use Rattle.net_tcp.specs.declared.peer_window.PeerWindow.{PeerWindow}
 use Rattle.net_tcp.specs.declared.retransmission.TimeoutBounds.{TimeoutBounds}
 use Rattle.net_tcp.specs.declared.retransmission_timer.TimedSegment.{TimedSegment}
 use Rattle.net_tcp.specs.declared.retransmission_timer.RetransmissionTimer.{RetransmissionTimer}
 use Rattle.net_recovery.specs.declared.loss_recovery.LossRecovery.{LossRecovery}
 use Rattle.net_ends.specs.declared.sending_end.Acknowledged.{Acknowledged}
-use Rattle.net_ends.specs.declared.sending_end.Acknowledged.TheVariants.{Refused, Old, New, Begins}
+use Rattle.net_ends.specs.declared.sending_end.Acknowledged.TheVariants.{Refused, Old, Taken}
+use Rattle.net_receiver.specs.SenderState.{end_of}
 use Rattle.net_receiver.specs.FiniteSender.{FiniteSenderState, first_number, numbers_end, accepts, SenderCommand}
 use Rattle.net_receiver.specs.FiniteSender.{Writes, Closes, Marks, Acknowledges, sender_after_command, fresh_finite_sender}
 
@@ -38,24 +43,30 @@ pub record End : Type 0 where
   pub reported : Positions
   pub recovery : LossRecovery
   pub timer : RetransmissionTimer
+  pub first_timeout : ℕ
   pub bounds : TimeoutBounds
   pub peer : PeerWindow
   pub greatest : ℕ
+  pub last : ℕ
   pub size : ℕ
+  pub is_open : Bool
   pub probes : Bool
   pub overdue : Bool
 
--- one to which nothing was written, over so many bytes of storage, and of a peer whose SYN announced a window
-abbrev pub new_end : ℕ → ℕ → ℕ → TimeoutBounds → PeerWindow → ℕ → ℕ → Bool → End
-new_end capacity first timeout bounds peer window size reports = record {
+-- one to which nothing was written, over so many bytes of storage, and that has no peer
+abbrev pub new_end : ℕ → ℕ → ℕ → TimeoutBounds → End
+new_end capacity first timeout bounds = record {
   sender = fresh_finite_sender capacity first;
   reported = with_range nothing 0 first;
-  recovery = record new_recovery { is_blind = not reports; unknown = 0 };
-  timer = new_timer timeout reports;
+  recovery = new_recovery;
+  timer = new_timer timeout false;
+  first_timeout = timeout;
   bounds = bounds;
-  peer = peer;
-  greatest = window;
-  size = size;
+  peer = no_window;
+  greatest = 0;
+  last = 0;
+  size = 1;
+  is_open = false;
   probes = false;
   overdue = false;
 }
@@ -66,17 +77,48 @@ first e = first_number e.sender
 abbrev pub end : End → ℕ
 end e = numbers_end e.sender
 
+-- ---- a peer
+-- the timer as it was at first, but that it runs if something is in flight
+abbrev pub renewed : End → Bool → ℤ → RetransmissionTimer
+renewed e reports now = if nat_lt (first e) e.sender.sent
+    then started now (new_timer e.first_timeout reports) else new_timer e.first_timeout reports
+
+-- what it knows of one whose SYN announced a window, and whether it reports blocks
+abbrev pub opened : End → ℕ → ℕ → ℕ → ℕ → Bool → ℤ → End
+opened e seq ack window size reports now = record e {
+  recovery = record e.recovery { is_blind = not reports; unknown = 0 };
+  timer = renewed e reports now;
+  peer = window_from seq ack window;
+  greatest = window;
+  last = window;
+  size = max size 1;
+  is_open = false;
+  probes = false;
+  overdue = false;
+}
+
 -- ---- an acknowledgement
 -- it isn't above what was sent, nor below the first unacknowledged number by more than the greatest window
 abbrev pub is_acceptable : End → ℕ → Bool
 is_acceptable e ack = nat_le (first e) (ack + e.greatest) && nat_le ack e.sender.sent
 
--- whether a block reports what wasn't known
+-- how many numbers it acknowledges that weren't acknowledged before, and whether a block reports what wasn't known
+abbrev pub new_of : Acknowledged → ℕ
+new_of (Taken new says begins) = new
+new_of Refused = 0
+new_of Old = 0
+
 abbrev pub reports_of : Acknowledged → Bool
-reports_of (New n says) = says
-reports_of (Begins n says) = says
+reports_of (Taken new says begins) = says
 reports_of Refused = false
 reports_of Old = false
+
+-- one that ends where something was reported says that the peer has dropped that: nothing counts as reported then
+abbrev pub has_dropped : Positions → ℕ → ℕ → Bool
+has_dropped s ack sent = nat_lt ack sent && contains s ack
+
+abbrev pub kept : Positions → ℕ → ℕ → Positions
+kept s ack sent = if has_dropped s ack sent then with_range nothing 0 ack else s
 
 abbrev pub told : Bool → ℤ → RetransmissionTimer → RetransmissionTimer
 told says now t = if says then after_report now t else t
@@ -85,13 +127,18 @@ abbrev pub is_in : Positions → Option TimedSegment → Bool
 is_in s None = false
 is_in s (Some t) = contains s t.pos
 
+-- the first one, if nothing is in flight, is that of the SYN: its timer stops
+abbrev pub synchronized : Bool → ℕ → ℕ → RetransmissionTimer → RetransmissionTimer
+synchronized is_open first sent t = if not is_open && nat_le sent first then stopped t else t
+
+abbrev pub sampled : Positions → TimeoutBounds → ℤ → RetransmissionTimer → RetransmissionTimer
+sampled s b now t = if is_in s t.timed then with_sample b now t else t
+
 -- a timed segment that is reported gives its sample; then the acknowledgement is the timer's, and then what a block says
 -- that is new
 abbrev pub timer_after : End → Positions → Bool → ℕ → ℤ → RetransmissionTimer
-timer_after e s says ack now = if accepts e.sender ack
-    then told says now (after_acknowledged e.bounds (first e) e.sender.sent ack now
-    (if is_in s e.timer.timed then with_sample e.bounds now e.timer else e.timer))
-    else e.timer
+timer_after e s says ack now = told says now (after_acknowledged e.bounds (first e) e.sender.sent ack now
+    (sampled s e.bounds now (synchronized e.is_open (first e) e.sender.sent e.timer)))
 
 -- the window is taken of what is acknowledged, and of nothing else
 abbrev pub peer_after : End → ℕ → ℕ → ℕ → PeerWindow
@@ -105,6 +152,24 @@ greatest_of w greatest first sent seq ack window =
 abbrev pub greatest_after : End → ℕ → ℕ → ℕ → ℕ
 greatest_after e seq ack window =
     greatest_of e.peer e.greatest (first e) e.sender.sent seq ack window
+
+-- one that is accepted, with what is reported then and the recovery that it leaves, and whether a block says what is new
+abbrev pub heard : End → Positions → LossRecovery → Bool → ℕ → ℕ → ℕ → ℤ → End
+heard e s r says seq ack window now = record e {
+  sender = sender_after_command e.sender (Acknowledges ack);
+  reported = s;
+  recovery = r;
+  timer = timer_after e s says ack now;
+  peer = peer_after e seq ack window;
+  greatest = greatest_after e seq ack window;
+  last = window;
+  is_open = true;
+}
+
+-- the smoothed time of a round trip
+abbrev pub round_trip : Option Estimate → Option ℕ
+round_trip None = None
+round_trip (Some e) = Some (e.srtt_8 / 8)
 
 -- ---- what is sent
 abbrev pub is_shut : End → Bool
@@ -121,18 +186,28 @@ limit e = if asks e then first e + 1 else min e.peer.edge (end e)
 abbrev pub may_send : End → ℕ → ℕ → Bool
 may_send e from to = nat_lt from to && nat_le to (limit e) && nat_le (first e) from
 
+-- the bytes from one position on, below another, and whether the stream ends after them, below that too
+pub record IsSegment (s : FiniteSenderState) (from to : ℕ) (xs : List ℕ) (last : Bool) : Type 0 where
+  pub bytes : s.sender.first_unacknowledged ≤ from →
+      xs ≡ take (min (to - from) (end_of s.sender - from)) (drop (from - s.sender.first_unacknowledged) s.sender.queue)
+  pub before : from < s.sender.first_unacknowledged → xs ≡ []
+  pub end : IsTrue last
+      ↔ ((s.closed ≡ 1) × (from + length xs ≡ end_of s.sender) × (from + length xs < to) × (s.finished ≡ 0))
+
 -- while something waits the timer runs
 abbrev pub waiting : End → ℤ → RetransmissionTimer
 waiting e now = if nat_lt (first e) (end e) then started now e.timer else e.timer
 
--- whether the timeout has passed
+-- whether the timeout has passed, or a probe is due: not to a peer that reports nothing
 abbrev pub has_timed_out : End → ℤ → Bool
 has_timed_out e now = has_ended e.timer now
 
--- all that was sent is lost, and what was reported counts no more if the peer has dropped it
+abbrev pub is_overdue : End → ℤ → Bool
+is_overdue e now = has_expired e.timer now && (has_ended e.timer now || not e.recovery.is_blind)
+
+-- all that was sent and isn't reported is lost
 abbrev pub all_lost : End → End
 all_lost e = record e {
-  reported = if contains e.reported (first e) then with_range nothing 0 (first e) else e.reported;
   recovery = begun_recovery (first e) e.sender.sent e.sender.sent (forgotten e.recovery);
   probes = is_shut e;
   overdue = false;
@@ -143,35 +218,35 @@ abbrev pub timed_out : End → ℤ → End
 timed_out e now = all_lost (record e { timer = after_expiry e.bounds now e.timer })
 
 -- ---- what happens
--- bytes are written, the stream is closed, an acknowledgement comes, from whomever, with what is reported then and the
--- recovery that it leaves, and whether a block says what is new; the timer is looked at; and a range is sent, with the recovery that it leaves, or none
+-- a SYN comes, or the peer is forgotten, a SYN may be due, bytes are written, the stream is closed, an acknowledgement comes, from whomever, with what is reported then, the
+-- recovery that it leaves, and whether a block says what is new; the timer is looked at; and a range is sent, with the
+-- recovery that it leaves, or none
 pub data Event : Type 0 where
+  Opened : ℕ → ℕ → ℕ → ℕ → Bool → ℤ → Event
+  Forgot : ℤ → Event
+  Opening : ℤ → Event
   Wrote : List ℕ → Event
   Shut : Event
   Heard : Positions → LossRecovery → Bool → ℕ → ℕ → ℕ → ℤ → Event
-  Looked : Positions → LossRecovery → ℤ → Event
+  Looked : LossRecovery → ℤ → Event
   Sent : LossRecovery → ℕ → ℕ → ℤ → Event
   Rested : ℤ → Event
 
 abbrev pub after_event : End → Event → End
+after_event e (Opened seq ack window size reports now) = opened e seq ack window size reports now
+after_event e (Forgot now) = record e { timer = renewed e false now; is_open = false }
+after_event e (Opening now) = record e { timer = started now (after_expiry e.bounds now e.timer) }
 after_event e (Wrote xs) = record e { sender = sender_after_command e.sender (Writes xs) }
 after_event e Shut = record e { sender = sender_after_command e.sender Closes }
-after_event e (Heard s r says seq ack window now) = record e {
-  sender = sender_after_command e.sender (Acknowledges ack);
-  reported = s;
-  recovery = r;
-  timer = timer_after e s says ack now;
-  peer = peer_after e seq ack window;
-  greatest = greatest_after e seq ack window;
-}
-after_event e (Looked s r now) =
+after_event e (Heard s r says seq ack window now) =
+    if accepts e.sender ack then heard e s r says seq ack window now else e
+after_event e (Looked r now) =
     if has_expired e.timer now
     then record e {
-      reported = s;
       recovery = r;
       timer = after_expiry e.bounds now e.timer;
       probes = is_shut e && has_ended e.timer now;
-      overdue = not (has_ended e.timer now) && not (is_shut e);
+      overdue = not (has_ended e.timer now) && not e.recovery.is_blind && not (is_shut e);
     } else e
 after_event e (Sent r from to now) =
     if may_send e from to
@@ -190,10 +265,13 @@ after_events e (v ∷ vs) = after_events (after_event e v) vs
 
 -- the sender's commands that they come to
 abbrev pub commands_of : End → Event → List SenderCommand
+commands_of e (Opened seq ack window size reports now) = []
+commands_of e (Forgot now) = []
+commands_of e (Opening now) = []
 commands_of e (Wrote xs) = Writes xs ∷ []
 commands_of e Shut = Closes ∷ []
 commands_of e (Heard s r says seq ack window now) = Acknowledges ack ∷ []
-commands_of e (Looked s r now) = []
+commands_of e (Looked r now) = []
 commands_of e (Sent r from to now) = if may_send e from to then Marks to ∷ [] else []
 commands_of e (Rested now) = []
 

@@ -1,7 +1,9 @@
-//! The two ends of a connection, each of them one machine: here the sending one.
+//! The two ends of a connection, each of them one machine.
 #![tactic(auto)]
 
 pub mod laws;
+pub mod receiving_end;
 pub mod sending_end;
 
-pub use sending_end::{Acknowledged, Expired, SendingEnd};
+pub use receiving_end::{Acknowledgement, ReceivingEnd, ReceivingEndOver};
+pub use sending_end::{Acknowledged, Expired, Outgoing, SendingEnd, SendingEndOver};

@@ -1,21 +1,21 @@
 //! What sends a stream that ends.
 ghost use Rattle.std.specs.Prelude.{◌≡◌, ◌↔◌, ◌-◌, ◌+◌, ◌<◌, ◌≤◌, ◌&&◌, ◌==◌, ℕ, Option, Some, IsTrue, IsFalse, min, max};
-ghost use Rattle.std.specs.Prelude.{IfSome, IfNone, not, nat_lt, true, false, if◌then◌else◌, length};
-ghost use Rattle.net_assembler.specs.Positions.{contains};
-ghost use Rattle.net_recovery.specs.LossRecovery.{begun, begins_at};
-ghost use Rattle.net_receiver.specs.FiniteSender.{sender_after_command, Writes, Closes, Marks, Acknowledges, accepts, IsLent};
+ghost use Rattle.std.specs.Prelude.{IfSome, IfNone, is_some, is_none, ◌||◌, ◌++◌, not, nat_lt, true, false, if◌then◌else◌, length};
+ghost use Rattle.net_assembler.specs.Positions.{contains, nothing, with_range};
+ghost use Rattle.net_recovery.specs.LossRecovery.{is_active};
+ghost use Rattle.net_receiver.specs.FiniteSender.{sender_after_command, Writes, Closes, Marks, Acknowledges, accepts, finite_room, first_number};
 ghost use Rattle.net_receiver.specs.Finite.{no_end};
-ghost use Rattle.net_ends.specs.Ends.{new_end, first, end, is_acceptable, greatest_of, is_shut, asks, is_in, told};
+ghost use Rattle.net_ends.specs.Ends.{new_end, first, end, is_acceptable, greatest_of, is_shut, asks, told};
 ghost use Rattle.net_ends.specs.Ends.{limit, may_send, waiting, after_event, Wrote, Shut, Heard, Looked, Sent, Rested};
-ghost use Rattle.net_ends.specs.Ends.{timed_out, all_lost, has_timed_out, reports_of};
+ghost use Rattle.net_ends.specs.Ends.{IsSegment, round_trip, Opened, Forgot, Opening, renewed, synchronized, sampled, timed_out, all_lost, has_timed_out, is_overdue, reports_of, new_of, kept, has_dropped};
 ghost use Rattle.net_tcp.specs.Retransmission.{has_expired, after_expiry, after_sending, with_sample, after_acknowledged, expires_at};
-ghost use Rattle.net_tcp.specs.Windows.{after_update, window_from};
+ghost use Rattle.net_tcp.specs.Windows.{after_update, acknowledgement_number};
 
 use net_base::time::{Duration, Instant};
 use net_numbers::SentNumbers;
 use net_receiver::{FiniteSenderOver, Scoreboard};
 use net_recovery::{Answer, LossRecovery, is_duplicate_block, is_equal_acknowledgement};
-use net_ring::Storage;
+use net_ring::{ManagedSlice, Storage};
 use net_tcp::{
     Announcement, Expiry, PeerWindow, RetransmissionTimer, TimeoutBounds, is_acknowledgement,
 };
@@ -24,47 +24,76 @@ use std::marker::Model;
 /// What an acknowledgement was.
 #[derive(Copy, Clone, Debug, PartialEq, Eq)]
 pub enum Acknowledged {
-    /// It may not be: nothing of its segment is to be taken, and it is answered (RFC 5961, section 5).
+    /// One that no peer sends: of what was never sent, or too far below what is acknowledged. Nothing of its segment is
+    /// to be taken, and it is answered (RFC 5961, section 5).
     Refused,
-    /// An old one: it says nothing, but the bytes of its segment may be new.
+    /// An old one. It says nothing, but the bytes of its segment may be new.
     Old,
-    /// So many numbers that weren't acknowledged before, and whether a block reports what wasn't known.
-    New(u64, bool),
-    /// The same, and a recovery begins: then halve the congestion window.
-    Begins(u64, bool),
+    /// It was taken.
+    Taken {
+        /// How many numbers it acknowledged that weren't before.
+        new: u64,
+        /// Whether a block of it reports what wasn't known.
+        reports: bool,
+        /// Whether it begins a recovery: then halve the congestion window.
+        begins: bool,
+    },
 }
 
 /// What the timer's end means.
 #[derive(Copy, Clone, Debug, PartialEq, Eq)]
 pub enum Expired {
-    /// It hasn't ended.
+    /// It hasn't ended, or a probe is due and the peer reports nothing, so that it couldn't answer.
     No,
-    /// No answer came: what is overdue is lost, and if nothing of it may be sent, the next segment is a probe.
-    Overdue,
-    /// The same, and a recovery begins: then halve the congestion window.
-    Begins,
+    /// No answer has come in time: what is overdue is lost, and if nothing of it may be sent, the next segment is a probe
+    /// for an answer.
+    Overdue {
+        /// Whether it begins a recovery: then halve the congestion window.
+        begins: bool,
+    },
     /// The peer's window is shut: the next segment is a probe of it.
     Probe,
-    /// All that was sent is lost.
+    /// All that was sent is lost: let one segment be in flight.
     Lost,
 }
 
-/// What sends a stream that ends: a sender, a scoreboard, a recovery, a timer and the peer's window.
-#[derive(Drop)]
-pub struct SendingEnd<S: Storage<u8>, const N: usize> {
-    sender: FiniteSenderOver<S>,
-    board: Scoreboard<N>,
-    recovery: LossRecovery,
-    timer: RetransmissionTimer,
-    bounds: TimeoutBounds,
-    peer: PeerWindow,
-    greatest: u64,
-    size: usize,
-    probes: bool,
-    overdue: bool,
+/// A segment to send now, whose bytes `SendingEnd::bytes` lends.
+#[derive(Copy, Clone, Debug, PartialEq, Eq)]
+pub struct Outgoing {
+    /// The position of its first byte, or of the end.
+    pub pos: u64,
+    /// The number after its last one, that of the end among them.
+    pub end: u64,
+    /// Whether some of it was sent before.
+    pub is_again: bool,
 }
 
-impl<S: Storage<u8>, const N: usize> Model for SendingEnd<S, N> {
+/// What sends a stream that ends, over storage that is lent or owned.
+pub type SendingEnd<'a, const N: usize> = SendingEndOver<ManagedSlice<'a, u8>, N>;
+
+/// A [`SendingEnd`] over any storage: a sender, a scoreboard, a recovery, a timer and the peer's window.
+#[derive(Drop)]
+pub struct SendingEndOver<S: Storage<u8>, const N: usize> {
+    sender: FiniteSenderOver<S>,
+    scoreboard: Scoreboard<N>,
+    recovery: LossRecovery,
+    timer: RetransmissionTimer,
+    first_timeout: Duration,
+    bounds: TimeoutBounds,
+    peer_window: PeerWindow,
+    // The greatest window that the peer ever announced, and the one that it announced last.
+    greatest_window: u64,
+    last_window: u64,
+    // The most bytes of a segment.
+    segment_size: usize,
+    // Whether the peer has acknowledged anything, if only the own SYN.
+    is_open: bool,
+    // Whether the next segment is a probe of a window that is shut, or one for an answer, if nothing else may be sent.
+    is_window_probe_due: bool,
+    is_overdue: bool,
+}
+
+impl<S: Storage<u8>, const N: usize> Model for SendingEndOver<S, N> {
     ghost use Rattle.std.specs.Coded.{codes};
     ghost use Rattle.net_ends.specs.Ends.{End, positions_code};
 
@@ -74,113 +103,198 @@ impl<S: Storage<u8>, const N: usize> Model for SendingEnd<S, N> {
 
     ghost view = { λ s. record {
       sender = s.sender;
-      reported = s.board;
+      reported = s.scoreboard;
       recovery = s.recovery;
       timer = s.timer;
+      first_timeout = s.first_timeout;
       bounds = s.bounds;
-      peer = s.peer;
-      greatest = s.greatest;
-      size = s.size;
-      probes = s.probes;
-      overdue = s.overdue;
+      peer = s.peer_window;
+      greatest = s.greatest_window;
+      last = s.last_window;
+      size = s.segment_size;
+      is_open = s.is_open;
+      probes = s.is_window_probe_due;
+      overdue = s.is_overdue;
     } };
 }
 
-impl<S: Storage<u8>, const N: usize> SendingEnd<S, N> {
-    /// Returns the end of a stream that begins at position `first`, to which nothing was written, of a peer whose SYN
-    /// announced this window. A segment has at most `segment_size` bytes, and the peer `reports` blocks (SACK) or doesn't.
-    /// `first_timeout` is that before any sample.
+impl<S: Storage<u8>, const N: usize> SendingEndOver<S, N> {
+    /// Returns the end of a stream that begins at position `first`, to which nothing was written. `first_timeout` is that
+    /// before any sample: 1 second for TCP (RFC 6298, 2.1).
+    ///
+    /// A program in which `N` is 0 does not compile.
     ///
     /// # Requires
     ///
-    /// `N` is at least 1, and `first` isn't `u64::MAX`: a number is left for the end.
-    pub fn over_at(
-        storage: S,
-        first: u64,
-        first_timeout: Duration,
-        bounds: TimeoutBounds,
-        it: Announcement,
-        segment_size: usize,
-        reports: bool,
-    ) -> Self
+    /// `first` is below `u64::MAX`: an end there would have no number after it.
+    #[must_use]
+    #[track_caller]
+    pub fn over_at(storage: S, first: u64, first_timeout: Duration, bounds: TimeoutBounds) -> Self
         requires runs { 1 ≤ N }
         requires end { first < no_end }
-        ensures { result ≡ new_end (length (S.elements storage)) first first_timeout bounds
-            (window_from it.seq it.ack it.window) it.window segment_size reports }
+        ensures { result ≡ new_end (length (S.elements storage)) first first_timeout bounds }
     {
-        let mut recovery = LossRecovery::new();
-        recovery.expect_reports(reports);
-        SendingEnd {
+        prove!(N >= 1, "N is at least 1");
+        prove!(first < u64::MAX, "no number is left for an end");
+        SendingEndOver {
             sender: FiniteSenderOver::over_at(storage, first),
-            board: Scoreboard::empty_at(first),
-            recovery,
-            timer: RetransmissionTimer::new(first_timeout, reports),
+            scoreboard: Scoreboard::empty_at(first),
+            recovery: LossRecovery::new(),
+            timer: RetransmissionTimer::new(first_timeout, false),
+            first_timeout,
             bounds,
-            peer: PeerWindow::of(it),
-            greatest: it.window,
-            size: segment_size,
-            probes: false,
-            overdue: false,
+            peer_window: PeerWindow::new(),
+            greatest_window: 0,
+            last_window: 0,
+            segment_size: 1,
+            is_open: false,
+            is_window_probe_due: false,
+            is_overdue: false,
         }
     }
 
-    /// Enqueues bytes, as many as there is room for.
+    /// Begins with a peer, whose SYN announced a window, how many bytes a segment may have, and whether it reports blocks
+    /// (SACK): one that doesn't couldn't answer a probe, and is sent none. What was written stays. It is done once, before
+    /// anything is sent; a second time begins with another peer, and the timer runs if something is in flight.
+    pub fn open(&mut self, it: Announcement, segment_size: usize, reports: bool, now: Instant)
+        ensures { self.new ≡ after_event self.old (Opened it.seq it.ack it.window segment_size reports now) }
+    {
+        self.recovery.expect_reports(reports);
+        self.renew(reports, now);
+        self.peer_window = PeerWindow::of(it);
+        self.greatest_window = it.window;
+        self.last_window = it.window;
+        self.segment_size = segment_size.max(1);
+        self.is_window_probe_due = false;
+        self.is_overdue = false;
+    }
+
+    /// Begins again without a peer: the timer stops, unless something is in flight. What was written stays.
+    pub fn forget(&mut self, now: Instant)
+        ensures { self.new ≡ after_event self.old (Forgot now) }
+    {
+        self.renew(false, now);
+    }
+
+    /// Begins with a timer that had no sample.
+    fn renew(&mut self, reports: bool, now: Instant)
+        ensures { self.new ≡ record self.old { timer = renewed self.old reports now; is_open = false } }
+    {
+        let numbers = self.numbers();
+        self.timer = RetransmissionTimer::new(self.first_timeout, reports);
+        if numbers.first_unacknowledged < numbers.sent {
+            self.timer.start(now);
+        }
+        self.is_open = false;
+    }
+
+    /// Returns whether a SYN is to be sent now, and starts the timer for the next one: until something is acknowledged.
+    pub fn is_opening_due(&mut self, now: Instant) -> bool
+        ensures value { result ≡ (has_expired self.old.timer now || is_none (expires_at self.old.timer)) }
+        ensures step { self.new ≡ after_event self.old (Opening now) }
+    {
+        let is_first = self.timer.expires_at().is_none();
+        let has_expired = self.timer.expire(self.bounds, now).is_some();
+        self.timer.start(now);
+        has_expired || is_first
+    }
+
+    /// Enqueues the first of these bytes, as many as there is room for, and returns how many.
+    #[must_use]
     pub fn write(&mut self, bytes: &[u8]) -> usize
-        ensures { self.new ≡ after_event self.old (Wrote bytes.now) }
+        ensures count { result ≡ min (length bytes.now) (finite_room self.old.sender) }
+        ensures step { self.new ≡ after_event self.old (Wrote bytes.now) }
     {
         self.sender.write(bytes)
     }
 
-    /// Ends the stream.
+    /// Ends the stream after what was written.
     pub fn close(&mut self)
         ensures { self.new ≡ after_event self.old Shut }
     {
         self.sender.close();
     }
 
-    /// Takes what a segment acknowledges and announces, and the blocks that it reports. It `is_bare` if it has no byte, no
-    /// FIN and no block, and announces the window that was announced before.
+    /// Takes what a segment acknowledges and announces, and the blocks that it reports. It `is_empty` if it has no byte
+    /// and no FIN. Whatever it says, the end stays sound.
     #[tactic(auto, using(crate::proofs::Steps::steps))]
     pub fn acknowledged(
         &mut self,
         it: Announcement,
         blocks: &[(u64, u64)],
-        is_bare: bool,
+        is_empty: bool,
         now: Instant,
     ) -> Acknowledged
         ensures refused { (result ≡ Acknowledged.Refused) ↔ IsFalse (is_acceptable self.old it.ack) }
         ensures old { (result ≡ Acknowledged.Old)
             ↔ (IsTrue (is_acceptable self.old it.ack) × IsFalse (accepts self.old.sender it.ack)) }
+        ensures new { IsTrue (accepts self.old.sender it.ack) → new_of result ≡ it.ack - first self.old }
         ensures step { self.new ≡ after_event self.old
             (Heard self.new.reported self.new.recovery (reports_of result) it.seq it.ack it.window now) }
+        ensures missing { IsTrue (accepts self.old.sender it.ack) → it.ack < self.old.sender.sent →
+            IsFalse (contains self.new.reported it.ack) }
         ensures unchanged { IsFalse (accepts self.old.sender it.ack) → self.new ≡ self.old }
     {
         let numbers = self.numbers();
         if !self.is_acceptable(it.ack) {
             return Acknowledged::Refused;
         }
-        let unsent = self.recovery.unsent(numbers, &self.board);
+        let unsent = self.recovery.unsent(numbers, &self.scoreboard);
         if !self.accept(it.ack) {
             return Acknowledged::Old;
         }
-        self.take_window(numbers, it);
-        let reports = self.hear(it.ack, blocks, numbers.sent, now);
-        let new = it.ack - numbers.first_unacknowledged;
+        let (reports, begins) = self.take(numbers, it, blocks, is_empty, unsent, now);
+        Acknowledged::Taken {
+            new: it.ack - numbers.first_unacknowledged,
+            reports,
+            begins,
+        }
+    }
+
+    /// Takes an acknowledgement that the sender has taken, and returns whether a block reports what wasn't known, and whether
+    /// a recovery begins.
+    #[tactic(auto, using(crate::proofs::Steps::steps))]
+    fn take(
+        &mut self,
+        numbers: SentNumbers,
+        it: Announcement,
+        blocks: &[(u64, u64)],
+        is_empty: bool,
+        unsent: u64,
+        now: Instant,
+    ) -> (bool, bool)
+        ensures state { self.new ≡ record self.old {
+          reported = self.new.reported;
+          recovery = self.new.recovery;
+          timer = told result.0 now (after_acknowledged self.old.bounds numbers.first_unacknowledged numbers.sent it.ack
+              now (sampled self.new.reported self.old.bounds now (synchronized self.old.is_open
+              numbers.first_unacknowledged numbers.sent self.old.timer)));
+          peer = after_update self.old.peer numbers.first_unacknowledged numbers.sent it.seq it.ack it.window;
+          greatest = greatest_of self.old.peer self.old.greatest numbers.first_unacknowledged numbers.sent
+              it.seq it.ack it.window;
+          last = it.window;
+          is_open = true;
+        } }
+        ensures missing { it.ack < numbers.sent → IsFalse (contains self.new.reported it.ack) }
+    {
+        let is_same = self.take_window(numbers, it);
+        let reports = self.report(it.ack, blocks, numbers.sent);
+        let is_bare = is_empty && !has_block(blocks);
         let answer = Answer {
             first: numbers.first_unacknowledged,
             unsent,
             reports,
-            is_equal: is_equal_acknowledgement(numbers, it.ack, is_bare, true),
+            is_equal: is_equal_acknowledgement(numbers, it.ack, is_bare, is_same),
         };
-        if self.conclude(numbers, it.ack, blocks, answer, now) {
-            Acknowledged::Begins(new, reports)
-        } else {
-            Acknowledged::New(new, reports)
-        }
+        let begins = self.find_losses(numbers, it.ack, blocks, answer);
+        self.time(numbers, it.ack, reports, now);
+        (reports, begins)
     }
 
-    /// Returns the sender's numbers.
-    fn numbers(&self) -> SentNumbers
+    /// Returns the first number that isn't acknowledged, near which those of an acknowledgement are, and the one after the
+    /// last that was sent.
+    #[must_use]
+    pub fn numbers(&self) -> SentNumbers
         ensures value { result ≡ record { first_unacknowledged = first self.now; sent = self.now.sender.sent } }
         ensures order { result.first_unacknowledged ≤ result.sent }
     {
@@ -191,7 +305,7 @@ impl<S: Storage<u8>, const N: usize> SendingEnd<S, N> {
     fn is_acceptable(&self, ack: u64) -> bool
         ensures { result ≡ is_acceptable self.now ack }
     {
-        is_acknowledgement(self.sender.sent_numbers(), self.greatest, ack)
+        is_acknowledgement(self.sender.sent_numbers(), self.greatest_window, ack)
     }
 
     /// Has the sender take an acknowledgement, and returns whether it does.
@@ -202,82 +316,115 @@ impl<S: Storage<u8>, const N: usize> SendingEnd<S, N> {
           sender = sender_after_command self.old.sender (Acknowledges ack);
         } }
     {
-        self.sender.acknowledge(ack)
+        accept(&mut self.sender, ack)
     }
 
-    /// Takes the window that is announced.
-    fn take_window(&mut self, numbers: SentNumbers, it: Announcement)
+    /// Stops the timer of the SYN, if this is the first acknowledgement and nothing is in flight.
+    fn synchronize(&mut self, numbers: SentNumbers)
         ensures { self.new ≡ record self.old {
+          timer = synchronized self.old.is_open numbers.first_unacknowledged numbers.sent self.old.timer;
+          is_open = true;
+        } }
+    {
+        if !self.is_open && numbers.sent <= numbers.first_unacknowledged {
+            self.timer.stop();
+        }
+        self.is_open = true;
+    }
+
+    /// Takes the window that is announced, and that a peer answers. Returns whether it is the window that was announced last.
+    fn take_window(&mut self, numbers: SentNumbers, it: Announcement) -> bool
+        ensures same { result ≡ (it.window == self.old.last) }
+        ensures state { self.new ≡ record self.old {
+          timer = synchronized self.old.is_open numbers.first_unacknowledged numbers.sent self.old.timer;
           peer = after_update self.old.peer numbers.first_unacknowledged numbers.sent it.seq it.ack it.window;
           greatest = greatest_of self.old.peer self.old.greatest numbers.first_unacknowledged numbers.sent
               it.seq it.ack it.window;
+          last = it.window;
+          is_open = true;
         } }
     {
-        self.greatest = take_window(&mut self.peer, self.greatest, numbers, it);
+        self.synchronize(numbers);
+        let is_same = it.window == self.last_window;
+        self.greatest_window = take_window(
+            &mut self.peer_window,
+            self.greatest_window,
+            numbers,
+            it,
+        );
+        self.last_window = it.window;
+        is_same
     }
 
-    /// Reports all below `ack`, and the blocks, and takes the sample of a timed segment that is reported then. Returns
-    /// whether a block reports what wasn't known.
-    fn hear(&mut self, ack: u64, blocks: &[(u64, u64)], sent: u64, now: Instant) -> bool
-        ensures { self.new ≡ record self.old {
-          reported = self.new.reported;
-          timer = if is_in self.new.reported self.old.timer.timed
-              then with_sample self.old.bounds now self.old.timer else self.old.timer;
-        } }
+    /// Reports all below `ack`, and the blocks. Returns whether a block reports what wasn't known.
+    fn report(&mut self, ack: u64, blocks: &[(u64, u64)], sent: u64) -> bool
+        ensures { self.new ≡ record self.old { reported = self.new.reported } }
     {
-        self.board.acknowledge(ack);
-        let reports = report_blocks(&mut self.board, blocks, sent);
-        self.sample(now);
-        reports
+        self.scoreboard.acknowledge(ack);
+        report_blocks(&mut self.scoreboard, blocks, sent)
     }
 
-    /// Takes the sample of a timed segment that is reported.
-    fn sample(&mut self, now: Instant)
-        ensures { self.new ≡ record self.old {
-          timer = if is_in self.old.reported self.old.timer.timed
-              then with_sample self.old.bounds now self.old.timer else self.old.timer;
-        } }
-    {
-        match self.timer.timed() {
-            Some(segment) => {
-                if self.board.contains(segment.pos) {
-                    self.timer.take_sample(self.bounds, now);
-                }
-            }
-            None => {}
-        }
-    }
-
-    /// Tells the timer and the recovery, and returns whether a recovery begins.
-    fn conclude(
+    /// Finds what is lost by an acknowledgement, and returns whether a recovery begins.
+    fn find_losses(
         &mut self,
         numbers: SentNumbers,
         ack: u64,
         blocks: &[(u64, u64)],
         answer: Answer,
-        now: Instant,
     ) -> bool
         ensures { self.new ≡ record self.old {
+          reported = kept self.old.reported ack numbers.sent;
           recovery = self.new.recovery;
-          timer = told answer.reports now
-              (after_acknowledged self.old.bounds numbers.first_unacknowledged numbers.sent ack now self.old.timer);
         } }
     {
-        tell(
-            &mut self.timer,
-            self.bounds,
-            numbers,
-            ack,
-            answer.reports,
-            now,
-        );
         self.doubt(numbers, ack, blocks);
         let after = SentNumbers {
             first_unacknowledged: ack,
             sent: numbers.sent,
         };
+        if ack < numbers.sent && self.scoreboard.contains(ack) {
+            return self.lose_dropped(after);
+        }
         self.recovery
-            .find_losses(after, &self.board, self.size, answer)
+            .find_losses(after, &self.scoreboard, self.segment_size, answer)
+    }
+
+    /// Loses what the peer had reported and has dropped: else it would acknowledge that (RFC 2018, section 8). Nothing counts
+    /// as reported any more. Returns whether a recovery begins.
+    fn lose_dropped(&mut self, after: SentNumbers) -> bool
+        ensures { self.new ≡ record self.old {
+          reported = with_range nothing 0 after.first_unacknowledged;
+          recovery = self.new.recovery;
+        } }
+    {
+        let begins = self.recovery.lose_dropped(after, &self.scoreboard);
+        self.scoreboard.reset_at(after.first_unacknowledged);
+        begins
+    }
+
+    /// Takes the sample of a timed segment that is reported, and tells the timer what was acknowledged, and whether a block
+    /// reported what wasn't known.
+    fn time(&mut self, numbers: SentNumbers, ack: u64, reports: bool, now: Instant)
+        ensures { self.new ≡ record self.old {
+          timer = told reports now (after_acknowledged self.old.bounds numbers.first_unacknowledged numbers.sent ack now
+              (sampled self.old.reported self.old.bounds now self.old.timer));
+        } }
+    {
+        self.sample(now);
+        tell(&mut self.timer, self.bounds, numbers, ack, reports, now);
+    }
+
+    /// Takes the sample of a timed segment that is reported.
+    fn sample(&mut self, now: Instant)
+        ensures { self.new ≡ record self.old {
+          timer = sampled self.old.reported self.old.bounds now self.old.timer;
+        } }
+    {
+        if let Some(segment) = self.timer.timed() {
+            if self.scoreboard.contains(segment.pos) {
+                self.timer.take_sample(self.bounds, now);
+            }
+        }
     }
 
     /// Tells the recovery, if the first block reports what came twice.
@@ -289,11 +436,12 @@ impl<S: Storage<u8>, const N: usize> SendingEnd<S, N> {
         }
     }
 
-    /// Returns what the timer's end means, if it has ended. Then it starts again.
+    /// Returns whether the timer has ended, and what that means. If it has, it starts again, and `next_segment` returns
+    /// what is then to be sent.
     pub fn expired(&mut self, now: Instant) -> Expired
-        ensures no { (result ≡ Expired.No) ↔ IsFalse (has_expired self.old.timer now) }
+        ensures no { (result ≡ Expired.No) ↔ IsFalse (is_overdue self.old now) }
         ensures unchanged { IsFalse (has_expired self.old.timer now) → self.new ≡ self.old }
-        ensures step { self.new ≡ after_event self.old (Looked self.new.reported self.new.recovery now) }
+        ensures step { self.new ≡ after_event self.old (Looked self.new.recovery now) }
         ensures state { IsTrue (has_timed_out self.old now) → self.new ≡ timed_out self.old now }
     {
         match self.timer.expire(self.bounds, now) {
@@ -303,42 +451,44 @@ impl<S: Storage<u8>, const N: usize> SendingEnd<S, N> {
         }
     }
 
-    /// Finds what is overdue, unless the peer's window is shut.
+    /// Finds what is overdue, unless the peer's window is shut, or it reports nothing: then it is sent no probe.
     fn take_silence(&mut self) -> Expired
-        ensures some { (result ≡ Expired.No) → ⊥ }
+        ensures no { (result ≡ Expired.No) ↔ IsTrue self.old.recovery.is_blind }
         ensures state { self.new ≡ record self.old {
           recovery = self.new.recovery;
           probes = false;
-          overdue = not (is_shut self.old);
+          overdue = not self.old.recovery.is_blind && not (is_shut self.old);
         } }
     {
-        self.probes = false;
-        self.overdue = !self.is_shut();
-        if self.overdue
-            && self
-                .recovery
-                .find_overdue(self.sender.sent_numbers(), &self.board)
-        {
-            Expired::Begins
-        } else {
-            Expired::Overdue
+        self.is_window_probe_due = false;
+        let is_blind = self.recovery.is_blind();
+        self.is_overdue = !is_blind && !self.is_shut();
+        if is_blind {
+            return Expired::No;
         }
+        let begins = self.find_overdue();
+        Expired::Overdue { begins }
     }
 
-    /// Loses all that was sent.
+    /// Finds what is overdue, if it is to be found, and returns whether a recovery begins.
+    fn find_overdue(&mut self) -> bool
+        ensures { self.new ≡ record self.old { recovery = self.new.recovery } }
+    {
+        self.is_overdue
+            && self
+                .recovery
+                .find_overdue(self.sender.sent_numbers(), &self.scoreboard)
+    }
+
+    /// Loses all that was sent and isn't reported.
     fn take_timeout(&mut self) -> Expired
         ensures some { (result ≡ Expired.No) → ⊥ }
         ensures state { self.new ≡ all_lost self.old }
     {
-        let numbers = self.sender.sent_numbers();
-        let first = numbers.first_unacknowledged;
-        if self.board.contains(first) {
-            self.board.reset_at(first);
-        }
-        self.recovery.lose_all(numbers);
-        self.probes = self.is_shut();
-        self.overdue = false;
-        if self.probes {
+        self.recovery.lose_all(self.sender.sent_numbers());
+        self.is_window_probe_due = self.is_shut();
+        self.is_overdue = false;
+        if self.is_window_probe_due {
             Expired::Probe
         } else {
             Expired::Lost
@@ -349,7 +499,7 @@ impl<S: Storage<u8>, const N: usize> SendingEnd<S, N> {
     fn is_shut(&self) -> bool
         ensures { result ≡ is_shut self.now }
     {
-        self.peer.is_probe_allowed(
+        self.peer_window.is_probe_allowed(
             self.sender.sent_numbers().first_unacknowledged,
             self.sender.numbers_end(),
         )
@@ -359,7 +509,7 @@ impl<S: Storage<u8>, const N: usize> SendingEnd<S, N> {
     fn asks(&self) -> bool
         ensures { result ≡ asks self.now }
     {
-        self.probes && self.is_shut()
+        self.is_window_probe_due && self.is_shut()
     }
 
     /// Returns the range that is to be sent next, if the peer's window and the congestion window have room for one; and
@@ -379,16 +529,20 @@ impl<S: Storage<u8>, const N: usize> SendingEnd<S, N> {
                 false,
             );
         }
-        let limit = self.peer.send_limit(end);
-        let next = self
-            .recovery
-            .next_segment(numbers, &self.board, limit, congestion_window, self.size);
-        if next.is_some() || !self.overdue {
+        let limit = self.peer_window.send_limit(end);
+        let next = self.recovery.next_segment(
+            numbers,
+            &self.scoreboard,
+            limit,
+            congestion_window,
+            self.segment_size,
+        );
+        if next.is_some() || !self.is_overdue {
             return (next, false);
         }
         (
             self.recovery
-                .next_probe(numbers, &self.board, limit, self.size),
+                .next_probe(numbers, &self.scoreboard, limit, self.segment_size),
             true,
         )
     }
@@ -414,10 +568,21 @@ impl<S: Storage<u8>, const N: usize> SendingEnd<S, N> {
     {
         let numbers = self.numbers();
         self.clock(from, to, now);
-        let _is_written = self.sender.mark_sent(to);
-        self.probes = false;
-        self.overdue = false;
+        self.note(to);
         self.recover(numbers, from, to, asks, is_probe);
+    }
+
+    /// Notes that all below a number was sent, so that no probe is due any more.
+    fn note(&mut self, to: u64)
+        ensures { self.new ≡ record self.old {
+          sender = sender_after_command self.old.sender (Marks to);
+          probes = false;
+          overdue = false;
+        } }
+    {
+        let _is_written = self.sender.mark_sent(to);
+        self.is_window_probe_due = false;
+        self.is_overdue = false;
     }
 
     /// Tells the timer what is sent.
@@ -447,15 +612,19 @@ impl<S: Storage<u8>, const N: usize> SendingEnd<S, N> {
         }
     }
 
-    /// Returns the range that is to be sent now, and takes notice that it is: if the peer's window and the congestion
+    /// Returns the segment that is to be sent now, and takes notice that it is: if the peer's window and the congestion
     /// window have room for one, or as a probe. While anything that was written isn't acknowledged, the timer runs.
     #[tactic(auto, using(crate::proofs::Steps::steps))]
-    pub fn next_segment(&mut self, congestion_window: u64, now: Instant) -> Option<(u64, u64)>
-        ensures within { IfSome result (λ r. IsTrue (may_send self.old r.0 r.1)) }
-        ensures probe { IsTrue (asks self.old) → result ≡ Some (first self.old, first self.old + 1) }
+    pub fn next_segment(&mut self, congestion_window: u64, now: Instant) -> Option<Outgoing>
+        ensures within { IfSome result (λ r. IsTrue (may_send self.old r.pos r.end)) }
+        ensures probe { IsTrue (asks self.old) →
+            IfSome result (λ r. (r.pos ≡ first self.old) × (r.end ≡ first self.old + 1)) }
+        ensures asked { IsTrue (asks self.old) → IsTrue (is_some result) }
+        ensures again { IfSome result (λ r. r.is_again ≡ nat_lt r.pos self.old.sender.sent) }
         ensures rests { IfNone result (self.new ≡ after_event self.old (Rested now)) }
-        ensures sends { IfSome result (λ r. self.new ≡ after_event self.old (Sent self.new.recovery r.0 r.1 now)) }
+        ensures sends { IfSome result (λ r. self.new ≡ after_event self.old (Sent self.new.recovery r.pos r.end now)) }
     {
+        let sent = self.numbers().sent;
         let (chosen, is_probe) = self.choose(congestion_window);
         let asks = self.asks();
         let Some((from, to)) = chosen else {
@@ -464,17 +633,24 @@ impl<S: Storage<u8>, const N: usize> SendingEnd<S, N> {
             return None;
         };
         self.mark(from, to, asks, is_probe, now);
-        Some((from, to))
+        Some(Outgoing {
+            pos: from,
+            end: to,
+            is_again: from < sent,
+        })
     }
 
-    /// Lends the bytes of a range, as far as they are contiguous, and whether the stream ends after them.
-    pub fn bytes(&self, from: u64, to: u64) -> (&[u8], bool)
-        ensures { IsLent self.now.sender from to result.0.now result.1 }
+    /// Lends the bytes of a segment from `pos` on, whose numbers are below `end`, in two parts, and returns whether the
+    /// stream ends after them. Of a position that is acknowledged it lends none.
+    #[must_use]
+    pub fn bytes(&self, pos: u64, end: u64) -> (&[u8], &[u8], bool)
+        ensures { IsSegment self.now.sender pos end (result.0.now ++ result.1.now) result.2 }
     {
-        self.sender.peek_at(from, to)
+        lend(&self.sender, pos, end)
     }
 
     /// Returns whether all that was written is acknowledged, and the end.
+    #[must_use]
     pub fn is_done(&self) -> bool
         ensures { result ≡ (self.now.sender.finished == 1) }
     {
@@ -482,6 +658,7 @@ impl<S: Storage<u8>, const N: usize> SendingEnd<S, N> {
     }
 
     /// Returns when `expired` is to be asked.
+    #[must_use]
     pub fn expires_at(&self) -> Option<Instant>
         ensures { result ≡ expires_at self.now.timer }
     {
@@ -489,12 +666,87 @@ impl<S: Storage<u8>, const N: usize> SendingEnd<S, N> {
     }
 
     /// Returns how often the timeout has passed in a row, without anything new that was acknowledged or reported in
-    /// between. Probes of a window that is shut count too.
+    /// between, that of a SYN too: enough of them, and the peer is gone. Probes of a window that is shut count too, though
+    /// each is answered.
+    #[must_use]
     pub fn timeouts(&self) -> u64
         ensures { result ≡ self.now.timer.timeouts }
     {
         self.timer.timeouts()
     }
+
+    /// Returns the smoothed time of a round trip, once there was a sample.
+    #[must_use]
+    pub fn round_trip(&self) -> Option<Duration>
+        ensures { result ≡ round_trip self.now.timer.timeout.estimate }
+    {
+        match self.timer.rtt() {
+            Some(estimate) => Some(estimate.srtt()),
+            None => None,
+        }
+    }
+
+    /// Returns whether a recovery lasts.
+    #[must_use]
+    pub fn is_recovering(&self) -> bool
+        ensures { result ≡ is_active self.now.recovery (first self.now) }
+    {
+        self.recovery.is_active(self.sender.sent_numbers())
+    }
+
+    /// Returns how many numbers were sent and aren't acknowledged.
+    #[must_use]
+    pub fn flight_size(&self) -> u64
+        ensures { result ≡ self.now.sender.sent - first self.now }
+    {
+        self.sender.sent_numbers().flight_size()
+    }
+
+    /// Returns the number of a segment without positions.
+    #[must_use]
+    pub fn acknowledgement_number(&self) -> u64
+        ensures { result ≡ acknowledgement_number self.now.peer (first self.now) self.now.sender.sent }
+    {
+        self.peer_window
+            .acknowledgement_number(self.sender.sent_numbers())
+    }
+
+    /// Returns how many bytes `write` would take.
+    #[must_use]
+    pub fn window(&self) -> usize
+        ensures { result ≡ finite_room self.now.sender }
+    {
+        self.sender.window()
+    }
+
+    /// Returns the most bytes of a segment.
+    #[must_use]
+    pub fn segment_size(&self) -> usize
+        ensures { result ≡ self.now.size }
+    {
+        self.segment_size
+    }
+}
+
+/// Has a sender take an acknowledgement, and returns whether it does.
+fn accept<S: Storage<u8>>(sender: &mut FiniteSenderOver<S>, ack: u64) -> bool
+    ensures value { result ≡ accepts sender.old ack }
+    ensures within { IsTrue result → (first_number sender.old ≤ ack) × (ack ≤ sender.old.sent) }
+    ensures step { sender.new ≡ sender_after_command sender.old (Acknowledges ack) }
+{
+    sender.acknowledge(ack)
+}
+
+/// Lends the bytes of a segment from `pos` on, whose numbers are below `end`, in two parts, and returns whether the stream
+/// ends after them.
+#[tactic(auto, using(crate::proofs::Segments::segments))]
+fn lend<S: Storage<u8>>(sender: &FiniteSenderOver<S>, pos: u64, end: u64) -> (&[u8], &[u8], bool)
+    ensures { IsSegment sender.now pos end (result.0.now ++ result.1.now) result.2 }
+{
+    let (front, _ends) = sender.peek_at(pos, end);
+    let after = pos + front.len() as u64;
+    let (back, is_last) = sender.peek_at(after, end);
+    (front, back, is_last)
 }
 
 /// Tells the timer what was acknowledged, and whether a block reported what wasn't known.
@@ -559,9 +811,20 @@ fn report_block<const N: usize>(
     board.report(start, end, sent).is_ok() && is_new
 }
 
+/// Returns whether one of the blocks has a position.
+fn has_block(blocks: &[(u64, u64)]) -> bool {
+    let mut is_found = false;
+    for block in blocks {
+        if block.0 < block.1 {
+            is_found = true;
+        }
+    }
+    is_found
+}
+
 /// Returns whether the first block reports what came twice.
 fn is_duplicated(ack: u64, blocks: &[(u64, u64)]) -> bool {
-    if blocks.len() == 0 {
+    if blocks.is_empty() {
         return false;
     }
     let second = if blocks.len() > 1 {

@@ -1,2 +1,3 @@
+pub mod AnyPathFacts
 pub mod FrameFacts
 pub mod SocketFacts

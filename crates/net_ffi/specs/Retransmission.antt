@@ -51,6 +51,7 @@ timer_of t = record {
   last = t.last;
   timeouts = t.timeouts;
   reports = not (nat_eq t.reports 0);
+  prompt = t.prompt;
 }
 
 abbrev pub numbers_of : Option Estimate → RttEstimate
@@ -93,4 +94,5 @@ timer_fields t = record {
   last = t.last;
   timeouts = t.timeouts;
   reports = if t.reports then 1 else 0;
+  prompt = t.prompt;
 }

@@ -28,8 +28,10 @@ pub(crate) fn has_number(receiver: &FiniteReceiverHead) -> bool
 /// is at most the end of the free window.
 ///
 /// Returns `NET_BASE_DONE`, also if no byte is in the free window: then `kept` is 0. Returns `NET_BASE_OTHER_END`, and
-/// nothing changes, if the segment says that the stream ends where it can't, as `net_base_finite_receiver_can_end` tells.
-/// Else returns `NET_BASE_TOO_MANY_RUNS`, and nothing changes, not the end either, if the segment has bytes in the free
+/// nothing changes, if the segment says that the stream ends where it can't, as `net_base_finite_receiver_can_end` tells,
+/// and not in order. An end in order is never refused: that of a last segment which begins at or below the first missing
+/// position, and ends at or above it and within the free window, while something is missing. What was held beyond it, and
+/// an end that was known, go then. Else returns `NET_BASE_TOO_MANY_RUNS`, and nothing changes, not the end either, if the segment has bytes in the free
 /// window, the first missing position is not one of theirs, and with them there would be more runs than the slice has
 /// elements.
 ///

@@ -10,4 +10,5 @@ pub mod peer_window;
 pub mod receiver;
 pub mod ring;
 pub mod scoreboard;
+pub mod split_ring;
 pub mod tcp;

@@ -27,7 +27,8 @@
 //! 2. What a call may write overlaps nothing else that it is passed.
 //! 3. Two calls that share memory aren't made at once, in threads or in an interrupt and what it interrupts, unless
 //!    both take it by `const`. So mask the interrupt around each call, with what copies its elements, and around what
-//!    reads fields.
+//!    reads fields. Calls of a ring of two counts, `net_base_split_ring_..`, share none. There each end alone stores its
+//!    own count, with release, once it has written or read elements; before that it loads the other's, with acquire.
 //! 4. There is stack enough for a call.
 //! 5. A storage, its runs and its slots have the same lengths in each call on a head.
 //! 6. A head, its runs and its slots are written by calls of its own kind alone, those of a finite

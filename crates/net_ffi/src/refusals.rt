@@ -7,6 +7,7 @@ use net_assembler::Run;
 use net_assembler::width::most;
 use net_receiver::HeldRun;
 use net_ring::Span;
+use net_split_ring::SplitSpan;
 
 /// What a call answers that can be done, refused, or more: each kind of call one of some of these numbers.
 pub type Status = u32;
@@ -30,7 +31,9 @@ pub type HoleStatus = u32;
 /// alone.
 pub type ArrivalStatus = u32;
 
-/// What is due: `DONE` if nothing is, `PROBE` or `TIMEOUT`; `REFUSED` for null alone.
+/// What is due: `DONE`, `PROBE` or `TIMEOUT`; `REFUSED` for null alone.
+///
+/// - `DONE`: nothing is due, and nothing changes.
 pub type ExpiryStatus = u32;
 
 /// The call was done.
@@ -108,6 +111,19 @@ pub fn refused_span() -> Span
         from: no_number(),
         count: 0,
         contiguous: 0,
+    }
+}
+
+/// The span of a refused call of a ring of two counts: the end's count stays. It isn't inlined, so that a call which isn't
+/// refused has no jump.
+#[inline(never)]
+pub fn refused_split_span(next: usize) -> SplitSpan
+    ensures span { result.span ≡ nowhere }
+    ensures next { result.next ≡ next }
+{
+    SplitSpan {
+        span: refused_span(),
+        next,
     }
 }
 

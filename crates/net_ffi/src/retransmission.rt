@@ -89,6 +89,8 @@ pub struct RetransmissionTimer {
     pub timeouts: u64,
     /// Not 0 if the peer reports blocks: else no probe is due.
     pub reports: u64,
+    /// How many acknowledgements of one segment alone in a row weren't late, up to 8.
+    pub prompt: u64,
 }
 
 /// Returns a number, or another one in place of 0.
@@ -191,6 +193,7 @@ fn timer_from(fields: &RetransmissionTimer) -> net_tcp::RetransmissionTimer
         last: fields.last,
         timeouts: fields.timeouts,
         reports: fields.reports != 0,
+        prompt: fields.prompt,
     })
 }
 
@@ -304,6 +307,7 @@ fn fields_of_timer(timer: net_tcp::RetransmissionTimer) -> RetransmissionTimer
         last: parts.last,
         timeouts: parts.timeouts,
         reports: flag_of(parts.reports),
+        prompt: parts.prompt,
     }
 }
 
@@ -440,6 +444,10 @@ pub extern "C" fn net_base_retransmission_timer_acknowledged(
 
 /// Takes notice that a block has reported what wasn't known: a timer that runs is started again. A peer that reports
 /// delays no acknowledgement.
+///
+/// Call it once for an acknowledgement of which `net_base_scoreboard_report` took a block that had something new, so that
+/// the scoreboard isn't as it was before, after `net_base_retransmission_timer_acknowledged` if it acknowledges something
+/// new too.
 #[unsafe(no_mangle)]
 pub extern "C" fn net_base_retransmission_timer_reported(timer: &mut RetransmissionTimer, now: i64)
     ensures { timer.new ≡ timer_fields (after_report now (timer_of timer.old)) }

@@ -13,3 +13,4 @@ pub mod FiniteReceivers
 pub mod Senders
 pub mod BoardSearches
 pub mod HeldSearches
+pub mod Duplicates

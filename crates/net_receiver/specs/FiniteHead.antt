@@ -4,12 +4,13 @@
 --     next_of h      the first missing position
 --     HasSoundFinite h c rs      head and runs are those of such a receiver whose storage has c bytes
 --     finite_storage_after h xs rs pos bytes last      the storage after a segment
+--     usual_storage_after N h xs s pos bytes last      the same by what it meets
 use Rattle.std.specs.Prelude.{ℕ, ◌+◌, ◌-◌, ◌<◌, ◌≤◌, List, length, Bool, nat_eq, if◌then◌else◌}
 use Rattle.net_receiver.specs.declared.finite_receiver_head.FiniteReceiverHead.{FiniteReceiverHead}
 use Rattle.net_receiver.specs.Schedule.{piece}
 use Rattle.net_receiver.specs.ReceiverState.{verdict}
 use Rattle.net_receiver.specs.Head.{receiver_of, top_at, HasSoundParts, storage_after}
-use Rattle.net_receiver.specs.Finite.{FiniteState, no_end, has_other_end, below_end}
+use Rattle.net_receiver.specs.Finite.{FiniteState, no_end, has_other_end, below_end, before_segment}
 
 -- the end whose number has n after it; none if n is 0
 abbrev pub end_with : ℕ → ℕ
@@ -33,10 +34,14 @@ pub record HasSoundFinite (h : FiniteReceiverHead) (c : ℕ) (rs : List (ℕ × 
   pub below : top_at h.receiver rs ≤ end_of h
   pub number : top_at h.receiver rs < no_end
 
--- the storage after a segment: the bytes below the end are written as those of a segment of them alone are, and none
--- if the segment says that the stream ends where it can't
+-- the storage after a segment that meets s: the bytes below the end are written as those of a segment of them alone
+-- are, and none if the segment says that the stream ends where it can't
+abbrev pub usual_storage_after : ℕ → FiniteReceiverHead → List ℕ → FiniteState → ℕ → List ℕ → Bool → List ℕ
+usual_storage_after most_runs h xs s pos bytes last =
+    if has_other_end s (pos + length bytes) last then xs else
+    storage_after h.receiver xs (verdict most_runs s.receiver (piece pos (below_end s pos bytes)))
+
+-- the storage after a segment
 abbrev pub finite_storage_after : FiniteReceiverHead → List ℕ → List (ℕ × ℕ) → ℕ → List ℕ → Bool → List ℕ
 finite_storage_after h xs rs pos bytes last =
-    if has_other_end (finite_of h xs rs) (pos + length bytes) last then xs else
-    storage_after h.receiver xs (verdict (length rs) (receiver_of h.receiver xs rs)
-    (piece pos (below_end (finite_of h xs rs) pos bytes)))
+    usual_storage_after (length rs) h xs (before_segment (finite_of h xs rs) pos (pos + length bytes) last) pos bytes last

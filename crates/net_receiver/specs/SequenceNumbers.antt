@@ -3,6 +3,7 @@
 --     ahead_of a b      how far the number b is ahead of a, going round at 2^32
 --     ComesBefore a b      b is ahead of a by 1 to 2^31 - 1
 --     IsNear next pos      pos is at most 2^31 before next, or less than 2^31 after it
+--     IsNearAround near pos      the same, going round at 2^64
 --     IsNamed i next number pos      pos is the position near next that has this number
 -- The others are laws.
 use Rattle.std.specs.Prelude.{◌≡◌, ◌≢◌, ◌↔◌, ◌⊎◌, ℕ, ◌+◌, ◌-◌, ◌<◌, ◌≤◌, ◌%◌, ◌^◌}
@@ -22,6 +23,10 @@ ComesBefore a b = (0 < ahead_of a b) × (ahead_of a b < 2 ^ 31)
 -- at most 2^31 positions before next, or less than 2^31 after it
 abbrev pub IsNear : ℕ → ℕ → Type 0
 IsNear next pos = (pos < next + 2 ^ 31) × (next ≤ pos + 2 ^ 31)
+
+-- the same, where 0 comes after 2^64 - 1
+abbrev pub IsNearAround : ℕ → ℕ → Type 0
+IsNearAround near pos = (pos + 2 ^ 31 + 2 ^ 64 - near) % 2 ^ 64 < 2 ^ 32
 
 pub record IsNamed (i next number pos : ℕ) : Type 0 where
   pub named : number_at i pos ≡ number
@@ -50,3 +55,8 @@ OrderIsOneWay = (a b : ℕ) → a < 2 ^ 32 → b < 2 ^ 32 → ComesBefore a b �
 abbrev pub OrderIsTotal : Type 0
 OrderIsTotal = (a b : ℕ) → a < 2 ^ 32 → b < 2 ^ 32 → a ≢ b → ahead_of a b ≢ 2 ^ 31 →
     ComesBefore a b ⊎ ComesBefore b a
+
+-- of all positions near a given one, going round at 2^64, only one has its number
+abbrev pub NumbersComeBack : Type 0
+NumbersComeBack = (i near pos found : ℕ) → near < 2 ^ 64 → pos < 2 ^ 64 → found < 2 ^ 64 →
+    number_at i found ≡ number_at i pos → IsNearAround near found → IsNear near pos → found ≡ pos

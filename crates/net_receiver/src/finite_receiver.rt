@@ -2,12 +2,12 @@
 #![tactic(auto, using(crate::proofs::FiniteReceivers::ends))]
 
 ghost use Rattle.std.specs.Prelude.{◌≡◌, ◌↔◌, ℕ, ◌+◌, ◌-◌, ◌<◌, ◌≤◌, ◌^◌, min, List, length, ◌++◌, IsTrue, Some, None};
-ghost use Rattle.std.specs.Prelude.{take, drop, max};
+ghost use Rattle.std.specs.Prelude.{take, drop, max, IsOk};
 ghost use Rattle.net_receiver.specs.{no_end, fresh_finite, can_end, bytes_end, finite_after, finite_result};
 ghost use Rattle.net_receiver.specs.{finite_after_read, is_complete, acknowledged, has_read_all, IsSameFinite};
 ghost use Rattle.net_receiver.specs.{IsSoundEnd, finite_of, HasSoundFinite, new_count, MatchesFinite, ReceivesFinite};
 ghost use Rattle.net_receiver.specs.{end_with, end_after, contiguous_count, first_part, limit_of, next_position};
-ghost use Rattle.net_receiver.specs.{IsSound};
+ghost use Rattle.net_receiver.specs.{IsSound, ends_in_order, queue_alone, usual_after, usual_result};
 ghost use Rattle.std.specs.Fn.{FnOnceTakesAt, FnOnceReturnsAt};
 ghost use Rattle.net_assembler.specs.RunLists.{IsCanonical};
 
@@ -200,9 +200,26 @@ impl<S: Storage<u8>, const N: usize> FiniteReceiverOver<S, N> {
     /// the bytes there are, and the sender sends it again. An end without bytes at the first missing
     /// position is taken even if nothing is free.
     ///
+    /// An end in order is never refused: that of a last segment which begins at or below the first missing
+    /// position, and ends at or above it and within the free window, while something is missing. What was held
+    /// beyond the queue goes then, and so does an end that was known and isn't reached: a peer's true end is
+    /// taken, whatever came before it. TCP wants that. A QUIC stream has one final size, so its receiver asks
+    /// `can_end` first.
+    ///
+    /// ```
+    /// # use net_base::finite::{FiniteError, FiniteReceiver};
+    /// # let mut storage = [0u8; 16];
+    /// # let mut receiver = FiniteReceiver::<4>::empty_at(&mut storage[..], 0);
+    /// assert!(receiver.keep(0, b"abc", false).is_ok());
+    /// assert!(receiver.keep(9, b"forged", true).is_ok());
+    /// assert_eq!(receiver.keep(4, b"e", true), Err(FiniteError::OtherEnd));
+    /// assert!(receiver.keep(3, b"d", true).is_ok());
+    /// assert_eq!((receiver.end(), receiver.is_complete()), (Some(4), true));
+    /// ```
+    ///
     /// # Errors
     ///
-    /// `OtherEnd` if the segment says that the stream ends where it can't (`can_end`), else
+    /// `OtherEnd` if the segment says that the stream ends where it can't (`can_end`), and not in order; else
     /// `TooManyHoles` if its bytes are refused. Then nothing changes.
     pub fn keep(&mut self, pos: u64, bytes: &[u8], is_last: bool) -> Result<KeptBytes, FiniteError>
         ensures state { self.new ≡ finite_after N self.old pos bytes.now is_last }
@@ -211,6 +228,54 @@ impl<S: Storage<u8>, const N: usize> FiniteReceiverOver<S, N> {
             MatchesFinite f x pos bytes.now is_last → ReceivesFinite f x self.new }
         ensures read { self.new.receiver.read ≡ self.old.receiver.read }
         // Guarantee.
+        ensures in_order { IsTrue is_last →
+            IsTrue (ends_in_order self.old pos (pos + length bytes.now)) → IsOk result }
+        // Guarantee.
+        ensures grows { acknowledged self.old ≤ acknowledged self.new }
+    {
+        // A sum above 64 bits becomes `u64::MAX`, where no stream ends.
+        let last = pos.saturating_add(bytes.len() as u64);
+        if is_last && self.ends_in_order(pos, last) {
+            self.keep_queue_alone();
+        }
+        self.keep_usual(pos, bytes, is_last)
+    }
+
+    /// Returns whether a last segment from `pos` to `last` ends the stream in order, while something is
+    /// missing.
+    #[inline]
+    fn ends_in_order(&self, pos: u64, last: u64) -> bool
+        ensures { result ≡ ends_in_order self.now pos last }
+    {
+        let next = self.receiver.next();
+        pos <= next
+            && next <= last
+            && is_reached(next, self.receiver.window(), last)
+            && last < NO_END
+            && !self.is_complete()
+    }
+
+    /// Lets go of what is held, and of the end.
+    #[inline]
+    fn keep_queue_alone(&mut self)
+        ensures { self.new ≡ queue_alone self.old }
+    {
+        self.receiver.release_held();
+        self.after_end = 0;
+    }
+
+    /// Keeps a segment by what the receiver has.
+    fn keep_usual(
+        &mut self,
+        pos: u64,
+        bytes: &[u8],
+        is_last: bool,
+    ) -> Result<KeptBytes, FiniteError>
+        ensures state { self.new ≡ usual_after N self.old pos bytes.now is_last }
+        ensures value { result ≡ usual_result N self.old pos bytes.now is_last }
+        ensures receives { (f : ℕ) (x : List ℕ) → ReceivesFinite f x self.old →
+            MatchesFinite f x pos bytes.now is_last → ReceivesFinite f x self.new }
+        ensures read { self.new.receiver.read ≡ self.old.receiver.read }
         ensures grows { acknowledged self.old ≤ acknowledged self.new }
     {
         // A sum above 64 bits becomes `u64::MAX`, which `can_end` refuses.

@@ -2,7 +2,7 @@
 #![tactic(auto, using(crate::proofs::FiniteReceivers::ends))]
 
 ghost use Rattle.std.specs.Prelude.{◌≡◌, ◌↔◌, ℕ, ◌+◌, ◌-◌, ◌<◌, ◌≤◌, ◌^◌, min, max, List, length, IsTrue, OnErr, Some};
-ghost use Rattle.std.specs.Prelude.{None, ◌==◌, ◌++◌, take, drop, nat_lt, nat_le, ◌&&◌, if◌then◌else◌};
+ghost use Rattle.std.specs.Prelude.{None, ◌==◌, ◌++◌, take, drop, nat_lt, nat_le, ◌&&◌, not, if◌then◌else◌};
 ghost use Rattle.net_ring.specs.Ring.{queue};
 ghost use Rattle.net_ring.specs.RingHead.{IsSound as IsSoundPlace, ring_at};
 ghost use Rattle.net_receiver.specs.Finite.{no_end, fresh_finite, can_end_by, finite_after, finite_result};
@@ -10,7 +10,8 @@ ghost use Rattle.net_receiver.specs.Finite.{finite_after_read, IsSameFinite, is_
 ghost use Rattle.net_receiver.specs.ReceiverState.{count_between, limit_of};
 ghost use Rattle.net_receiver.specs.Head.{head_after_read, held_at, top_at, HasSoundHeld};
 ghost use Rattle.net_receiver.specs.FiniteHead.{finite_of, HasSoundFinite, next_of, end_of, end_with};
-ghost use Rattle.net_receiver.specs.FiniteHead.{finite_storage_after};
+ghost use Rattle.net_receiver.specs.FiniteHead.{finite_storage_after, usual_storage_after};
+ghost use Rattle.net_receiver.specs.Finite.{queue_alone, usual_after, usual_result};
 ghost use Rattle.net_receiver.specs.NewHeads.{finite_receiver_head};
 ghost use Rattle.net_assembler.specs.RunLists.{IsCanonical};
 
@@ -181,6 +182,70 @@ impl FiniteReceiverHead {
             (finite_of self.old storage.old runs.old) pos bytes.now is_last }
         ensures stored { storage.new
             ≡ finite_storage_after self.old storage.old runs.old pos bytes.now is_last }
+        ensures unchanged { OnErr result ((self.new ≡ self.old) × (storage.new ≡ storage.old)
+            × (runs.new ≡ runs.old)) }
+        ensures canonical { IsCanonical self.old.receiver.held → IsCanonical self.new.receiver.held }
+    {
+        // A sum above 64 bits becomes `u64::MAX`, where no stream ends.
+        let last = pos.saturating_add(bytes.len() as u64);
+        if is_last && self.ends_in_order(storage.len(), pos, last) {
+            self.keep_queue_alone();
+        }
+        self.keep_usual(storage, runs, pos, bytes, is_last)
+    }
+
+    /// Returns whether a last segment from `pos` to `last` ends the stream in order, while something is
+    /// missing.
+    #[inline]
+    fn ends_in_order(&self, capacity: usize, pos: u64, last: u64) -> bool
+        requires place { self.now.receiver.place.length ≤ capacity }
+        requires fits { next_of self.now < no_end }
+        ensures { result ≡ (nat_le pos (next_of self.now) && nat_le (next_of self.now) last
+            && nat_le last (self.now.receiver.first + self.now.receiver.count_read + capacity)
+            && nat_lt last no_end && not (next_of self.now == end_of self.now)) }
+    {
+        let next = self.receiver.next();
+        pos <= next
+            && next <= last
+            && is_reached(next, self.receiver.window(capacity), last)
+            && last < NO_END
+            && !self.is_complete()
+    }
+
+    /// Lets go of what is held, and of the end.
+    #[inline]
+    fn keep_queue_alone(&mut self)
+        ensures sound { (capacity : ℕ) (runs : List (ℕ × ℕ)) → HasSoundFinite self.old capacity runs →
+            HasSoundFinite self.new capacity runs }
+        ensures state { (storage : List ℕ) (runs : List (ℕ × ℕ)) →
+            finite_of self.new storage runs ≡ queue_alone (finite_of self.old storage runs) }
+        ensures place { self.new.receiver
+            ≡ record self.old.receiver { held = self.new.receiver.held } }
+        ensures canonical { IsCanonical self.new.receiver.held }
+    {
+        self.receiver.release_held();
+        self.after_end = 0;
+    }
+
+    /// Keeps a segment by what the receiver has.
+    #[inline]
+    fn keep_usual(
+        &mut self,
+        storage: &mut [u8],
+        runs: &mut [Run],
+        pos: u64,
+        bytes: &[u8],
+        is_last: bool,
+    ) -> Result<KeptBytes, FiniteError>
+        requires { HasSoundFinite self.old (length storage.old) runs.old }
+        ensures sound { HasSoundFinite self.new (length storage.new) runs.new }
+        ensures state { finite_of self.new storage.new runs.new
+            ≡ usual_after (length runs.old) (finite_of self.old storage.old runs.old)
+            pos bytes.now is_last }
+        ensures value { result ≡ usual_result (length runs.old)
+            (finite_of self.old storage.old runs.old) pos bytes.now is_last }
+        ensures stored { storage.new ≡ usual_storage_after (length runs.old) self.old storage.old
+            (finite_of self.old storage.old runs.old) pos bytes.now is_last }
         ensures unchanged { OnErr result ((self.new ≡ self.old) × (storage.new ≡ storage.old)
             × (runs.new ≡ runs.old)) }
         ensures canonical { IsCanonical self.old.receiver.held → IsCanonical self.new.receiver.held }

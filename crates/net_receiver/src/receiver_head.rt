@@ -10,7 +10,9 @@ ghost use Rattle.net_receiver.specs.Schedule.{piece};
 ghost use Rattle.net_receiver.specs.ReceiverState.{verdict, state_after, numbers, first_three, segment_result};
 ghost use Rattle.net_receiver.specs.ReceiverState.{fresh_receiver, domain, IsSameState, receiver_after_read};
 ghost use Rattle.net_receiver.specs.ReceiverState.{count_between};
+ghost use Rattle.net_receiver.specs.Finite.{queue_only};
 ghost use Rattle.net_receiver.specs.NewHeads.{receiver_head};
+ghost use Rattle.net_receiver.specs.Duplicates.{came, TellsPart, TellsFirst};
 ghost use Rattle.net_receiver.specs.Head.{receiver_of, HasSoundParts, HasSoundHeld, storage_after, head_after_read};
 ghost use Rattle.net_receiver.specs.Head.{next_at, held_at, top_at};
 ghost use Rattle.net_ring.specs.Ring.{queue, contiguous_allocated, contiguous_queued};
@@ -77,6 +79,19 @@ impl ReceiverHead {
         ensures canonical { IsCanonical self.new.held }
     {
         *self = ReceiverHead::new(first);
+    }
+
+    /// Lets go of the held runs.
+    #[inline]
+    pub(crate) fn release_held(&mut self)
+        ensures sound { (capacity : ℕ) (runs : List (ℕ × ℕ)) → HasSoundParts self.old capacity runs →
+            HasSoundParts self.new capacity runs }
+        ensures state { (storage : List ℕ) (runs : List (ℕ × ℕ)) →
+            receiver_of self.new storage runs ≡ queue_only (receiver_of self.old storage runs) }
+        ensures place { self.new ≡ record self.old { held = self.new.held } }
+        ensures canonical { IsCanonical self.new.held }
+    {
+        self.held = AssemblerHead::new();
     }
 
     /// Returns whether this head, a storage of `capacity` bytes and runs are sound: `place` is that
@@ -515,6 +530,62 @@ impl ReceiverHead {
             }
             None => None,
         }
+    }
+
+    /// Returns what of the positions from `pos` on and below `end` came before, as
+    /// `ReceiverOver::duplicate_of` does.
+    ///
+    /// # Requires
+    ///
+    /// Head and runs are sound, as `is_sound` tests, with a storage of some length.
+    pub(crate) fn duplicate_of(&self, runs: &[Run], pos: u64, end: u64) -> Option<(u64, u64)>
+        requires { HasSoundHeld self.now runs.now }
+        ensures { TellsPart (came self.now.first (next_at self.now) (held_at self.now runs.now))
+            pos end result }
+    {
+        let next = self.next();
+        let start = pos.max(self.first);
+        let stop = end.min(next);
+        if start < stop {
+            return Some((start, stop));
+        }
+        self.held_part(runs, pos.max(next), end)
+    }
+
+    /// Returns the first of the positions from `from` on and below `end` that are held, up to the end of
+    /// their run.
+    fn held_part(&self, runs: &[Run], from: u64, end: u64) -> Option<(u64, u64)>
+        requires sound { HasSoundHeld self.now runs.now }
+        requires from { next_at self.now ≤ from }
+        ensures { TellsPart (λ q. contains (held_at self.now runs.now) q) from end result }
+    {
+        let next = self.next();
+        let offset = (from - next).min(most() as u64) as usize;
+        match self.first_held(runs, offset) {
+            Some(start) => {
+                let missing = self.held.first_missing(runs, start);
+                let begin = next + start as u64;
+                let stop = end.min(next + missing as u64);
+                if begin < stop {
+                    Some((begin, stop))
+                } else {
+                    None
+                }
+            }
+            None => None,
+        }
+    }
+
+    /// Returns the first offset of a held byte from `offset` on.
+    fn first_held(&self, runs: &[Run], offset: usize) -> Option<usize>
+        requires { HasSoundRuns self.now.held runs.now }
+        ensures { TellsFirst (set_of self.now.held runs.now) offset result }
+    {
+        let (missing, after) = self.held.next_hole(runs, offset);
+        if missing > offset {
+            return Some(offset);
+        }
+        after
     }
 
     /// Returns how many bytes of a segment of `len` bytes at `position` would be new, where the

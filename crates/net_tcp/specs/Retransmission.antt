@@ -6,7 +6,9 @@
 --     doubled b t      the timeout after it passed
 --     after_acknowledgement b sent now t      what an acknowledgement leaves
 --     IsSettled r e      SRTT is the sample r, and RTTVAR less than a microsecond
---     first_wait e, allowance delay alone      how long the first probe waits, and how much longer if a segment is alone
+--     first_wait e, allowance delay alone prompt      how long the first probe waits, and how much longer if a segment is alone
+--     prompt_wait delay e      how long it does then if none is expected to be late
+--     prompt_after delay r t      how many samples in a row weren't late, after one more
 --     restarted delay alone now t, waiting now t, started now t, stopped t      it runs from now on; so without a probe; that
 --         unless it runs; it doesn't run
 --     running delay alone new now t, hastened now t      what sending leaves; a probe is due two round trips from now
@@ -90,9 +92,12 @@ abbrev pub first_wait : Option Estimate → ℕ
 first_wait None = no_wait
 first_wait (Some e) = max (min (2 * (e.srtt_8 / 8)) (2 ^ 64 - 1)) 2000
 
--- how long the acknowledgement of one segment alone may be delayed
-abbrev pub allowance : ℕ → Bool → ℕ
-allowance delay alone = if alone then delay else 0
+-- how long the acknowledgement of one segment alone is expected to be delayed: less if eight samples in a row weren't late
+abbrev pub allowance : ℕ → Bool → ℕ → ℕ
+allowance delay alone prompt = if alone then (if nat_lt prompt 8 then delay else delay / 4) else 0
+
+abbrev pub prompt_wait : ℕ → Option Estimate → ℕ
+prompt_wait delay e = min (first_wait e + allowance delay true 8) (2 ^ 64 - 1)
 
 abbrev pub timer_of : TimerParts → RetransmissionTimer
 timer_of p = record {
@@ -105,6 +110,7 @@ timer_of p = record {
   last = p.last;
   timeouts = p.timeouts;
   reports = p.reports;
+  prompt = p.prompt;
 }
 
 abbrev pub parts_of : RetransmissionTimer → TimerParts
@@ -118,6 +124,7 @@ parts_of t = record {
   last = t.last;
   timeouts = t.timeouts;
   reports = t.reports;
+  prompt = t.prompt;
 }
 
 -- it doesn't run, and no segment is timed
@@ -132,14 +139,20 @@ new_timer t reports = record {
   last = 0;
   timeouts = 0;
   reports = reports;
+  prompt = 0;
 }
+
+-- a sample of one segment alone is late if a probe comes before it that doesn't expect that; another one changes nothing
+abbrev pub prompt_after : ℕ → ℕ → RetransmissionTimer → ℕ
+prompt_after delay r t =
+    if t.is_alone then (if nat_le r (prompt_wait delay t.timeout.estimate) then min (t.prompt + 1) 8 else 0) else t.prompt
 
 -- the timeout from now on it ends; a probe is due two round trips from now on, and later if one segment is alone
 abbrev pub restarted : ℕ → Bool → ℤ → RetransmissionTimer → RetransmissionTimer
 restarted delay alone now t = record t {
   ends_at = Some (moment_after now t.timeout.timeout);
-  wait = min (first_wait t.timeout.estimate + allowance delay alone) (2 ^ 64 - 1);
-  probe_at = moment_after now (min (first_wait t.timeout.estimate + allowance delay alone) (2 ^ 64 - 1));
+  wait = min (first_wait t.timeout.estimate + allowance delay alone t.prompt) (2 ^ 64 - 1);
+  probe_at = moment_after now (min (first_wait t.timeout.estimate + allowance delay alone t.prompt) (2 ^ 64 - 1));
   is_alone = alone;
 }
 
@@ -203,7 +216,10 @@ after_sending b pos end first sent now t =
 -- a segment that was sent once has arrived
 abbrev pub with_sample_of : TimeoutBounds → ℤ → Option TimedSegment → RetransmissionTimer → RetransmissionTimer
 with_sample_of b now None t = t
-with_sample_of b now (Some s) t = untimed (record t { timeout = after_sample b (elapsed now s.since) t.timeout })
+with_sample_of b now (Some s) t = untimed (record t {
+  timeout = after_sample b (elapsed now s.since) t.timeout;
+  prompt = prompt_after b.ack_delay (elapsed now s.since) t;
+})
 
 -- the timed segment has arrived
 abbrev pub with_sample : TimeoutBounds → ℤ → RetransmissionTimer → RetransmissionTimer
@@ -259,11 +275,12 @@ has_ended t now = is_due now t.ends_at
 abbrev pub expiry : RetransmissionTimer → ℤ → Option Expiry
 expiry t now = if has_expired t now then (if has_ended t now then Some Timeout else Some Probe) else None
 
--- a probe doubles only the wait for the next one
+-- a probe doubles only the wait for the next one, and one more sample is wanted that isn't late
 abbrev pub probed : ℤ → RetransmissionTimer → RetransmissionTimer
 probed now t = record t {
   wait = min (2 * t.wait) (2 ^ 64 - 1);
   probe_at = moment_after now (min (2 * t.wait) (2 ^ 64 - 1));
+  prompt = min t.prompt 7;
 }
 
 -- (5.5), (5.6): where the timeout has passed, it is doubled, and the timer is started again. What was on the way is

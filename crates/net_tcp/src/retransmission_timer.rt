@@ -4,6 +4,7 @@ ghost use Rattle.net_tcp.specs.Retransmission.{new_timer, restarted, started, st
 ghost use Rattle.net_tcp.specs.Retransmission.{after_sending, with_sample, after_acknowledged, has_expired, has_ended};
 ghost use Rattle.net_tcp.specs.Retransmission.{after_report, after_expiry, expiry, expires_at, first_wait, allowance};
 ghost use Rattle.net_tcp.specs.Retransmission.{timer_of, parts_of, running, probed, timed_out, waiting, after_news, sampled_below};
+ghost use Rattle.net_tcp.specs.Retransmission.{prompt_after, prompt_wait};
 
 use crate::retransmission::{RetransmissionTimeout, RttEstimate, TimeoutBounds};
 use net_base::time::{Duration, Instant};
@@ -12,6 +13,9 @@ use std::ops::Range;
 
 /// The least time without an answer after which a probe is sent, in microseconds.
 const LEAST_WAIT: u64 = 2_000;
+
+/// After so many segments alone in a row whose acknowledgements weren't late, that of the next isn't expected to be.
+const PROMPT: u64 = 8;
 
 /// What is due where a timer has expired.
 #[derive(Copy, Clone, Debug, PartialEq, Eq, Hash)]
@@ -52,6 +56,8 @@ pub struct TimerParts {
     pub timeouts: u64,
     /// Whether the peer reports blocks.
     pub reports: bool,
+    /// How many samples in a row of one segment alone weren't late, up to 8.
+    pub prompt: u64,
 }
 
 /// The timer of retransmissions, by the rules of RFC 6298, section 5, and the one segment that is timed
@@ -62,7 +68,9 @@ pub struct TimerParts {
 /// round trips (RFC 8985, section 7), and again after twice that time (RFC 9002, section 6.2). Before the first sample
 /// there is none, nor after a timeout until something new is acknowledged or reported, nor if the peer reports no blocks:
 /// it couldn't answer. Where at most one segment is on the way, its acknowledgement may be delayed, and a probe waits
-/// longer by `ack_delay`, until a second segment is sent.
+/// longer by `ack_delay`, until a second segment is sent. If 8 samples in a row of one segment alone weren't late, it waits
+/// longer by a quarter of that: a sample is late if such a probe would have come before it. A late one ends that, and after
+/// a probe one more that isn't late is wanted.
 ///
 /// Positions and calls are those of a sender. The timer runs while something that was sent isn't
 /// acknowledged; `start` also starts it where something else is waited for, as a window that opens. Then it
@@ -80,6 +88,7 @@ pub struct RetransmissionTimer {
     last: u64,
     timeouts: u64,
     reports: bool,
+    prompt: u64,
 }
 
 impl RetransmissionTimer {
@@ -99,6 +108,7 @@ impl RetransmissionTimer {
             last: 0,
             timeouts: 0,
             reports,
+            prompt: 0,
         }
     }
 
@@ -117,6 +127,7 @@ impl RetransmissionTimer {
             last: parts.last,
             timeouts: parts.timeouts,
             reports: parts.reports,
+            prompt: parts.prompt,
         }
     }
 
@@ -136,6 +147,7 @@ impl RetransmissionTimer {
             last: self.last,
             timeouts: self.timeouts,
             reports: self.reports,
+            prompt: self.prompt,
         }
     }
 
@@ -213,8 +225,8 @@ impl RetransmissionTimer {
     /// If no segment is timed, one of which nothing was sent before is then. One that was timed is no
     /// longer if it is sent again: which of the copies an acknowledgement is for is not known (Karn).
     ///
-    /// Where nothing else is on the way, the probe waits longer by `ack_delay`. The second segment that has something new
-    /// brings it to two round trips from `now`.
+    /// Where nothing else is on the way, the probe waits longer by `ack_delay`, or by a quarter of it. The second segment that
+    /// has something new brings it to two round trips from `now`.
     pub fn sent(
         &mut self,
         bounds: TimeoutBounds,
@@ -277,11 +289,36 @@ impl RetransmissionTimer {
         match self.timed {
             Some(segment) => {
                 let time = now.saturating_duration_since(segment.since);
+                self.prompt = self.prompt_after(bounds.ack_delay, time);
                 self.timeout.take_sample(bounds, time);
                 self.timed = None;
             }
             None => {}
         }
+    }
+
+    /// Returns how many segments alone in a row weren't acknowledged late, after one more sample.
+    fn prompt_after(&self, ack_delay: Duration, time: Duration) -> u64
+        ensures { result ≡ prompt_after ack_delay time self.now }
+    {
+        if !self.is_alone {
+            self.prompt
+        } else if time <= self.prompt_wait(ack_delay) {
+            self.prompt.saturating_add(1).min(PROMPT)
+        } else {
+            0
+        }
+    }
+
+    /// Returns how long the first probe of a segment alone waits whose acknowledgement isn't expected to be late.
+    fn prompt_wait(&self, ack_delay: Duration) -> Duration
+        ensures { result ≡ prompt_wait ack_delay self.now.timeout.estimate }
+    {
+        Duration::from_micros(
+            first_wait(self.timeout.rtt())
+                .total_micros()
+                .saturating_add(allowance(ack_delay, true, PROMPT)),
+        )
     }
 
     /// Takes an acknowledgement of all positions below `next`: the sample of the timed segment, if that
@@ -375,10 +412,11 @@ impl RetransmissionTimer {
         self.wait_for_timeout(now);
     }
 
-    /// Has the next probe wait twice as long.
+    /// Has the next probe wait twice as long, and one more sample be wanted that isn't late.
     fn probe(&mut self, now: Instant)
         ensures { self.new ≡ probed now self.old }
     {
+        self.prompt = self.prompt.min(PROMPT - 1);
         self.wait = self.wait.saturating_mul(2);
         self.probe_at = now.saturating_add(self.wait);
     }
@@ -411,7 +449,7 @@ impl RetransmissionTimer {
         self.ends_at = Some(now.saturating_add(self.timeout.timeout()));
         self.wait = Duration::from_micros(
             wait.total_micros()
-                .saturating_add(allowance(ack_delay, is_alone)),
+                .saturating_add(allowance(ack_delay, is_alone, self.prompt)),
         );
         self.probe_at = now.saturating_add(self.wait);
         self.is_alone = is_alone;
@@ -438,14 +476,16 @@ impl RetransmissionTimer {
     }
 }
 
-/// Returns how long the acknowledgement of a segment that is alone may be delayed, in microseconds.
-fn allowance(ack_delay: Duration, is_alone: bool) -> u64
-    ensures { result ≡ allowance ack_delay is_alone }
+/// Returns how long the acknowledgement of a segment that is alone is expected to be delayed, in microseconds.
+fn allowance(ack_delay: Duration, is_alone: bool, prompt: u64) -> u64
+    ensures { result ≡ allowance ack_delay is_alone prompt }
 {
-    if is_alone {
+    if !is_alone {
+        0
+    } else if prompt < PROMPT {
         ack_delay.total_micros()
     } else {
-        0
+        ack_delay.total_micros() / 4
     }
 }
 

@@ -13,11 +13,13 @@
 pub mod net_ring;
 pub mod net_packets;
 pub mod net_assembler;
+pub mod net_split_ring;
 pub mod net_numbers;
 pub mod net_receiver;
 pub mod net_base;
 pub mod net_tcp;
 pub mod net_recovery;
+pub mod net_ends;
 #[cfg(feature = "c")]
 #[allow(missing_docs)]
 pub mod net_ffi;

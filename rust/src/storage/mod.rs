@@ -15,7 +15,8 @@ pub use crate::proved::net_base::storage::fragments::table as fragment_table;
 pub use crate::proved::net_base::storage::{FragmentBuffer, FragmentError, FragmentsOver};
 pub use crate::proved::net_packets::{PacketBuffer, PacketMetadata, PacketsOver};
 pub use crate::proved::net_ring::ring_buffer::Iter;
-pub use crate::proved::net_ring::{Empty, Full, Resettable, RingBuffer, RingOver, Storage};
+pub use crate::proved::net_ring::{Empty, Full, Resettable, RingBuffer, RingOver, Span, Storage};
+pub use crate::proved::net_split_ring::{SplitCounts, SplitSpan};
 
 impl From<TooManyHolesError> for FragmentError {
     fn from(_error: TooManyHolesError) -> Self {

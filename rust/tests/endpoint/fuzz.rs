@@ -23,6 +23,7 @@ struct Model {
     read: i64,
     promised: i64,
     end: Option<i64>,
+    is_complete: bool,
     has_read_all: bool,
     /// What it has written, and the numbers of it that it sent and that were acknowledged.
     written: i64,
@@ -56,6 +57,7 @@ impl Model {
             read: 0,
             promised: capacity.min(0xffff) as i64,
             end: None,
+            is_complete: false,
             has_read_all: false,
             written: 0,
             closed: false,
@@ -115,7 +117,12 @@ impl Model {
         let first = (1u64 << 32) + u64::from(PEER) + 1;
         let held = held.map(|run| ((run.0 - first) as u32, (run.1 - first) as u32));
         let held = held.collect::<Vec<_>>();
-        assert!(packet.blocks().iter().all(|block| held.contains(block)), "blocks");
+        // The first block can be of what came twice.
+        let (blocks, next) = (packet.blocks(), self.next() as u32);
+        let is_within =
+            |(start, end)| held.iter().any(|run: &(u32, u32)| run.0 <= start && end <= run.1);
+        assert!(blocks.first().is_none_or(|block| block.1 <= next || is_within(*block)), "twice");
+        assert!(blocks.iter().skip(1).all(|block| held.contains(block)), "blocks");
     }
 
     fn judge_all(&mut self, said: &[Packet]) {
@@ -212,10 +219,17 @@ impl Model {
         let receiver = self.talk.endpoint.receiving.receiver();
         let first = (1u64 << 32) + u64::from(PEER) + 1;
         let end = receiver.end().map(|end| (end - first) as i64);
-        assert!(self.end.is_none() || self.end == end, "a known end stays");
+        let (was_complete, is_complete) = (self.is_complete, receiver.is_complete());
+        let moves = !was_complete && is_complete;
+        assert!(
+            self.end.is_none() || self.end == end || moves,
+            "an end stays, or one in order comes"
+        );
+        assert!(is_complete || !was_complete);
         assert!(end.is_none_or(|end| self.read <= end), "bytes after the end");
         assert!(receiver.has_read_all() || !self.has_read_all);
-        (self.end, self.has_read_all) = (end, receiver.has_read_all());
+        (self.end, self.is_complete) = (end, is_complete);
+        self.has_read_all = receiver.has_read_all();
     }
 
     fn write(&mut self) {

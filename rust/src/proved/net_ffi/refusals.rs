@@ -4,6 +4,7 @@ use crate::proved::net_assembler::Run;
 use crate::proved::net_assembler::width::most;
 use crate::proved::net_receiver::HeldRun;
 use crate::proved::net_ring::Span;
+use crate::proved::net_split_ring::SplitSpan;
 
 pub type Status = u32;
 
@@ -60,6 +61,14 @@ pub fn refused_span() -> Span {
         from: no_number(),
         count: 0,
         contiguous: 0,
+    }
+}
+
+#[inline(never)]
+pub fn refused_split_span(next: usize) -> SplitSpan {
+    SplitSpan {
+        span: refused_span(),
+        next,
     }
 }
 

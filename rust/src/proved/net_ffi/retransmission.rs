@@ -48,6 +48,7 @@ pub struct RetransmissionTimer {
     pub last: u64,
     pub timeouts: u64,
     pub reports: u64,
+    pub prompt: u64,
 }
 
 #[inline(always)]
@@ -131,6 +132,7 @@ fn timer_from(fields: &RetransmissionTimer) -> crate::proved::net_tcp::Retransmi
         last: fields.last,
         timeouts: fields.timeouts,
         reports: fields.reports != 0,
+        prompt: fields.prompt,
     })
 }
 
@@ -212,6 +214,7 @@ fn fields_of_timer(timer: crate::proved::net_tcp::RetransmissionTimer) -> Retran
         last: parts.last,
         timeouts: parts.timeouts,
         reports: flag_of(parts.reports),
+        prompt: parts.prompt,
     }
 }
 

@@ -116,15 +116,67 @@ impl<S: Storage<u8>, const N: usize> FiniteReceiverOver<S, N> {
     /// the bytes there are, and the sender sends it again. An end without bytes at the first missing
     /// position is taken even if nothing is free.
     ///
+    /// An end in order is never refused: that of a last segment which begins at or below the first missing
+    /// position, and ends at or above it and within the free window, while something is missing. What was held
+    /// beyond the queue goes then, and so does an end that was known and isn't reached: a peer's true end is
+    /// taken, whatever came before it. TCP wants that. A QUIC stream has one final size, so its receiver asks
+    /// `can_end` first.
+    ///
+    /// ```
+    /// # use net_base::finite::{FiniteError, FiniteReceiver};
+    /// # let mut storage = [0u8; 16];
+    /// # let mut receiver = FiniteReceiver::<4>::empty_at(&mut storage[..], 0);
+    /// assert!(receiver.keep(0, b"abc", false).is_ok());
+    /// assert!(receiver.keep(9, b"forged", true).is_ok());
+    /// assert_eq!(receiver.keep(4, b"e", true), Err(FiniteError::OtherEnd));
+    /// assert!(receiver.keep(3, b"d", true).is_ok());
+    /// assert_eq!((receiver.end(), receiver.is_complete()), (Some(4), true));
+    /// ```
+    ///
     /// # Errors
     ///
-    /// `OtherEnd` if the segment says that the stream ends where it can't (`can_end`), else
+    /// `OtherEnd` if the segment says that the stream ends where it can't (`can_end`), and not in order; else
     /// `TooManyHoles` if its bytes are refused. Then nothing changes.
     ///
     /// # [Guarantees](crate#guarantees)
     ///
+    /// - if `is_last` and `ends_in_order(old(self), pos, pos + bytes.len())`, then `result.is_ok()`
     /// - `old(self).acknowledged() <= self.acknowledged()`
     pub fn keep(&mut self, pos: u64, bytes: &[u8], is_last: bool) -> Result<KeptBytes, FiniteError> {
+        // A sum above 64 bits becomes `u64::MAX`, where no stream ends.
+        let last = pos.saturating_add(bytes.len() as u64);
+        if is_last && self.ends_in_order(pos, last) {
+            self.keep_queue_alone();
+        }
+        self.keep_usual(pos, bytes, is_last)
+    }
+
+    /// Returns whether a last segment from `pos` to `last` ends the stream in order, while something is
+    /// missing.
+    #[inline]
+    fn ends_in_order(&self, pos: u64, last: u64) -> bool {
+        let next = self.receiver.next();
+        pos <= next
+            && next <= last
+            && is_reached(next, self.receiver.window(), last)
+            && last < NO_END
+            && !self.is_complete()
+    }
+
+    /// Lets go of what is held, and of the end.
+    #[inline]
+    fn keep_queue_alone(&mut self) {
+        self.receiver.release_held();
+        self.after_end = 0;
+    }
+
+    /// Keeps a segment by what the receiver has.
+    fn keep_usual(
+        &mut self,
+        pos: u64,
+        bytes: &[u8],
+        is_last: bool,
+    ) -> Result<KeptBytes, FiniteError> {
         // A sum above 64 bits becomes `u64::MAX`, which `can_end` refuses.
         let last = pos.saturating_add(bytes.len() as u64);
         if is_last && !self.can_end(last) {

@@ -127,6 +127,43 @@ impl FiniteReceiverHead {
         bytes: &[u8],
         is_last: bool,
     ) -> Result<KeptBytes, FiniteError> {
+        // A sum above 64 bits becomes `u64::MAX`, where no stream ends.
+        let last = pos.saturating_add(bytes.len() as u64);
+        if is_last && self.ends_in_order(storage.len(), pos, last) {
+            self.keep_queue_alone();
+        }
+        self.keep_usual(storage, runs, pos, bytes, is_last)
+    }
+
+    /// Returns whether a last segment from `pos` to `last` ends the stream in order, while something is
+    /// missing.
+    #[inline]
+    fn ends_in_order(&self, capacity: usize, pos: u64, last: u64) -> bool {
+        let next = self.receiver.next();
+        pos <= next
+            && next <= last
+            && is_reached(next, self.receiver.window(capacity), last)
+            && last < NO_END
+            && !self.is_complete()
+    }
+
+    /// Lets go of what is held, and of the end.
+    #[inline]
+    fn keep_queue_alone(&mut self) {
+        self.receiver.release_held();
+        self.after_end = 0;
+    }
+
+    /// Keeps a segment by what the receiver has.
+    #[inline]
+    fn keep_usual(
+        &mut self,
+        storage: &mut [u8],
+        runs: &mut [Run],
+        pos: u64,
+        bytes: &[u8],
+        is_last: bool,
+    ) -> Result<KeptBytes, FiniteError> {
         // A sum above 64 bits becomes `u64::MAX`, which `can_end` refuses.
         let last = pos.saturating_add(bytes.len() as u64);
         if is_last && !self.can_end(runs, last) {

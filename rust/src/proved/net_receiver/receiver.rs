@@ -209,6 +209,12 @@ impl<S: Storage<u8>, const N: usize> ReceiverOver<S, N> {
         self.head.keep(storage, &mut self.runs, pos, bytes)
     }
 
+    /// Lets go of the held runs.
+    #[inline]
+    pub(crate) fn release_held(&mut self) {
+        self.head.release_held();
+    }
+
     /// Moves bytes from the head of the queue to the beginning of `into`, and returns how many: as
     /// many as are queued and as `into` has room for. The rest of `into` stays as it is.
     ///
@@ -510,6 +516,26 @@ impl<S: Storage<u8>, const N: usize> ReceiverOver<S, N> {
             .head
             .newest_runs(&self.runs, position, recent, &mut runs);
         NewestRunIter::over(runs, count)
+    }
+
+    /// Returns what of a segment of `len` bytes at `pos` was kept before, as a start and an end, the end not
+    /// included: what is below `next`, or else the first part that is held. `None` if all of it is new. It is
+    /// asked before the segment is kept. TCP reports such a part once, as the first block of the next
+    /// acknowledgement (RFC 2883): it is below what is acknowledged, or within a held run. smoltcp has no such
+    /// call.
+    ///
+    /// ```
+    /// # use net_base::receiver::Receiver;
+    /// # let mut storage = [0u8; 16];
+    /// # let mut receiver = Receiver::new(&mut storage[..]);
+    /// assert!(receiver.keep(0, b"abc").is_ok() && receiver.keep(6, b"ghi").is_ok());
+    /// assert_eq!(receiver.duplicate_of(1, 4), Some((1, 3)));
+    /// assert_eq!((receiver.duplicate_of(4, 3), receiver.duplicate_of(3, 3)), (Some((6, 7)), None));
+    /// ```
+    #[must_use]
+    pub fn duplicate_of(&self, pos: u64, len: usize) -> Option<(u64, u64)> {
+        let count = count_existing(pos, len);
+        self.head.duplicate_of(&self.runs, pos, pos + count as u64)
     }
 
     /// Returns how many bytes of a segment of `len` bytes at `position` would be new: those in the

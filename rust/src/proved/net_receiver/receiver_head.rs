@@ -53,6 +53,12 @@ impl ReceiverHead {
         *self = ReceiverHead::new(first);
     }
 
+    /// Lets go of the held runs.
+    #[inline]
+    pub(crate) fn release_held(&mut self) {
+        self.held = AssemblerHead::new();
+    }
+
     /// Returns whether this head, a storage of `capacity` bytes and runs are sound: `place` is that
     /// of a ring of the storage, whose `read_at` is `count_read` modulo the capacity; the first
     /// missing position fits 64 bits; `held` and the runs are those of an assembler without
@@ -366,6 +372,51 @@ impl ReceiverHead {
             }
             None => None,
         }
+    }
+
+    /// Returns what of the positions from `pos` on and below `end` came before, as
+    /// `ReceiverOver::duplicate_of` does.
+    ///
+    /// # Requires
+    ///
+    /// Head and runs are sound, as `is_sound` tests, with a storage of some length.
+    pub(crate) fn duplicate_of(&self, runs: &[Run], pos: u64, end: u64) -> Option<(u64, u64)> {
+        let next = self.next();
+        let start = pos.max(self.first);
+        let stop = end.min(next);
+        if start < stop {
+            return Some((start, stop));
+        }
+        self.held_part(runs, pos.max(next), end)
+    }
+
+    /// Returns the first of the positions from `from` on and below `end` that are held, up to the end of
+    /// their run.
+    fn held_part(&self, runs: &[Run], from: u64, end: u64) -> Option<(u64, u64)> {
+        let next = self.next();
+        let offset = (from - next).min(most() as u64) as usize;
+        match self.first_held(runs, offset) {
+            Some(start) => {
+                let missing = self.held.first_missing(runs, start);
+                let begin = next + start as u64;
+                let stop = end.min(next + missing as u64);
+                if begin < stop {
+                    Some((begin, stop))
+                } else {
+                    None
+                }
+            }
+            None => None,
+        }
+    }
+
+    /// Returns the first offset of a held byte from `offset` on.
+    fn first_held(&self, runs: &[Run], offset: usize) -> Option<usize> {
+        let (missing, after) = self.held.next_hole(runs, offset);
+        if missing > offset {
+            return Some(offset);
+        }
+        after
     }
 
     /// Returns how many bytes of a segment of `len` bytes at `position` would be new, where the

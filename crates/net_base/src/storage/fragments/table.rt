@@ -28,7 +28,7 @@ ghost use Rattle.std.specs.Prelude.{IsNone, IfOk, IfSome, OnErr, OnOk, Ok, Err, 
 ghost use Rattle.std.specs.declared.option.Option.TheVariants.{Some, None};
 ghost use Rattle.std.specs.List.{position, AllZip};
 ghost use Rattle.net_base.specs.Fragments.{IsComplete, begun, empty, is_for, ExpiresFirst, IsSlotFor, Accepts};
-ghost use Rattle.net_base.specs.Fragments.{buffer_for, key_for, refusal_of};
+ghost use Rattle.net_base.specs.Fragments.{buffer_for, key_for, refusal_of, is_overdue};
 
 use super::{FragmentError, FragmentsOver};
 use crate::time::Instant;
@@ -149,6 +149,13 @@ impl<K: Copy + Eq, B: Storage<u8>, const N: usize> FragmentSlot<K, B, N> {
             Ok(()) => Ok(at),
             Err(error) => Err(refusal(error)),
         }
+    }
+
+    /// Returns whether the slot is for a packet that is waited for up to a moment before `now`.
+    fn is_overdue(&self, now: Instant) -> bool
+        ensures { result ≡ is_overdue now self.now.key self.now.buffer.expires_at }
+    {
+        self.key.is_some() && self.buffer.is_expired(now)
     }
 
     /// Frees the slot if its packet is waited for up to a moment before `now`.
@@ -345,7 +352,63 @@ fn first_to_expire<K: Copy + Eq, B: Storage<u8>, const N: usize>(
     first
 }
 
-/// Frees the slots of packets that are waited for up to a moment before `now`.
+/// Frees the first slot for a packet that is waited for up to a moment before `now`, and returns it with the packet's
+/// key: until the slot is claimed again, `get` of its buffer shows what arrived, for a message to the packet's source.
+/// smoltcp frees all such slots at once and says of none, as `remove_expired` does.
+///
+/// `None`, and nothing changes, exactly if there is no such slot.
+///
+/// ```
+/// use net_base::storage::fragment_table::{accept, take_expired, FragmentSlot};
+/// use net_base::time::Instant;
+///
+/// let mut bytes = [0u8; 8];
+/// let mut slots = [FragmentSlot::<_, _, 4>::over(&mut bytes[..])];
+/// let until = Instant::from_secs(60);
+/// assert_eq!(accept(&mut slots, ("10.0.0.1", 7), 0, b"abcd", false, until), Ok(0));
+/// assert_eq!(take_expired(&mut slots, until), None);
+/// assert_eq!(take_expired(&mut slots, Instant::from_secs(61)), Some((0, ("10.0.0.1", 7))));
+/// assert_eq!(slots[0].buffer.get(0, 4), Some(&b"abcd"[..]));
+/// assert_eq!(take_expired(&mut slots, Instant::from_secs(61)), None);
+/// ```
+#[must_use]
+pub fn take_expired<K: Copy + Eq, B: Storage<u8>, const N: usize>(
+    slots: &mut [FragmentSlot<K, B, N>],
+    now: Instant,
+) -> Option<(usize, K)>
+    ensures none { IsNone result ↔
+        (position (λ s. is_overdue now s.key s.buffer.expires_at) slots.old ≡ None) }
+    ensures found { IfSome result (λ r.
+        position (λ s. is_overdue now s.key s.buffer.expires_at) slots.old ≡ Some r.0) }
+    ensures key { IfSome result (λ r. (s : _) → slice_get slots.old r.0 ≡ Some s → s.key ≡ Some r.1) }
+    ensures freed { IfSome result (λ r. (s : _) → slice_get slots.old r.0 ≡ Some s →
+        slots.new ≡ set slots.old r.0 (record { key = None; buffer = s.buffer })) }
+    ensures unchanged { IsNone result → slots.new ≡ slots.old }
+{
+    let at = find_overdue(slots, now)?;
+    let key = slots[at].key?;
+    slots[at].key = None;
+    Some((at, key))
+}
+
+/// Returns the first slot for a packet that is waited for up to a moment before `now`.
+fn find_overdue<K: Copy + Eq, B: Storage<u8>, const N: usize>(
+    slots: &[FragmentSlot<K, B, N>],
+    now: Instant,
+) -> Option<usize>
+    ensures first { result ≡ position (λ s. is_overdue now s.key s.buffer.expires_at) slots.now }
+    ensures within { IfSome result (λ at. at < length slots.now) }
+{
+    for at in 0..slots.len() {
+        if slots[at].is_overdue(now) {
+            return Some(at);
+        }
+    }
+    None
+}
+
+/// Frees the slots of packets that are waited for up to a moment before `now`, as `take_expired` does one after
+/// another.
 pub fn remove_expired<K: Copy + Eq, B: Storage<u8>, const N: usize>(
     slots: &mut [FragmentSlot<K, B, N>],
     now: Instant,

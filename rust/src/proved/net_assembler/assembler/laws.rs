@@ -10,6 +10,10 @@
 /// down or up.
 pub fn members() {}
 
+/// States that the first missing position from any position on is the least one from there on that
+/// is not in the set.
+pub fn first_missing() {}
+
 /// States that the front of a set is the least position that is not in it.
 pub fn front() {}
 

@@ -293,6 +293,30 @@ impl<B: Storage<u8>, const N: usize> FragmentsOver<B, N> {
         }
     }
 
+    /// Shows the `len` bytes of the packet from `offset` on, whether the packet is whole or not. `None` exactly if
+    /// they aren't within the buffer or one of them is missing.
+    ///
+    /// A message that a packet was given up (RFC 792's "time exceeded") has its first bytes. smoltcp has no such call.
+    ///
+    /// ```
+    /// # use net_base::storage::{FragmentBuffer, FragmentError};
+    /// # use net_base::time::Instant;
+    /// # let mut bytes = [0u8; 8];
+    /// # let mut buffer = FragmentBuffer::new(&mut bytes[..], Instant::ZERO);
+    /// buffer.add(2, b"cdef")?;
+    /// assert_eq!(buffer.get(3, 2), Some(&b"de"[..]));
+    /// assert_eq!((buffer.get(1, 2), buffer.get(5, 2)), (None, None));
+    /// # Ok::<(), FragmentError>(())
+    /// ```
+    #[must_use]
+    pub fn get(&self, offset: usize, len: usize) -> Option<&[u8]> {
+        let count = self.bytes.count();
+        if offset > count || len > count - offset || !self.head.has(&self.runs, offset, len) {
+            return None;
+        }
+        Some(self.bytes.part(offset, offset + len))
+    }
+
     /// Returns whether `now` is after the moment up to which the packet is waited for.
     ///
     /// ```

@@ -1,95 +1,64 @@
-use Rattle.std.proofs.Common.{ℕ, List, cond, is_ok}
-use Rattle.net_receiver.specs.{end_with, bytes_end, with_error, finite_result}
-use Rattle.net_receiver.proofs.FiniteReceivers.{no_other_at, end_after_at, cut_is, left_state, left_result, sound_after}
-use Rattle.net_receiver.proofs.FiniteReceivers.{segment_of_stream, finite_reads_nothing, one_acknowledged}
-use Rattle.net_receiver.proofs.Words.{◌≡◌, ◌⊎◌, ◌+◌, ◌-◌, ◌≤◌, ◌∙◌, ap, subst, sym, inl, inr, length, take, min}
-use Rattle.net_receiver.proofs.Words.{false, true, Ok, FiniteState, IsSoundEnd, acknowledged}
-use Rattle.net_receiver.proofs.Words.{ReceivesFinite, Arrives, can_end, has_other_end, below_end, end_after, Segment}
-use Rattle.net_receiver.proofs.Words.{finite_after, receiver_after_command, numbers, verdict, piece, KeptBytes}
+use Rattle.net_receiver.specs.{FiniteState, before_segment, usual_after, usual_result}
+use Rattle.net_receiver.proofs.FiniteReceivers.{met_alone, met_same, met_of_stream, met_acknowledged, accepted_in_order}
+use Rattle.net_receiver.proofs.FiniteReceivers.{finite_reads_nothing}
+use Rattle.std.specs.Prelude.{IsOk}
+use Rattle.net_receiver.proofs.Words.{◌≡◌, ◌∙◌, ◌+◌, ap, subst, sym, inl, inr, length, arith, acknowledged, ReceivesFinite}
 use Rattle.net_receiver.proofs.finite_receiver.FiniteReceiverOver.keep.Given as given
 use Rattle.net_receiver.proofs.finite_receiver.FiniteReceiverOver.keep.Goals as goal
-use Rattle.net_receiver.proofs.finite_receiver.FiniteReceiverOver.keep.Goals.{else-is_last-via-then-is_last+else-not-can_end}
-use Rattle.net_receiver.proofs.finite_receiver.FiniteReceiverOver.keep.Goals.{else-is_last-via-else-is_last}
-use Rattle.net_receiver.proofs.finite_receiver.FiniteReceiverOver.keep.Goals.{After-keep_part}
+use Rattle.net_receiver.proofs.finite_receiver.FiniteReceiverOver.keep.Goals.{then-is_last+then-ends_in_order, else-is_last}
+use Rattle.net_receiver.proofs.finite_receiver.FiniteReceiverOver.keep.Goals.{else-is_last-via-then-is_last+else-ends_in_order}
+use Rattle.net_receiver.proofs.finite_receiver.FiniteReceiverOver.keep.Goals.{else-is_last-via-else-is_last, After-keep_usual}
 
--- the segment isn't refused for its end, and its bytes below the end are given to the receiver
-module _ (g : given.Over) (c : After-keep_part g) where
-  ends : (c.args.is_last ≡ false) ⊎ (can_end c.args.self.now c.saturating_add-last.result ≡ true)
-  ends = elim c.else-is_last.branch [
-    | else-is_last-via-then-is_last+else-not-can_end w ↦ inr (sym w.can_end.ensures ∙ w.if-not-can_end.false)
-    | else-is_last-via-else-is_last w ↦ inl w.if-is_last.false
+-- what the segment meets
+module _ (g : given.Over) (c : After-keep_usual g) where
+  abbrev met : FiniteState
+  met = before_segment c.args.self.now c.args.pos (c.args.pos + length c.args.bytes.now) c.args.is_last
+
+  met_is : c.if-is_last.self ≡ met
+  met_is = elim c.if-is_last.branch [
+    | then-is_last+then-ends_in_order w ↦
+        w.self-is ∙ w.keep_queue_alone.ensures
+        ∙ sym (met_alone c.args.self.now c.args.pos _ c.saturating_add-last.result c.args.is_last c.saturating_add-last.ensures w.if-is_last.true (sym w.ends_in_order.ensures ∙ w.if-ends_in_order.true))
+    | else-is_last w ↦
+        w.self-is
+        ∙ sym (met_same c.args.self.now c.args.pos _ c.saturating_add-last.result c.args.is_last c.saturating_add-last.ensures
+        (elim w.else-is_last.branch [
+          | else-is_last-via-then-is_last+else-ends_in_order w' ↦ inr (sym w'.ends_in_order.ensures ∙ w'.if-ends_in_order.false)
+          | else-is_last-via-else-is_last w' ↦ inl w'.if-is_last.false
+        ]))
   ]
 
-  other : has_other_end c.args.self.now (c.args.pos + length c.args.bytes.now) c.args.is_last ≡ false
-  other = no_other_at c.args.self.now _ c.saturating_add-last.result c.args.is_last c.saturating_add-last.ensures ends
+  state : c.keep_usual.new.self ≡ usual_after g.row.N met c.args.pos c.args.bytes.now c.args.is_last
+  state = c.keep_usual.ensures.state ∙ ap (λ t. usual_after g.row.N t c.args.pos c.args.bytes.now c.args.is_last) met_is
 
-  cut : take c.count_below-count.result c.args.bytes.now ≡ below_end c.args.self.now c.args.pos c.args.bytes.now
-  cut =
-      cut_is _ c.count_below-count.result c.args.bytes.now
-      (c.count_below-count.ensures ∙ ap (λ (s : FiniteState). min (length c.args.bytes.now) (bytes_end s - c.args.pos)) c.self-2.view_is)
+  value : c.keep_usual.result ≡ usual_result g.row.N met c.args.pos c.args.bytes.now c.args.is_last
+  value = c.keep_usual.ensures.value ∙ ap (λ t. usual_result g.row.N t c.args.pos c.args.bytes.now c.args.is_last) met_is
 
-  end : end_with c.after_end_with-after_end.result ≡ end_after c.args.self.now (c.args.pos + length c.args.bytes.now) c.args.is_last
-  end = c.after_end_with-after_end.ensures ∙ end_after_at c.args.self.now _ c.saturating_add-last.result c.args.is_last c.saturating_add-last.ensures ends
+pub returns-clause-state : goal.returns-clause-state
+returns-clause-state g c = state g (goal.at.returns-clause-state g c).After-keep_usual
 
-  -- what was there, as the receiver of the bytes has it
-  before : c.self-2.inside.receiver ≡ c.args.self.now.receiver
-  before = ap (λ (s : FiniteState). s.receiver) c.self-2.view_is
+pub returns-clause-value : goal.returns-clause-value
+returns-clause-value g c = value g (goal.at.returns-clause-value g c).After-keep_usual
 
-  abbrev given_bytes : List ℕ
-  given_bytes = take c.count_below-count.result c.args.bytes.now
+pub returns-clause-receives : goal.returns-clause-receives
+returns-clause-receives g c = λ f x r h.
+    let w = (goal.at.returns-clause-receives g c).After-keep_usual in
+    c.keep_usual.ensures.receives f x
+    (subst (ReceivesFinite f x) (sym (met_is g w)) (met_of_stream f x c.args.self.now c.args.pos (c.args.pos + length c.args.bytes.now) c.args.is_last r)) h
 
-  left_bytes : c.keep_part.new.self ≡ receiver_after_command g.row.N c.args.self.now.receiver (Segment c.args.pos given_bytes)
-  left_bytes = c.keep_part.ensures.state ∙ ap (λ v. receiver_after_command g.row.N v (Segment c.args.pos given_bytes)) before
+pub returns-clause-read : goal.returns-clause-read
+returns-clause-read g c =
+    ap (λ (t : FiniteState). t.receiver.read) (state g (goal.at.returns-clause-read g c).After-keep_usual)
+    ∙ finite_reads_nothing g.row.N c.args.self.now c.args.pos c.args.bytes.now c.args.is_last
 
-  counts : c.keep_part.result ≡ numbers c.args.self.now.receiver (verdict g.row.N c.args.self.now.receiver (piece c.args.pos given_bytes))
-  counts = c.keep_part.ensures.counts ∙ ap (λ v. numbers v (verdict g.row.N v (piece c.args.pos given_bytes))) before
+pub returns-clause-in_order : goal.returns-clause-in_order
+returns-clause-in_order g c = λ on order.
+    subst IsOk (sym (value g (goal.at.returns-clause-in_order g c).After-keep_usual))
+    (accepted_in_order g.row.N c.args.self.now c.args.pos c.args.bytes.now c.args.is_last on order)
 
-  left : (e : ℕ) → e ≡ cond (is_ok c.keep_part.result) (end_after c.args.self.now (c.args.pos + length c.args.bytes.now) c.args.is_last) c.args.self.now.end →
-      record { receiver = c.keep_part.new.self; end = e } ≡ finite_after g.row.N c.args.self.now c.args.pos c.args.bytes.now c.args.is_last
-  left e is = left_state g.row.N c.args.self.now _ _ _ other _ cut _ left_bytes _ counts e is
-
-  value : with_error c.keep_part.result ≡ finite_result g.row.N c.args.self.now c.args.pos c.args.bytes.now c.args.is_last
-  value = left_result g.row.N c.args.self.now _ _ _ other _ cut _ left_bytes _ counts
-
-  -- the segment is kept
-  module _ (k : KeptBytes) (is : c.keep_part.result ≡ Ok k) where
-    state_is : record { receiver = c.keep_part.new.self; end = end_with c.after_end_with-after_end.result }
-        ≡ finite_after g.row.N c.args.self.now c.args.pos c.args.bytes.now c.args.is_last
-    state_is = left _ (end ∙ ap (λ r. cond (is_ok r) (end_after c.args.self.now (c.args.pos + length c.args.bytes.now) c.args.is_last) c.args.self.now.end) (sym is))
-
-    was_sound : IsSoundEnd c.args.self.now
-    was_sound = subst IsSoundEnd c.self-2.view_is c.self-2.invariant
-
-    is_sound : IsSoundEnd (record { receiver = c.keep_part.new.self; end = end_with c.after_end_with-after_end.result })
-    is_sound = subst IsSoundEnd (sym state_is) (sound_after g.row.N c.args.self.now c.args.pos c.args.bytes.now c.args.is_last was_sound)
-
-pub invariant_of-self : goal.invariant_of-self
-invariant_of-self g c = is_sound g (goal.at.invariant_of-self g c).After-keep_part c.in-Ok.kept c.in-Ok.is
-
-pub returns-in-Ok : goal.returns-in-Ok
-returns-in-Ok g c =
-    let s = c.args.self.now in
-    let w = (goal.at.returns-in-Ok g c).After-keep_part in
-    let state = state_is g w c.in-Ok.kept c.in-Ok.is in
-    record {
-      state = state;
-      value = ap with_error (sym c.in-Ok.is) ∙ value g w;
-      receives = λ f x r h.
-          subst (ReceivesFinite f x) (sym state) (segment_of_stream g.row.N f x s c.args.pos c.args.bytes.now c.args.is_last r h).1;
-      read =
-          ap (λ (t : FiniteState). t.receiver.read) state
-          ∙ finite_reads_nothing g.row.N s c.args.pos c.args.bytes.now c.args.is_last;
-      grows =
-          subst (λ t. acknowledged s ≤ acknowledged t) (sym state)
-          (one_acknowledged g.row.N s (Arrives c.args.pos c.args.bytes.now c.args.is_last) (was_sound g w c.in-Ok.kept c.in-Ok.is));
-    }
-
-pub returns-in-Err-clause-state : goal.returns-in-Err-clause-state
-returns-in-Err-clause-state g c =
-    let w = (goal.at.returns-in-Err-clause-state g c).After-keep_part in
-    left g w (end_with c.self-2.inside.after_end) (ap (λ (s : FiniteState). s.end) c.self-2.view_is ∙ ap (λ r. cond (is_ok r) (end_after c.args.self.now (c.args.pos + length c.args.bytes.now) c.args.is_last) c.args.self.now.end) (sym c.in-Err.is))
-
-pub returns-in-Err-clause-value : goal.returns-in-Err-clause-value
-returns-in-Err-clause-value g c =
-    let w = (goal.at.returns-in-Err-clause-value g c).After-keep_part in
-    ap with_error (sym c.in-Err.is) ∙ value g w
+pub returns-clause-grows : goal.returns-clause-grows
+returns-clause-grows g c =
+    let w = (goal.at.returns-clause-grows g c).After-keep_usual in
+    let before = met_acknowledged c.args.self.now c.args.pos (c.args.pos + length c.args.bytes.now) c.args.is_last in
+    let same = ap acknowledged (met_is g w) in
+    omega (arith, before, same, c.keep_usual.ensures.grows)

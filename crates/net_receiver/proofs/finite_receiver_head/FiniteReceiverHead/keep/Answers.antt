@@ -1,90 +1,87 @@
-use Rattle.std.proofs.Common.{◌≡◌, ◌⊎◌, ◌+◌, length, take, true, false, inl, inr, refl, sym, subst, ◌∙◌, Ok, Err, ap, cond, ◌&&◌, nat_le}
-use Rattle.net_receiver.specs.{FiniteState, IsSoundEnd, finite_of, end_with, can_end, has_other_end}
-use Rattle.net_receiver.specs.{below_end, end_after}
-use Rattle.net_receiver.proofs.FiniteReceivers.{can_end_is, other_end_is, other_state, other_result, other_stores}
-use Rattle.net_receiver.proofs.FiniteReceivers.{no_other_at, end_after_at, left_state, left_result}
-use Rattle.net_receiver.proofs.FiniteReceivers.{left_storage, sound_after, cut_is, has_sound_end, sound_finite}
-use Rattle.net_receiver.proofs.Heads.{limit_is}
+use Rattle.std.specs.Prelude.{OnErr, IsOk}
+use Rattle.net_receiver.specs.{FiniteState, finite_of, before_segment, usual_after, usual_result, HasSoundFinite}
+use Rattle.net_receiver.specs.FiniteHead.{usual_storage_after}
+use Rattle.net_receiver.proofs.FiniteReceivers.{met_alone, met_same, accepted_in_order, order_is, usual_stored_same, ok_no_err, in_order_at}
+use Rattle.net_receiver.proofs.Words.{◌≡◌, ◌∙◌, ◌+◌, ap, subst, sym, inl, inr, length, List, ℕ}
 use Rattle.net_receiver.proofs.finite_receiver_head.FiniteReceiverHead.keep.Goals as goal
-use Rattle.net_receiver.proofs.finite_receiver_head.FiniteReceiverHead.keep.Goals.{else-is_last-via-then-is_last+else-not-can_end}
-use Rattle.net_receiver.proofs.finite_receiver_head.FiniteReceiverHead.keep.Goals.{else-is_last-via-else-is_last}
-use Rattle.net_receiver.proofs.finite_receiver_head.FiniteReceiverHead.keep.Goals.{After-count_below-count}
-use Rattle.net_receiver.proofs.finite_receiver_head.FiniteReceiverHead.keep.Goals as goal
+use Rattle.net_receiver.proofs.finite_receiver_head.FiniteReceiverHead.keep.Goals.{then-is_last+then-ends_in_order, else-is_last}
+use Rattle.net_receiver.proofs.finite_receiver_head.FiniteReceiverHead.keep.Goals.{else-is_last-via-then-is_last+else-ends_in_order}
+use Rattle.net_receiver.proofs.finite_receiver_head.FiniteReceiverHead.keep.Goals.{else-is_last-via-else-is_last, After-keep_usual}
 
--- the segment isn't refused for its end, and its bytes below the end are given to the receiver
-module _ (c : After-count_below-count) where
+pub keep_usual-requires : goal.keep_usual-requires
+keep_usual-requires c = elim c.if-is_last.branch [
+  | then-is_last+then-ends_in_order w ↦
+      subst (λ h. HasSoundFinite h (length c.args.storage.now) c.args.runs.now) (sym w.self-is)
+      (w.keep_queue_alone.ensures.sound (length c.args.storage.now) c.args.runs.now c.requires)
+  | else-is_last w ↦ subst (λ h. HasSoundFinite h (length c.args.storage.now) c.args.runs.now) (sym w.self-is) c.requires
+]
+
+-- what the segment meets
+module _ (c : After-keep_usual) where
   abbrev s : FiniteState
   s = finite_of c.args.self.now c.args.storage.now c.args.runs.now
 
-  ends : (c.args.is_last ≡ false) ⊎ (can_end s c.saturating_add-last.result ≡ true)
-  ends = elim c.else-is_last.branch [
-    | else-is_last-via-then-is_last+else-not-can_end w ↦ inr (sym (can_end_is c.args.self.now c.args.storage.now c.args.runs.now c.requires.parts c.saturating_add-last.result) ∙ sym w.can_end.ensures ∙ w.if-not-can_end.false)
-    | else-is_last-via-else-is_last w ↦ inl w.if-is_last.false
+  abbrev met : FiniteState
+  met = before_segment s c.args.pos (c.args.pos + length c.args.bytes.now) c.args.is_last
+
+  met_is : finite_of c.if-is_last.self c.args.storage.now c.args.runs.now ≡ met
+  met_is = elim c.if-is_last.branch [
+    | then-is_last+then-ends_in_order w ↦
+        ap (λ h. finite_of h c.args.storage.now c.args.runs.now) w.self-is
+        ∙ w.keep_queue_alone.ensures.state c.args.storage.now c.args.runs.now
+        ∙ sym (met_alone s c.args.pos _ c.saturating_add-last.result c.args.is_last c.saturating_add-last.ensures w.if-is_last.true
+        (sym (order_is c.args.self.now c.args.storage.now c.args.runs.now c.requires.parts c.args.pos c.saturating_add-last.result)
+        ∙ sym w.ends_in_order.ensures ∙ w.if-ends_in_order.true))
+    | else-is_last w ↦
+        ap (λ h. finite_of h c.args.storage.now c.args.runs.now) w.self-is
+        ∙ sym (met_same s c.args.pos _ c.saturating_add-last.result c.args.is_last c.saturating_add-last.ensures
+        (elim w.else-is_last.branch [
+          | else-is_last-via-then-is_last+else-ends_in_order w' ↦
+              inr (sym (order_is c.args.self.now c.args.storage.now c.args.runs.now c.requires.parts c.args.pos c.saturating_add-last.result)
+              ∙ sym w'.ends_in_order.ensures ∙ w'.if-ends_in_order.false)
+          | else-is_last-via-else-is_last w' ↦ inl w'.if-is_last.false
+        ]))
   ]
 
-  other : has_other_end s (c.args.pos + length c.args.bytes.now) c.args.is_last ≡ false
-  other = no_other_at s _ c.saturating_add-last.result c.args.is_last c.saturating_add-last.ensures ends
+  value : c.keep_usual.result ≡ usual_result (length c.args.runs.now) met c.args.pos c.args.bytes.now c.args.is_last
+  value = c.keep_usual.ensures.value ∙ ap (λ t. usual_result (length c.args.runs.now) t c.args.pos c.args.bytes.now c.args.is_last) met_is
 
-  cut : take c.count_below-count.result c.args.bytes.now ≡ below_end s c.args.pos c.args.bytes.now
-  cut = cut_is _ c.count_below-count.result c.args.bytes.now c.count_below-count.ensures
+  stored_by : (xs : List ℕ) (t : FiniteState) →
+      usual_storage_after (length c.args.runs.now) c.if-is_last.self xs t c.args.pos c.args.bytes.now c.args.is_last
+      ≡ usual_storage_after (length c.args.runs.now) c.args.self.now xs t c.args.pos c.args.bytes.now c.args.is_last
+  stored_by xs t = elim c.if-is_last.branch [
+    | then-is_last+then-ends_in_order w ↦
+        ap (λ h. usual_storage_after (length c.args.runs.now) h xs t c.args.pos c.args.bytes.now c.args.is_last) w.self-is
+        ∙ usual_stored_same (length c.args.runs.now) w.keep_queue_alone.new.self c.args.self.now _ w.keep_queue_alone.ensures.place xs t c.args.pos c.args.bytes.now c.args.is_last
+    | else-is_last w ↦ ap (λ h. usual_storage_after (length c.args.runs.now) h xs t c.args.pos c.args.bytes.now c.args.is_last) w.self-is
+  ]
 
-  end : end_with c.after_end_with-after_end.result ≡ end_after s (c.args.pos + length c.args.bytes.now) c.args.is_last
-  end =
-      c.after_end_with-after_end.ensures
-      ∙ ap (λ limit. cond (c.args.is_last && nat_le c.saturating_add-last.result limit) c.saturating_add-last.result s.end)
-      (limit_is c.args.storage.now c.requires.parts)
-      ∙ end_after_at s _ c.saturating_add-last.result c.args.is_last c.saturating_add-last.ensures ends
+pub returns-clause-state : goal.returns-clause-state
+returns-clause-state c =
+    c.keep_usual.ensures.state
+    ∙ ap (λ t. usual_after (length c.args.runs.now) t c.args.pos c.args.bytes.now c.args.is_last) (met_is (goal.at.returns-clause-state c).After-keep_usual)
 
-pub returns-then-not-can_end-clause-state : goal.returns-then-not-can_end-clause-state
-returns-then-not-can_end-clause-state c =
-    other_state _ _ c.args.pos c.args.bytes.now c.args.is_last
-    (other_end_is c.args.self.now c.args.storage.now c.args.runs.now c.requires.parts _ _ _ _ c.saturating_add-last.ensures
-    c.if-is_last.true c.can_end.ensures c.if-not-can_end.true)
+pub returns-clause-value : goal.returns-clause-value
+returns-clause-value c = value (goal.at.returns-clause-value c).After-keep_usual
 
-pub returns-then-not-can_end-clause-value : goal.returns-then-not-can_end-clause-value
-returns-then-not-can_end-clause-value c =
-    other_result _ _ c.args.pos c.args.bytes.now c.args.is_last
-    (other_end_is c.args.self.now c.args.storage.now c.args.runs.now c.requires.parts _ _ _ _ c.saturating_add-last.ensures
-    c.if-is_last.true c.can_end.ensures c.if-not-can_end.true)
+pub returns-clause-stored : goal.returns-clause-stored
+returns-clause-stored c =
+    let w = (goal.at.returns-clause-stored c).After-keep_usual in
+    c.keep_usual.ensures.stored
+    ∙ ap (λ t. usual_storage_after (length c.args.runs.now) c.if-is_last.self c.args.storage.now t c.args.pos c.args.bytes.now c.args.is_last) (met_is w)
+    ∙ stored_by w c.args.storage.now (met w)
 
-pub returns-then-not-can_end-clause-stored : goal.returns-then-not-can_end-clause-stored
-returns-then-not-can_end-clause-stored c =
-    other_stores c.args.self.now c.args.storage.now c.args.runs.now c.args.pos c.args.bytes.now c.args.is_last
-    (other_end_is c.args.self.now c.args.storage.now c.args.runs.now c.requires.parts _ _ _ _ c.saturating_add-last.ensures
-    c.if-is_last.true c.can_end.ensures c.if-not-can_end.true)
-
-pub returns-in-Ok-clause-state : goal.returns-in-Ok-clause-state
-returns-in-Ok-clause-state c =
-    let w = (goal.at.returns-in-Ok-clause-state c).After-count_below-count in
-    left_state _ (s w) _ _ _ (other w) _ (cut w) _ c.keep.ensures.state (Ok c.in-Ok.kept) c.in-Ok.ensures.numbers _ (end w)
-
-pub returns-in-Ok-clause-value : goal.returns-in-Ok-clause-value
-returns-in-Ok-clause-value c =
-    let w = (goal.at.returns-in-Ok-clause-value c).After-count_below-count in
-    left_result _ (s w) _ _ _ (other w) _ (cut w) _ c.keep.ensures.state (Ok c.in-Ok.kept) c.in-Ok.ensures.numbers
-
-pub returns-in-Ok-clause-sound : goal.returns-in-Ok-clause-sound
-returns-in-Ok-clause-sound c =
-    let s = finite_of c.args.self.now c.args.storage.now c.args.runs.now in
-    let after = sound_after (length c.args.runs.now) s c.args.pos c.args.bytes.now c.args.is_last (has_sound_end _ _ _ c.requires) in
-    sound_finite _ _ _ c.keep.ensures.sound (subst IsSoundEnd (sym (returns-in-Ok-clause-state c)) after)
-
-pub returns-in-Err-clause-state : goal.returns-in-Err-clause-state
-returns-in-Err-clause-state c =
-    let w = (goal.at.returns-in-Err-clause-state c).After-count_below-count in
-    left_state _ (s w) _ _ _ (other w) _ (cut w) _ c.keep.ensures.state (Err c.in-Err.field-0) c.in-Err.ensures.numbers _ refl
-
-pub returns-in-Err-clause-value : goal.returns-in-Err-clause-value
-returns-in-Err-clause-value c =
-    let w = (goal.at.returns-in-Err-clause-value c).After-count_below-count in
-    left_result _ (s w) _ _ _ (other w) _ (cut w) _ c.keep.ensures.state (Err c.in-Err.field-0) c.in-Err.ensures.numbers
-
-pub returns-in-Ok-clause-stored : goal.returns-in-Ok-clause-stored
-returns-in-Ok-clause-stored c =
-    let w = (goal.at.returns-in-Ok-clause-stored c).After-count_below-count in
-    left_storage c.args.self.now c.args.storage.now c.args.runs.now _ _ _ (other w) _ (cut w) _ c.keep.ensures.stored
-
-pub returns-in-Err-clause-stored : goal.returns-in-Err-clause-stored
-returns-in-Err-clause-stored c =
-    let w = (goal.at.returns-in-Err-clause-stored c).After-count_below-count in
-    left_storage c.args.self.now c.args.storage.now c.args.runs.now _ _ _ (other w) _ (cut w) _ c.keep.ensures.stored
+pub returns-clause-unchanged : goal.returns-clause-unchanged
+returns-clause-unchanged c = elim c.if-is_last.branch [
+  | then-is_last+then-ends_in_order w ↦
+      (let order =
+      sym (in_order_at (finite_of c.args.self.now c.args.storage.now c.args.runs.now) c.args.pos _ c.saturating_add-last.result c.args.is_last c.saturating_add-last.ensures)
+      ∙ sym (order_is c.args.self.now c.args.storage.now c.args.runs.now c.requires.parts c.args.pos c.saturating_add-last.result)
+      ∙ sym w.ends_in_order.ensures ∙ w.if-ends_in_order.true in
+      ok_no_err c.keep_usual.result _
+      (subst IsOk (sym (value (goal.at.returns-clause-unchanged c).After-keep_usual))
+      (accepted_in_order (length c.args.runs.now) (finite_of c.args.self.now c.args.storage.now c.args.runs.now) c.args.pos c.args.bytes.now c.args.is_last w.if-is_last.true order)))
+  | else-is_last w ↦
+      subst (λ h. OnErr c.keep_usual.result ((c.keep_usual.new.self ≡ h) × (c.keep_usual.new.storage ≡ c.args.storage.now) × (c.keep_usual.new.runs ≡ c.args.runs.now)))
+      w.self-is c.keep_usual.ensures.unchanged
+]

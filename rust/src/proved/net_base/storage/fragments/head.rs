@@ -224,6 +224,16 @@ impl FragmentsHead {
         }
     }
 
+    /// Returns whether all of the `len` positions from `offset` on have arrived; `true` if there is none.
+    ///
+    /// # Requires
+    ///
+    /// The runs are sound.
+    pub(crate) fn has(&self, runs: &[Run], offset: usize, len: usize) -> bool {
+        assembler::laws::first_missing();
+        self.present.first_missing(runs, offset) - offset >= len
+    }
+
     /// Returns whether a byte that arrived differs from that of the fragment whose first byte is that of the packet at
     /// `offset`. The fragment need not be within the buffer.
     ///

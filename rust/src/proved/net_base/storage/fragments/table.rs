@@ -122,6 +122,11 @@ impl<K: Copy + Eq, B: Storage<u8>, const N: usize> FragmentSlot<K, B, N> {
         }
     }
 
+    /// Returns whether the slot is for a packet that is waited for up to a moment before `now`.
+    fn is_overdue(&self, now: Instant) -> bool {
+        self.key.is_some() && self.buffer.is_expired(now)
+    }
+
     /// Frees the slot if its packet is waited for up to a moment before `now`.
     pub fn expire(&mut self, now: Instant) {
         if self.buffer.is_expired(now) {
@@ -260,7 +265,51 @@ fn first_to_expire<K: Copy + Eq, B: Storage<u8>, const N: usize>(
     first
 }
 
-/// Frees the slots of packets that are waited for up to a moment before `now`.
+/// Frees the first slot for a packet that is waited for up to a moment before `now`, and returns it with the packet's
+/// key: until the slot is claimed again, `get` of its buffer shows what arrived, for a message to the packet's source.
+/// smoltcp frees all such slots at once and says of none, as `remove_expired` does.
+///
+/// `None`, and nothing changes, exactly if there is no such slot.
+///
+/// ```
+/// use net_base::storage::fragment_table::{accept, take_expired, FragmentSlot};
+/// use net_base::time::Instant;
+///
+/// let mut bytes = [0u8; 8];
+/// let mut slots = [FragmentSlot::<_, _, 4>::over(&mut bytes[..])];
+/// let until = Instant::from_secs(60);
+/// assert_eq!(accept(&mut slots, ("10.0.0.1", 7), 0, b"abcd", false, until), Ok(0));
+/// assert_eq!(take_expired(&mut slots, until), None);
+/// assert_eq!(take_expired(&mut slots, Instant::from_secs(61)), Some((0, ("10.0.0.1", 7))));
+/// assert_eq!(slots[0].buffer.get(0, 4), Some(&b"abcd"[..]));
+/// assert_eq!(take_expired(&mut slots, Instant::from_secs(61)), None);
+/// ```
+#[must_use]
+pub fn take_expired<K: Copy + Eq, B: Storage<u8>, const N: usize>(
+    slots: &mut [FragmentSlot<K, B, N>],
+    now: Instant,
+) -> Option<(usize, K)> {
+    let at = find_overdue(slots, now)?;
+    let key = slots[at].key?;
+    slots[at].key = None;
+    Some((at, key))
+}
+
+/// Returns the first slot for a packet that is waited for up to a moment before `now`.
+fn find_overdue<K: Copy + Eq, B: Storage<u8>, const N: usize>(
+    slots: &[FragmentSlot<K, B, N>],
+    now: Instant,
+) -> Option<usize> {
+    for at in 0..slots.len() {
+        if slots[at].is_overdue(now) {
+            return Some(at);
+        }
+    }
+    None
+}
+
+/// Frees the slots of packets that are waited for up to a moment before `now`, as `take_expired` does one after
+/// another.
 pub fn remove_expired<K: Copy + Eq, B: Storage<u8>, const N: usize>(
     slots: &mut [FragmentSlot<K, B, N>],
     now: Instant,

@@ -1,8 +1,15 @@
 //! A sending end: what is sent at first, and what its bytes are.
-use crate::assertions::assert_holds;
 use net_base::time::{Duration, Instant};
-use net_ends::SendingEnd;
+use net_ends::{Outgoing, SendingEndOver};
+use net_numbers::SentNumbers;
 use net_tcp::{Announcement, TimeoutBounds};
+
+/// What is sent first.
+const SEGMENT: Outgoing = Outgoing {
+    pos: 7,
+    end: 9,
+    is_again: false,
+};
 
 /// Makes an end of a stream that begins at position 7, whose peer has room for 100 bytes, in segments of 2 bytes, and
 /// writes three bytes. Returns whether two of them are sent first, and lent.
@@ -19,21 +26,28 @@ fn sends(storage: &mut [u8]) -> bool {
         tick: Duration::ZERO,
         ack_delay: Duration::ZERO,
     };
-    let mut end = SendingEnd::<&mut [u8], 2>::over_at(storage, 7, second, bounds, it, 2, true);
+    let mut end = SendingEndOver::<&mut [u8], 2>::over_at(storage, 7, second, bounds);
+    end.open(it, 2, true, Instant::ZERO);
     end.write(b"abc") == 3
-        && end.next_segment(10, Instant::ZERO) == Some((7, 9))
+        && end.next_segment(10, Instant::ZERO) == Some(SEGMENT)
         && end.expires_at().is_some()
+        && is_in_flight(end.numbers())
         && lends(&end)
 }
 
+/// Returns whether the segment is all that isn't acknowledged.
+fn is_in_flight(numbers: SentNumbers) -> bool {
+    numbers.first_unacknowledged == SEGMENT.pos && numbers.flight_size() == 2
+}
+
 /// Returns whether an end lends the two bytes at position 7.
-fn lends(end: &SendingEnd<&mut [u8], 2>) -> bool {
-    let (bytes, is_last) = end.bytes(7, 9);
-    bytes == b"ab".as_slice() && !is_last
+fn lends(end: &SendingEndOver<&mut [u8], 2>) -> bool {
+    let (front, back, is_last) = end.bytes(SEGMENT.pos, SEGMENT.end);
+    front == b"ab".as_slice() && back.is_empty() && !is_last
 }
 
 #[test]
 fn an_end_sends_what_was_written(rt: HostRuntime) {
     let mut storage = [0u8; 8];
-    assert_holds(&rt, sends(&mut storage), ("sends", 3));
+    assert!(rt; sends(&mut storage));
 }

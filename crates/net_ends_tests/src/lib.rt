@@ -1,0 +1,10 @@
+//! The tests of `net_ends`, with numbers worked by hand, and small users of its laws.
+//!
+//! They are in a crate of their own, so that the tests of the other libraries don't wait for both ends.
+#![tactic(auto)]
+
+mod ends;
+#[cfg(test)]
+mod sending_end;
+
+pub use ends::{read_first, take_acknowledgement, take_last, take_segment};

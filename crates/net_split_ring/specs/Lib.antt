@@ -1,0 +1,2 @@
+pub mod SplitRing
+pub use SplitRing.*
