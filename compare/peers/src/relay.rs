@@ -1,6 +1,7 @@
 //! A run: two ends, a path between them, and what their programs send and read.
 use std::collections::VecDeque;
 use std::io;
+use std::iter::from_fn;
 
 use net_base::rand::Rand;
 use net_base::tcp::PartsSum;
@@ -293,18 +294,15 @@ impl Case {
                     if is_within(self.path.cut, watches[0].begun) {
                         continue;
                     }
-                    let lost = channels[from].lost;
-                    channels[from].pass(packet, at, &mut |packet| ready[to].push_back(packet.to_vec()));
-                    if channels[from].lost == lost {
+                    if channels[from].pass(packet, at) {
                         watches[from].went_on(packet);
                         if is_endpoint && is_plain(packet) && rand.below(10_000) < self.path.forged {
                             let forged = forge(packet, watches[to].end(), &mut rand);
-                            channels[from]
-                                .pass(&forged, at, &mut |packet| ready[to].push_back(packet.to_vec()));
+                            channels[from].pass(&forged, at);
                         }
                     }
                 }
-                channels[from].release(now(), &mut |packet| ready[to].push_back(packet.to_vec()));
+                ready[to].extend(from_fn(|| channels[from].arrived(now())));
                 while !(to == 1 && is_within(self.path.stop, watches[0].begun)) {
                     let Some(packet) = ready[to].pop_front() else { break };
                     if !ends[to].deliver(&packet) {

@@ -1,6 +1,7 @@
 //! The example endpoint by crafted segments: its own rules one by one, with random segments against
 //! a model of what a peer may be sent, and over a path that loses packets; and its command line.
 #![cfg(feature = "alloc")]
+mod channel_tests;
 mod fuzz;
 mod path;
 mod peer;
