@@ -3,7 +3,7 @@
 tools/public_items.txt, or writes that list. `git diff` of two versions of it says what a user of the crate has to know.
 
 Each line is what rustdoc shows of a module, a type, a trait, a function, a constant, a method or an impl, with attributes,
-fields and automatic traits. `+` are those that only all features give, `-` those that are there without features alone.
+fields and automatic traits; impls that differ in the trait alone are one line. `+` are those that only all features give, `-` those that are there without features alone.
 Status 1 if the lists differ, if a link in the documentation leads nowhere, or if the page of a type lacks a public method
 that rust/src has of it.
 """
@@ -19,6 +19,8 @@ from pathlib import Path
 ROOT = Path(__file__).resolve().parent.parent
 LIST = ROOT / "tools/public_items.txt"
 SETS = {"+": "--all-features", "-": "--no-default-features"}
+# What is before and after the trait of an impl.
+TRAIT = re.compile(r"(.*: impl(?:<.*?>)?) (.*?)( for .*)")
 # Traits that programs can't name.
 UNNAMED = re.compile(r"\b(?:Freeze|UnsafeUnpin|StructuralPartialEq) for ")
 # Of a page: methods of what a type derefs to, and impls for all types.
@@ -79,6 +81,15 @@ def documented(features, folder):
     return Path(folder) / "doc/net_base"
 
 
+def together(lines):
+    """The lines, where those of impls that differ in the trait alone are one."""
+    traits = {}
+    for line in sorted(lines):
+        it = TRAIT.fullmatch(line)
+        traits.setdefault(it.group(1, 3) if it else (line, ""), []).append(it[2] if it else "")
+    return [f"{before} {' + '.join(names)}{after}".rstrip() for (before, after), names in traits.items()]
+
+
 def listed(pages):
     """The lines of the list, after the version of rustdoc and the crate's own attributes."""
     found = {mark: set(items(pages[mark])) for mark in SETS}
@@ -86,7 +97,7 @@ def listed(pages):
     lines += [f"{mark} {it}" for mark, other in ("+-", "-+") for it in found[mark] - found[other]]
     version = subprocess.run(["rustdoc", "--version"], capture_output=True, text=True, check=True).stdout.split()[1]
     own = re.findall(r"^#!\[.*\]$", (ROOT / "rust/src/lib.rs").read_text(), re.M)
-    return [f"rustdoc {version}", *own, *sorted(lines, key=lambda line: (line[2:], line))]
+    return [f"rustdoc {version}", *own, *sorted(together(lines), key=lambda line: (line[2:], line))]
 
 
 def main(way):
