@@ -17,7 +17,7 @@ from pathlib import Path
 sys.dont_write_bytecode = True
 from parts import erase_list as given
 from parts import erase_says
-from parts.erase_tokens import OPEN, SPACE, Refused, Text, words
+from parts.erase_tokens import SPACE, Refused, Text, words
 
 REPOSITORY = Path(__file__).resolve().parent.parent
 OUT, EXAMPLE = REPOSITORY / 'rust/src/proved', REPOSITORY / 'rust/examples/net_bench/proved'

@@ -28,7 +28,7 @@ TYPES = {
     "finite_receiver": "FiniteReceiverOver", "sender": "SenderOver", "finite_sender": "FiniteSenderOver",
     "fragments": "FragmentsOver", "slot": "FragmentSlot", "table": "fragment_table",
 }
-# Types with runs whose calls are made of those above, without a loop over runs (tools/loops.py).
+# Types with runs whose calls are made of those above, without a loop over runs (composition.py).
 MADE_OF_THESE = "SendingEndOver ReceivingEndOver".split()
 # Calls without a class, by reason.
 LEFT_OUT = {

@@ -32,7 +32,7 @@ import widths
 from parts import erase_list as given
 from parts.same_compiled import NUMBERS, Compiled, CompiledSide, split
 from parts.same_proved import Proved, ProvedSide
-from parts.same_terms import FALSE, TRUE, UNIT, Differ, Unknown, any_part, discriminant, holds_ref, is_test, mentions, met, negated, operation, shown
+from parts.same_terms import FALSE, UNIT, Differ, Unknown, any_part, discriminant, holds_ref, is_test, mentions, met, negated, operation, shown
 
 REPOSITORY, SCHEDULE = widths.REPOSITORY, given.SCHEDULE.replace('/', '::')
 # Rustc's word, and the one here. `from_micros` and its like are by hand.

@@ -25,7 +25,7 @@ def modules():
     return found
 
 
-def function(item, library, where):
+def function(item, where):
     """The lines of an export."""
     parameters, lines, is_unsafe = [], [], False
     refused = ffi.refusal(item)
@@ -51,4 +51,4 @@ def function(item, library, where):
 def text(library):
     """The file."""
     where = modules()
-    return HEAD + "\n".join(line for item in library.exports() for line in function(item, library, where)) + "\n"
+    return HEAD + "\n".join(line for item in library.exports() for line in function(item, where)) + "\n"
