@@ -16,6 +16,7 @@ from pathlib import Path
 
 CRATE = Path(__file__).resolve().parent.parent / "rust"
 PROGRAM = CRATE / "examples/ported"
+MANAGED = CRATE.parent / "overlay/vendor/managed"
 FILES = ["storage/mod.rs", "storage/assembler.rs", "storage/packet_buffer.rs", "storage/ring_buffer.rs", "time.rs"]
 
 ROOT = """#![allow(dead_code, unused, unexpected_cfgs, clippy::all)]
@@ -39,7 +40,7 @@ alloc = []
 std = ["alloc"]
 
 [dependencies]
-managed = {{ path = "{}" }}
+managed = {{ path = "{}", features = ["std"] }}
 """
 
 
@@ -51,7 +52,7 @@ def smoltcp_crate(sources, folder):
     text = (sources / "rand.rs").read_text()
     (folder / "src/rand.rs").write_text(text.replace("pub(crate) ", "pub "))
     (folder / "src/lib.rs").write_text(ROOT)
-    (folder / "Cargo.toml").write_text(MANIFEST.format(CRATE.parent / "compare/managed"))
+    (folder / "Cargo.toml").write_text(MANIFEST.format(MANAGED))
 
 
 def program(line, folder):

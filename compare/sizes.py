@@ -19,30 +19,6 @@ from pathlib import Path
 sys.dont_write_bytecode = True
 import same_output
 
-MANAGED = """#![no_std]
-#[derive(Debug)]
-pub enum ManagedSlice<'a, T> {
-    Borrowed(&'a mut [T]),
-}
-impl<'a, T> From<&'a mut [T]> for ManagedSlice<'a, T> {
-    fn from(slice: &'a mut [T]) -> Self {
-        ManagedSlice::Borrowed(slice)
-    }
-}
-impl<T> core::ops::Deref for ManagedSlice<'_, T> {
-    type Target = [T];
-    fn deref(&self) -> &[T] {
-        let ManagedSlice::Borrowed(slice) = self;
-        slice
-    }
-}
-impl<T> core::ops::DerefMut for ManagedSlice<'_, T> {
-    fn deref_mut(&mut self) -> &mut [T] {
-        let ManagedSlice::Borrowed(slice) = self;
-        slice
-    }
-}
-"""
 MANIFEST = """[package]
 name = "program"
 version = "0.0.0"
@@ -90,13 +66,10 @@ class Sizes:
             self.rustc.write_text(f'#!/bin/sh\nLD_LIBRARY_PATH={libraries} exec {self.kit}/usr/bin/rustc '
                                   f'--sysroot {self.kit}/usr "$@"\n')
             self.rustc.chmod(0o755)
-        sources, managed = folder / "smoltcp", folder / "managed"
+        sources = folder / "smoltcp"
         same_output.smoltcp_crate(Path(os.environ["SMOLTCP"]) / "src", sources)
-        (managed / "src").mkdir(parents=True)
-        (managed / "src/lib.rs").write_text(MANAGED)
-        (managed / "Cargo.toml").write_text('[package]\nname = "managed"\nedition = "2024"\n')
         manifest, root = sources / "Cargo.toml", sources / "src/lib.rs"
-        manifest.write_text(re.sub(r"managed = .*", f'managed = {{ path = "{managed}" }}', manifest.read_text()))
+        manifest.write_text(manifest.read_text().replace(', features = ["std"]', ""))
         text = root.read_text().replace("extern crate alloc;\n", "")
         root.write_text(text.replace("#![allow", "#![no_std]\n#![allow", 1))
         self.crates = {"smoltcp": f'path = "{sources}"',

@@ -16,19 +16,8 @@ import tempfile
 from pathlib import Path
 
 CRATE = Path(__file__).resolve().parent.parent / "rust"
+OVERLAY = CRATE.parent / "overlay"
 FILES = ["storage/ring_buffer", "storage/packet_buffer", "storage/assembler", "time"]
-
-HELPER = """    impl From<Vec<(usize, usize)>> for Assembler {
-        fn from(holes_and_data: Vec<(usize, usize)>) -> Assembler {
-            let (mut assembler, mut from) = (Assembler::new(), 0);
-            for (hole, data) in holes_and_data {
-                assembler.add(from + hole, data).unwrap();
-                from += hole + data;
-            }
-            assembler
-        }
-    }
-"""
 
 # The tests of the ring write and read its field `length`, which is in `head` here.
 FIELDS = """
@@ -69,39 +58,6 @@ impl crate::proved::net_ring::RingHead {
 """
 
 RUNS = "\n#[cfg(test)]\nconst ASSEMBLER_MAX_SEGMENT_COUNT: usize = 4;\n"
-
-RAND = """//! As much of the crate `rand` as the tests ask for.
-use std::cell::Cell;
-use std::ops::{Bound, RangeBounds};
-
-pub struct ThreadRng;
-
-pub fn thread_rng() -> ThreadRng {
-    ThreadRng
-}
-
-thread_local!(static STATE: Cell<u64> = const { Cell::new(1) });
-
-pub trait Rng {
-    fn gen_range(&mut self, range: impl RangeBounds<usize>) -> usize {
-        let word = STATE.get().wrapping_mul(6364136223846793005).wrapping_add(1442695040888963407);
-        STATE.set(word);
-        let first = match range.start_bound() {
-            Bound::Included(&first) => first,
-            _ => 0,
-        };
-        let last = match range.end_bound() {
-            Bound::Included(&last) => last,
-            Bound::Excluded(&end) => end - 1,
-            Bound::Unbounded => usize::MAX,
-        };
-        first + (word >> 33) as usize % (last - first + 1)
-    }
-}
-
-impl Rng for ThreadRng {}
-"""
-
 
 def test_module(path):
     """The test module at the end of a file."""
@@ -165,7 +121,7 @@ def prepare(sources, crate):
         if name == "storage/assembler":
             pattern = r"^    impl From<Vec<\(usize, usize\)>> for Assembler \{\n.*?^    \}\n"
             what = "replaced: the helper that fills the private array of an assembler, by one that calls `add`"
-            tests = replaced(tests, pattern, HELPER, what, name)
+            tests = replaced(tests, pattern, (OVERLAY / "modules/storage/assembler_tests.rs").read_text(), what, name)
             more = RUNS
             print(f"{name}: added: the number of runs that smoltcp's build sets, 4")
         if name == "storage/packet_buffer":
@@ -182,13 +138,10 @@ def prepare(sources, crate):
     root = crate / "src/lib.rs"
     what = "added: std's macros, since the crate has no std"
     root.write_text(replaced(root.read_text(), r"^extern crate std;", "#[macro_use]\nextern crate std;", what, "lib"))
-    (crate / "rand/src").mkdir(parents=True)
-    (crate / "rand/src/lib.rs").write_text(RAND)
-    (crate / "rand/Cargo.toml").write_text('[package]\nname = "rand"\nversion = "0.8.0"\nedition = "2021"\n')
     manifest = crate / "Cargo.toml"
     manifest.write_text(re.sub(r"^\[\[example\]\]\n(?:.+\n)*", "", manifest.read_text(), flags=re.M))
     with manifest.open("a") as file:
-        file.write('\n[dev-dependencies]\nrand = { path = "rand" }\n')
+        file.write(f'\n[dev-dependencies]\nrand = {{ path = "{OVERLAY / "vendor/rand"}" }}\n')
     print("rand: replaced: the crate, by its two functions that a test calls")
     return count
 
