@@ -300,7 +300,7 @@ class Tests:
         """What the programs print over a checkout, by the number of runs; release builds print the same."""
         texts = {}
         for count in [1, 2, 4, 8, 32]:
-            words = "" if count in (2, 4) else f"--features assembler-max-segment-count-{count}"
+            words = "" if count in (2, 4) else f"--features assembler-max-segment-count-{count}" + ",defmt" * (count == 8)
             variables = {"SMOLTCP_ASSEMBLER_MAX_SEGMENT_COUNT": "2"} if count == 2 else {}
             self.cargo(checkout, f"build -q --example run --example calls {words}", variables)
             texts[f"run, {count} runs"] = self.program(checkout, "run", "")

@@ -180,6 +180,8 @@ fn assembler(numbers: &mut Numbers) -> String {
         let copy = assembler.clone();
         let ranges: Vec<_> = assembler.iter_data().collect();
         writeln!(text, "{call} {offset} {size}: {gave}, {assembler} {assembler:?} {copy:?} {ranges:?}").unwrap();
+        #[cfg(feature = "defmt")]
+        writeln!(text, "{}", defmt::text_of(&assembler)).unwrap();
     }
     text
 }
@@ -284,6 +286,11 @@ fn number(numbers: &mut Numbers) -> i64 {
     }
 }
 
+/// Whether this is the moment of std's clock, up to a minute.
+fn is_now(moment: Instant) -> bool {
+    moment - Instant::from(std::time::SystemTime::now()) < Duration::from_secs(60)
+}
+
 fn time(numbers: &mut Numbers) -> String {
     let mut text = String::new();
     for _ in 0..CALLS {
@@ -312,7 +319,7 @@ fn time(numbers: &mut Numbers) -> String {
             16 => tried(|| std::time::Duration::from(length)),
             17 if a >= 0 => tried(|| std::time::SystemTime::from(moment)),
             18 => tried(|| Instant::from(std::time::UNIX_EPOCH + std::time::Duration::from_micros(b as u64 >> 20))),
-            _ => tried(|| (moment.cmp(&other), length.max(by), Duration::default(), Instant::now().secs() > 1 << 30)),
+            _ => tried(|| (moment.cmp(&other), length.max(by), Duration::default(), is_now(Instant::now()))),
         };
         let parts = (moment.secs(), moment.millis(), moment.micros(), moment.total_millis(), moment.total_micros());
         let of_length = (length.secs(), length.millis(), length.micros(), length.total_millis(), length.total_micros());

@@ -1,6 +1,17 @@
-//! Stand-in of `defmt`: the trait, `write!`, the derive, the logging macros. It checks bounds, and prints nothing.
-#![no_std]
+//! Stand-in of `defmt`: the trait, `write!`, the derive, the logging macros. It checks bounds, and prints nothing. `text_of`
+//! has what a value writes of texts and numbers.
 pub use defmt_macros::Format;
+use std::cell::RefCell;
+thread_local!(static TEXT: RefCell<String> = const { RefCell::new(String::new()) });
+pub fn text_of(value: &impl Format) -> String {
+    TEXT.take();
+    value.format(Formatter::stand_in());
+    TEXT.take()
+}
+#[doc(hidden)]
+pub fn keep(text: &str) {
+    TEXT.with_borrow_mut(|it| it.push_str(text));
+}
 #[derive(Clone, Copy)]
 pub struct Formatter<'a>(core::marker::PhantomData<&'a ()>);
 impl Formatter<'_> {
@@ -11,7 +22,7 @@ impl Formatter<'_> {
 pub trait Format {
     fn format(&self, fmt: Formatter);
 }
-macro_rules! all { ($($t:ty)*) => { $(impl Format for $t { fn format(&self, _: Formatter) {} })* } }
+macro_rules! all { ($($t:ty)*) => { $(impl Format for $t { fn format(&self, _: Formatter) { keep(&self.to_string()) } })* } }
 all! { u8 u16 u32 u64 usize i8 i16 i32 i64 isize bool str char }
 impl Format for () {
     fn format(&self, _: Formatter) {}
@@ -46,7 +57,9 @@ pub fn is_format<T: Format + ?Sized>(value: &T) {
 macro_rules! write {
     ($f:expr, $text:literal $(, $arg:expr)* $(,)?) => {{
         let _: $crate::Formatter = $f;
-        $($crate::is_format(&$arg);)*
+        let mut parts = $text.split('{').map(|it| it.split_once('}').map_or(it, |it| it.1));
+        $crate::keep(parts.next().unwrap());
+        $($crate::is_format(&$arg); $crate::keep(parts.next().unwrap());)*
     }}
 }
 #[macro_export]
