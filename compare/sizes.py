@@ -60,12 +60,6 @@ def said(*words, **options):
 class Sizes:
     def __init__(self, folder):
         self.folder, self.kit = folder, os.environ.get("RUST_KIT") and Path(os.environ["RUST_KIT"]).resolve()
-        if self.kit:
-            libraries = f"{self.kit}/usr/lib/x86_64-linux-gnu:{self.kit}/usr/lib:{self.kit}/usr/lib/llvm-19/lib"
-            self.rustc = folder / "rustc"
-            self.rustc.write_text(f'#!/bin/sh\nLD_LIBRARY_PATH={libraries} exec {self.kit}/usr/bin/rustc '
-                                  f'--sysroot {self.kit}/usr "$@"\n')
-            self.rustc.chmod(0o755)
         sources = folder / "smoltcp"
         same_output.smoltcp_crate(Path(os.environ["SMOLTCP"]) / "src", sources)
         manifest, root = sources / "Cargo.toml", sources / "src/lib.rs"
@@ -76,22 +70,10 @@ class Sizes:
                        "net-base": f'package = "net-base", path = "{same_output.CRATE}"'}
 
     def has(self, target):
-        """Whether there is a compiler and a linker, with the core library, which is built from its source."""
+        """Whether there is a compiler and a linker, with the core library, which kit.sh builds from its source."""
         prefix, _ = TARGETS[target]
-        if not prefix:
-            return True
-        if not (self.kit and shutil.which(f"{prefix}ld")):
-            return False
-        library, source = self.kit / f"usr/lib/rustlib/{target}/lib", self.folder / "compiler_builtins.rs"
-        if not any(library.glob("libcompiler_builtins*.rlib")):
-            library.mkdir(parents=True, exist_ok=True)
-            source.write_text("#![feature(compiler_builtins)]\n#![compiler_builtins]\n#![no_std]\n")
-            core, = self.kit.glob("usr/src/rustc-*/library/core/src/lib.rs")
-            words = "--edition 2021 --crate-type rlib -C opt-level=2 -C panic=abort --cap-lints allow --target"
-            for name, file in [("core", core), ("compiler_builtins", source)]:
-                said(self.rustc, *words.split(), target, "--crate-name", name, "--out-dir", library, file,
-                     env=os.environ | {"RUSTC_BOOTSTRAP": "1"})
-        return True
+        return not prefix or bool(self.kit and shutil.which(f"{prefix}ld")) and not subprocess.run(
+            ["sh", same_output.CRATE / "kit.sh", self.kit, target]).returncode
 
     def built(self, crate, text, target, level, flags):
         """The program of a text, over a crate."""
@@ -105,7 +87,7 @@ class Sizes:
         variables = {"CARGO_PROFILE_RELEASE_OPT_LEVEL": level, "RUSTFLAGS": f"{flags.format(prefix)} {paths}",
                      "CARGO_TARGET_DIR": str(self.folder / "target" / crate)}
         if prefix:
-            variables["RUSTC"] = str(self.rustc)
+            variables["RUSTC"] = str(self.kit / "rustc")
         said(*words.split(), target, cwd=folder, env=os.environ | variables)
         return Path(variables["CARGO_TARGET_DIR"]) / target / "release/program"
 

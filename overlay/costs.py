@@ -44,7 +44,7 @@ def size(tests, checkout, level, target, linker):
     variables = {"CARGO_TARGET_DIR": str(tests.folder / "target/no_std" / checkout), "CARGO_PROFILE_RELEASE_OPT_LEVEL": level}
     words = "build -q --release --ignore-rust-version"
     if target:
-        variables["RUSTC"] = tests.compiler()
+        variables["RUSTC"] = test.COMPILER
         words += f" --target {target}"
     tests.cargo("no_std", words, variables)
     library = Path(variables["CARGO_TARGET_DIR"]) / target / "release/libno_std.a"

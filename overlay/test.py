@@ -24,6 +24,8 @@ import overlay
 
 HERE = Path(__file__).resolve().parent
 FILES = [f"storage/{name}.rs" for name in ["mod", "assembler", "packet_buffer", "ring_buffer"]] + ["time.rs", "rand.rs"]
+# The compiler for other processors.
+COMPILER = str(Path(os.environ["RUST_KIT"], "rustc").resolve()) if os.environ.get("RUST_KIT") else "rustc"
 SMALL = "--no-default-features --features medium-ip,proto-ipv4,socket-tcp"
 FEATURES = [
     SMALL,
@@ -312,21 +314,10 @@ class Tests:
         texts["calls"] = self.program(checkout, "calls", "0 3000", "checked")
         return texts
 
-    def compiler(self):
-        """The compiler for other processors."""
-        kit = os.environ.get("RUST_KIT")
-        if not kit:
-            return "rustc"
-        path, usr = self.folder / "rustc", f"{kit}/usr"
-        libraries = f"{usr}/lib/x86_64-linux-gnu:{usr}/lib:{usr}/lib/llvm-19/lib"
-        path.write_text(f'#!/bin/sh\nLD_LIBRARY_PATH="{libraries}" exec "{usr}/bin/rustc" --sysroot "{usr}" "$@"\n')
-        path.chmod(0o755)
-        return str(path)
-
     def armv7(self, ours):
         """The same texts on 32 bits, if there is a compiler and an emulator."""
-        target, compiler = "armv7-unknown-linux-gnueabihf", self.compiler()
-        words = [compiler, "--print", "target-libdir", "--target", target]
+        target = "armv7-unknown-linux-gnueabihf"
+        words = [COMPILER, "--print", "target-libdir", "--target", target]
         library = Path(subprocess.run(words, capture_output=True, text=True).stdout.strip() or "none")
         for what, is_there in [
             (f"std for {target}", any(library.glob("libstd*"))),
@@ -336,7 +327,7 @@ class Tests:
             if not is_there:
                 return print(f"ARMv7: not run: no {what}")
         variables = {
-            "RUSTC": compiler,
+            "RUSTC": COMPILER,
             "CARGO_TARGET_ARMV7_UNKNOWN_LINUX_GNUEABIHF_LINKER": "arm-linux-gnueabihf-gcc",
             "CARGO_TARGET_ARMV7_UNKNOWN_LINUX_GNUEABIHF_RUSTFLAGS": "-C target-feature=+crt-static",
         }
