@@ -5,7 +5,7 @@ import zlib
 import branches
 
 FLAT = {"times", "texts", "words", "tcp"}  # blocks whose lines depend on nothing but themselves
-LEAST = 12                                 # so many rows of each kind are kept
+LEAST = collections.defaultdict(lambda: 6, words=12)  # so many rows of each kind are kept, by their subject
 
 TOP = 2 ** 64 - 1
 
@@ -108,7 +108,7 @@ class Cases:
             subject, kept = self.lines[start].split(" ")[0], []
             of_kind = [(subject, line.split(" ")[0]) for line in self.lines[start:end]]
             for at in range(start + 1, end):
-                if start < self.worked or self.news[at] or kinds[of_kind[at - start]] < LEAST:
+                if start < self.worked or self.news[at] or kinds[of_kind[at - start]] < LEAST[subject]:
                     more = [at] if subject in FLAT else range(start + 1 + len(kept), at + 1)
                     kept += more
                     kinds.update(of_kind[it - start] for it in more)

@@ -15,7 +15,7 @@ of a call whose precondition doesn't hold, is a panic. `1:6c` is one byte in hex
     dequeue_one 46 => 1:6c|7 5 4 12 0 0 e7fb64de
 
 Of a drawn block the rows stay up to the last one that gives an answer of a model's rule that none before gave, or whose
-kind has fewer than 12 rows.
+kind has fewer than 6 rows, or 12 where they are the program's.
 
 Ends with status 1 if a file differs, or if no case gives some answer to a question of the models (branches.py). If the
 environment names a checkout of smoltcp, SMOLTCP=/path/to/smoltcp, each test that a worked row names has to be there;
