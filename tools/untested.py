@@ -39,6 +39,7 @@ import subprocess
 import sys
 import tempfile
 
+from ffi import closing
 from parts import erase_list
 
 ROOT = pathlib.Path(__file__).resolve().parent.parent
@@ -86,16 +87,6 @@ def doc_examples(file):
         elif is_in:
             lines.append(line.removeprefix("# "))
     return "\n".join(lines)
-
-
-def closing(text, at):
-    """The index of the bracket that belongs to the one at an index."""
-    depth = 0
-    for index in range(at, len(text)):
-        depth += (text[index] in "([{") - (text[index] in ")]}")
-        if depth == 0:
-            return index
-    return len(text) - 1
 
 
 def behind_generics(text, at):
