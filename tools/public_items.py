@@ -3,7 +3,9 @@
 tools/public_items.txt, or writes that list. `git diff` of two versions of it says what a user of the crate has to know.
 
 Each line is what rustdoc shows of a module, a type, a trait, a function, a constant, a method or an impl, with attributes,
-fields and automatic traits; impls that differ in the trait alone are one line. `+` are those that only all features give, `-` those that are there without features alone.
+fields and automatic traits. Impls that differ in the trait alone are one line, where `_` is the trait. `+` are those that
+only all features give, `-` those that are there without features alone.
+
 Status 1 if the lists differ, if a link in the documentation leads nowhere, or if the page of a type lacks a public method
 that rust/src has of it.
 """
@@ -83,11 +85,14 @@ def documented(features, folder):
 
 def together(lines):
     """The lines, where those of impls that differ in the trait alone are one."""
-    traits = {}
+    others, traits = [], {}
     for line in sorted(lines):
-        it = TRAIT.fullmatch(line)
-        traits.setdefault(it.group(1, 3) if it else (line, ""), []).append(it[2] if it else "")
-    return [f"{before} {' + '.join(names)}{after}".rstrip() for (before, after), names in traits.items()]
+        if it := TRAIT.fullmatch(line):
+            parts = (re.sub(rf"\b{re.escape(it[2])}(?!\w)", "_", part) for part in it.group(1, 3))
+            traits.setdefault(tuple(parts), []).append(it[2])
+        else:
+            others.append(line)
+    return others + [f"{before} {' + '.join(names)}{after}" for (before, after), names in traits.items()]
 
 
 def listed(pages):
