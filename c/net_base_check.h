@@ -25,6 +25,17 @@ static inline void net_base_check_(bool holds, const char *text) {
     if (!holds) NET_BASE_FAIL(text);
 }
 
+/* What a call, whose name is a text, wants of a pointer and of a slice, and that it isn't refused. */
+#define NET_BASE_POINTER_(call, it, type) net_base_check_(NET_BASE_ALIGNED(it, type), call ": " #it " isn't aligned (duty 1)")
+#define NET_BASE_SLICE_(call, it, type) \
+    net_base_check_(NET_BASE_ALIGNED(it, type) || it##_length == 0, call ": " #it " isn't aligned (duty 1)"); \
+    net_base_check_(it##_length <= PTRDIFF_MAX / sizeof(*it), call ": " #it "_length is above PTRDIFF_MAX (duty 1)")
+#if NET_BASE_CHECK + 0 > 1
+#define NET_BASE_ANSWERS_(call, holds) net_base_check_(holds, call ": refused")
+#else
+#define NET_BASE_ANSWERS_(call, holds) (void)0
+#endif
+
 /* Whether two ranges of bytes have none in common. */
 static inline bool net_base_apart_(const void *one, size_t size, const void *other, size_t other_size) {
     uintptr_t from = NET_BASE_ADDRESS(one), other_from = NET_BASE_ADDRESS(other);
@@ -33,69 +44,69 @@ static inline bool net_base_apart_(const void *one, size_t size, const void *oth
 }
 
 static inline void net_base_ring_init_checked_(struct net_base_ring *place) {
-    net_base_check_(NET_BASE_ALIGNED(place, struct net_base_ring), "net_base_ring_init: place isn't aligned (duty 1)");
+    NET_BASE_POINTER_("net_base_ring_init", place, struct net_base_ring);
     net_base_ring_init(place);
 }
 
 NET_BASE_MUST_USE static inline bool net_base_ring_is_sound_checked_(
     const struct net_base_ring *place, size_t capacity) {
-    net_base_check_(NET_BASE_ALIGNED(place, struct net_base_ring), "net_base_ring_is_sound: place isn't aligned (duty 1)");
+    NET_BASE_POINTER_("net_base_ring_is_sound", place, struct net_base_ring);
     return net_base_ring_is_sound(place, capacity);
 }
 
 NET_BASE_MUST_USE static inline struct net_base_span net_base_ring_unallocated_checked_(
     const struct net_base_ring *place, size_t capacity, size_t offset, size_t size) {
-    net_base_check_(NET_BASE_ALIGNED(place, struct net_base_ring), "net_base_ring_unallocated: place isn't aligned (duty 1)");
+    NET_BASE_POINTER_("net_base_ring_unallocated", place, struct net_base_ring);
     return net_base_ring_unallocated(place, capacity, offset, size);
 }
 
 NET_BASE_MUST_USE static inline struct net_base_span net_base_ring_allocated_checked_(
     const struct net_base_ring *place, size_t capacity, size_t offset, size_t size) {
-    net_base_check_(NET_BASE_ALIGNED(place, struct net_base_ring), "net_base_ring_allocated: place isn't aligned (duty 1)");
+    NET_BASE_POINTER_("net_base_ring_allocated", place, struct net_base_ring);
     return net_base_ring_allocated(place, capacity, offset, size);
 }
 
 static inline void net_base_ring_rewind_if_empty_checked_(struct net_base_ring *place) {
-    net_base_check_(NET_BASE_ALIGNED(place, struct net_base_ring), "net_base_ring_rewind_if_empty: place isn't aligned (duty 1)");
+    NET_BASE_POINTER_("net_base_ring_rewind_if_empty", place, struct net_base_ring);
     net_base_ring_rewind_if_empty(place);
 }
 
 NET_BASE_MUST_USE static inline bool net_base_ring_enqueue_checked_(
     struct net_base_ring *place, size_t capacity, size_t count) {
-    net_base_check_(NET_BASE_ALIGNED(place, struct net_base_ring), "net_base_ring_enqueue: place isn't aligned (duty 1)");
+    NET_BASE_POINTER_("net_base_ring_enqueue", place, struct net_base_ring);
     return net_base_ring_enqueue(place, capacity, count);
 }
 
 NET_BASE_MUST_USE static inline bool net_base_ring_dequeue_checked_(
     struct net_base_ring *place, size_t capacity, size_t count) {
-    net_base_check_(NET_BASE_ALIGNED(place, struct net_base_ring), "net_base_ring_dequeue: place isn't aligned (duty 1)");
+    NET_BASE_POINTER_("net_base_ring_dequeue", place, struct net_base_ring);
     return net_base_ring_dequeue(place, capacity, count);
 }
 
 NET_BASE_MUST_USE static inline bool net_base_ring_drop_last_checked_(
     struct net_base_ring *place, size_t count) {
-    net_base_check_(NET_BASE_ALIGNED(place, struct net_base_ring), "net_base_ring_drop_last: place isn't aligned (duty 1)");
+    NET_BASE_POINTER_("net_base_ring_drop_last", place, struct net_base_ring);
     return net_base_ring_drop_last(place, count);
 }
 
 NET_BASE_MUST_USE static inline struct net_base_span net_base_ring_enqueue_span_checked_(
     struct net_base_ring *place, size_t capacity, size_t size) {
-    net_base_check_(NET_BASE_ALIGNED(place, struct net_base_ring), "net_base_ring_enqueue_span: place isn't aligned (duty 1)");
+    NET_BASE_POINTER_("net_base_ring_enqueue_span", place, struct net_base_ring);
     return net_base_ring_enqueue_span(place, capacity, size);
 }
 
 NET_BASE_MUST_USE static inline struct net_base_span net_base_ring_dequeue_span_checked_(
     struct net_base_ring *place, size_t capacity, size_t size) {
-    net_base_check_(NET_BASE_ALIGNED(place, struct net_base_ring), "net_base_ring_dequeue_span: place isn't aligned (duty 1)");
+    NET_BASE_POINTER_("net_base_ring_dequeue_span", place, struct net_base_ring);
     return net_base_ring_dequeue_span(place, capacity, size);
 }
 
 NET_BASE_MUST_USE static inline size_t net_base_ring_write_unallocated_checked_(
     const struct net_base_ring *place, uint8_t *storage, size_t storage_length, size_t offset,
     const uint8_t *data, size_t data_length) {
-    net_base_check_(NET_BASE_ALIGNED(place, struct net_base_ring), "net_base_ring_write_unallocated: place isn't aligned (duty 1)");
-    net_base_check_(storage_length <= PTRDIFF_MAX / sizeof(*storage), "net_base_ring_write_unallocated: storage_length is above PTRDIFF_MAX (duty 1)");
-    net_base_check_(data_length <= PTRDIFF_MAX / sizeof(*data), "net_base_ring_write_unallocated: data_length is above PTRDIFF_MAX (duty 1)");
+    NET_BASE_POINTER_("net_base_ring_write_unallocated", place, struct net_base_ring);
+    NET_BASE_SLICE_("net_base_ring_write_unallocated", storage, uint8_t);
+    NET_BASE_SLICE_("net_base_ring_write_unallocated", data, uint8_t);
     net_base_check_(net_base_apart_(place, sizeof(*place), storage, storage_length * sizeof(*storage)), "net_base_ring_write_unallocated: place and storage overlap (duty 2)");
     net_base_check_(net_base_apart_(storage, storage_length * sizeof(*storage), data, data_length * sizeof(*data)), "net_base_ring_write_unallocated: storage and data overlap (duty 2)");
     return net_base_ring_write_unallocated(place, storage, storage_length, offset, data, data_length);
@@ -104,9 +115,9 @@ NET_BASE_MUST_USE static inline size_t net_base_ring_write_unallocated_checked_(
 NET_BASE_MUST_USE static inline size_t net_base_ring_read_allocated_checked_(
     const struct net_base_ring *place, const uint8_t *storage, size_t storage_length, size_t offset,
     uint8_t *into, size_t into_length) {
-    net_base_check_(NET_BASE_ALIGNED(place, struct net_base_ring), "net_base_ring_read_allocated: place isn't aligned (duty 1)");
-    net_base_check_(storage_length <= PTRDIFF_MAX / sizeof(*storage), "net_base_ring_read_allocated: storage_length is above PTRDIFF_MAX (duty 1)");
-    net_base_check_(into_length <= PTRDIFF_MAX / sizeof(*into), "net_base_ring_read_allocated: into_length is above PTRDIFF_MAX (duty 1)");
+    NET_BASE_POINTER_("net_base_ring_read_allocated", place, struct net_base_ring);
+    NET_BASE_SLICE_("net_base_ring_read_allocated", storage, uint8_t);
+    NET_BASE_SLICE_("net_base_ring_read_allocated", into, uint8_t);
     net_base_check_(net_base_apart_(place, sizeof(*place), into, into_length * sizeof(*into)), "net_base_ring_read_allocated: place and into overlap (duty 2)");
     net_base_check_(net_base_apart_(storage, storage_length * sizeof(*storage), into, into_length * sizeof(*into)), "net_base_ring_read_allocated: storage and into overlap (duty 2)");
     return net_base_ring_read_allocated(place, storage, storage_length, offset, into, into_length);
@@ -115,9 +126,9 @@ NET_BASE_MUST_USE static inline size_t net_base_ring_read_allocated_checked_(
 NET_BASE_MUST_USE static inline size_t net_base_ring_enqueue_slice_checked_(
     struct net_base_ring *place, uint8_t *storage, size_t storage_length, const uint8_t *data,
     size_t data_length) {
-    net_base_check_(NET_BASE_ALIGNED(place, struct net_base_ring), "net_base_ring_enqueue_slice: place isn't aligned (duty 1)");
-    net_base_check_(storage_length <= PTRDIFF_MAX / sizeof(*storage), "net_base_ring_enqueue_slice: storage_length is above PTRDIFF_MAX (duty 1)");
-    net_base_check_(data_length <= PTRDIFF_MAX / sizeof(*data), "net_base_ring_enqueue_slice: data_length is above PTRDIFF_MAX (duty 1)");
+    NET_BASE_POINTER_("net_base_ring_enqueue_slice", place, struct net_base_ring);
+    NET_BASE_SLICE_("net_base_ring_enqueue_slice", storage, uint8_t);
+    NET_BASE_SLICE_("net_base_ring_enqueue_slice", data, uint8_t);
     net_base_check_(net_base_apart_(place, sizeof(*place), storage, storage_length * sizeof(*storage)), "net_base_ring_enqueue_slice: place and storage overlap (duty 2)");
     net_base_check_(net_base_apart_(place, sizeof(*place), data, data_length * sizeof(*data)), "net_base_ring_enqueue_slice: place and data overlap (duty 2)");
     net_base_check_(net_base_apart_(storage, storage_length * sizeof(*storage), data, data_length * sizeof(*data)), "net_base_ring_enqueue_slice: storage and data overlap (duty 2)");
@@ -127,9 +138,9 @@ NET_BASE_MUST_USE static inline size_t net_base_ring_enqueue_slice_checked_(
 NET_BASE_MUST_USE static inline size_t net_base_ring_dequeue_slice_checked_(
     struct net_base_ring *place, const uint8_t *storage, size_t storage_length, uint8_t *into,
     size_t into_length) {
-    net_base_check_(NET_BASE_ALIGNED(place, struct net_base_ring), "net_base_ring_dequeue_slice: place isn't aligned (duty 1)");
-    net_base_check_(storage_length <= PTRDIFF_MAX / sizeof(*storage), "net_base_ring_dequeue_slice: storage_length is above PTRDIFF_MAX (duty 1)");
-    net_base_check_(into_length <= PTRDIFF_MAX / sizeof(*into), "net_base_ring_dequeue_slice: into_length is above PTRDIFF_MAX (duty 1)");
+    NET_BASE_POINTER_("net_base_ring_dequeue_slice", place, struct net_base_ring);
+    NET_BASE_SLICE_("net_base_ring_dequeue_slice", storage, uint8_t);
+    NET_BASE_SLICE_("net_base_ring_dequeue_slice", into, uint8_t);
     net_base_check_(net_base_apart_(place, sizeof(*place), storage, storage_length * sizeof(*storage)), "net_base_ring_dequeue_slice: place and storage overlap (duty 2)");
     net_base_check_(net_base_apart_(place, sizeof(*place), into, into_length * sizeof(*into)), "net_base_ring_dequeue_slice: place and into overlap (duty 2)");
     net_base_check_(net_base_apart_(storage, storage_length * sizeof(*storage), into, into_length * sizeof(*into)), "net_base_ring_dequeue_slice: storage and into overlap (duty 2)");
@@ -138,36 +149,34 @@ NET_BASE_MUST_USE static inline size_t net_base_ring_dequeue_slice_checked_(
 
 NET_BASE_MUST_USE static inline size_t net_base_ring_enqueue_one_checked_(
     struct net_base_ring *place, size_t capacity) {
-    net_base_check_(NET_BASE_ALIGNED(place, struct net_base_ring), "net_base_ring_enqueue_one: place isn't aligned (duty 1)");
+    NET_BASE_POINTER_("net_base_ring_enqueue_one", place, struct net_base_ring);
     return net_base_ring_enqueue_one(place, capacity);
 }
 
 NET_BASE_MUST_USE static inline size_t net_base_ring_dequeue_one_checked_(
     struct net_base_ring *place, size_t capacity) {
-    net_base_check_(NET_BASE_ALIGNED(place, struct net_base_ring), "net_base_ring_dequeue_one: place isn't aligned (duty 1)");
+    NET_BASE_POINTER_("net_base_ring_dequeue_one", place, struct net_base_ring);
     return net_base_ring_dequeue_one(place, capacity);
 }
 
 static inline void net_base_packets_init_checked_(struct net_base_packets *packets) {
-    net_base_check_(NET_BASE_ALIGNED(packets, struct net_base_packets), "net_base_packets_init: packets isn't aligned (duty 1)");
+    NET_BASE_POINTER_("net_base_packets_init", packets, struct net_base_packets);
     net_base_packets_init(packets);
 }
 
 NET_BASE_MUST_USE static inline bool net_base_packets_is_sound_checked_(
     const struct net_base_packets *packets, const struct net_base_packet_slot *slots,
     size_t slots_length, size_t capacity) {
-    net_base_check_(NET_BASE_ALIGNED(packets, struct net_base_packets), "net_base_packets_is_sound: packets isn't aligned (duty 1)");
-    net_base_check_(NET_BASE_ALIGNED(slots, struct net_base_packet_slot) || slots_length == 0, "net_base_packets_is_sound: slots isn't aligned (duty 1)");
-    net_base_check_(slots_length <= PTRDIFF_MAX / sizeof(*slots), "net_base_packets_is_sound: slots_length is above PTRDIFF_MAX (duty 1)");
+    NET_BASE_POINTER_("net_base_packets_is_sound", packets, struct net_base_packets);
+    NET_BASE_SLICE_("net_base_packets_is_sound", slots, struct net_base_packet_slot);
     return net_base_packets_is_sound(packets, slots, slots_length, capacity);
 }
 
 NET_BASE_MUST_USE static inline bool net_base_packets_shorten_last_checked_(
     struct net_base_packets *packets, struct net_base_packet_slot *slots, size_t slots_length,
     size_t capacity, size_t count) {
-    net_base_check_(NET_BASE_ALIGNED(packets, struct net_base_packets), "net_base_packets_shorten_last: packets isn't aligned (duty 1)");
-    net_base_check_(NET_BASE_ALIGNED(slots, struct net_base_packet_slot) || slots_length == 0, "net_base_packets_shorten_last: slots isn't aligned (duty 1)");
-    net_base_check_(slots_length <= PTRDIFF_MAX / sizeof(*slots), "net_base_packets_shorten_last: slots_length is above PTRDIFF_MAX (duty 1)");
+    NET_BASE_POINTER_("net_base_packets_shorten_last", packets, struct net_base_packets);
+    NET_BASE_SLICE_("net_base_packets_shorten_last", slots, struct net_base_packet_slot);
     net_base_check_(net_base_apart_(packets, sizeof(*packets), slots, slots_length * sizeof(*slots)), "net_base_packets_shorten_last: packets and slots overlap (duty 2)");
     return net_base_packets_shorten_last(packets, slots, slots_length, capacity, count);
 }
@@ -175,9 +184,8 @@ NET_BASE_MUST_USE static inline bool net_base_packets_shorten_last_checked_(
 NET_BASE_MUST_USE static inline struct net_base_packet_place net_base_packets_enqueue_checked_(
     struct net_base_packets *packets, struct net_base_packet_slot *slots, size_t slots_length,
     size_t capacity, size_t size) {
-    net_base_check_(NET_BASE_ALIGNED(packets, struct net_base_packets), "net_base_packets_enqueue: packets isn't aligned (duty 1)");
-    net_base_check_(NET_BASE_ALIGNED(slots, struct net_base_packet_slot) || slots_length == 0, "net_base_packets_enqueue: slots isn't aligned (duty 1)");
-    net_base_check_(slots_length <= PTRDIFF_MAX / sizeof(*slots), "net_base_packets_enqueue: slots_length is above PTRDIFF_MAX (duty 1)");
+    NET_BASE_POINTER_("net_base_packets_enqueue", packets, struct net_base_packets);
+    NET_BASE_SLICE_("net_base_packets_enqueue", slots, struct net_base_packet_slot);
     net_base_check_(net_base_apart_(packets, sizeof(*packets), slots, slots_length * sizeof(*slots)), "net_base_packets_enqueue: packets and slots overlap (duty 2)");
     return net_base_packets_enqueue(packets, slots, slots_length, capacity, size);
 }
@@ -185,9 +193,8 @@ NET_BASE_MUST_USE static inline struct net_base_packet_place net_base_packets_en
 NET_BASE_MUST_USE static inline struct net_base_first_packet net_base_packets_dequeue_checked_(
     struct net_base_packets *packets, const struct net_base_packet_slot *slots, size_t slots_length,
     size_t capacity) {
-    net_base_check_(NET_BASE_ALIGNED(packets, struct net_base_packets), "net_base_packets_dequeue: packets isn't aligned (duty 1)");
-    net_base_check_(NET_BASE_ALIGNED(slots, struct net_base_packet_slot) || slots_length == 0, "net_base_packets_dequeue: slots isn't aligned (duty 1)");
-    net_base_check_(slots_length <= PTRDIFF_MAX / sizeof(*slots), "net_base_packets_dequeue: slots_length is above PTRDIFF_MAX (duty 1)");
+    NET_BASE_POINTER_("net_base_packets_dequeue", packets, struct net_base_packets);
+    NET_BASE_SLICE_("net_base_packets_dequeue", slots, struct net_base_packet_slot);
     net_base_check_(net_base_apart_(packets, sizeof(*packets), slots, slots_length * sizeof(*slots)), "net_base_packets_dequeue: packets and slots overlap (duty 2)");
     return net_base_packets_dequeue(packets, slots, slots_length, capacity);
 }
@@ -195,85 +202,73 @@ NET_BASE_MUST_USE static inline struct net_base_first_packet net_base_packets_de
 NET_BASE_MUST_USE static inline struct net_base_first_packet net_base_packets_peek_checked_(
     const struct net_base_packets *packets, const struct net_base_packet_slot *slots,
     size_t slots_length, size_t capacity) {
-    net_base_check_(NET_BASE_ALIGNED(packets, struct net_base_packets), "net_base_packets_peek: packets isn't aligned (duty 1)");
-    net_base_check_(NET_BASE_ALIGNED(slots, struct net_base_packet_slot) || slots_length == 0, "net_base_packets_peek: slots isn't aligned (duty 1)");
-    net_base_check_(slots_length <= PTRDIFF_MAX / sizeof(*slots), "net_base_packets_peek: slots_length is above PTRDIFF_MAX (duty 1)");
+    NET_BASE_POINTER_("net_base_packets_peek", packets, struct net_base_packets);
+    NET_BASE_SLICE_("net_base_packets_peek", slots, struct net_base_packet_slot);
     return net_base_packets_peek(packets, slots, slots_length, capacity);
 }
 
 NET_BASE_MUST_USE static inline size_t net_base_packets_take_slot_checked_(
     struct net_base_packets *packets, size_t slot_count, size_t capacity,
     const struct net_base_packet_slot *first) {
-    net_base_check_(NET_BASE_ALIGNED(packets, struct net_base_packets), "net_base_packets_take_slot: packets isn't aligned (duty 1)");
-    net_base_check_(NET_BASE_ALIGNED(first, struct net_base_packet_slot), "net_base_packets_take_slot: first isn't aligned (duty 1)");
+    NET_BASE_POINTER_("net_base_packets_take_slot", packets, struct net_base_packets);
+    NET_BASE_POINTER_("net_base_packets_take_slot", first, struct net_base_packet_slot);
     net_base_check_(net_base_apart_(packets, sizeof(*packets), first, sizeof(*first)), "net_base_packets_take_slot: packets and first overlap (duty 2)");
     return net_base_packets_take_slot(packets, slot_count, capacity, first);
 }
 
 static inline void net_base_assembler_init_checked_(struct net_base_assembler *assembler) {
-    net_base_check_(NET_BASE_ALIGNED(assembler, struct net_base_assembler), "net_base_assembler_init: assembler isn't aligned (duty 1)");
+    NET_BASE_POINTER_("net_base_assembler_init", assembler, struct net_base_assembler);
     net_base_assembler_init(assembler);
 }
 
 NET_BASE_MUST_USE static inline bool net_base_assembler_is_sound_checked_(
     const struct net_base_assembler *assembler, const struct net_base_run *runs, size_t runs_length)
     {
-    net_base_check_(NET_BASE_ALIGNED(assembler, struct net_base_assembler), "net_base_assembler_is_sound: assembler isn't aligned (duty 1)");
-    net_base_check_(NET_BASE_ALIGNED(runs, struct net_base_run) || runs_length == 0, "net_base_assembler_is_sound: runs isn't aligned (duty 1)");
-    net_base_check_(runs_length <= PTRDIFF_MAX / sizeof(*runs), "net_base_assembler_is_sound: runs_length is above PTRDIFF_MAX (duty 1)");
+    NET_BASE_POINTER_("net_base_assembler_is_sound", assembler, struct net_base_assembler);
+    NET_BASE_SLICE_("net_base_assembler_is_sound", runs, struct net_base_run);
     return net_base_assembler_is_sound(assembler, runs, runs_length);
 }
 
 NET_BASE_MUST_USE static inline enum net_base_room_status net_base_assembler_add_checked_(
     struct net_base_assembler *assembler, struct net_base_run *runs, size_t runs_length,
     size_t offset, size_t size) {
-    net_base_check_(NET_BASE_ALIGNED(assembler, struct net_base_assembler), "net_base_assembler_add: assembler isn't aligned (duty 1)");
-    net_base_check_(NET_BASE_ALIGNED(runs, struct net_base_run) || runs_length == 0, "net_base_assembler_add: runs isn't aligned (duty 1)");
-    net_base_check_(runs_length <= PTRDIFF_MAX / sizeof(*runs), "net_base_assembler_add: runs_length is above PTRDIFF_MAX (duty 1)");
+    NET_BASE_POINTER_("net_base_assembler_add", assembler, struct net_base_assembler);
+    NET_BASE_SLICE_("net_base_assembler_add", runs, struct net_base_run);
     net_base_check_(net_base_apart_(assembler, sizeof(*assembler), runs, runs_length * sizeof(*runs)), "net_base_assembler_add: assembler and runs overlap (duty 2)");
     net_base_check_(net_base_assembler_is_sound(assembler, runs, runs_length), "net_base_assembler_add: head, runs or lengths aren't those of calls of its own kind (duty 5, 6 or 7)");
     enum net_base_room_status result = net_base_assembler_add(assembler, runs, runs_length, offset, size);
-#if NET_BASE_CHECK + 0 > 1
-    net_base_check_(result != NET_BASE_ROOM_REFUSED, "net_base_assembler_add: refused");
-#endif
+    NET_BASE_ANSWERS_("net_base_assembler_add", result != NET_BASE_ROOM_REFUSED);
     return result;
 }
 
 NET_BASE_MUST_USE static inline struct net_base_front_length net_base_assembler_add_then_remove_front_checked_(
     struct net_base_assembler *assembler, struct net_base_run *runs, size_t runs_length,
     size_t offset, size_t size) {
-    net_base_check_(NET_BASE_ALIGNED(assembler, struct net_base_assembler), "net_base_assembler_add_then_remove_front: assembler isn't aligned (duty 1)");
-    net_base_check_(NET_BASE_ALIGNED(runs, struct net_base_run) || runs_length == 0, "net_base_assembler_add_then_remove_front: runs isn't aligned (duty 1)");
-    net_base_check_(runs_length <= PTRDIFF_MAX / sizeof(*runs), "net_base_assembler_add_then_remove_front: runs_length is above PTRDIFF_MAX (duty 1)");
+    NET_BASE_POINTER_("net_base_assembler_add_then_remove_front", assembler, struct net_base_assembler);
+    NET_BASE_SLICE_("net_base_assembler_add_then_remove_front", runs, struct net_base_run);
     net_base_check_(net_base_apart_(assembler, sizeof(*assembler), runs, runs_length * sizeof(*runs)), "net_base_assembler_add_then_remove_front: assembler and runs overlap (duty 2)");
     net_base_check_(net_base_assembler_is_sound(assembler, runs, runs_length), "net_base_assembler_add_then_remove_front: head, runs or lengths aren't those of calls of its own kind (duty 5, 6 or 7)");
     struct net_base_front_length result = net_base_assembler_add_then_remove_front(assembler, runs, runs_length, offset, size);
-#if NET_BASE_CHECK + 0 > 1
-    net_base_check_(result.status != NET_BASE_ROOM_REFUSED, "net_base_assembler_add_then_remove_front: refused");
-#endif
+    NET_BASE_ANSWERS_("net_base_assembler_add_then_remove_front", result.status != NET_BASE_ROOM_REFUSED);
     return result;
 }
 
 NET_BASE_MUST_USE static inline struct net_base_front_length net_base_assembler_remove_front_checked_(
     struct net_base_assembler *assembler, struct net_base_run *runs, size_t runs_length) {
-    net_base_check_(NET_BASE_ALIGNED(assembler, struct net_base_assembler), "net_base_assembler_remove_front: assembler isn't aligned (duty 1)");
-    net_base_check_(NET_BASE_ALIGNED(runs, struct net_base_run) || runs_length == 0, "net_base_assembler_remove_front: runs isn't aligned (duty 1)");
-    net_base_check_(runs_length <= PTRDIFF_MAX / sizeof(*runs), "net_base_assembler_remove_front: runs_length is above PTRDIFF_MAX (duty 1)");
+    NET_BASE_POINTER_("net_base_assembler_remove_front", assembler, struct net_base_assembler);
+    NET_BASE_SLICE_("net_base_assembler_remove_front", runs, struct net_base_run);
     net_base_check_(net_base_apart_(assembler, sizeof(*assembler), runs, runs_length * sizeof(*runs)), "net_base_assembler_remove_front: assembler and runs overlap (duty 2)");
     net_base_check_(net_base_assembler_is_sound(assembler, runs, runs_length), "net_base_assembler_remove_front: head, runs or lengths aren't those of calls of its own kind (duty 5, 6 or 7)");
     struct net_base_front_length result = net_base_assembler_remove_front(assembler, runs, runs_length);
-#if NET_BASE_CHECK + 0 > 1
-    net_base_check_(result.status != NET_BASE_ROOM_REFUSED, "net_base_assembler_remove_front: refused");
-#endif
+    NET_BASE_ANSWERS_("net_base_assembler_remove_front", result.status != NET_BASE_ROOM_REFUSED);
     return result;
 }
 
 NET_BASE_MUST_USE static inline bool net_base_assembler_shift_checked_(
     struct net_base_assembler *assembler, struct net_base_run *runs, size_t runs_length,
     size_t count) {
-    net_base_check_(NET_BASE_ALIGNED(assembler, struct net_base_assembler), "net_base_assembler_shift: assembler isn't aligned (duty 1)");
-    net_base_check_(NET_BASE_ALIGNED(runs, struct net_base_run) || runs_length == 0, "net_base_assembler_shift: runs isn't aligned (duty 1)");
-    net_base_check_(runs_length <= PTRDIFF_MAX / sizeof(*runs), "net_base_assembler_shift: runs_length is above PTRDIFF_MAX (duty 1)");
+    NET_BASE_POINTER_("net_base_assembler_shift", assembler, struct net_base_assembler);
+    NET_BASE_SLICE_("net_base_assembler_shift", runs, struct net_base_run);
     net_base_check_(net_base_apart_(assembler, sizeof(*assembler), runs, runs_length * sizeof(*runs)), "net_base_assembler_shift: assembler and runs overlap (duty 2)");
     net_base_check_(net_base_assembler_is_sound(assembler, runs, runs_length), "net_base_assembler_shift: head, runs or lengths aren't those of calls of its own kind (duty 5, 6 or 7)");
     return net_base_assembler_shift(assembler, runs, runs_length, count);
@@ -282,23 +277,19 @@ NET_BASE_MUST_USE static inline bool net_base_assembler_shift_checked_(
 NET_BASE_MUST_USE static inline struct net_base_front_length net_base_assembler_peek_front_checked_(
     const struct net_base_assembler *assembler, const struct net_base_run *runs, size_t runs_length)
     {
-    net_base_check_(NET_BASE_ALIGNED(assembler, struct net_base_assembler), "net_base_assembler_peek_front: assembler isn't aligned (duty 1)");
-    net_base_check_(NET_BASE_ALIGNED(runs, struct net_base_run) || runs_length == 0, "net_base_assembler_peek_front: runs isn't aligned (duty 1)");
-    net_base_check_(runs_length <= PTRDIFF_MAX / sizeof(*runs), "net_base_assembler_peek_front: runs_length is above PTRDIFF_MAX (duty 1)");
+    NET_BASE_POINTER_("net_base_assembler_peek_front", assembler, struct net_base_assembler);
+    NET_BASE_SLICE_("net_base_assembler_peek_front", runs, struct net_base_run);
     net_base_check_(net_base_assembler_is_sound(assembler, runs, runs_length), "net_base_assembler_peek_front: head, runs or lengths aren't those of calls of its own kind (duty 5, 6 or 7)");
     struct net_base_front_length result = net_base_assembler_peek_front(assembler, runs, runs_length);
-#if NET_BASE_CHECK + 0 > 1
-    net_base_check_(result.status != NET_BASE_ROOM_REFUSED, "net_base_assembler_peek_front: refused");
-#endif
+    NET_BASE_ANSWERS_("net_base_assembler_peek_front", result.status != NET_BASE_ROOM_REFUSED);
     return result;
 }
 
 NET_BASE_MUST_USE static inline bool net_base_assembler_contains_checked_(
     const struct net_base_assembler *assembler, const struct net_base_run *runs, size_t runs_length,
     size_t position) {
-    net_base_check_(NET_BASE_ALIGNED(assembler, struct net_base_assembler), "net_base_assembler_contains: assembler isn't aligned (duty 1)");
-    net_base_check_(NET_BASE_ALIGNED(runs, struct net_base_run) || runs_length == 0, "net_base_assembler_contains: runs isn't aligned (duty 1)");
-    net_base_check_(runs_length <= PTRDIFF_MAX / sizeof(*runs), "net_base_assembler_contains: runs_length is above PTRDIFF_MAX (duty 1)");
+    NET_BASE_POINTER_("net_base_assembler_contains", assembler, struct net_base_assembler);
+    NET_BASE_SLICE_("net_base_assembler_contains", runs, struct net_base_run);
     net_base_check_(net_base_assembler_is_sound(assembler, runs, runs_length), "net_base_assembler_contains: head, runs or lengths aren't those of calls of its own kind (duty 5, 6 or 7)");
     return net_base_assembler_contains(assembler, runs, runs_length, position);
 }
@@ -306,9 +297,8 @@ NET_BASE_MUST_USE static inline bool net_base_assembler_contains_checked_(
 NET_BASE_MUST_USE static inline struct net_base_run net_base_assembler_run_at_checked_(
     const struct net_base_assembler *assembler, const struct net_base_run *runs, size_t runs_length,
     size_t index) {
-    net_base_check_(NET_BASE_ALIGNED(assembler, struct net_base_assembler), "net_base_assembler_run_at: assembler isn't aligned (duty 1)");
-    net_base_check_(NET_BASE_ALIGNED(runs, struct net_base_run) || runs_length == 0, "net_base_assembler_run_at: runs isn't aligned (duty 1)");
-    net_base_check_(runs_length <= PTRDIFF_MAX / sizeof(*runs), "net_base_assembler_run_at: runs_length is above PTRDIFF_MAX (duty 1)");
+    NET_BASE_POINTER_("net_base_assembler_run_at", assembler, struct net_base_assembler);
+    NET_BASE_SLICE_("net_base_assembler_run_at", runs, struct net_base_run);
     net_base_check_(net_base_assembler_is_sound(assembler, runs, runs_length), "net_base_assembler_run_at: head, runs or lengths aren't those of calls of its own kind (duty 5, 6 or 7)");
     return net_base_assembler_run_at(assembler, runs, runs_length, index);
 }
@@ -316,40 +306,35 @@ NET_BASE_MUST_USE static inline struct net_base_run net_base_assembler_run_at_ch
 NET_BASE_MUST_USE static inline struct net_base_run net_base_assembler_hole_at_checked_(
     const struct net_base_assembler *assembler, const struct net_base_run *runs, size_t runs_length,
     size_t index) {
-    net_base_check_(NET_BASE_ALIGNED(assembler, struct net_base_assembler), "net_base_assembler_hole_at: assembler isn't aligned (duty 1)");
-    net_base_check_(NET_BASE_ALIGNED(runs, struct net_base_run) || runs_length == 0, "net_base_assembler_hole_at: runs isn't aligned (duty 1)");
-    net_base_check_(runs_length <= PTRDIFF_MAX / sizeof(*runs), "net_base_assembler_hole_at: runs_length is above PTRDIFF_MAX (duty 1)");
+    NET_BASE_POINTER_("net_base_assembler_hole_at", assembler, struct net_base_assembler);
+    NET_BASE_SLICE_("net_base_assembler_hole_at", runs, struct net_base_run);
     net_base_check_(net_base_assembler_is_sound(assembler, runs, runs_length), "net_base_assembler_hole_at: head, runs or lengths aren't those of calls of its own kind (duty 5, 6 or 7)");
     return net_base_assembler_hole_at(assembler, runs, runs_length, index);
 }
 
 static inline void net_base_fragments_init_checked_(
     struct net_base_fragments *fragments, int64_t expires_at) {
-    net_base_check_(NET_BASE_ALIGNED(fragments, struct net_base_fragments), "net_base_fragments_init: fragments isn't aligned (duty 1)");
+    NET_BASE_POINTER_("net_base_fragments_init", fragments, struct net_base_fragments);
     net_base_fragments_init(fragments, expires_at);
 }
 
 NET_BASE_MUST_USE static inline bool net_base_fragments_is_sound_checked_(
     const struct net_base_fragments *fragments, size_t capacity, const struct net_base_run *runs,
     size_t runs_length) {
-    net_base_check_(NET_BASE_ALIGNED(fragments, struct net_base_fragments), "net_base_fragments_is_sound: fragments isn't aligned (duty 1)");
-    net_base_check_(NET_BASE_ALIGNED(runs, struct net_base_run) || runs_length == 0, "net_base_fragments_is_sound: runs isn't aligned (duty 1)");
-    net_base_check_(runs_length <= PTRDIFF_MAX / sizeof(*runs), "net_base_fragments_is_sound: runs_length is above PTRDIFF_MAX (duty 1)");
+    NET_BASE_POINTER_("net_base_fragments_is_sound", fragments, struct net_base_fragments);
+    NET_BASE_SLICE_("net_base_fragments_is_sound", runs, struct net_base_run);
     return net_base_fragments_is_sound(fragments, capacity, runs, runs_length);
 }
 
 NET_BASE_MUST_USE static inline enum net_base_size_status net_base_fragments_set_total_size_checked_(
     struct net_base_fragments *fragments, size_t capacity, const struct net_base_run *runs,
     size_t runs_length, size_t size) {
-    net_base_check_(NET_BASE_ALIGNED(fragments, struct net_base_fragments), "net_base_fragments_set_total_size: fragments isn't aligned (duty 1)");
-    net_base_check_(NET_BASE_ALIGNED(runs, struct net_base_run) || runs_length == 0, "net_base_fragments_set_total_size: runs isn't aligned (duty 1)");
-    net_base_check_(runs_length <= PTRDIFF_MAX / sizeof(*runs), "net_base_fragments_set_total_size: runs_length is above PTRDIFF_MAX (duty 1)");
+    NET_BASE_POINTER_("net_base_fragments_set_total_size", fragments, struct net_base_fragments);
+    NET_BASE_SLICE_("net_base_fragments_set_total_size", runs, struct net_base_run);
     net_base_check_(net_base_apart_(fragments, sizeof(*fragments), runs, runs_length * sizeof(*runs)), "net_base_fragments_set_total_size: fragments and runs overlap (duty 2)");
     net_base_check_(net_base_fragments_is_sound(fragments, capacity, runs, runs_length), "net_base_fragments_set_total_size: head, runs or lengths aren't those of calls of its own kind (duty 5, 6 or 7)");
     enum net_base_size_status result = net_base_fragments_set_total_size(fragments, capacity, runs, runs_length, size);
-#if NET_BASE_CHECK + 0 > 1
-    net_base_check_(result != NET_BASE_SIZE_REFUSED, "net_base_fragments_set_total_size: refused");
-#endif
+    NET_BASE_ANSWERS_("net_base_fragments_set_total_size", result != NET_BASE_SIZE_REFUSED);
     return result;
 }
 
@@ -357,11 +342,10 @@ NET_BASE_MUST_USE static inline enum net_base_fragment_status net_base_fragments
     struct net_base_fragments *fragments, uint8_t *storage, size_t storage_length,
     struct net_base_run *runs, size_t runs_length, size_t offset, const uint8_t *data,
     size_t data_length) {
-    net_base_check_(NET_BASE_ALIGNED(fragments, struct net_base_fragments), "net_base_fragments_add: fragments isn't aligned (duty 1)");
-    net_base_check_(NET_BASE_ALIGNED(runs, struct net_base_run) || runs_length == 0, "net_base_fragments_add: runs isn't aligned (duty 1)");
-    net_base_check_(storage_length <= PTRDIFF_MAX / sizeof(*storage), "net_base_fragments_add: storage_length is above PTRDIFF_MAX (duty 1)");
-    net_base_check_(runs_length <= PTRDIFF_MAX / sizeof(*runs), "net_base_fragments_add: runs_length is above PTRDIFF_MAX (duty 1)");
-    net_base_check_(data_length <= PTRDIFF_MAX / sizeof(*data), "net_base_fragments_add: data_length is above PTRDIFF_MAX (duty 1)");
+    NET_BASE_POINTER_("net_base_fragments_add", fragments, struct net_base_fragments);
+    NET_BASE_SLICE_("net_base_fragments_add", storage, uint8_t);
+    NET_BASE_SLICE_("net_base_fragments_add", runs, struct net_base_run);
+    NET_BASE_SLICE_("net_base_fragments_add", data, uint8_t);
     net_base_check_(net_base_apart_(fragments, sizeof(*fragments), storage, storage_length * sizeof(*storage)), "net_base_fragments_add: fragments and storage overlap (duty 2)");
     net_base_check_(net_base_apart_(fragments, sizeof(*fragments), runs, runs_length * sizeof(*runs)), "net_base_fragments_add: fragments and runs overlap (duty 2)");
     net_base_check_(net_base_apart_(fragments, sizeof(*fragments), data, data_length * sizeof(*data)), "net_base_fragments_add: fragments and data overlap (duty 2)");
@@ -370,9 +354,7 @@ NET_BASE_MUST_USE static inline enum net_base_fragment_status net_base_fragments
     net_base_check_(net_base_apart_(runs, runs_length * sizeof(*runs), data, data_length * sizeof(*data)), "net_base_fragments_add: runs and data overlap (duty 2)");
     net_base_check_(net_base_fragments_is_sound(fragments, storage_length, runs, runs_length), "net_base_fragments_add: head, runs or lengths aren't those of calls of its own kind (duty 5, 6 or 7)");
     enum net_base_fragment_status result = net_base_fragments_add(fragments, storage, storage_length, runs, runs_length, offset, data, data_length);
-#if NET_BASE_CHECK + 0 > 1
-    net_base_check_(result != NET_BASE_FRAGMENT_REFUSED, "net_base_fragments_add: refused");
-#endif
+    NET_BASE_ANSWERS_("net_base_fragments_add", result != NET_BASE_FRAGMENT_REFUSED);
     return result;
 }
 
@@ -380,11 +362,10 @@ NET_BASE_MUST_USE static inline bool net_base_fragments_differs_checked_(
     const struct net_base_fragments *fragments, const uint8_t *storage, size_t storage_length,
     const struct net_base_run *runs, size_t runs_length, size_t offset, const uint8_t *data,
     size_t data_length) {
-    net_base_check_(NET_BASE_ALIGNED(fragments, struct net_base_fragments), "net_base_fragments_differs: fragments isn't aligned (duty 1)");
-    net_base_check_(NET_BASE_ALIGNED(runs, struct net_base_run) || runs_length == 0, "net_base_fragments_differs: runs isn't aligned (duty 1)");
-    net_base_check_(storage_length <= PTRDIFF_MAX / sizeof(*storage), "net_base_fragments_differs: storage_length is above PTRDIFF_MAX (duty 1)");
-    net_base_check_(runs_length <= PTRDIFF_MAX / sizeof(*runs), "net_base_fragments_differs: runs_length is above PTRDIFF_MAX (duty 1)");
-    net_base_check_(data_length <= PTRDIFF_MAX / sizeof(*data), "net_base_fragments_differs: data_length is above PTRDIFF_MAX (duty 1)");
+    NET_BASE_POINTER_("net_base_fragments_differs", fragments, struct net_base_fragments);
+    NET_BASE_SLICE_("net_base_fragments_differs", storage, uint8_t);
+    NET_BASE_SLICE_("net_base_fragments_differs", runs, struct net_base_run);
+    NET_BASE_SLICE_("net_base_fragments_differs", data, uint8_t);
     net_base_check_(net_base_fragments_is_sound(fragments, storage_length, runs, runs_length), "net_base_fragments_differs: head, runs or lengths aren't those of calls of its own kind (duty 5, 6 or 7)");
     return net_base_fragments_differs(fragments, storage, storage_length, runs, runs_length, offset, data, data_length);
 }
@@ -392,25 +373,23 @@ NET_BASE_MUST_USE static inline bool net_base_fragments_differs_checked_(
 NET_BASE_MUST_USE static inline bool net_base_fragments_overlaps_checked_(
     const struct net_base_fragments *fragments, const struct net_base_run *runs, size_t runs_length,
     size_t offset, size_t count) {
-    net_base_check_(NET_BASE_ALIGNED(fragments, struct net_base_fragments), "net_base_fragments_overlaps: fragments isn't aligned (duty 1)");
-    net_base_check_(NET_BASE_ALIGNED(runs, struct net_base_run) || runs_length == 0, "net_base_fragments_overlaps: runs isn't aligned (duty 1)");
-    net_base_check_(runs_length <= PTRDIFF_MAX / sizeof(*runs), "net_base_fragments_overlaps: runs_length is above PTRDIFF_MAX (duty 1)");
+    NET_BASE_POINTER_("net_base_fragments_overlaps", fragments, struct net_base_fragments);
+    NET_BASE_SLICE_("net_base_fragments_overlaps", runs, struct net_base_run);
     return net_base_fragments_overlaps(fragments, runs, runs_length, offset, count);
 }
 
 NET_BASE_MUST_USE static inline bool net_base_fragments_is_expired_checked_(
     const struct net_base_fragments *fragments, int64_t now) {
-    net_base_check_(NET_BASE_ALIGNED(fragments, struct net_base_fragments), "net_base_fragments_is_expired: fragments isn't aligned (duty 1)");
+    NET_BASE_POINTER_("net_base_fragments_is_expired", fragments, struct net_base_fragments);
     return net_base_fragments_is_expired(fragments, now);
 }
 
 NET_BASE_MUST_USE static inline bool net_base_fragments_complete_checked_(
     const struct net_base_fragments *fragments, size_t capacity, const struct net_base_run *runs,
     size_t runs_length, size_t *size) {
-    net_base_check_(NET_BASE_ALIGNED(fragments, struct net_base_fragments), "net_base_fragments_complete: fragments isn't aligned (duty 1)");
-    net_base_check_(NET_BASE_ALIGNED(runs, struct net_base_run) || runs_length == 0, "net_base_fragments_complete: runs isn't aligned (duty 1)");
-    net_base_check_(NET_BASE_ALIGNED(size, size_t), "net_base_fragments_complete: size isn't aligned (duty 1)");
-    net_base_check_(runs_length <= PTRDIFF_MAX / sizeof(*runs), "net_base_fragments_complete: runs_length is above PTRDIFF_MAX (duty 1)");
+    NET_BASE_POINTER_("net_base_fragments_complete", fragments, struct net_base_fragments);
+    NET_BASE_SLICE_("net_base_fragments_complete", runs, struct net_base_run);
+    NET_BASE_POINTER_("net_base_fragments_complete", size, size_t);
     net_base_check_(net_base_apart_(fragments, sizeof(*fragments), size, sizeof(*size)), "net_base_fragments_complete: fragments and size overlap (duty 2)");
     net_base_check_(net_base_apart_(runs, runs_length * sizeof(*runs), size, sizeof(*size)), "net_base_fragments_complete: runs and size overlap (duty 2)");
     net_base_check_(net_base_fragments_is_sound(fragments, capacity, runs, runs_length), "net_base_fragments_complete: head, runs or lengths aren't those of calls of its own kind (duty 5, 6 or 7)");
@@ -420,32 +399,31 @@ NET_BASE_MUST_USE static inline bool net_base_fragments_complete_checked_(
 NET_BASE_MUST_USE static inline bool net_base_receiver_is_sound_checked_(
     const struct net_base_receiver *receiver, size_t capacity, const struct net_base_run *runs,
     size_t runs_length) {
-    net_base_check_(NET_BASE_ALIGNED(receiver, struct net_base_receiver), "net_base_receiver_is_sound: receiver isn't aligned (duty 1)");
-    net_base_check_(NET_BASE_ALIGNED(runs, struct net_base_run) || runs_length == 0, "net_base_receiver_is_sound: runs isn't aligned (duty 1)");
-    net_base_check_(runs_length <= PTRDIFF_MAX / sizeof(*runs), "net_base_receiver_is_sound: runs_length is above PTRDIFF_MAX (duty 1)");
+    NET_BASE_POINTER_("net_base_receiver_is_sound", receiver, struct net_base_receiver);
+    NET_BASE_SLICE_("net_base_receiver_is_sound", runs, struct net_base_run);
     return net_base_receiver_is_sound(receiver, capacity, runs, runs_length);
 }
 
 NET_BASE_MUST_USE static inline bool net_base_receiver_next_checked_(
     const struct net_base_receiver *receiver, uint64_t *next) {
-    net_base_check_(NET_BASE_ALIGNED(receiver, struct net_base_receiver), "net_base_receiver_next: receiver isn't aligned (duty 1)");
-    net_base_check_(NET_BASE_ALIGNED(next, uint64_t), "net_base_receiver_next: next isn't aligned (duty 1)");
+    NET_BASE_POINTER_("net_base_receiver_next", receiver, struct net_base_receiver);
+    NET_BASE_POINTER_("net_base_receiver_next", next, uint64_t);
     net_base_check_(net_base_apart_(receiver, sizeof(*receiver), next, sizeof(*next)), "net_base_receiver_next: receiver and next overlap (duty 2)");
     return net_base_receiver_next(receiver, next);
 }
 
 NET_BASE_MUST_USE static inline size_t net_base_receiver_window_checked_(
     const struct net_base_receiver *receiver, size_t capacity) {
-    net_base_check_(NET_BASE_ALIGNED(receiver, struct net_base_receiver), "net_base_receiver_window: receiver isn't aligned (duty 1)");
+    NET_BASE_POINTER_("net_base_receiver_window", receiver, struct net_base_receiver);
     return net_base_receiver_window(receiver, capacity);
 }
 
 NET_BASE_MUST_USE static inline size_t net_base_receiver_peek_slice_checked_(
     const struct net_base_receiver *receiver, const uint8_t *storage, size_t storage_length,
     uint8_t *into, size_t into_length) {
-    net_base_check_(NET_BASE_ALIGNED(receiver, struct net_base_receiver), "net_base_receiver_peek_slice: receiver isn't aligned (duty 1)");
-    net_base_check_(storage_length <= PTRDIFF_MAX / sizeof(*storage), "net_base_receiver_peek_slice: storage_length is above PTRDIFF_MAX (duty 1)");
-    net_base_check_(into_length <= PTRDIFF_MAX / sizeof(*into), "net_base_receiver_peek_slice: into_length is above PTRDIFF_MAX (duty 1)");
+    NET_BASE_POINTER_("net_base_receiver_peek_slice", receiver, struct net_base_receiver);
+    NET_BASE_SLICE_("net_base_receiver_peek_slice", storage, uint8_t);
+    NET_BASE_SLICE_("net_base_receiver_peek_slice", into, uint8_t);
     net_base_check_(net_base_apart_(receiver, sizeof(*receiver), into, into_length * sizeof(*into)), "net_base_receiver_peek_slice: receiver and into overlap (duty 2)");
     net_base_check_(net_base_apart_(storage, storage_length * sizeof(*storage), into, into_length * sizeof(*into)), "net_base_receiver_peek_slice: storage and into overlap (duty 2)");
     return net_base_receiver_peek_slice(receiver, storage, storage_length, into, into_length);
@@ -455,13 +433,10 @@ NET_BASE_MUST_USE static inline size_t net_base_receiver_newest_runs_checked_(
     const struct net_base_receiver *receiver, const struct net_base_run *runs, size_t runs_length,
     uint64_t position, uint64_t *recent, size_t recent_length, struct net_base_held_run *into,
     size_t into_length) {
-    net_base_check_(NET_BASE_ALIGNED(receiver, struct net_base_receiver), "net_base_receiver_newest_runs: receiver isn't aligned (duty 1)");
-    net_base_check_(NET_BASE_ALIGNED(runs, struct net_base_run) || runs_length == 0, "net_base_receiver_newest_runs: runs isn't aligned (duty 1)");
-    net_base_check_(NET_BASE_ALIGNED(recent, uint64_t) || recent_length == 0, "net_base_receiver_newest_runs: recent isn't aligned (duty 1)");
-    net_base_check_(NET_BASE_ALIGNED(into, struct net_base_held_run) || into_length == 0, "net_base_receiver_newest_runs: into isn't aligned (duty 1)");
-    net_base_check_(runs_length <= PTRDIFF_MAX / sizeof(*runs), "net_base_receiver_newest_runs: runs_length is above PTRDIFF_MAX (duty 1)");
-    net_base_check_(recent_length <= PTRDIFF_MAX / sizeof(*recent), "net_base_receiver_newest_runs: recent_length is above PTRDIFF_MAX (duty 1)");
-    net_base_check_(into_length <= PTRDIFF_MAX / sizeof(*into), "net_base_receiver_newest_runs: into_length is above PTRDIFF_MAX (duty 1)");
+    NET_BASE_POINTER_("net_base_receiver_newest_runs", receiver, struct net_base_receiver);
+    NET_BASE_SLICE_("net_base_receiver_newest_runs", runs, struct net_base_run);
+    NET_BASE_SLICE_("net_base_receiver_newest_runs", recent, uint64_t);
+    NET_BASE_SLICE_("net_base_receiver_newest_runs", into, struct net_base_held_run);
     net_base_check_(net_base_apart_(receiver, sizeof(*receiver), recent, recent_length * sizeof(*recent)), "net_base_receiver_newest_runs: receiver and recent overlap (duty 2)");
     net_base_check_(net_base_apart_(receiver, sizeof(*receiver), into, into_length * sizeof(*into)), "net_base_receiver_newest_runs: receiver and into overlap (duty 2)");
     net_base_check_(net_base_apart_(runs, runs_length * sizeof(*runs), recent, recent_length * sizeof(*recent)), "net_base_receiver_newest_runs: runs and recent overlap (duty 2)");
@@ -473,47 +448,41 @@ NET_BASE_MUST_USE static inline size_t net_base_receiver_newest_runs_checked_(
 NET_BASE_MUST_USE static inline struct net_base_held_run net_base_receiver_run_at_checked_(
     const struct net_base_receiver *receiver, const struct net_base_run *runs, size_t runs_length,
     size_t index) {
-    net_base_check_(NET_BASE_ALIGNED(receiver, struct net_base_receiver), "net_base_receiver_run_at: receiver isn't aligned (duty 1)");
-    net_base_check_(NET_BASE_ALIGNED(runs, struct net_base_run) || runs_length == 0, "net_base_receiver_run_at: runs isn't aligned (duty 1)");
-    net_base_check_(runs_length <= PTRDIFF_MAX / sizeof(*runs), "net_base_receiver_run_at: runs_length is above PTRDIFF_MAX (duty 1)");
+    NET_BASE_POINTER_("net_base_receiver_run_at", receiver, struct net_base_receiver);
+    NET_BASE_SLICE_("net_base_receiver_run_at", runs, struct net_base_run);
     return net_base_receiver_run_at(receiver, runs, runs_length, index);
 }
 
 static inline void net_base_scoreboard_init_checked_(
     struct net_base_scoreboard *scoreboard, uint64_t first) {
-    net_base_check_(NET_BASE_ALIGNED(scoreboard, struct net_base_scoreboard), "net_base_scoreboard_init: scoreboard isn't aligned (duty 1)");
+    NET_BASE_POINTER_("net_base_scoreboard_init", scoreboard, struct net_base_scoreboard);
     net_base_scoreboard_init(scoreboard, first);
 }
 
 NET_BASE_MUST_USE static inline bool net_base_scoreboard_is_sound_checked_(
     const struct net_base_scoreboard *scoreboard, const struct net_base_run *runs,
     size_t runs_length) {
-    net_base_check_(NET_BASE_ALIGNED(scoreboard, struct net_base_scoreboard), "net_base_scoreboard_is_sound: scoreboard isn't aligned (duty 1)");
-    net_base_check_(NET_BASE_ALIGNED(runs, struct net_base_run) || runs_length == 0, "net_base_scoreboard_is_sound: runs isn't aligned (duty 1)");
-    net_base_check_(runs_length <= PTRDIFF_MAX / sizeof(*runs), "net_base_scoreboard_is_sound: runs_length is above PTRDIFF_MAX (duty 1)");
+    NET_BASE_POINTER_("net_base_scoreboard_is_sound", scoreboard, struct net_base_scoreboard);
+    NET_BASE_SLICE_("net_base_scoreboard_is_sound", runs, struct net_base_run);
     return net_base_scoreboard_is_sound(scoreboard, runs, runs_length);
 }
 
 NET_BASE_MUST_USE static inline enum net_base_room_status net_base_scoreboard_report_checked_(
     struct net_base_scoreboard *scoreboard, struct net_base_run *runs, size_t runs_length,
     uint64_t start, uint64_t end, uint64_t sent) {
-    net_base_check_(NET_BASE_ALIGNED(scoreboard, struct net_base_scoreboard), "net_base_scoreboard_report: scoreboard isn't aligned (duty 1)");
-    net_base_check_(NET_BASE_ALIGNED(runs, struct net_base_run) || runs_length == 0, "net_base_scoreboard_report: runs isn't aligned (duty 1)");
-    net_base_check_(runs_length <= PTRDIFF_MAX / sizeof(*runs), "net_base_scoreboard_report: runs_length is above PTRDIFF_MAX (duty 1)");
+    NET_BASE_POINTER_("net_base_scoreboard_report", scoreboard, struct net_base_scoreboard);
+    NET_BASE_SLICE_("net_base_scoreboard_report", runs, struct net_base_run);
     net_base_check_(net_base_apart_(scoreboard, sizeof(*scoreboard), runs, runs_length * sizeof(*runs)), "net_base_scoreboard_report: scoreboard and runs overlap (duty 2)");
     enum net_base_room_status result = net_base_scoreboard_report(scoreboard, runs, runs_length, start, end, sent);
-#if NET_BASE_CHECK + 0 > 1
-    net_base_check_(result != NET_BASE_ROOM_REFUSED, "net_base_scoreboard_report: refused");
-#endif
+    NET_BASE_ANSWERS_("net_base_scoreboard_report", result != NET_BASE_ROOM_REFUSED);
     return result;
 }
 
 NET_BASE_MUST_USE static inline bool net_base_scoreboard_acknowledge_checked_(
     struct net_base_scoreboard *scoreboard, struct net_base_run *runs, size_t runs_length,
     uint64_t next) {
-    net_base_check_(NET_BASE_ALIGNED(scoreboard, struct net_base_scoreboard), "net_base_scoreboard_acknowledge: scoreboard isn't aligned (duty 1)");
-    net_base_check_(NET_BASE_ALIGNED(runs, struct net_base_run) || runs_length == 0, "net_base_scoreboard_acknowledge: runs isn't aligned (duty 1)");
-    net_base_check_(runs_length <= PTRDIFF_MAX / sizeof(*runs), "net_base_scoreboard_acknowledge: runs_length is above PTRDIFF_MAX (duty 1)");
+    NET_BASE_POINTER_("net_base_scoreboard_acknowledge", scoreboard, struct net_base_scoreboard);
+    NET_BASE_SLICE_("net_base_scoreboard_acknowledge", runs, struct net_base_run);
     net_base_check_(net_base_apart_(scoreboard, sizeof(*scoreboard), runs, runs_length * sizeof(*runs)), "net_base_scoreboard_acknowledge: scoreboard and runs overlap (duty 2)");
     return net_base_scoreboard_acknowledge(scoreboard, runs, runs_length, next);
 }
@@ -521,32 +490,27 @@ NET_BASE_MUST_USE static inline bool net_base_scoreboard_acknowledge_checked_(
 NET_BASE_MUST_USE static inline bool net_base_scoreboard_contains_checked_(
     const struct net_base_scoreboard *scoreboard, const struct net_base_run *runs,
     size_t runs_length, uint64_t position) {
-    net_base_check_(NET_BASE_ALIGNED(scoreboard, struct net_base_scoreboard), "net_base_scoreboard_contains: scoreboard isn't aligned (duty 1)");
-    net_base_check_(NET_BASE_ALIGNED(runs, struct net_base_run) || runs_length == 0, "net_base_scoreboard_contains: runs isn't aligned (duty 1)");
-    net_base_check_(runs_length <= PTRDIFF_MAX / sizeof(*runs), "net_base_scoreboard_contains: runs_length is above PTRDIFF_MAX (duty 1)");
+    NET_BASE_POINTER_("net_base_scoreboard_contains", scoreboard, struct net_base_scoreboard);
+    NET_BASE_SLICE_("net_base_scoreboard_contains", runs, struct net_base_run);
     return net_base_scoreboard_contains(scoreboard, runs, runs_length, position);
 }
 
 NET_BASE_MUST_USE static inline struct net_base_hole net_base_scoreboard_next_hole_checked_(
     const struct net_base_scoreboard *scoreboard, const struct net_base_run *runs,
     size_t runs_length, uint64_t position, uint64_t limit) {
-    net_base_check_(NET_BASE_ALIGNED(scoreboard, struct net_base_scoreboard), "net_base_scoreboard_next_hole: scoreboard isn't aligned (duty 1)");
-    net_base_check_(NET_BASE_ALIGNED(runs, struct net_base_run) || runs_length == 0, "net_base_scoreboard_next_hole: runs isn't aligned (duty 1)");
-    net_base_check_(runs_length <= PTRDIFF_MAX / sizeof(*runs), "net_base_scoreboard_next_hole: runs_length is above PTRDIFF_MAX (duty 1)");
+    NET_BASE_POINTER_("net_base_scoreboard_next_hole", scoreboard, struct net_base_scoreboard);
+    NET_BASE_SLICE_("net_base_scoreboard_next_hole", runs, struct net_base_run);
     struct net_base_hole result = net_base_scoreboard_next_hole(scoreboard, runs, runs_length, position, limit);
-#if NET_BASE_CHECK + 0 > 1
-    net_base_check_(result.status != NET_BASE_HOLE_REFUSED, "net_base_scoreboard_next_hole: refused");
-#endif
+    NET_BASE_ANSWERS_("net_base_scoreboard_next_hole", result.status != NET_BASE_HOLE_REFUSED);
     return result;
 }
 
 NET_BASE_MUST_USE static inline bool net_base_scoreboard_highest_reported_checked_(
     const struct net_base_scoreboard *scoreboard, const struct net_base_run *runs,
     size_t runs_length, uint64_t *end) {
-    net_base_check_(NET_BASE_ALIGNED(scoreboard, struct net_base_scoreboard), "net_base_scoreboard_highest_reported: scoreboard isn't aligned (duty 1)");
-    net_base_check_(NET_BASE_ALIGNED(runs, struct net_base_run) || runs_length == 0, "net_base_scoreboard_highest_reported: runs isn't aligned (duty 1)");
-    net_base_check_(NET_BASE_ALIGNED(end, uint64_t), "net_base_scoreboard_highest_reported: end isn't aligned (duty 1)");
-    net_base_check_(runs_length <= PTRDIFF_MAX / sizeof(*runs), "net_base_scoreboard_highest_reported: runs_length is above PTRDIFF_MAX (duty 1)");
+    NET_BASE_POINTER_("net_base_scoreboard_highest_reported", scoreboard, struct net_base_scoreboard);
+    NET_BASE_SLICE_("net_base_scoreboard_highest_reported", runs, struct net_base_run);
+    NET_BASE_POINTER_("net_base_scoreboard_highest_reported", end, uint64_t);
     net_base_check_(net_base_apart_(scoreboard, sizeof(*scoreboard), end, sizeof(*end)), "net_base_scoreboard_highest_reported: scoreboard and end overlap (duty 2)");
     net_base_check_(net_base_apart_(runs, runs_length * sizeof(*runs), end, sizeof(*end)), "net_base_scoreboard_highest_reported: runs and end overlap (duty 2)");
     return net_base_scoreboard_highest_reported(scoreboard, runs, runs_length, end);
@@ -555,19 +519,17 @@ NET_BASE_MUST_USE static inline bool net_base_scoreboard_highest_reported_checke
 NET_BASE_MUST_USE static inline size_t net_base_scoreboard_count_beyond_checked_(
     const struct net_base_scoreboard *scoreboard, const struct net_base_run *runs,
     size_t runs_length) {
-    net_base_check_(NET_BASE_ALIGNED(scoreboard, struct net_base_scoreboard), "net_base_scoreboard_count_beyond: scoreboard isn't aligned (duty 1)");
-    net_base_check_(NET_BASE_ALIGNED(runs, struct net_base_run) || runs_length == 0, "net_base_scoreboard_count_beyond: runs isn't aligned (duty 1)");
-    net_base_check_(runs_length <= PTRDIFF_MAX / sizeof(*runs), "net_base_scoreboard_count_beyond: runs_length is above PTRDIFF_MAX (duty 1)");
+    NET_BASE_POINTER_("net_base_scoreboard_count_beyond", scoreboard, struct net_base_scoreboard);
+    NET_BASE_SLICE_("net_base_scoreboard_count_beyond", runs, struct net_base_run);
     return net_base_scoreboard_count_beyond(scoreboard, runs, runs_length);
 }
 
 NET_BASE_MUST_USE static inline bool net_base_scoreboard_lost_below_checked_(
     const struct net_base_scoreboard *scoreboard, const struct net_base_run *runs,
     size_t runs_length, size_t duplicates, size_t segment_size, uint64_t *limit) {
-    net_base_check_(NET_BASE_ALIGNED(scoreboard, struct net_base_scoreboard), "net_base_scoreboard_lost_below: scoreboard isn't aligned (duty 1)");
-    net_base_check_(NET_BASE_ALIGNED(runs, struct net_base_run) || runs_length == 0, "net_base_scoreboard_lost_below: runs isn't aligned (duty 1)");
-    net_base_check_(NET_BASE_ALIGNED(limit, uint64_t), "net_base_scoreboard_lost_below: limit isn't aligned (duty 1)");
-    net_base_check_(runs_length <= PTRDIFF_MAX / sizeof(*runs), "net_base_scoreboard_lost_below: runs_length is above PTRDIFF_MAX (duty 1)");
+    NET_BASE_POINTER_("net_base_scoreboard_lost_below", scoreboard, struct net_base_scoreboard);
+    NET_BASE_SLICE_("net_base_scoreboard_lost_below", runs, struct net_base_run);
+    NET_BASE_POINTER_("net_base_scoreboard_lost_below", limit, uint64_t);
     net_base_check_(net_base_apart_(scoreboard, sizeof(*scoreboard), limit, sizeof(*limit)), "net_base_scoreboard_lost_below: scoreboard and limit overlap (duty 2)");
     net_base_check_(net_base_apart_(runs, runs_length * sizeof(*runs), limit, sizeof(*limit)), "net_base_scoreboard_lost_below: runs and limit overlap (duty 2)");
     return net_base_scoreboard_lost_below(scoreboard, runs, runs_length, duplicates, segment_size, limit);
@@ -575,54 +537,52 @@ NET_BASE_MUST_USE static inline bool net_base_scoreboard_lost_below_checked_(
 
 NET_BASE_MUST_USE static inline bool net_base_finite_receiver_init_checked_(
     struct net_base_finite_receiver *receiver, uint64_t first) {
-    net_base_check_(NET_BASE_ALIGNED(receiver, struct net_base_finite_receiver), "net_base_finite_receiver_init: receiver isn't aligned (duty 1)");
+    NET_BASE_POINTER_("net_base_finite_receiver_init", receiver, struct net_base_finite_receiver);
     return net_base_finite_receiver_init(receiver, first);
 }
 
 NET_BASE_MUST_USE static inline bool net_base_finite_receiver_is_sound_checked_(
     const struct net_base_finite_receiver *receiver, size_t capacity,
     const struct net_base_run *runs, size_t runs_length) {
-    net_base_check_(NET_BASE_ALIGNED(receiver, struct net_base_finite_receiver), "net_base_finite_receiver_is_sound: receiver isn't aligned (duty 1)");
-    net_base_check_(NET_BASE_ALIGNED(runs, struct net_base_run) || runs_length == 0, "net_base_finite_receiver_is_sound: runs isn't aligned (duty 1)");
-    net_base_check_(runs_length <= PTRDIFF_MAX / sizeof(*runs), "net_base_finite_receiver_is_sound: runs_length is above PTRDIFF_MAX (duty 1)");
+    NET_BASE_POINTER_("net_base_finite_receiver_is_sound", receiver, struct net_base_finite_receiver);
+    NET_BASE_SLICE_("net_base_finite_receiver_is_sound", runs, struct net_base_run);
     return net_base_finite_receiver_is_sound(receiver, capacity, runs, runs_length);
 }
 
 NET_BASE_MUST_USE static inline bool net_base_finite_receiver_can_end_checked_(
     const struct net_base_finite_receiver *receiver, const struct net_base_run *runs,
     size_t runs_length, uint64_t position) {
-    net_base_check_(NET_BASE_ALIGNED(receiver, struct net_base_finite_receiver), "net_base_finite_receiver_can_end: receiver isn't aligned (duty 1)");
-    net_base_check_(NET_BASE_ALIGNED(runs, struct net_base_run) || runs_length == 0, "net_base_finite_receiver_can_end: runs isn't aligned (duty 1)");
-    net_base_check_(runs_length <= PTRDIFF_MAX / sizeof(*runs), "net_base_finite_receiver_can_end: runs_length is above PTRDIFF_MAX (duty 1)");
+    NET_BASE_POINTER_("net_base_finite_receiver_can_end", receiver, struct net_base_finite_receiver);
+    NET_BASE_SLICE_("net_base_finite_receiver_can_end", runs, struct net_base_run);
     return net_base_finite_receiver_can_end(receiver, runs, runs_length, position);
 }
 
 NET_BASE_MUST_USE static inline bool net_base_finite_receiver_is_complete_checked_(
     const struct net_base_finite_receiver *receiver) {
-    net_base_check_(NET_BASE_ALIGNED(receiver, struct net_base_finite_receiver), "net_base_finite_receiver_is_complete: receiver isn't aligned (duty 1)");
+    NET_BASE_POINTER_("net_base_finite_receiver_is_complete", receiver, struct net_base_finite_receiver);
     return net_base_finite_receiver_is_complete(receiver);
 }
 
 NET_BASE_MUST_USE static inline bool net_base_finite_receiver_acknowledged_checked_(
     const struct net_base_finite_receiver *receiver, uint64_t *number) {
-    net_base_check_(NET_BASE_ALIGNED(receiver, struct net_base_finite_receiver), "net_base_finite_receiver_acknowledged: receiver isn't aligned (duty 1)");
-    net_base_check_(NET_BASE_ALIGNED(number, uint64_t), "net_base_finite_receiver_acknowledged: number isn't aligned (duty 1)");
+    NET_BASE_POINTER_("net_base_finite_receiver_acknowledged", receiver, struct net_base_finite_receiver);
+    NET_BASE_POINTER_("net_base_finite_receiver_acknowledged", number, uint64_t);
     net_base_check_(net_base_apart_(receiver, sizeof(*receiver), number, sizeof(*number)), "net_base_finite_receiver_acknowledged: receiver and number overlap (duty 2)");
     return net_base_finite_receiver_acknowledged(receiver, number);
 }
 
 NET_BASE_MUST_USE static inline bool net_base_finite_receiver_has_read_all_checked_(
     const struct net_base_finite_receiver *receiver) {
-    net_base_check_(NET_BASE_ALIGNED(receiver, struct net_base_finite_receiver), "net_base_finite_receiver_has_read_all: receiver isn't aligned (duty 1)");
+    NET_BASE_POINTER_("net_base_finite_receiver_has_read_all", receiver, struct net_base_finite_receiver);
     return net_base_finite_receiver_has_read_all(receiver);
 }
 
 NET_BASE_MUST_USE static inline size_t net_base_finite_receiver_read_checked_(
     struct net_base_finite_receiver *receiver, const uint8_t *storage, size_t storage_length,
     uint8_t *into, size_t into_length) {
-    net_base_check_(NET_BASE_ALIGNED(receiver, struct net_base_finite_receiver), "net_base_finite_receiver_read: receiver isn't aligned (duty 1)");
-    net_base_check_(storage_length <= PTRDIFF_MAX / sizeof(*storage), "net_base_finite_receiver_read: storage_length is above PTRDIFF_MAX (duty 1)");
-    net_base_check_(into_length <= PTRDIFF_MAX / sizeof(*into), "net_base_finite_receiver_read: into_length is above PTRDIFF_MAX (duty 1)");
+    NET_BASE_POINTER_("net_base_finite_receiver_read", receiver, struct net_base_finite_receiver);
+    NET_BASE_SLICE_("net_base_finite_receiver_read", storage, uint8_t);
+    NET_BASE_SLICE_("net_base_finite_receiver_read", into, uint8_t);
     net_base_check_(net_base_apart_(receiver, sizeof(*receiver), storage, storage_length * sizeof(*storage)), "net_base_finite_receiver_read: receiver and storage overlap (duty 2)");
     net_base_check_(net_base_apart_(receiver, sizeof(*receiver), into, into_length * sizeof(*into)), "net_base_finite_receiver_read: receiver and into overlap (duty 2)");
     net_base_check_(net_base_apart_(storage, storage_length * sizeof(*storage), into, into_length * sizeof(*into)), "net_base_finite_receiver_read: storage and into overlap (duty 2)");
@@ -631,16 +591,15 @@ NET_BASE_MUST_USE static inline size_t net_base_finite_receiver_read_checked_(
 
 NET_BASE_MUST_USE static inline bool net_base_finite_receiver_remove_checked_(
     struct net_base_finite_receiver *receiver, size_t capacity, size_t count) {
-    net_base_check_(NET_BASE_ALIGNED(receiver, struct net_base_finite_receiver), "net_base_finite_receiver_remove: receiver isn't aligned (duty 1)");
+    NET_BASE_POINTER_("net_base_finite_receiver_remove", receiver, struct net_base_finite_receiver);
     return net_base_finite_receiver_remove(receiver, capacity, count);
 }
 
 NET_BASE_MUST_USE static inline size_t net_base_finite_receiver_count_new_checked_(
     const struct net_base_finite_receiver *receiver, size_t capacity,
     const struct net_base_run *runs, size_t runs_length, uint64_t position, size_t len) {
-    net_base_check_(NET_BASE_ALIGNED(receiver, struct net_base_finite_receiver), "net_base_finite_receiver_count_new: receiver isn't aligned (duty 1)");
-    net_base_check_(NET_BASE_ALIGNED(runs, struct net_base_run) || runs_length == 0, "net_base_finite_receiver_count_new: runs isn't aligned (duty 1)");
-    net_base_check_(runs_length <= PTRDIFF_MAX / sizeof(*runs), "net_base_finite_receiver_count_new: runs_length is above PTRDIFF_MAX (duty 1)");
+    NET_BASE_POINTER_("net_base_finite_receiver_count_new", receiver, struct net_base_finite_receiver);
+    NET_BASE_SLICE_("net_base_finite_receiver_count_new", runs, struct net_base_run);
     net_base_check_(net_base_finite_receiver_is_sound(receiver, capacity, runs, runs_length), "net_base_finite_receiver_count_new: head, runs or lengths aren't those of calls of its own kind (duty 5, 6 or 7)");
     return net_base_finite_receiver_count_new(receiver, capacity, runs, runs_length, position, len);
 }
@@ -649,12 +608,11 @@ NET_BASE_MUST_USE static inline enum net_base_segment_status net_base_finite_rec
     struct net_base_finite_receiver *receiver, uint8_t *storage, size_t storage_length,
     struct net_base_run *runs, size_t runs_length, uint64_t position, const uint8_t *bytes,
     size_t bytes_length, bool is_last, struct net_base_kept_counts *counts) {
-    net_base_check_(NET_BASE_ALIGNED(receiver, struct net_base_finite_receiver), "net_base_finite_receiver_segment: receiver isn't aligned (duty 1)");
-    net_base_check_(NET_BASE_ALIGNED(runs, struct net_base_run) || runs_length == 0, "net_base_finite_receiver_segment: runs isn't aligned (duty 1)");
-    net_base_check_(NET_BASE_ALIGNED(counts, struct net_base_kept_counts), "net_base_finite_receiver_segment: counts isn't aligned (duty 1)");
-    net_base_check_(storage_length <= PTRDIFF_MAX / sizeof(*storage), "net_base_finite_receiver_segment: storage_length is above PTRDIFF_MAX (duty 1)");
-    net_base_check_(runs_length <= PTRDIFF_MAX / sizeof(*runs), "net_base_finite_receiver_segment: runs_length is above PTRDIFF_MAX (duty 1)");
-    net_base_check_(bytes_length <= PTRDIFF_MAX / sizeof(*bytes), "net_base_finite_receiver_segment: bytes_length is above PTRDIFF_MAX (duty 1)");
+    NET_BASE_POINTER_("net_base_finite_receiver_segment", receiver, struct net_base_finite_receiver);
+    NET_BASE_SLICE_("net_base_finite_receiver_segment", storage, uint8_t);
+    NET_BASE_SLICE_("net_base_finite_receiver_segment", runs, struct net_base_run);
+    NET_BASE_SLICE_("net_base_finite_receiver_segment", bytes, uint8_t);
+    NET_BASE_POINTER_("net_base_finite_receiver_segment", counts, struct net_base_kept_counts);
     net_base_check_(net_base_apart_(receiver, sizeof(*receiver), storage, storage_length * sizeof(*storage)), "net_base_finite_receiver_segment: receiver and storage overlap (duty 2)");
     net_base_check_(net_base_apart_(receiver, sizeof(*receiver), runs, runs_length * sizeof(*runs)), "net_base_finite_receiver_segment: receiver and runs overlap (duty 2)");
     net_base_check_(net_base_apart_(receiver, sizeof(*receiver), bytes, bytes_length * sizeof(*bytes)), "net_base_finite_receiver_segment: receiver and bytes overlap (duty 2)");
@@ -667,60 +625,58 @@ NET_BASE_MUST_USE static inline enum net_base_segment_status net_base_finite_rec
     net_base_check_(net_base_apart_(bytes, bytes_length * sizeof(*bytes), counts, sizeof(*counts)), "net_base_finite_receiver_segment: bytes and counts overlap (duty 2)");
     net_base_check_(net_base_finite_receiver_is_sound(receiver, storage_length, runs, runs_length), "net_base_finite_receiver_segment: head, runs or lengths aren't those of calls of its own kind (duty 5, 6 or 7)");
     enum net_base_segment_status result = net_base_finite_receiver_segment(receiver, storage, storage_length, runs, runs_length, position, bytes, bytes_length, is_last, counts);
-#if NET_BASE_CHECK + 0 > 1
-    net_base_check_(result != NET_BASE_SEGMENT_REFUSED, "net_base_finite_receiver_segment: refused");
-#endif
+    NET_BASE_ANSWERS_("net_base_finite_receiver_segment", result != NET_BASE_SEGMENT_REFUSED);
     return result;
 }
 
 NET_BASE_MUST_USE static inline bool net_base_finite_receiver_window_end_checked_(
     const struct net_base_finite_receiver *receiver, size_t capacity, uint64_t *end) {
-    net_base_check_(NET_BASE_ALIGNED(receiver, struct net_base_finite_receiver), "net_base_finite_receiver_window_end: receiver isn't aligned (duty 1)");
-    net_base_check_(NET_BASE_ALIGNED(end, uint64_t), "net_base_finite_receiver_window_end: end isn't aligned (duty 1)");
+    NET_BASE_POINTER_("net_base_finite_receiver_window_end", receiver, struct net_base_finite_receiver);
+    NET_BASE_POINTER_("net_base_finite_receiver_window_end", end, uint64_t);
     net_base_check_(net_base_apart_(receiver, sizeof(*receiver), end, sizeof(*end)), "net_base_finite_receiver_window_end: receiver and end overlap (duty 2)");
     return net_base_finite_receiver_window_end(receiver, capacity, end);
 }
 
 NET_BASE_MUST_USE static inline bool net_base_finite_sender_init_checked_(
     struct net_base_finite_sender *sender, uint64_t first) {
-    net_base_check_(NET_BASE_ALIGNED(sender, struct net_base_finite_sender), "net_base_finite_sender_init: sender isn't aligned (duty 1)");
+    NET_BASE_POINTER_("net_base_finite_sender_init", sender, struct net_base_finite_sender);
     return net_base_finite_sender_init(sender, first);
 }
 
 NET_BASE_MUST_USE static inline bool net_base_finite_sender_is_sound_checked_(
     const struct net_base_finite_sender *sender, size_t capacity) {
-    net_base_check_(NET_BASE_ALIGNED(sender, struct net_base_finite_sender), "net_base_finite_sender_is_sound: sender isn't aligned (duty 1)");
+    NET_BASE_POINTER_("net_base_finite_sender_is_sound", sender, struct net_base_finite_sender);
     return net_base_finite_sender_is_sound(sender, capacity);
 }
 
 NET_BASE_MUST_USE static inline bool net_base_finite_sender_first_number_checked_(
     const struct net_base_finite_sender *sender, uint64_t *number) {
-    net_base_check_(NET_BASE_ALIGNED(sender, struct net_base_finite_sender), "net_base_finite_sender_first_number: sender isn't aligned (duty 1)");
-    net_base_check_(NET_BASE_ALIGNED(number, uint64_t), "net_base_finite_sender_first_number: number isn't aligned (duty 1)");
+    NET_BASE_POINTER_("net_base_finite_sender_first_number", sender, struct net_base_finite_sender);
+    NET_BASE_POINTER_("net_base_finite_sender_first_number", number, uint64_t);
     net_base_check_(net_base_apart_(sender, sizeof(*sender), number, sizeof(*number)), "net_base_finite_sender_first_number: sender and number overlap (duty 2)");
     return net_base_finite_sender_first_number(sender, number);
 }
 
 NET_BASE_MUST_USE static inline bool net_base_finite_sender_numbers_end_checked_(
     const struct net_base_finite_sender *sender, uint64_t *number) {
-    net_base_check_(NET_BASE_ALIGNED(sender, struct net_base_finite_sender), "net_base_finite_sender_numbers_end: sender isn't aligned (duty 1)");
-    net_base_check_(NET_BASE_ALIGNED(number, uint64_t), "net_base_finite_sender_numbers_end: number isn't aligned (duty 1)");
+    NET_BASE_POINTER_("net_base_finite_sender_numbers_end", sender, struct net_base_finite_sender);
+    NET_BASE_POINTER_("net_base_finite_sender_numbers_end", number, uint64_t);
     net_base_check_(net_base_apart_(sender, sizeof(*sender), number, sizeof(*number)), "net_base_finite_sender_numbers_end: sender and number overlap (duty 2)");
     return net_base_finite_sender_numbers_end(sender, number);
 }
 
 NET_BASE_MUST_USE static inline size_t net_base_finite_sender_room_checked_(
     const struct net_base_finite_sender *sender, size_t capacity) {
-    net_base_check_(NET_BASE_ALIGNED(sender, struct net_base_finite_sender), "net_base_finite_sender_room: sender isn't aligned (duty 1)");
+    NET_BASE_POINTER_("net_base_finite_sender_room", sender, struct net_base_finite_sender);
     return net_base_finite_sender_room(sender, capacity);
 }
 
 NET_BASE_MUST_USE static inline size_t net_base_finite_sender_write_checked_(
     struct net_base_finite_sender *sender, uint8_t *storage, size_t storage_length,
     const uint8_t *bytes, size_t bytes_length) {
-    net_base_check_(NET_BASE_ALIGNED(sender, struct net_base_finite_sender), "net_base_finite_sender_write: sender isn't aligned (duty 1)");
-    net_base_check_(storage_length <= PTRDIFF_MAX / sizeof(*storage), "net_base_finite_sender_write: storage_length is above PTRDIFF_MAX (duty 1)");
-    net_base_check_(bytes_length <= PTRDIFF_MAX / sizeof(*bytes), "net_base_finite_sender_write: bytes_length is above PTRDIFF_MAX (duty 1)");
+    NET_BASE_POINTER_("net_base_finite_sender_write", sender, struct net_base_finite_sender);
+    NET_BASE_SLICE_("net_base_finite_sender_write", storage, uint8_t);
+    NET_BASE_SLICE_("net_base_finite_sender_write", bytes, uint8_t);
     net_base_check_(net_base_apart_(sender, sizeof(*sender), storage, storage_length * sizeof(*storage)), "net_base_finite_sender_write: sender and storage overlap (duty 2)");
     net_base_check_(net_base_apart_(sender, sizeof(*sender), bytes, bytes_length * sizeof(*bytes)), "net_base_finite_sender_write: sender and bytes overlap (duty 2)");
     net_base_check_(net_base_apart_(storage, storage_length * sizeof(*storage), bytes, bytes_length * sizeof(*bytes)), "net_base_finite_sender_write: storage and bytes overlap (duty 2)");
@@ -728,115 +684,113 @@ NET_BASE_MUST_USE static inline size_t net_base_finite_sender_write_checked_(
 }
 
 static inline void net_base_finite_sender_close_checked_(struct net_base_finite_sender *sender) {
-    net_base_check_(NET_BASE_ALIGNED(sender, struct net_base_finite_sender), "net_base_finite_sender_close: sender isn't aligned (duty 1)");
+    NET_BASE_POINTER_("net_base_finite_sender_close", sender, struct net_base_finite_sender);
     net_base_finite_sender_close(sender);
 }
 
 NET_BASE_MUST_USE static inline struct net_base_segment_span net_base_finite_sender_peek_at_checked_(
     const struct net_base_finite_sender *sender, size_t capacity, uint64_t position, uint64_t limit)
     {
-    net_base_check_(NET_BASE_ALIGNED(sender, struct net_base_finite_sender), "net_base_finite_sender_peek_at: sender isn't aligned (duty 1)");
+    NET_BASE_POINTER_("net_base_finite_sender_peek_at", sender, struct net_base_finite_sender);
     return net_base_finite_sender_peek_at(sender, capacity, position, limit);
 }
 
 NET_BASE_MUST_USE static inline struct net_base_segment_span net_base_finite_sender_send_at_checked_(
     struct net_base_finite_sender *sender, size_t capacity, uint64_t position, uint64_t limit) {
-    net_base_check_(NET_BASE_ALIGNED(sender, struct net_base_finite_sender), "net_base_finite_sender_send_at: sender isn't aligned (duty 1)");
+    NET_BASE_POINTER_("net_base_finite_sender_send_at", sender, struct net_base_finite_sender);
     return net_base_finite_sender_send_at(sender, capacity, position, limit);
 }
 
 NET_BASE_MUST_USE static inline bool net_base_finite_sender_mark_sent_checked_(
     struct net_base_finite_sender *sender, size_t capacity, uint64_t position) {
-    net_base_check_(NET_BASE_ALIGNED(sender, struct net_base_finite_sender), "net_base_finite_sender_mark_sent: sender isn't aligned (duty 1)");
+    NET_BASE_POINTER_("net_base_finite_sender_mark_sent", sender, struct net_base_finite_sender);
     return net_base_finite_sender_mark_sent(sender, capacity, position);
 }
 
 NET_BASE_MUST_USE static inline bool net_base_finite_sender_acknowledge_checked_(
     struct net_base_finite_sender *sender, size_t capacity, uint64_t next) {
-    net_base_check_(NET_BASE_ALIGNED(sender, struct net_base_finite_sender), "net_base_finite_sender_acknowledge: sender isn't aligned (duty 1)");
+    NET_BASE_POINTER_("net_base_finite_sender_acknowledge", sender, struct net_base_finite_sender);
     return net_base_finite_sender_acknowledge(sender, capacity, next);
 }
 
 NET_BASE_MUST_USE static inline bool net_base_finite_sender_is_block_checked_(
     const struct net_base_finite_sender *sender, uint64_t start, uint64_t end) {
-    net_base_check_(NET_BASE_ALIGNED(sender, struct net_base_finite_sender), "net_base_finite_sender_is_block: sender isn't aligned (duty 1)");
+    NET_BASE_POINTER_("net_base_finite_sender_is_block", sender, struct net_base_finite_sender);
     return net_base_finite_sender_is_block(sender, start, end);
 }
 
 NET_BASE_MUST_USE static inline bool net_base_finite_sender_is_closed_checked_(
     const struct net_base_finite_sender *sender) {
-    net_base_check_(NET_BASE_ALIGNED(sender, struct net_base_finite_sender), "net_base_finite_sender_is_closed: sender isn't aligned (duty 1)");
+    NET_BASE_POINTER_("net_base_finite_sender_is_closed", sender, struct net_base_finite_sender);
     return net_base_finite_sender_is_closed(sender);
 }
 
 NET_BASE_MUST_USE static inline bool net_base_finite_sender_is_closed_and_acknowledged_checked_(
     const struct net_base_finite_sender *sender) {
-    net_base_check_(NET_BASE_ALIGNED(sender, struct net_base_finite_sender), "net_base_finite_sender_is_closed_and_acknowledged: sender isn't aligned (duty 1)");
+    NET_BASE_POINTER_("net_base_finite_sender_is_closed_and_acknowledged", sender, struct net_base_finite_sender);
     return net_base_finite_sender_is_closed_and_acknowledged(sender);
 }
 
 NET_BASE_MUST_USE static inline enum net_base_arrival_status net_base_tcp_classify_checked_(
     uint64_t next, uint64_t window, const struct net_base_segment *segment) {
-    net_base_check_(NET_BASE_ALIGNED(segment, struct net_base_segment), "net_base_tcp_classify: segment isn't aligned (duty 1)");
+    NET_BASE_POINTER_("net_base_tcp_classify", segment, struct net_base_segment);
     return net_base_tcp_classify(next, window, segment);
 }
 
 NET_BASE_MUST_USE static inline bool net_base_tcp_is_acknowledgement_checked_(
     const struct net_base_sent_numbers *numbers, uint64_t greatest_window, uint64_t ack) {
-    net_base_check_(NET_BASE_ALIGNED(numbers, struct net_base_sent_numbers), "net_base_tcp_is_acknowledgement: numbers isn't aligned (duty 1)");
+    NET_BASE_POINTER_("net_base_tcp_is_acknowledgement", numbers, struct net_base_sent_numbers);
     return net_base_tcp_is_acknowledgement(numbers, greatest_window, ack);
 }
 
 static inline void net_base_advertised_window_init_checked_(
     struct net_base_advertised_window *advertised, uint64_t first) {
-    net_base_check_(NET_BASE_ALIGNED(advertised, struct net_base_advertised_window), "net_base_advertised_window_init: advertised isn't aligned (duty 1)");
+    NET_BASE_POINTER_("net_base_advertised_window_init", advertised, struct net_base_advertised_window);
     net_base_advertised_window_init(advertised, first);
 }
 
 NET_BASE_MUST_USE static inline enum net_base_arrival_status net_base_advertised_window_classify_checked_(
     const struct net_base_advertised_window *advertised, uint64_t next,
     const struct net_base_segment *segment) {
-    net_base_check_(NET_BASE_ALIGNED(advertised, struct net_base_advertised_window), "net_base_advertised_window_classify: advertised isn't aligned (duty 1)");
-    net_base_check_(NET_BASE_ALIGNED(segment, struct net_base_segment), "net_base_advertised_window_classify: segment isn't aligned (duty 1)");
+    NET_BASE_POINTER_("net_base_advertised_window_classify", advertised, struct net_base_advertised_window);
+    NET_BASE_POINTER_("net_base_advertised_window_classify", segment, struct net_base_segment);
     enum net_base_arrival_status result = net_base_advertised_window_classify(advertised, next, segment);
-#if NET_BASE_CHECK + 0 > 1
-    net_base_check_(result != NET_BASE_ARRIVAL_REFUSED, "net_base_advertised_window_classify: refused");
-#endif
+    NET_BASE_ANSWERS_("net_base_advertised_window_classify", result != NET_BASE_ARRIVAL_REFUSED);
     return result;
 }
 
 static inline uint16_t net_base_advertised_window_announce_checked_(
     struct net_base_advertised_window *advertised, uint8_t scale, uint64_t next,
     uint64_t window_end) {
-    net_base_check_(NET_BASE_ALIGNED(advertised, struct net_base_advertised_window), "net_base_advertised_window_announce: advertised isn't aligned (duty 1)");
+    NET_BASE_POINTER_("net_base_advertised_window_announce", advertised, struct net_base_advertised_window);
     return net_base_advertised_window_announce(advertised, scale, next, window_end);
 }
 
 static inline uint16_t net_base_advertised_window_announce_in_steps_checked_(
     struct net_base_advertised_window *advertised, uint8_t scale, uint64_t next,
     uint64_t window_end, uint64_t capacity, uint16_t mss) {
-    net_base_check_(NET_BASE_ALIGNED(advertised, struct net_base_advertised_window), "net_base_advertised_window_announce_in_steps: advertised isn't aligned (duty 1)");
+    NET_BASE_POINTER_("net_base_advertised_window_announce_in_steps", advertised, struct net_base_advertised_window);
     return net_base_advertised_window_announce_in_steps(advertised, scale, next, window_end, capacity, mss);
 }
 
 NET_BASE_MUST_USE static inline bool net_base_advertised_window_is_update_due_checked_(
     const struct net_base_advertised_window *advertised, uint8_t scale, uint64_t next,
     uint64_t window_end, uint64_t capacity, uint16_t mss) {
-    net_base_check_(NET_BASE_ALIGNED(advertised, struct net_base_advertised_window), "net_base_advertised_window_is_update_due: advertised isn't aligned (duty 1)");
+    NET_BASE_POINTER_("net_base_advertised_window_is_update_due", advertised, struct net_base_advertised_window);
     return net_base_advertised_window_is_update_due(advertised, scale, next, window_end, capacity, mss);
 }
 
 static inline void net_base_peer_window_init_checked_(struct net_base_peer_window *peer) {
-    net_base_check_(NET_BASE_ALIGNED(peer, struct net_base_peer_window), "net_base_peer_window_init: peer isn't aligned (duty 1)");
+    NET_BASE_POINTER_("net_base_peer_window_init", peer, struct net_base_peer_window);
     net_base_peer_window_init(peer);
 }
 
 static inline bool net_base_peer_window_update_checked_(
     struct net_base_peer_window *peer, const struct net_base_sent_numbers *numbers,
     const struct net_base_announcement *it) {
-    net_base_check_(NET_BASE_ALIGNED(peer, struct net_base_peer_window), "net_base_peer_window_update: peer isn't aligned (duty 1)");
-    net_base_check_(NET_BASE_ALIGNED(numbers, struct net_base_sent_numbers), "net_base_peer_window_update: numbers isn't aligned (duty 1)");
-    net_base_check_(NET_BASE_ALIGNED(it, struct net_base_announcement), "net_base_peer_window_update: it isn't aligned (duty 1)");
+    NET_BASE_POINTER_("net_base_peer_window_update", peer, struct net_base_peer_window);
+    NET_BASE_POINTER_("net_base_peer_window_update", numbers, struct net_base_sent_numbers);
+    NET_BASE_POINTER_("net_base_peer_window_update", it, struct net_base_announcement);
     net_base_check_(net_base_apart_(peer, sizeof(*peer), numbers, sizeof(*numbers)), "net_base_peer_window_update: peer and numbers overlap (duty 2)");
     net_base_check_(net_base_apart_(peer, sizeof(*peer), it, sizeof(*it)), "net_base_peer_window_update: peer and it overlap (duty 2)");
     return net_base_peer_window_update(peer, numbers, it);
@@ -844,59 +798,59 @@ static inline bool net_base_peer_window_update_checked_(
 
 NET_BASE_MUST_USE static inline uint64_t net_base_peer_window_usable_checked_(
     const struct net_base_peer_window *peer, uint64_t position) {
-    net_base_check_(NET_BASE_ALIGNED(peer, struct net_base_peer_window), "net_base_peer_window_usable: peer isn't aligned (duty 1)");
+    NET_BASE_POINTER_("net_base_peer_window_usable", peer, struct net_base_peer_window);
     return net_base_peer_window_usable(peer, position);
 }
 
 NET_BASE_MUST_USE static inline uint64_t net_base_peer_window_send_limit_checked_(
     const struct net_base_peer_window *peer, uint64_t end) {
-    net_base_check_(NET_BASE_ALIGNED(peer, struct net_base_peer_window), "net_base_peer_window_send_limit: peer isn't aligned (duty 1)");
+    NET_BASE_POINTER_("net_base_peer_window_send_limit", peer, struct net_base_peer_window);
     return net_base_peer_window_send_limit(peer, end);
 }
 
 NET_BASE_MUST_USE static inline bool net_base_peer_window_is_probe_allowed_checked_(
     const struct net_base_peer_window *peer, uint64_t first_unacknowledged, uint64_t end) {
-    net_base_check_(NET_BASE_ALIGNED(peer, struct net_base_peer_window), "net_base_peer_window_is_probe_allowed: peer isn't aligned (duty 1)");
+    NET_BASE_POINTER_("net_base_peer_window_is_probe_allowed", peer, struct net_base_peer_window);
     return net_base_peer_window_is_probe_allowed(peer, first_unacknowledged, end);
 }
 
 NET_BASE_MUST_USE static inline uint64_t net_base_peer_window_acknowledgement_number_checked_(
     const struct net_base_peer_window *peer, const struct net_base_sent_numbers *numbers) {
-    net_base_check_(NET_BASE_ALIGNED(peer, struct net_base_peer_window), "net_base_peer_window_acknowledgement_number: peer isn't aligned (duty 1)");
-    net_base_check_(NET_BASE_ALIGNED(numbers, struct net_base_sent_numbers), "net_base_peer_window_acknowledgement_number: numbers isn't aligned (duty 1)");
+    NET_BASE_POINTER_("net_base_peer_window_acknowledgement_number", peer, struct net_base_peer_window);
+    NET_BASE_POINTER_("net_base_peer_window_acknowledgement_number", numbers, struct net_base_sent_numbers);
     return net_base_peer_window_acknowledgement_number(peer, numbers);
 }
 
 static inline void net_base_retransmission_timer_init_checked_(
     struct net_base_retransmission_timer *timer, uint64_t timeout, bool reports) {
-    net_base_check_(NET_BASE_ALIGNED(timer, struct net_base_retransmission_timer), "net_base_retransmission_timer_init: timer isn't aligned (duty 1)");
+    NET_BASE_POINTER_("net_base_retransmission_timer_init", timer, struct net_base_retransmission_timer);
     net_base_retransmission_timer_init(timer, timeout, reports);
 }
 
 NET_BASE_MUST_USE static inline uint64_t net_base_retransmission_timer_timeout_checked_(
     const struct net_base_retransmission_timer *timer) {
-    net_base_check_(NET_BASE_ALIGNED(timer, struct net_base_retransmission_timer), "net_base_retransmission_timer_timeout: timer isn't aligned (duty 1)");
+    NET_BASE_POINTER_("net_base_retransmission_timer_timeout", timer, struct net_base_retransmission_timer);
     return net_base_retransmission_timer_timeout(timer);
 }
 
 static inline void net_base_retransmission_timer_start_checked_(
     struct net_base_retransmission_timer *timer, int64_t now) {
-    net_base_check_(NET_BASE_ALIGNED(timer, struct net_base_retransmission_timer), "net_base_retransmission_timer_start: timer isn't aligned (duty 1)");
+    NET_BASE_POINTER_("net_base_retransmission_timer_start", timer, struct net_base_retransmission_timer);
     net_base_retransmission_timer_start(timer, now);
 }
 
 static inline void net_base_retransmission_timer_stop_checked_(
     struct net_base_retransmission_timer *timer) {
-    net_base_check_(NET_BASE_ALIGNED(timer, struct net_base_retransmission_timer), "net_base_retransmission_timer_stop: timer isn't aligned (duty 1)");
+    NET_BASE_POINTER_("net_base_retransmission_timer_stop", timer, struct net_base_retransmission_timer);
     net_base_retransmission_timer_stop(timer);
 }
 
 static inline void net_base_retransmission_timer_sent_checked_(
     struct net_base_retransmission_timer *timer, const struct net_base_timeout_bounds *bounds,
     uint64_t position, uint64_t end, const struct net_base_sent_numbers *numbers, int64_t now) {
-    net_base_check_(NET_BASE_ALIGNED(timer, struct net_base_retransmission_timer), "net_base_retransmission_timer_sent: timer isn't aligned (duty 1)");
-    net_base_check_(NET_BASE_ALIGNED(bounds, struct net_base_timeout_bounds), "net_base_retransmission_timer_sent: bounds isn't aligned (duty 1)");
-    net_base_check_(NET_BASE_ALIGNED(numbers, struct net_base_sent_numbers), "net_base_retransmission_timer_sent: numbers isn't aligned (duty 1)");
+    NET_BASE_POINTER_("net_base_retransmission_timer_sent", timer, struct net_base_retransmission_timer);
+    NET_BASE_POINTER_("net_base_retransmission_timer_sent", bounds, struct net_base_timeout_bounds);
+    NET_BASE_POINTER_("net_base_retransmission_timer_sent", numbers, struct net_base_sent_numbers);
     net_base_check_(net_base_apart_(timer, sizeof(*timer), bounds, sizeof(*bounds)), "net_base_retransmission_timer_sent: timer and bounds overlap (duty 2)");
     net_base_check_(net_base_apart_(timer, sizeof(*timer), numbers, sizeof(*numbers)), "net_base_retransmission_timer_sent: timer and numbers overlap (duty 2)");
     net_base_retransmission_timer_sent(timer, bounds, position, end, numbers, now);
@@ -905,8 +859,8 @@ static inline void net_base_retransmission_timer_sent_checked_(
 static inline void net_base_retransmission_timer_take_sample_checked_(
     struct net_base_retransmission_timer *timer, const struct net_base_timeout_bounds *bounds,
     int64_t now) {
-    net_base_check_(NET_BASE_ALIGNED(timer, struct net_base_retransmission_timer), "net_base_retransmission_timer_take_sample: timer isn't aligned (duty 1)");
-    net_base_check_(NET_BASE_ALIGNED(bounds, struct net_base_timeout_bounds), "net_base_retransmission_timer_take_sample: bounds isn't aligned (duty 1)");
+    NET_BASE_POINTER_("net_base_retransmission_timer_take_sample", timer, struct net_base_retransmission_timer);
+    NET_BASE_POINTER_("net_base_retransmission_timer_take_sample", bounds, struct net_base_timeout_bounds);
     net_base_check_(net_base_apart_(timer, sizeof(*timer), bounds, sizeof(*bounds)), "net_base_retransmission_timer_take_sample: timer and bounds overlap (duty 2)");
     net_base_retransmission_timer_take_sample(timer, bounds, now);
 }
@@ -914,9 +868,9 @@ static inline void net_base_retransmission_timer_take_sample_checked_(
 static inline void net_base_retransmission_timer_acknowledged_checked_(
     struct net_base_retransmission_timer *timer, const struct net_base_timeout_bounds *bounds,
     const struct net_base_sent_numbers *numbers, uint64_t next, int64_t now) {
-    net_base_check_(NET_BASE_ALIGNED(timer, struct net_base_retransmission_timer), "net_base_retransmission_timer_acknowledged: timer isn't aligned (duty 1)");
-    net_base_check_(NET_BASE_ALIGNED(bounds, struct net_base_timeout_bounds), "net_base_retransmission_timer_acknowledged: bounds isn't aligned (duty 1)");
-    net_base_check_(NET_BASE_ALIGNED(numbers, struct net_base_sent_numbers), "net_base_retransmission_timer_acknowledged: numbers isn't aligned (duty 1)");
+    NET_BASE_POINTER_("net_base_retransmission_timer_acknowledged", timer, struct net_base_retransmission_timer);
+    NET_BASE_POINTER_("net_base_retransmission_timer_acknowledged", bounds, struct net_base_timeout_bounds);
+    NET_BASE_POINTER_("net_base_retransmission_timer_acknowledged", numbers, struct net_base_sent_numbers);
     net_base_check_(net_base_apart_(timer, sizeof(*timer), bounds, sizeof(*bounds)), "net_base_retransmission_timer_acknowledged: timer and bounds overlap (duty 2)");
     net_base_check_(net_base_apart_(timer, sizeof(*timer), numbers, sizeof(*numbers)), "net_base_retransmission_timer_acknowledged: timer and numbers overlap (duty 2)");
     net_base_retransmission_timer_acknowledged(timer, bounds, numbers, next, now);
@@ -924,74 +878,72 @@ static inline void net_base_retransmission_timer_acknowledged_checked_(
 
 static inline void net_base_retransmission_timer_reported_checked_(
     struct net_base_retransmission_timer *timer, int64_t now) {
-    net_base_check_(NET_BASE_ALIGNED(timer, struct net_base_retransmission_timer), "net_base_retransmission_timer_reported: timer isn't aligned (duty 1)");
+    NET_BASE_POINTER_("net_base_retransmission_timer_reported", timer, struct net_base_retransmission_timer);
     net_base_retransmission_timer_reported(timer, now);
 }
 
 NET_BASE_MUST_USE static inline enum net_base_expiry_status net_base_retransmission_timer_expire_checked_(
     struct net_base_retransmission_timer *timer, const struct net_base_timeout_bounds *bounds,
     int64_t now) {
-    net_base_check_(NET_BASE_ALIGNED(timer, struct net_base_retransmission_timer), "net_base_retransmission_timer_expire: timer isn't aligned (duty 1)");
-    net_base_check_(NET_BASE_ALIGNED(bounds, struct net_base_timeout_bounds), "net_base_retransmission_timer_expire: bounds isn't aligned (duty 1)");
+    NET_BASE_POINTER_("net_base_retransmission_timer_expire", timer, struct net_base_retransmission_timer);
+    NET_BASE_POINTER_("net_base_retransmission_timer_expire", bounds, struct net_base_timeout_bounds);
     net_base_check_(net_base_apart_(timer, sizeof(*timer), bounds, sizeof(*bounds)), "net_base_retransmission_timer_expire: timer and bounds overlap (duty 2)");
     enum net_base_expiry_status result = net_base_retransmission_timer_expire(timer, bounds, now);
-#if NET_BASE_CHECK + 0 > 1
-    net_base_check_(result != NET_BASE_EXPIRY_REFUSED, "net_base_retransmission_timer_expire: refused");
-#endif
+    NET_BASE_ANSWERS_("net_base_retransmission_timer_expire", result != NET_BASE_EXPIRY_REFUSED);
     return result;
 }
 
 static inline void net_base_parts_sum_init_checked_(struct net_base_parts_sum *sum) {
-    net_base_check_(NET_BASE_ALIGNED(sum, struct net_base_parts_sum), "net_base_parts_sum_init: sum isn't aligned (duty 1)");
+    NET_BASE_POINTER_("net_base_parts_sum_init", sum, struct net_base_parts_sum);
     net_base_parts_sum_init(sum);
 }
 
 static inline void net_base_parts_sum_add_checked_(
     struct net_base_parts_sum *sum, const uint8_t *part, size_t part_length) {
-    net_base_check_(NET_BASE_ALIGNED(sum, struct net_base_parts_sum), "net_base_parts_sum_add: sum isn't aligned (duty 1)");
-    net_base_check_(part_length <= PTRDIFF_MAX / sizeof(*part), "net_base_parts_sum_add: part_length is above PTRDIFF_MAX (duty 1)");
+    NET_BASE_POINTER_("net_base_parts_sum_add", sum, struct net_base_parts_sum);
+    NET_BASE_SLICE_("net_base_parts_sum_add", part, uint8_t);
     net_base_check_(net_base_apart_(sum, sizeof(*sum), part, part_length * sizeof(*part)), "net_base_parts_sum_add: sum and part overlap (duty 2)");
     net_base_parts_sum_add(sum, part, part_length);
 }
 
 static inline uint16_t net_base_parts_sum_checksum_checked_(const struct net_base_parts_sum *sum) {
-    net_base_check_(NET_BASE_ALIGNED(sum, struct net_base_parts_sum), "net_base_parts_sum_checksum: sum isn't aligned (duty 1)");
+    NET_BASE_POINTER_("net_base_parts_sum_checksum", sum, struct net_base_parts_sum);
     return net_base_parts_sum_checksum(sum);
 }
 
 NET_BASE_MUST_USE static inline bool net_base_parts_sum_is_valid_checked_(
     const struct net_base_parts_sum *sum) {
-    net_base_check_(NET_BASE_ALIGNED(sum, struct net_base_parts_sum), "net_base_parts_sum_is_valid: sum isn't aligned (duty 1)");
+    NET_BASE_POINTER_("net_base_parts_sum_is_valid", sum, struct net_base_parts_sum);
     return net_base_parts_sum_is_valid(sum);
 }
 
 NET_BASE_MUST_USE static inline bool net_base_parts_sum_write_checksum_checked_(
     const struct net_base_parts_sum *sum, uint8_t *into, size_t into_length) {
-    net_base_check_(NET_BASE_ALIGNED(sum, struct net_base_parts_sum), "net_base_parts_sum_write_checksum: sum isn't aligned (duty 1)");
-    net_base_check_(into_length <= PTRDIFF_MAX / sizeof(*into), "net_base_parts_sum_write_checksum: into_length is above PTRDIFF_MAX (duty 1)");
+    NET_BASE_POINTER_("net_base_parts_sum_write_checksum", sum, struct net_base_parts_sum);
+    NET_BASE_SLICE_("net_base_parts_sum_write_checksum", into, uint8_t);
     net_base_check_(net_base_apart_(sum, sizeof(*sum), into, into_length * sizeof(*into)), "net_base_parts_sum_write_checksum: sum and into overlap (duty 2)");
     return net_base_parts_sum_write_checksum(sum, into, into_length);
 }
 
 static inline uint32_t net_base_rand_u32_checked_(uint64_t *state) {
-    net_base_check_(NET_BASE_ALIGNED(state, uint64_t), "net_base_rand_u32: state isn't aligned (duty 1)");
+    NET_BASE_POINTER_("net_base_rand_u32", state, uint64_t);
     return net_base_rand_u32(state);
 }
 
 static inline uint16_t net_base_rand_source_port_checked_(uint64_t *state) {
-    net_base_check_(NET_BASE_ALIGNED(state, uint64_t), "net_base_rand_source_port: state isn't aligned (duty 1)");
+    NET_BASE_POINTER_("net_base_rand_source_port", state, uint64_t);
     return net_base_rand_source_port(state);
 }
 
 NET_BASE_MUST_USE static inline uint64_t net_base_rand_below_checked_(
     uint64_t *state, uint32_t bound) {
-    net_base_check_(NET_BASE_ALIGNED(state, uint64_t), "net_base_rand_below: state isn't aligned (duty 1)");
+    NET_BASE_POINTER_("net_base_rand_below", state, uint64_t);
     return net_base_rand_below(state, bound);
 }
 
 NET_BASE_MUST_USE static inline bool net_base_sequence_number_position_checked_(
     uint32_t number, uint32_t initial, uint64_t next, uint64_t *position) {
-    net_base_check_(NET_BASE_ALIGNED(position, uint64_t), "net_base_sequence_number_position: position isn't aligned (duty 1)");
+    NET_BASE_POINTER_("net_base_sequence_number_position", position, uint64_t);
     return net_base_sequence_number_position(number, initial, next, position);
 }
 
