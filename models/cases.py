@@ -48,7 +48,7 @@ OWN = [
     (ring.draw, 1200, ring.OWN),
     (moments.draw, 80, moments.CALLS),
     (tcp.draw, 100, tcp.CALLS),
-    (receiver.draw_own, 150, receiver.OWN),
+    (receiver.draw_own, 500, receiver.OWN),
 ]
 
 

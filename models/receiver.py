@@ -1,5 +1,7 @@
 """Receivers of one stream of bytes, and sequence numbers. A receiver keeps the bytes of a window by their
 positions; what is contiguous from the first missing position is queued."""
+import copy
+
 from branches import Count, Order, Size, Test
 from drawing import TOP
 from positions import Positions
@@ -18,6 +20,12 @@ NEW_BYTES = Order("receiver: count_new, held and free positions", ("below", "equ
 DUPLICATE = Test("receiver: duplicate_of, a part came before")
 HELD_TWICE = Test("receiver: duplicate_of, it is held")
 TWICE = Test("receiver: duplicate_of, the rest is new")
+SIDES = Count("receiver: parts_of, before the window, in it, or beyond", 2)
+OTHER = Test("receiver: differs, a byte is another one")
+OTHERS = {part: Test(f"receiver: differs, only a {part} byte is") for part in ("queued", "held")}
+SAME_THERE = Test("receiver: differs, all bytes that are there are the same")
+HOLES = Count("receiver: holes", 4)
+PLANNED = Test("receiver: plan, the second segment is accepted since the first one is")
 NEAR_63 = Test("receiver: the stream passes position 2^63")
 NEAR_64 = Test("receiver: the stream comes within 2^12 of the last position")
 FITS = Order("receiver: end of a segment and last position")
@@ -240,6 +248,40 @@ class Pair:
         TWICE(stop - start < size)
         return f"{start - now.first} {stop - now.first}"
 
+    def parts_of(self, pos, size):
+        """How many positions of a segment are before the free window, in it, and beyond it, or none of a stream."""
+        limit = min(self.now.next + self.now.window, TOP)
+        sides = [SIDES(0 if at < self.now.next else 1 if at < limit else 2) for at in range(pos, pos + size)]
+        return " ".join(str(sides.count(side)) for side in range(3))
+
+    def differs(self, pos, size, seed):
+        """Whether a byte that is queued or held is another one than the segment's."""
+        now = self.now
+        queued = dict(zip(range(now.next - len(now.queue), now.next), now.queue))
+        data = dict(zip(range(pos, pos + size), pattern(size, seed)))
+        others = [any(there.get(at, byte) != byte for at, byte in data.items()) for there in (queued, now.bytes)]
+        OTHERS["queued"](others == [True, False])
+        OTHERS["held"](others == [False, True])
+        SAME_THERE(not any(others) and any(at in queued or at in now.bytes for at in data))
+        return truth(OTHER(any(others)))
+
+    def holes(self):
+        """The missing runs between the queue and the last held byte."""
+        begins = [self.now.next] + [end for _, end in self.now.held_runs()]
+        found = [(begin, start) for begin, (start, _) in zip(begins, self.now.held_runs())]
+        return " ".join([str(HOLES(len(found))), self.listed(found, len(found))]).rstrip()
+
+    def first_unread(self):
+        return str(self.now.read_count)
+
+    def plan(self, *numbers):
+        """What would be kept of two segments, the second after the first."""
+        after, alone = copy.deepcopy(self.now), copy.deepcopy(self.now)
+        segments = [(pos, bytes(min(size, TOP - pos))) for pos, size in (numbers[:2], numbers[2:])]
+        results = [after.segment(*it) for it in segments]
+        PLANNED(results[1] is not None and alone.segment(*segments[1]) is None)
+        return " ".join("refused" if it is None else f"{it[0]} {it[1]}" for it in results)
+
     def newest_runs(self, pos, most):
         """The run of the position, then those last listed, then the others; each once, and as many at most as positions
         are remembered. What isn't written stays 7."""
@@ -324,7 +366,7 @@ SHOWING = ["peek", "peek", "as_slices", "peek_slice", "same_state", "same_state"
            "newest_runs", "newest_runs", "newest_runs", "count_new", "count_new"]
 
 
-OWN = ["duplicate_of"]
+OWN = ["duplicate_of", "parts_of", "differs", "holes", "first_unread", "plan"]
 
 
 def draw_own(random, cases, lines):
@@ -334,14 +376,28 @@ def draw_own(random, cases, lines):
         capacity = 8 + random.below(60)
         pair = Pair(capacity, 4, random.of([0, 1 << 32, TOP - capacity // 2]))
         cases.begin(f"receiver {capacity} 4 {pair.now.first}", pair.show())
+        last = [pair.now.first, 1, 0]
+        for number in range(random.of([0, 4])):
+            add(cases, pair, "segment", [min(TOP - 2, pair.now.next + 2 + 4 * number), 2, random.below(40)])
         for _ in range(20):
-            now, name = pair.now, random.of(["segment", "segment", "read", *OWN * 5])
+            now, name = pair.now, random.of(["segment"] * 4 + ["read", *OWN])
             if name == "segment":
-                numbers = segment_of(random, now, 6)
+                numbers = last = segment_of(random, now, 6)
             elif name == "read":
                 numbers = [random.below(len(now.queue) + 2), 0]
-            else:
+            elif name == "differs":
+                pos, size, seed = last if random.one_in(2) else segment_of(random, now, 6)
+                numbers = [pos, min(size, TOP - pos), seed]
+            elif name == "plan":
+                one, two = (segment_of(random, now, 6)[:2] for _ in range(2))
+                if now.held and random.one_in(2):
+                    one = [random.of([end for _, end in now.held_runs()]), 1 + random.below(3)]
+                    two = [min(sum(one), TOP), 1]
+                numbers = [*one, *two]
+            elif name in ("duplicate_of", "parts_of"):
                 numbers = [position(random, now, 6), random.below(18)]
+            else:
+                numbers = []
             add(cases, pair, name, numbers)
 
 

@@ -11,7 +11,7 @@ CRATES = "net_receiver net_recovery net_tcp net_ends net_base/storage".split()
 # What a loop is over, and the functions that have one; growth.py counts those that a packet reaches.
 LOOPS = {
     "the runs, once": "net_receiver::scoreboard_head::count_beyond",
-    "the runs that a range meets": "net_base::fragments::head::differs",
+    "the runs that a range meets": "net_base::fragments::head::differs net_receiver::receiver_head::held_differs",
     "the last runs, at most as many as the threshold of duplicates": "net_receiver::scoreboard_head::lost_below",
     "the runs until the list of K positions is full": "net_receiver::receiver_head::list_runs",
     "a list of K positions, or of runs at them": "net_receiver::held_runs::is_listed net_receiver::held_runs::remember",

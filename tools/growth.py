@@ -26,10 +26,10 @@ MOST = {"looks": 1.1, "searches": 2.2, "passes": 36}
 TYPES = {
     "assembler": "Assembler", "scoreboard": "Scoreboard", "recovery": "LossRecovery", "receiver": "ReceiverOver",
     "finite_receiver": "FiniteReceiverOver", "sender": "SenderOver", "finite_sender": "FiniteSenderOver",
-    "fragments": "FragmentsOver", "slot": "FragmentSlot", "table": "fragment_table",
+    "plan": "Plan", "fragments": "FragmentsOver", "slot": "FragmentSlot", "table": "fragment_table",
 }
 # Types with runs whose calls are made of those above, without a loop over runs (composition.py).
-MADE_OF_THESE = "SendingEndOver ReceivingEndOver".split()
+MADE_OF_THESE = "SendBufferOver SendingEndOver ReceivingEndOver".split()
 # Calls without a class, by reason.
 LEFT_OUT = {
     "it makes a value, takes one apart, or begins anew: a program does that": """
@@ -40,7 +40,8 @@ LEFT_OUT = {
         fragments: new empty over into_storage / slot: over""",
     "it reads numbers of the head, or of what it is given": """
         assembler: fits is_empty peek_front run_count / scoreboard: first_unreported
-        recovery: duplicates is_active is_blind / receiver: capacity fits held_count is_empty next queued window window_end
+        recovery: duplicates is_active is_blind / receiver: capacity first_unread fits held_count is_empty next queued window
+        receiver: window_end
         finite_receiver: acknowledged end has_read_all is_complete receiver window_end
         sender: capacity end first_unacknowledged is_empty len window
         finite_sender: capacity first_number is_closed is_closed_and_acknowledged is_empty len numbers_end sent
@@ -49,6 +50,7 @@ LEFT_OUT = {
         receiver: as_slices peek peek_slice peek_slices read_with / finite_receiver: read_with
         sender: write / finite_sender: close write""",
     "only a program makes it: it compares two values": "receiver: same_state / finite_receiver: same_state",
+    "it copies the runs, of which callgrind counts each byte where they are many": "receiver: plan",
 }
 HERE = Path(__file__).resolve().parent
 PAGE = HERE.parent / "docs/PERFORMANCE.md"

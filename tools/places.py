@@ -23,8 +23,8 @@ HISTORIES = {"net_ring": "RingOver", "net_packets": "PacketsOver"}
 NO_CALLS = {"RingOver::read_allocated": "it changes nothing, and borrows `&mut` as smoltcp's does"}
 # Public types without rows of their own.
 ROWLESS = {
-    "rows show it as what a call gives": """HeldRunIter HeldRuns KeptBytes NewestRunIter HoleIter Iter IterData RunIter
-        AcceptError Transmission""",
+    "rows show it as what a call gives": """HeldRunIter HeldRuns MissingRunIter NewestRunIter HoleIter Iter IterData
+        RunIter AcceptError Transmission""",
     "rows of the types that have it, or are made of it, take its parts": "FragmentSlot TimedSegment TimerParts",
     "rust/tests/phy.rs tests devices": """Checksum ChecksumCapabilities DeviceCapabilities Medium PacketMeta
         Loopback PacketLoopback SegmentationCapabilities Device RxToken TxToken""",

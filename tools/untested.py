@@ -26,7 +26,7 @@ A call with a parameter of a type that isn't exported can't be made.
 
 A law counts only if a caller can use it: a proved function of another crate than the law's calls it. Listed is each law
 that README.md or docs/PROVED.md cites, after the word "law" or as the head of an item, and that none calls; of the others
-`--laws` says how many none calls. Those of UNCALLED are left out.
+`--laws` says how many none calls.
 
 Ends with status 1 if there is something to list.
 """
@@ -293,10 +293,6 @@ def of_rattle():
     return [it for it in library.calls if not library.is_left_to_users(it[1])], named
 
 
-# Laws that pages cite and that no other crate calls.
-UNCALLED = {
-    ("net_receiver", "kept_lists"): "its words are the headline's, which no call returns",
-}
 # A list of names between backquotes, with links' brackets and `and` between them.
 NAMES = r"`[\w:]+`(?:(?:,|,? and)\s+`[\w:]+`)*"
 
@@ -337,9 +333,7 @@ def unused_laws():
     """A line for each law that a page cites and that no other crate calls."""
     every, called, cited = sorted(set(laws())), set(law_calls()), cited_laws()
     missing = [f"{crate}: law {name} is cited, and no other crate calls it" for crate, name in every
-               if name in cited and (crate, name) not in called | set(UNCALLED)]
-    missing += [f"{crate}: UNCALLED has law {name}, which is called, or isn't cited, or is none" for crate, name in UNCALLED
-                if (crate, name) in called or name not in cited or (crate, name) not in every]
+               if name in cited and (crate, name) not in called]
     return missing, f"{len(every)} laws, {len(set(every) - called)} that no other crate calls; of {len(cited)} cited names {len(missing)}"
 
 

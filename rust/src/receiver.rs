@@ -10,7 +10,8 @@ use crate::proved::net_ring::Storage;
 use crate::storage::Listed;
 
 pub use crate::proved::net_receiver::{
-    HeldRunIter, HeldRuns, Kept, KeptBytes, NewestRunIter, Receiver, ReceiverOver,
+    HeldRunIter, HeldRuns, Kept, KeptBytes, MissingRunIter, NewestRunIter, Plan, Receiver,
+    ReceiverOver, SegmentParts,
 };
 
 impl<'a> Receiver<'a> {
@@ -88,6 +89,16 @@ impl fmt::Debug for HeldRunIter<'_> {
 impl ExactSizeIterator for HeldRunIter<'_> {}
 
 impl iter::FusedIterator for HeldRunIter<'_> {}
+
+impl fmt::Debug for MissingRunIter<'_> {
+    fn fmt(&self, f: &mut fmt::Formatter) -> fmt::Result {
+        f.debug_list().entries(self.clone()).finish()
+    }
+}
+
+impl ExactSizeIterator for MissingRunIter<'_> {}
+
+impl iter::FusedIterator for MissingRunIter<'_> {}
 
 #[cfg(test)]
 mod tests {

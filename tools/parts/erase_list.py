@@ -66,7 +66,7 @@ ATTRIBUTES = [
     ('#[derive(Debug, Drop)]\npub struct PacketsOver<', '#[derive(Clone)]\npub struct PacketsOver<', {PACKETS: 1}),
     ('\npub struct ', '\n#[derive(Clone)]\npub struct ',
      {RECEIVER: 1, FINITE: 1, 'net_receiver/sender': 1, 'net_receiver/finite_sender': 1, FRAGMENTS: 1}),
-    ('#[derive(Drop)]\npub struct ', '#[derive(Clone)]\npub struct ', {ASSEMBLER: 2, 'net_receiver/held_runs': 1}),
+    ('#[derive(Drop)]\npub struct ', '#[derive(Clone)]\npub struct ', {ASSEMBLER: 2, 'net_receiver/held_runs': 2}),
     ('pub struct Iter<', '#[derive(Debug)]\npub struct Iter<', {'net_ring/ring_buffer/iter': 1}),
     ('#[derive(Debug, Drop)]\npub struct Assembler<', 'pub struct Assembler<', {ASSEMBLER: 1}),
     ('    pub segmentation_off', '    #[cfg(feature = "segmentation-offload")]\n    pub segmentation_off', {PHY: 1}),

@@ -1,5 +1,6 @@
 -- A text that is written in parts, put on a path in segments, and read in parts.
-use Rattle.std.proofs.Common.{◌≡◌, ◌∙◌, sym, ap, subst, cond, ℕ, ◌+◌, ◌-◌, ◌≤◌, List, [], ◌∷◌, ◌++◌, length, take, drop, All, arith, take-add, length-take}
+use Rattle.std.proofs.Common.{◌≡◌, ◌∙◌, sym, ap, subst, cond, ℕ, ◌+◌, ◌-◌, ◌≤◌, List, [], ◌∷◌, ◌++◌, length, take, drop}
+use Rattle.std.proofs.Common.{All, arith, take-add, length-take}
 use Rattle.std.specs.Prelude.{slice_range, IsFalse, min}
 use Rattle.std.proofs.lemmas.List.{take-append-le, take-append-drop, take_at, drop-drop, drop_all}
 use Rattle.std.proofs.lemmas.List.Elements.{All-push}
@@ -16,27 +17,33 @@ use Rattle.net_examples.specs.AnyPath.{IsSending, IsOfText}
 
 -- n more bytes were written
 pub wrote : (text : List ℕ) (from n : ℕ) (s t : FiniteSenderState) → IsSending text from s → n ≤ length text - from →
-    ((f : ℕ) (w : List ℕ) → Sends f w s.sender → Sends f (w ++ take n (slice_range text from (length text))) t.sender) → t.closed ≡ s.closed →
+    ((f : ℕ) (w : List ℕ) → Sends f w s.sender →
+    Sends f (w ++ take n (slice_range text from (length text))) t.sender) → t.closed ≡ s.closed →
     IsSending text (from + n) t
 wrote text from n s t is fits more same = record {
   sends = subst (λ w. Sends 0 w t.sender)
-      (ap (λ xs. take from text ++ take n xs) (between_to_end text from (length text) (omega arith)) ∙ sym (take-add from n text))
+      (ap (λ xs. take from text ++ take n xs) (between_to_end text from (length text) (omega arith))
+      ∙ sym (take-add from n text))
       (more 0 (take from text) is.sends);
   closed = λ on. (let all = is.closed (sym same ∙ on) in omega arith);
   within = omega (arith, is.within);
 }
 
 -- a segment of it was put on the path
-pub was_put : {A : Type 0} (text : List ℕ) (n : ℕ) (s : FiniteSenderState) (path : List (Segment A)) (one : Segment A) → IsSending text n s →
-    ((f : ℕ) (w more : List ℕ) → Sends f w s.sender → (s.closed ≡ 1 → more ≡ []) → MatchesFinite f (w ++ more) one.pos one.bytes.items one.is_last) →
+pub was_put : {A : Type 0} (text : List ℕ) (n : ℕ) (s : FiniteSenderState) (path : List (Segment A))
+    (one : Segment A) → IsSending text n s →
+    ((f : ℕ) (w more : List ℕ) → Sends f w s.sender → (s.closed ≡ 1 → more ≡ []) →
+    MatchesFinite f (w ++ more) one.pos one.bytes.items one.is_last) →
     All (IsOfText text) path → All (IsOfText text) (path ++ (one ∷ []))
 was_put text n s path one is says before =
     let new : MatchesFinite 0 (take n text ++ drop n text) one.pos one.bytes.items one.is_last =
     says 0 (take n text) (drop n text) is.sends (λ on. drop_all n text (omega (arith, is.closed on))) in
-    All-push (IsOfText text) path one before (subst (λ x. MatchesFinite 0 x one.pos one.bytes.items one.is_last) (take-append-drop n text) new)
+    All-push (IsOfText text) path one before
+    (subst (λ x. MatchesFinite 0 x one.pos one.bytes.items one.is_last) (take-append-drop n text) new)
 
 -- r more bytes were read
-pub read_on : (text into part : List ℕ) (k from r : ℕ) → from ≤ length into → r ≤ length part → take from into ≡ take from text →
+pub read_on : (text into part : List ℕ) (k from r : ℕ) → from ≤ length into → r ≤ length part →
+    take from into ≡ take from text →
     take r part ≡ slice_range text from (from + r) → take (from + r) (put_mid from k into part) ≡ take (from + r) text
 read_on text into part k from r within fits before more =
     let size : length (take from into) ≡ from = omega (arith, length-take from into) in
@@ -48,7 +55,8 @@ read_on text into part k from r within fits before more =
     ∙ sym (take-add from r text)
 
 -- what a read of at most n bytes put into a buffer
-pub read_is : (q old new : List ℕ) (n r : ℕ) → new ≡ take n q ++ drop (length q) old → r ≡ min n (length q) → take r new ≡ take n q
+pub read_is : (q old new : List ℕ) (n r : ℕ) → new ≡ take n q ++ drop (length q) old → r ≡ min n (length q) →
+    take r new ≡ take n q
 read_is q old new n r is count =
     ap (take r) is ∙ take_at (take n q) (drop (length q) old) r (omega (arith, count, length-take n q))
 
@@ -56,12 +64,15 @@ read_is q old new n r is count =
 pub left_below : (s : FiniteSenderState) (r : FiniteState) → first_number s ≤ acknowledged r → IsFalse (is_complete r) →
     s.sender.first_unacknowledged ≤ next_position r.receiver
 left_below s r kept more =
-    let is : acknowledged r ≡ next_position r.receiver = ap (λ b. cond b (r.end + 1) (next_position r.receiver)) more in omega arith
+    let is : acknowledged r ≡ next_position r.receiver =
+    ap (λ b. cond b (r.end + 1) (next_position r.receiver)) more in omega arith
 
-pub has_left : (text : List ℕ) (n : ℕ) (s : FiniteSenderState) (r : FiniteState) (p : ℕ) → IsSending text n s → first_number s ≤ acknowledged r →
+pub has_left : (text : List ℕ) (n : ℕ) (s : FiniteSenderState) (r : FiniteState) (p : ℕ) → IsSending text n s →
+    first_number s ≤ acknowledged r →
     IsFalse (is_complete r) → p ≡ next_position r.receiver →
     drop (p - s.sender.first_unacknowledged) s.sender.queue ≡ drop (next_position r.receiver) (take n text)
 has_left text n s r p is kept more at =
     let low = left_below s r kept more in
     let first = s.sender.first_unacknowledged in
-    ap (drop (p - first)) is.sends.queue ∙ drop-drop (p - first) (first - 0) (take n text) ∙ ap (λ k. drop k (take n text)) (omega arith)
+    ap (drop (p - first)) is.sends.queue ∙ drop-drop (p - first) (first - 0) (take n text)
+    ∙ ap (λ k. drop k (take n text)) (omega arith)

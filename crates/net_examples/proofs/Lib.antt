@@ -1,3 +1,4 @@
 pub mod AnyPathFacts
 pub mod FrameFacts
+pub mod KeptPiecesFacts
 pub mod SocketFacts

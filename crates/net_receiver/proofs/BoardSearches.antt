@@ -1,6 +1,7 @@
 -- What a search in the offsets of a scoreboard says of its positions.
 use Rattle.net_receiver.proofs.Words.{◌≡◌, ℕ, ◌+◌, ◌-◌, ◌<◌, ◌≤◌, ◌^◌, min, max, true, false, nat_tests, arith, sym}
-use Rattle.net_receiver.proofs.Words.{refl, ap, subst, ◌∙◌, zero, suc, cases_lt, either, both_ways, not, from_bool, cases_Bool, ◌⊎◌, inl, inr}
+use Rattle.net_receiver.proofs.Words.{refl, ap, subst, ◌∙◌, zero, suc, cases_lt, either, both_ways, not, from_bool}
+use Rattle.net_receiver.proofs.Words.{cases_Bool, ◌⊎◌, inl, inr}
 use Rattle.net_receiver.proofs.Words.{IsTrue, Some, None, Positions, contains, first_missing, first_missing-is}
 use Rattle.net_receiver.proofs.Words.{first_missing-le, first_missing-has, first_missing-misses, IsNextHole, board}
 use Rattle.net_assembler.specs.Positions.{EndsHole, missing_count, present_count}
@@ -27,7 +28,8 @@ module _ (b top : ℕ) (s : Positions) (under : (p : ℕ) → IsTrue (contains s
   none_from q l = either (cases_Bool (contains s q)) (λ on. absurd (omega (arith, under q on, l))) (λ off. off)
 
   -- the first missing offset from o on is o, or follows a reported one
-  after_one : (o : ℕ) → (first_missing s o ≡ o) ⊎ ((o < first_missing s o) × (contains s (first_missing s o - 1) ≡ true))
+  after_one : (o : ℕ) → (first_missing s o ≡ o)
+      ⊎ ((o < first_missing s o) × (contains s (first_missing s o - 1) ≡ true))
   after_one o = let least = first_missing-le s o in elim (cases_lt o (first_missing s o)) [
     | inl l ↦ inr (l, first_missing-has s o (first_missing s o - 1) (omega (arith, l)) (omega (arith, l)))
     | inr l ↦ inl (omega (arith, l, least))
@@ -68,16 +70,19 @@ module _ (b top : ℕ) (s : Positions) (under : (p : ℕ) → IsTrue (contains s
       pub end_fits : b + end < 2 ^ 64
       end_fits = omega (arith, fits end ends.1)
 
-      pub hole_place : IsNextHole (board b s) p limit (min (max from (b + first_missing s o)) limit) (min limit (b + end))
+      pub hole_place : IsNextHole (board b s) p limit (min (max from (b + first_missing s o)) limit)
+          (min limit (b + end))
       hole_place =
           let least = first_missing-le s o in
-          let before : max from (b + first_missing s o) < b + end = omega (arith, is, above, ends.0, under end ends.1, least) in
+          let before : max from (b + first_missing s o) < b + end =
+          omega (arith, is, above, ends.0, under end ends.1, least) in
           record {
             begins = ap (λ n. min n limit) (missing_place p start);
             order = omega (arith, before);
             within = omega arith;
             missing = λ q low high.
-                board_from b s q (omega (arith, above, low, high)) ∙ ends.2 (q - b) (omega (arith, low, high)) (omega (arith, low, high, above));
+                board_from b s q (omega (arith, above, low, high))
+                ∙ ends.2 (q - b) (omega (arith, low, high)) (omega (arith, low, high, above));
             ended = λ l.
                 let e : min limit (b + end) ≡ b + end = omega (arith, l) in
                 let at : b + end - b ≡ end = omega arith in
@@ -90,7 +95,8 @@ module _ (b top : ℕ) (s : Positions) (under : (p : ℕ) → IsTrue (contains s
       begins = ap (λ n. min n limit) (missing_place p start);
       order = omega arith;
       within = omega arith;
-      missing = λ q low high. board_from b s q (omega (arith, above, low, high)) ∙ none (q - b) (omega (arith, low, high));
+      missing = λ q low high. board_from b s q (omega (arith, above, low, high))
+          ∙ none (q - b) (omega (arith, low, high));
       ended = λ l. absurd (omega (arith, l));
     }
 
@@ -120,7 +126,12 @@ present_board : (b : ℕ) (s : Positions) (p n : ℕ) → b ≤ p → present_co
 present_board b s p zero l = refl
 present_board b s p (suc n) l =
     let next : p + 1 - b ≡ p - b + 1 = omega (arith, l) in
-    omega (arith, ap from_bool (board_from b s p l), present_board b s (p + 1) n (omega (arith, l)), ap (λ q. present_count s q n) next)
+    omega (
+      arith,
+      ap from_bool (board_from b s p l),
+      present_board b s (p + 1) n (omega (arith, l)),
+      ap (λ q. present_count s q n) next,
+    )
 
 -- of positions that are all in the set none is missing
 missing_has : (s : Positions) (p n m : ℕ) → ((q : ℕ) → p ≤ q → q < p + n → contains s q ≡ true) →
@@ -133,7 +144,13 @@ missing_has s p (suc n) m all =
     let more : suc n + m ≡ suc (n + m) = omega arith in
     let next : p + suc n ≡ p + 1 + n = omega arith in
     let rest = missing_has s (p + 1) n m (λ q low high. all q (omega (arith, low)) (omega (arith, high))) in
-    omega (arith, ap (missing_count s p) more, ap (λ q. missing_count s q m) next, rest, ap (λ on. from_bool (not on)) (all p (omega arith) (omega arith)))
+    omega (
+      arith,
+      ap (missing_count s p) more,
+      ap (λ q. missing_count s q m) next,
+      rest,
+      ap (λ on. from_bool (not on)) (all p (omega arith) (omega arith)),
+    )
 
 -- those below the base aren't
 missing_from_base : (b : ℕ) (s : Positions) (start end : ℕ) →
@@ -147,12 +164,14 @@ missing_from_base b s start end =
         | inl m ↦ (
             let sum : end - start ≡ b - start + (end - max start b) = omega (arith, l, m) in
             let at : start + (b - start) ≡ max start b = omega (arith, l) in
-            ap (missing_count t start) sum ∙ missing_has t start (b - start) (end - max start b) (λ q low high. below q (omega (arith, high, l)))
+            ap (missing_count t start) sum
+            ∙ missing_has t start (b - start) (end - max start b) (λ q low high. below q (omega (arith, high, l)))
             ∙ ap (λ q. missing_count t q (end - max start b)) at)
         | inr m ↦ (
             let sum : end - start ≡ end - start + 0 = omega arith in
             let none : 0 ≡ end - max start b = omega (arith, l, m) in
-            ap (missing_count t start) sum ∙ missing_has t start (end - start) 0 (λ q low high. below q (omega (arith, low, high, m)))
+            ap (missing_count t start) sum
+            ∙ missing_has t start (end - start) 0 (λ q low high. below q (omega (arith, low, high, m)))
             ∙ ap (missing_count t (max start b)) none)
       ]
     ]
@@ -173,7 +192,8 @@ cut_count top s none o n = elim (cases_lt o top) [
         | inr within ↦ (let zeroth : n - kept ≡ 0 = omega (arith, within) in ap (present_count s (o + kept)) zeroth)
       ] in
       let more = present_more s o kept (n - kept) in
-      let first : present_count s o kept ≡ present_count s (min o top) (min (o + n) top - min o top) = λ i. present_count s (at i) (min (o + n) top - at i) in
+      let first : present_count s o kept ≡ present_count s (min o top) (min (o + n) top - min o top) =
+      λ i. present_count s (at i) (min (o + n) top - at i) in
       ap (present_count s o) sum ∙ omega (arith, more, rest, first))
 ]
 
@@ -208,7 +228,8 @@ above_first : (r : ℕ × ℕ) (rs : List (ℕ × ℕ)) (p : ℕ) → r.0 ≤ p 
 above_first r rs p l = let here : nat_lt p r.0 ≡ false = grind (arith, nat_tests) in grind (arith, nat_tests)
 
 -- the limit is the start of the last run that tells a loss with those after it
-pub bound_at : (d n low : ℕ) (rs : List (ℕ × ℕ)) (k : ℕ) → IsRising low rs → k < length rs → tell_loss d n (drop k rs) ≡ true →
+pub bound_at : (d n low : ℕ) (rs : List (ℕ × ℕ)) (k : ℕ) → IsRising low rs → k < length rs →
+    tell_loss d n (drop k rs) ≡ true →
     tell_loss d n (drop (suc k) rs) ≡ false → (p : ℕ) → (p < start_at rs k) ↔ IsTrue (tell_loss d n (runs_above rs p))
 bound_at d n low [] k h l tells few p = absurd (omega (arith, l))
 bound_at d n low (r ∷ rs) zero h l tells few p = (
@@ -222,7 +243,8 @@ bound_at d n low (r ∷ rs) (suc k) h l tells few p =
     let rest = bound_at d n (r.1 + 1) rs k h.2 (omega (arith, l)) tells few p in
     let next = at_run (r.1 + 1) rs k h.2 (omega (arith, l)) in (
       λ below. elim (cases_lt p r.0) [
-        | inl before ↦ ap (tell_loss d n) (all_above r.0 p (r ∷ rs) (omega arith, h.1, h.2) before) ∙ tells_all d n (suc k) (r ∷ rs) tells
+        | inl before ↦ ap (tell_loss d n) (all_above r.0 p (r ∷ rs) (omega arith, h.1, h.2) before)
+            ∙ tells_all d n (suc k) (r ∷ rs) tells
         | inr from ↦ ap (tell_loss d n) (above_first r rs p from) ∙ rest.0 below
       ],
       λ lost. elim (cases_lt p r.0) [
@@ -231,7 +253,8 @@ bound_at d n low (r ∷ rs) (suc k) h l tells few p =
       ],
     )
 
-pub no_bound : (d n : ℕ) (rs : List (ℕ × ℕ)) → tell_loss d n rs ≡ false → (p : ℕ) → (p < 0) ↔ IsTrue (tell_loss d n (runs_above rs p))
+pub no_bound : (d n : ℕ) (rs : List (ℕ × ℕ)) → tell_loss d n rs ≡ false → (p : ℕ) →
+    (p < 0) ↔ IsTrue (tell_loss d n (runs_above rs p))
 no_bound d n rs few p = (λ l. absurd (omega (arith, l)), λ lost. absurd (both_ways _ (tells_less d n rs p few) lost))
 
 sizes_drop : (k : ℕ) (rs : List (ℕ × ℕ)) → sizes (drop k rs) ≤ sizes rs
@@ -278,7 +301,8 @@ module _ (h : ScoreboardHead) (xs : List (ℕ × ℕ)) (sound : IsSoundBoard h x
 
     pub start_fits : start < end → h.base + start < 2 ^ 64
     start_fits some =
-        let run = subst (IsMaximalRun s) item (All-get_or (IsMaximalRun s) (maximal_runs s) k (0, 0) within (are_maximal_runs s).maximal) in
+        let run = subst (IsMaximalRun s) item
+        (All-get_or (IsMaximalRun s) (maximal_runs s) k (0, 0) within (are_maximal_runs s).maximal) in
         omega (arith, sound.fits start (run.inside start (omega arith) some))
 
   pub numbered : h.reported.used ≡ length all

@@ -10,20 +10,27 @@ use Rattle.net_receiver.proofs.Words.{and_parts, leb-true, false_from_ne_true, I
 
 -- the first position from p on, by the hole that begins at the first missing one
 pub here_first : (s : Positions) (p m : ℕ) → m ≡ first_missing s p → p < m → TellsFirst s p (Some p)
-here_first s p m is more = (omega arith, first_missing-has s p p (omega arith) (omega (arith, is, more)), λ q a b. absurd (omega (arith, a, b)))
+here_first s p m is more = (
+  omega arith,
+  first_missing-has s p p (omega arith) (omega (arith, is, more)),
+  λ q a b. absurd (omega (arith, a, b)),
+)
 
-pub after_first : (s : Positions) (p m : ℕ) (r : Option ℕ) → m ≡ first_missing s p → m ≤ p → EndsHole s m r → TellsFirst s p r
+pub after_first : (s : Positions) (p m : ℕ) (r : Option ℕ) → m ≡ first_missing s p → m ≤ p → EndsHole s m r →
+    TellsFirst s p r
 after_first s p m (Some o) is less ends =
     let least = first_missing-le s p in
     (omega (arith, ends.0, is, least), ends.1, λ q a b. ends.2 q (omega (arith, a, less)) b)
 after_first s p m None is less ends = λ q a. ends q (omega (arith, a, less))
 
 -- what follows on a has a number
-pub ends_within : (s : Positions) (n a m : ℕ) → contains s a ≡ true → m ≡ first_missing s a → ((p : ℕ) → IsTrue (contains s p) → n + p + 1 < 2 ^ 64) →
+pub ends_within : (s : Positions) (n a m : ℕ) → contains s a ≡ true → m ≡ first_missing s a →
+    ((p : ℕ) → IsTrue (contains s p) → n + p + 1 < 2 ^ 64) →
     n + m < 2 ^ 64
 ends_within s n a m has is fits =
     let least = first_missing-le s a in
-    ⊎_elim (λ (l : a < m). (let f = fits (m - 1) (first_missing-has s a (m - 1) (omega (arith, l)) (omega (arith, l, is))) in omega (arith, f, l)))
+    ⊎_elim (λ (l : a < m). (let f =
+    fits (m - 1) (first_missing-has s a (m - 1) (omega (arith, l)) (omega (arith, l, is))) in omega (arith, f, l)))
     (λ (l : m ≤ a). (let f = fits a has in omega (arith, f, l)))
     (cases_lt a m)
 
@@ -48,19 +55,23 @@ module _ (s : Positions) (n top : ℕ) (under : (p : ℕ) → contains s p ≡ t
           (cases_lt a m)
 
       before_it : (q : ℕ) → from ≤ q → q < n + a → contains (shift_up s n) q ≡ false
-      before_it q x y = (let p = place in held_there q (omega (arith, low, x)) ∙ first.2 (q - n) (omega (arith, p, x)) (omega (arith, y, x, low)))
+      before_it q x y = (let p = place in held_there q (omega (arith, low, x))
+          ∙ first.2 (q - n) (omega (arith, p, x)) (omega (arith, y, x, low)))
 
-      pub part_there : n + a < min e (n + m) → TellsPart (λ q. contains (shift_up s n) q) from e (Some (n + a, min e (n + m)))
+      pub part_there : n + a < min e (n + m) →
+          TellsPart (λ q. contains (shift_up s n) q) from e (Some (n + a, min e (n + m)))
       part_there l = record {
         from = (let p = place in let f = first.0 in omega (arith, p, f, low));
         some = l;
         within = omega arith;
         before = before_it;
-        part = λ q x y. held_there q (omega (arith, x)) ∙ first_missing-has s a (q - n) (omega (arith, x)) (omega (arith, x, y, is));
+        part = λ q x y. held_there q (omega (arith, x))
+            ∙ first_missing-has s a (q - n) (omega (arith, x)) (omega (arith, x, y, is));
         whole = λ l.
             let same : min e (n + m) ≡ n + first_missing s a = omega (arith, l, is) in
             let back : n + first_missing s a - n ≡ first_missing s a = omega arith in
-            ap (contains (shift_up s n)) same ∙ held_there (n + first_missing s a) (omega arith) ∙ ap (contains s) back ∙ first_missing-misses s a;
+            ap (contains (shift_up s n)) same ∙ held_there (n + first_missing s a) (omega arith)
+            ∙ ap (contains s) back ∙ first_missing-misses s a;
       }
 
       pub part_beyond : min e (n + m) ≤ n + a → TellsPart (λ q. contains (shift_up s n) q) from e None
@@ -84,8 +95,10 @@ module _ (s : Positions) (n top : ℕ) (under : (p : ℕ) → contains s p ≡ t
     lacks_low : (q : ℕ) → q < f → t q ≡ false
     lacks_low q l =
         false_from_ne_true _ (λ there.
-        ⊎_elim (λ (a : (nat_le f q && nat_lt q n) ≡ true). (let x = leb-true f q (and_parts _ _ a).0 in omega (arith, l, x)))
-        (λ (b : contains (shift_up s n) q ≡ true). both_ways _ (not_held q (omega (arith, l, stream))) b) (or_cases _ _ there))
+        ⊎_elim (λ (a : (nat_le f q && nat_lt q n) ≡ true). (let x = leb-true f q (and_parts _ _ a).0 in
+        omega (arith, l, x)))
+        (λ (b : contains (shift_up s n) q ≡ true). both_ways _ (not_held q (omega (arith, l, stream))) b)
+        (or_cases _ _ there))
 
     has_low : (q : ℕ) → f ≤ q → q < n → t q ≡ true
     has_low q a b = or_left _ _ (and_from _ _ (le-leb f q a) (lt-ltb q n b))
@@ -100,13 +113,15 @@ module _ (s : Positions) (n top : ℕ) (under : (p : ℕ) → contains s p ≡ t
       within = omega arith;
       before = λ q a b. lacks_low q (omega (arith, a, b));
       part = λ q a b. has_low q (omega (arith, a)) (omega (arith, b));
-      whole = λ l. (let same : min e n ≡ n = omega (arith, l) in ap t same ∙ same_high n (omega arith) ∙ not_held n (omega arith));
+      whole = λ l. (let same : min e n ≡ n = omega (arith, l) in
+          ap t same ∙ same_high n (omega arith) ∙ not_held n (omega arith));
     }
 
     lacks_between : min e n ≤ max pos f → (q : ℕ) → pos ≤ q → q < e → q < n → t q ≡ false
     lacks_between l q a b c = lacks_low q (omega (arith, l, a, b, c))
 
-    pub high_part : (r : Option (ℕ × ℕ)) → min e n ≤ max pos f → TellsPart (λ q. contains (shift_up s n) q) (max pos n) e r → TellsPart t pos e r
+    pub high_part : (r : Option (ℕ × ℕ)) → min e n ≤ max pos f →
+        TellsPart (λ q. contains (shift_up s n) q) (max pos n) e r → TellsPart t pos e r
     high_part (Some r) l p = record {
       from = (let x = p.from in omega (arith, x));
       some = p.some;

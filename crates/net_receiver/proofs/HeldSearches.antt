@@ -1,10 +1,11 @@
 -- What a search in the held runs of a receiver says of a position, and of those of a segment.
 use Rattle.std.proofs.lemmas.Bool.Decides.{nat_tests}
-use Rattle.net_receiver.proofs.Words.{◌≡◌, ◌⊎◌, inl, inr, ℕ, zero, suc, ◌+◌, ◌-◌, ◌<◌, ◌≤◌, ◌^◌, min, false, List, [], ◌∷◌}
-use Rattle.net_receiver.proofs.Words.{length, Some, None, slice_get, get_or, refl, sym, ap, subst, ◌∙◌, arith, find}
-use Rattle.net_receiver.proofs.Words.{cond-true, cond-false, cases_lt, Positions, contains, maximal_runs, lies_in}
-use Rattle.net_receiver.proofs.Words.{IsMaximalRun, IsTrue, IsRising, run_at, shift_up, runs_shifted_up, maximal_runs-shift_up}
-use Rattle.net_receiver.proofs.Words.{end_at}
+use Rattle.net_receiver.proofs.Words.{◌≡◌, ◌⊎◌, inl, inr, ℕ, zero, suc, ◌+◌, ◌-◌, ◌<◌, ◌≤◌, ◌^◌, min, false, List, []}
+use Rattle.net_receiver.proofs.Words.{◌∷◌, length, Some, None, slice_get, get_or, refl, sym, ap, subst, ◌∙◌, arith}
+use Rattle.net_receiver.proofs.Words.{find, cond-true, cond-false, cases_lt, Positions, contains, maximal_runs, lies_in}
+use Rattle.net_receiver.proofs.Words.{IsMaximalRun, IsTrue, IsRising, run_at, shift_up, runs_shifted_up}
+use Rattle.net_receiver.proofs.Words.{maximal_runs-shift_up, end_at, Bool, true, cond, not, max, ◌&&◌, nat_le, nat_lt}
+use Rattle.net_receiver.proofs.Words.{le-leb, contains-shift_up, from_bool, All, All-head}
 use Rattle.std.proofs.lemmas.List.Elements.{All-get_or}
 use Rattle.std.proofs.lemmas.Option.{slice_get_within, slice_get-get_or, get_or_from_slice_get}
 use Rattle.net_assembler.specs.RunLists.{SplitsRuns, start_at}
@@ -12,15 +13,16 @@ use Rattle.net_assembler.proofs.Joins.{apart, ends_rise}
 use Rattle.net_assembler.proofs.Runs.{are_maximal_runs, rising-maximal_runs}
 use Rattle.net_assembler.proofs.ShiftedRuns.{end_at-up, get_or-up, length-up, start_at-up}
 use Rattle.net_receiver.proofs.NewestRuns.{lies_from, count, count_more, clipped}
-use Rattle.net_receiver.proofs.Words.{Bool, true, cond, not, max, ◌&&◌, nat_le, nat_lt, le-leb, contains-shift_up, from_bool}
 use Rattle.net_assembler.specs.Positions.{present_count}
+use Rattle.net_assembler.proofs.Holes.{all_holes, first_hole}
 
 lacks : (p : ℕ) (r : ℕ × ℕ) → (p < r.0) ⊎ (r.1 ≤ p) → lies_in p r ≡ false
 lacks p r (inl l) = grind (arith, nat_tests)
 lacks p r (inr l) = grind (arith, nat_tests)
 
 -- the first of rising runs that has a position is the run k
-find_at : (low : ℕ) (rs : List (ℕ × ℕ)) (k p : ℕ) → IsRising low rs → k < length rs → start_at rs k ≤ p → p < end_at rs k →
+find_at : (low : ℕ) (rs : List (ℕ × ℕ)) (k p : ℕ) → IsRising low rs → k < length rs → start_at rs k ≤ p →
+    p < end_at rs k →
     find (lies_in p) rs ≡ Some (get_or rs k (0, 0))
 find_at low [] k p h l a b = absurd (omega (arith, l))
 find_at low (r ∷ rs) zero p h l a b = cond-true _ _ _ (lies_from p r a b)
@@ -52,14 +54,21 @@ module _ (next top : ℕ) (s : Positions) (under : (p : ℕ) → IsTrue (contain
   ends : (k : ℕ) → k < length rs → (start_at rs k < end_at rs k) × (end_at rs k ≤ top)
   ends k l =
       let run = All-get_or (IsMaximalRun s) rs k (0, 0) l (are_maximal_runs s).maximal in
-      let some = run.some in
-      (some, omega (arith, under (end_at rs k - 1) (run.inside (end_at rs k - 1) (omega (arith, some)) (omega (arith, some)))))
+      let some = run.some in (
+        some,
+        omega (
+          arith,
+          under (end_at rs k - 1)
+              (run.inside (end_at rs k - 1) (omega (arith, some)) (omega (arith, some))),
+        ),
+      )
 
   -- a position before all
   pub before_all : (p : ℕ) → p < next → None ≡ run_at (shift_up s next) p
   before_all p l =
       sym (ap (find (lies_in p)) is_all ∙ find_none all p (λ k b.
-      let used : k < length rs = omega (arith, b, length-up next rs) in inl (omega (arith, start_at-up next rs k used, l))))
+      let used : k < length rs = omega (arith, b, length-up next rs) in
+      inl (omega (arith, start_at-up next rs k used, l))))
 
   module _ (p o n : ℕ) (from : next ≤ p) (is : o ≡ min (p - next) top) (split : SplitsRuns rs o n) where
     -- where the last run that starts by then ends by then
@@ -69,7 +78,8 @@ module _ (next top : ℕ) (s : Positions) (under : (p : ℕ) → IsTrue (contain
         let used : k < length rs = omega (arith, b, length-up next rs) in
         elim (cases_lt k n) [
           | inl before ↦ inr (
-              let rise = ends_rise 0 rs k (n - 1) (rising-maximal_runs s) (omega (arith, before)) (omega (arith, before, split.few)) in
+              let rise = ends_rise 0 rs k (n - 1) (rising-maximal_runs s) (omega (arith, before))
+              (omega (arith, before, split.few)) in
               omega (arith, end_at-up next rs k used, rise, last (omega (arith, before)), is, from))
           | inr after ↦ inl (
               let run = ends k used in
@@ -99,12 +109,14 @@ module _ (next top : ℕ) (s : Positions) (under : (p : ℕ) → IsTrue (contain
 
       pub ends_fit : ((q : ℕ) → IsTrue (contains s q) → next + q + 1 < 2 ^ 64) → (start < end) × (next + end < 2 ^ 64)
       ends_fit fits =
-          let run = subst (IsMaximalRun s) item (All-get_or (IsMaximalRun s) rs (n - 1) (0, 0) within (are_maximal_runs s).maximal) in
+          let run = subst (IsMaximalRun s) item
+          (All-get_or (IsMaximalRun s) rs (n - 1) (0, 0) within (are_maximal_runs s).maximal) in
           let some = run.some in
           (some, omega (arith, fits (end - 1) (run.inside (end - 1) (omega (arith, some)) (omega (arith, some))), some))
 
     pub none_stored : 0 < n → None ≡ slice_get rs (n - 1) → ⊥
-    none_stored some none = let there = slice_get-get_or rs (n - 1) (0, 0) (omega (arith, some, split.few)) in absurd (cc)
+    none_stored some none = let there =
+        slice_get-get_or rs (n - 1) (0, 0) (omega (arith, some, split.few)) in absurd (cc)
 
 -- ---- how many positions of a segment aren't held
 -- of the n positions from next + o on, those that are held, counted from `next`, and the others are all
@@ -115,17 +127,27 @@ held_and_not s next o (suc n) =
     let lacks : ℕ → Bool = λ q. not (contains (shift_up s next) q) in
     let offset : next + o - next ≡ o = omega arith in
     let above = le-leb next (next + o) (omega arith) in
-    let on : contains (shift_up s next) (next + o) ≡ contains s o = contains-shift_up s next (next + o) ∙ (λ i. above i && contains s (offset i)) in
-    let here : cond (not (contains (shift_up s next) (next + o))) 1 0 ≡ cond (not (contains s o)) 1 0 = ap {B = ℕ} (λ b. cond (not b) 1 0) on in
+    let on : contains (shift_up s next) (next + o) ≡ contains s o = contains-shift_up s next (next + o)
+    ∙ (λ i. above i && contains s (offset i)) in
+    let here : cond (not (contains (shift_up s next) (next + o))) 1 0 ≡ cond (not (contains s o)) 1 0 =
+    ap {B = ℕ} (λ b. cond (not b) 1 0) on in
     let after : next + o + 1 ≡ next + (o + 1) = omega arith in
-    omega (arith, count_more lacks (next + o) n, here, one_way (contains s o), ap (λ a. count lacks a n) after, held_and_not s next (o + 1) n)
+    omega (
+      arith,
+      count_more lacks (next + o) n,
+      here,
+      one_way (contains s o),
+      ap (λ a. count lacks a n) after,
+      held_and_not s next (o + 1) n,
+    )
   where
     one_way : (b : Bool) → cond (not b) 1 0 + from_bool b ≡ 1
     one_way true = refl
     one_way false = refl
 
 -- the positions of a segment in the free window that aren't held, by the offsets of that part
-pub new_in : (s : Positions) (next window p n from to held : ℕ) → from ≡ min (p - next) window → to ≡ min (p + n - next) window →
+pub new_in : (s : Positions) (next window p n from to held : ℕ) → from ≡ min (p - next) window →
+    to ≡ min (p + n - next) window →
     held ≡ present_count s from (to - from) →
     (held ≤ to - from)
     × (to - from - held
@@ -139,11 +161,24 @@ new_in s next window p n from to held begins ends is =
       | inl some ↦ (
           let start : next + from ≡ max next p = omega (arith, begins, ends, some) in
           let size : to - from ≡ min (next + window) (p + n) - max next p = omega (arith, begins, ends, some) in
-          let same : count lacks (next + from) (to - from) ≡ count lacks (max next p) (min (next + window) (p + n) - max next p) =
+          let same : count lacks (next + from) (to - from)
+          ≡ count lacks (max next p) (min (next + window) (p + n) - max next p) =
           λ i. count lacks (start i) (size i) in
           (few, omega (arith, all, is, same, clip)))
       | inr none ↦ (
           let size : min (next + window) (p + n) - max next p ≡ 0 = omega (arith, begins, ends, none) in
-          let same : count lacks (max next p) (min (next + window) (p + n) - max next p) ≡ 0 = ap (count lacks (max next p)) size in
+          let same : count lacks (max next p) (min (next + window) (p + n) - max next p) ≡ 0 =
+          ap (count lacks (max next p)) size in
           (few, omega (arith, none, same, clip)))
     ]
+
+-- ---- holes
+-- the held runs rise from after the first missing position on
+pub rises_above : (n : ℕ) (rs : List (ℕ × ℕ)) → IsRising 0 rs → All (λ (r : ℕ × ℕ). (n < r.0) × (r.0 < r.1)) rs →
+    IsRising (n + 1) rs
+rises_above n [] h above = tt
+rises_above n (r ∷ rs) h above =
+    let first = All-head (λ (r : ℕ × ℕ). (n < r.0) × (r.0 < r.1)) r rs above in (omega (arith, first.0), h.1, h.2)
+
+-- what the iterators of runs and holes need
+pub ruleset held_runs = (all_holes, first_hole)

@@ -14,3 +14,6 @@ pub mod Senders
 pub mod BoardSearches
 pub mod HeldSearches
 pub mod Duplicates
+pub mod PartsOf
+pub mod Differences
+pub mod Plans

@@ -87,7 +87,8 @@ module _ {X : Type 0} where
   at-left (z ∷ xs) ys zero x e = e
   at-left (z ∷ xs) ys (suc i) x e = at-left xs ys i x e
 
-  pub at-front : (xs ys : List X) (i : ℕ) (x : X) → i < length xs → slice_get (xs ++ ys) i ≡ Some x → slice_get xs i ≡ Some x
+  pub at-front : (xs ys : List X) (i : ℕ) (x : X) → i < length xs → slice_get (xs ++ ys) i ≡ Some x →
+      slice_get xs i ≡ Some x
   at-front [] ys i x l e = absurd (omega (arith, l))
   at-front (z ∷ xs) ys zero x l e = e
   at-front (z ∷ xs) ys (suc i) x l e = at-front xs ys i x (omega (arith, l)) e
@@ -96,7 +97,8 @@ module _ {X : Type 0} where
   at-end [] y = refl
   at-end (x ∷ xs) y = at-end xs y
 
-  at-either : (xs : List X) (y : X) (i : ℕ) (x : X) → slice_get (xs ++ y ∷ []) i ≡ Some x → (slice_get xs i ≡ Some x) ⊎ ((i ≡ length xs) × (x ≡ y))
+  at-either : (xs : List X) (y : X) (i : ℕ) (x : X) → slice_get (xs ++ y ∷ []) i ≡ Some x →
+      (slice_get xs i ≡ Some x) ⊎ ((i ≡ length xs) × (x ≡ y))
   at-either [] y zero x e = inr (refl, sym (ap (λ o. unwrap_or o y) e))
   at-either [] y (suc i) x e = absurd (both_ways false refl (ap is_some e))
   at-either (z ∷ xs) y zero x e = inl e
@@ -123,7 +125,8 @@ module _ (s : Positions) where
   ends_by : (a b : ℕ × ℕ) → Max a → Max b → (q : ℕ) → a.0 ≤ q → q < a.1 → b.0 ≤ q → q < b.1 → b.1 ≤ a.1
   ends_by a b m n q a0 a1 b0 b1 = grind (arith, nat_tests)
 
-  pub share : (a b : ℕ × ℕ) → Max a → Max b → (p q : ℕ) → lies_in q a ≡ true → lies_in q b ≡ true → lies_in p a ≡ true → lies_in p b ≡ true
+  pub share : (a b : ℕ × ℕ) → Max a → Max b → (p q : ℕ) → lies_in q a ≡ true → lies_in q b ≡ true →
+      lies_in p a ≡ true → lies_in p b ≡ true
   share a b m n p q qa qb pa = grind (arith, nat_tests, lies, starts_from, ends_by, lies_from)
 
   shares : (rs : Runs) → All Max rs → (a : ℕ × ℕ) → Max a → (p q : ℕ) → lies_in q a ≡ true → lies_in p a ≡ true →
@@ -135,11 +138,13 @@ module _ (s : Positions) where
       (or_cases (lies_in q r) (list_any (lies_in q) rs) h)
 
   -- ---- one more position
-  module _ (all : All Max (maximal_runs s)) (has : (p : ℕ) → contains s p ≡ true → list_any (lies_in p) (maximal_runs s) ≡ true) (k : ℕ) where
+  module _ (all : All Max (maximal_runs s)) (has : (p : ℕ) → contains s p ≡ true →
+      list_any (lies_in p) (maximal_runs s) ≡ true) (k : ℕ) where
     -- the list stays, or grows by the run of the position
     by_case : (P : Runs → Type 0) (rs : Runs) (p : ℕ) → length rs ≤ k → (list_any (lies_in p) rs ≡ true → P rs) →
         (length rs ≡ k → P rs) → (list_any (lies_in p) (maximal_runs s) ≡ false → P rs) →
-        ((r : ℕ × ℕ) → Max r → lies_in p r ≡ true → list_any (lies_in p) rs ≡ false → length rs < k → P (rs ++ r ∷ [])) →
+        ((r : ℕ × ℕ) → Max r → lies_in p r ≡ true → list_any (lies_in p) rs ≡ false → length rs < k →
+        P (rs ++ r ∷ [])) →
         P (with_run k s rs p)
     by_case P rs p few listed full absent more =
         ⊎_elim (λ (e : list_any (lies_in p) rs ≡ true). subst P (sym (cond-true _ _ _ e)) (listed e))
@@ -150,7 +155,8 @@ module _ (s : Positions) where
         (λ (h : list_any (lies_in p) (maximal_runs s) ≡ true).
         let r = found (lies_in p) Max (maximal_runs s) all h in
         let size = length-append rs (r.0 ∷ []) in
-        subst P (sym (ap (λ o. take k (rs ++ option_to_list o)) r.1 ∙ take_all k (rs ++ r.0 ∷ []) (omega (arith, size)))) (more r.0 r.3 r.2 e l))
+        subst P (sym (ap (λ o. take k (rs ++ option_to_list o)) r.1
+        ∙ take_all k (rs ++ r.0 ∷ []) (omega (arith, size)))) (more r.0 r.3 r.2 e l))
         (λ (h : list_any (lies_in p) (maximal_runs s) ≡ false).
         subst P (sym (ap (λ o. take k (rs ++ option_to_list o)) (none_found (lies_in p) (maximal_runs s) h).0
         ∙ ap (take k) (append-nil rs) ∙ take_all k rs few)) (absent h))
@@ -175,11 +181,14 @@ module _ (s : Positions) where
           once = λ q.
               ⊎_elim
               (λ (e : lies_in q r ≡ true).
-              let other = false_from_ne_true (list_any (lies_in q) rs) (λ yes. both_ways _ none (shares rs g.maximal r m p q e at yes)) in
-              let size : count_by (lies_in q) (rs ++ r ∷ []) ≡ count_by (lies_in q) rs + 1 = counted_more (lies_in q) rs r ∙ ap (λ b. count_by (lies_in q) rs + cond b 1 0) e in
+              let other = false_from_ne_true (list_any (lies_in q) rs)
+              (λ yes. both_ways _ none (shares rs g.maximal r m p q e at yes)) in
+              let size : count_by (lies_in q) (rs ++ r ∷ []) ≡ count_by (lies_in q) rs + 1 =
+              counted_more (lies_in q) rs r ∙ ap (λ b. count_by (lies_in q) rs + cond b 1 0) e in
               omega (arith, size, (none_found (lies_in q) rs other).1))
               (λ (e : lies_in q r ≡ false).
-              let size : count_by (lies_in q) (rs ++ r ∷ []) ≡ count_by (lies_in q) rs + 0 = counted_more (lies_in q) rs r ∙ ap (λ b. count_by (lies_in q) rs + cond b 1 0) e in
+              let size : count_by (lies_in q) (rs ++ r ∷ []) ≡ count_by (lies_in q) rs + 0 =
+              counted_more (lies_in q) rs r ∙ ap (λ b. count_by (lies_in q) rs + cond b 1 0) e in
               omega (arith, size, g.once q))
               (cases_Bool (lies_in q r));
         })
@@ -195,7 +204,8 @@ module _ (s : Positions) where
     covers_on : (rs : Runs) (p q : ℕ) → length rs ≤ k → Covers rs q → Covers (with_run k s rs p) q
     covers_on rs p q few c =
         by_case (λ l. Covers l q) rs p few (λ _. c) (λ _. c) (λ _. c) (λ r m at none l.
-        ⊎_elim (λ e. inl (list_any-append (lies_in q) rs (r ∷ []) ∙ or_left _ _ e)) (λ e. absurd (omega (arith, e, l))) c)
+        ⊎_elim (λ e. inl (list_any-append (lies_in q) rs (r ∷ []) ∙ or_left _ _ e))
+        (λ e. absurd (omega (arith, e, l))) c)
 
     covers_all : (rs : Runs) (ps : List ℕ) (q : ℕ) → Good rs → Covers rs q → Covers (runs_of k s rs ps) q
     covers_all rs [] q g c = c
@@ -203,7 +213,8 @@ module _ (s : Positions) where
 
     covers_new : (rs : Runs) (p : ℕ) → length rs ≤ k → contains s p ≡ true → Covers (with_run k s rs p) p
     covers_new rs p few held =
-        by_case (λ l. Covers l p) rs p few (λ e. inl e) (λ e. inr e) (λ e. absurd (both_ways _ e (has p held))) (λ r m at none l.
+        by_case (λ l. Covers l p) rs p few (λ e. inl e) (λ e. inr e) (λ e. absurd (both_ways _ e (has p held)))
+        (λ r m at none l.
         inl (list_any-append (lies_in p) rs (r ∷ []) ∙ or_right _ _ (or_left _ _ at)))
 
     -- the runs of all starts cover what these runs have
@@ -217,7 +228,8 @@ module _ (s : Positions) where
         ⊎_elim
         (λ (e : lies_in q m ≡ true).
         covers_all (with_run k s rs m.0) (map (λ r. r.0) ms) q next
-        (⊎_elim (λ c. inl (shares (with_run k s rs m.0) next.maximal m max q m.0 (lies_from m.0 m (le_refl _) some) e c)) (λ c. inr c)
+        (⊎_elim (λ c. inl (shares (with_run k s rs m.0) next.maximal m max q m.0 (lies_from m.0 m (le_refl _) some) e
+        c)) (λ c. inr c)
         (covers_new rs m.0 g.few (max.inside m.0 (le_refl _) some))))
         (λ (e : list_any (lies_in q) ms ≡ true). covers_runs (with_run k s rs m.0) ms next (All-tail Max m ms ok) q e)
         (or_cases (lies_in q m) (list_any (lies_in q) ms) h)
@@ -247,7 +259,8 @@ module _ (s : Positions) where
           (λ (last : (b ≡ length qs) × (q ≡ p)). still (length qs) b x (omega (arith, last.0)) (o.named i x at))
           (at-either qs p b q is)
 
-      same : (contains s p ≡ true → Covers rs p) → (contains s p ≡ true → length qs < k → IsListedBy rs (length qs) p) → Ordered all_qs rs
+      same : (contains s p ≡ true → Covers rs p) →
+          (contains s p ≡ true → length qs < k → IsListedBy rs (length qs) p) → Ordered all_qs rs
       same covered listed =
           let size = length-append qs (p ∷ []) in
           record {
@@ -255,33 +268,43 @@ module _ (s : Positions) where
             named = λ i r at. still (length qs) (length all_qs) r (omega (arith, size)) (o.named i r at);
             covers = λ b q is held.
                 ⊎_elim (λ (old : slice_get qs b ≡ Some q). o.covers b q old held)
-                (λ (last : (b ≡ length qs) × (q ≡ p)). subst (λ t. contains s t ≡ true → Covers rs t) (sym last.1) covered held)
+                (λ (last : (b ≡ length qs) × (q ≡ p)). subst (λ t. contains s t ≡ true →
+                Covers rs t) (sym last.1) covered held)
                 (at-either qs p b q is);
             newest = λ b q is held l.
                 ⊎_elim (λ (old : slice_get qs b ≡ Some q). o.newest b q old held l)
                 (λ (last : (b ≡ length qs) × (q ≡ p)).
-                let found = listed (ap (contains s) (sym last.1) ∙ held) (omega (arith, last.0)) in
-                (found.0, found.1, omega (arith, found.2, last.0), found.3, ap (λ t. lies_in t found.1) last.1 ∙ found.4))
+                let found = listed (ap (contains s) (sym last.1) ∙ held) (omega (arith, last.0)) in (
+                  found.0,
+                  found.1,
+                  omega (arith, found.2, last.0),
+                  found.3,
+                  ap (λ t. lies_in t found.1) last.1 ∙ found.4,
+                ))
                 (at-either qs p b q is);
             order = old_order;
           }
 
-      more : (r : ℕ × ℕ) → Max r → lies_in p r ≡ true → list_any (lies_in p) rs ≡ false → length rs < k → Ordered all_qs (rs ++ r ∷ [])
+      more : (r : ℕ × ℕ) → Max r → lies_in p r ≡ true → list_any (lies_in p) rs ≡ false → length rs < k →
+          Ordered all_qs (rs ++ r ∷ [])
       more r m at none l =
           let size = length-append qs (p ∷ []) in
           let sizes = length-append rs (r ∷ []) in
           record {
             short = omega (arith, o.short, size, sizes);
             named = λ i x is.
-                ⊎_elim (λ (old : slice_get rs i ≡ Some x). still (length qs) (length all_qs) x (omega (arith, size)) (o.named i x old))
+                ⊎_elim (λ (old : slice_get rs i ≡ Some x). still (length qs) (length all_qs) x (omega (arith, size))
+                (o.named i x old))
                 (λ (last : (i ≡ length rs) × (x ≡ r)).
                 (length qs, p, omega (arith, size), at-end qs p, ap (lies_in p) last.1 ∙ at))
                 (at-either rs r i x is);
             covers = λ b q is held.
                 ⊎_elim (λ (old : slice_get qs b ≡ Some q).
-                ⊎_elim (λ e. inl (list_any-append (lies_in q) rs (r ∷ []) ∙ or_left _ _ e)) (λ e. absurd (omega (arith, e, l))) (o.covers b q old held))
+                ⊎_elim (λ e. inl (list_any-append (lies_in q) rs (r ∷ []) ∙ or_left _ _ e))
+                (λ e. absurd (omega (arith, e, l))) (o.covers b q old held))
                 (λ (last : (b ≡ length qs) × (q ≡ p)).
-                inl (list_any-append (lies_in q) rs (r ∷ []) ∙ or_right _ _ (or_left _ _ (ap (λ t. lies_in t r) last.1 ∙ at))))
+                inl (list_any-append (lies_in q) rs (r ∷ [])
+                ∙ or_right _ _ (or_left _ _ (ap (λ t. lies_in t r) last.1 ∙ at))))
                 (at-either qs p b q is);
             newest = λ b q is held few.
                 ⊎_elim (λ (old : slice_get qs b ≡ Some q).
@@ -304,7 +327,8 @@ module _ (s : Positions) where
                 ⊎_elim
                 (λ (old : slice_get qs b ≡ Some q).
                 let there = lies q r in_r in
-                ⊎_elim (λ e. absurd (both_ways _ none (shares rs g.maximal r m p q in_r at e))) (λ e. absurd (omega (arith, e, l)))
+                ⊎_elim (λ e. absurd (both_ways _ none (shares rs g.maximal r m p q in_r at e)))
+                (λ e. absurd (omega (arith, e, l)))
                 (o.covers b q old (m.inside q there.0 there.1)))
                 (λ (new : (b ≡ length qs) × (q ≡ p)). still (length qs) b x (omega (arith, new.0)) (o.named i x first))
                 (at-either qs p b q at_b))
@@ -317,7 +341,13 @@ module _ (s : Positions) where
       one_more =
           by_case (Ordered all_qs) rs p g.few
           (λ e. same (λ _. inl e) (λ _ l.
-          let found = listed_at (lies_in p) rs e in (found.0, found.1, omega (arith, o.short, slice_get_within rs found.0 found.1 found.2), found.2, found.3)))
+          let found = listed_at (lies_in p) rs e in (
+            found.0,
+            found.1,
+            omega (arith, o.short, slice_get_within rs found.0 found.1 found.2),
+            found.2,
+            found.3,
+          )))
           (λ e. same (λ _. inr e) (λ _ l. absurd (omega (arith, o.short, e, l))))
           (λ e. same (λ held. absurd (both_ways _ e (has p held))) (λ held l. absurd (both_ways _ e (has p held))))
           more
@@ -356,27 +386,37 @@ module _ (s : Positions) where
               (covers_runs (runs_of k s [] ps) (maximal_runs s) early all p (has p held));
           newest = λ b p is. o.newest b p (at-left ps (starts s) b p is);
           order = λ i j b p q r l at at' is in_r.
-              let found = o.order i j b p q r l at at' (at-left ps (starts s) b p is) in_r in
-              (found.0, found.1, found.2, at-front ps (starts s) found.0 found.1 (omega (arith, found.2, slice_get_within ps b p is)) found.3, found.4);
+              let found = o.order i j b p q r l at at' (at-left ps (starts s) b p is) in_r in (
+                found.0,
+                found.1,
+                found.2,
+                at-front ps (starts s) found.0 found.1 (omega (arith, found.2, slice_get_within ps b p is))
+                    found.3,
+                found.4,
+              );
         }
 
 -- where k runs are listed, no other is
 full_with : (k : ℕ) (s : Positions) (listed : Runs) (p : ℕ) → length listed ≡ k → with_run k s listed p ≡ listed
 full_with k s listed p full = elim (cases_Bool (list_any (lies_in p) listed)) [
   | inl on ↦ cond-true _ _ _ on
-  | inr off ↦ cond-false _ _ _ off ∙ take-append-le k listed (option_to_list (run_at s p)) (omega (arith, full)) ∙ take_all k listed (omega (arith, full))
+  | inr off ↦ cond-false _ _ _ off ∙ take-append-le k listed (option_to_list (run_at s p)) (omega (arith, full))
+      ∙ take_all k listed (omega (arith, full))
 ]
 
-pub full_list : (k : ℕ) (s : Positions) (listed : Runs) (ps : List ℕ) → length listed ≡ k → runs_of k s listed ps ≡ listed
+pub full_list : (k : ℕ) (s : Positions) (listed : Runs) (ps : List ℕ) → length listed ≡ k →
+    runs_of k s listed ps ≡ listed
 full_list k s listed [] full = refl
-full_list k s listed (p ∷ ps) full = ap (λ l. runs_of k s l ps) (full_with k s listed p full) ∙ full_list k s listed ps full
+full_list k s listed (p ∷ ps) full = ap (λ l. runs_of k s l ps) (full_with k s listed p full)
+    ∙ full_list k s listed ps full
 
 pub newest_runs_are_listed : NewestRunsAreListed
 newest_runs_are_listed k s ps =
     newest_are s (are_maximal_runs s).maximal (λ p held. by p ((are_maximal_runs s).complete p held)) k ps
   where
     by : (p : ℕ) → count_by (lies_in p) (maximal_runs s) ≡ 1 → list_any (lies_in p) (maximal_runs s) ≡ true
-    by p e = true_from_ne_false _ (λ no. (let none = (none_found (lies_in p) (maximal_runs s) no).1 in absurd (omega (arith, e, none))))
+    by p e = true_from_ne_false _
+        (λ no. (let none = (none_found (lies_in p) (maximal_runs s) no).1 in absurd (omega (arith, e, none))))
 
 -- ---- How many positions of a range pass a test.
 module _ (g : ℕ → Bool) where
@@ -404,7 +444,8 @@ module _ (g : ℕ → Bool) where
   pub count_none : (a n : ℕ) → ((q : ℕ) → a ≤ q → q < a + n → g q ≡ false) → count a n ≡ 0
   count_none a zero all = refl
   count_none a (suc n) all =
-      let here : count a (suc n) ≡ 0 + count (a + 1) n = count_more a n ∙ ap (λ b. cond b 1 0 + count (a + 1) n) (all a (omega arith) (omega arith)) in
+      let here : count a (suc n) ≡ 0 + count (a + 1) n = count_more a n
+      ∙ ap (λ b. cond b 1 0 + count (a + 1) n) (all a (omega arith) (omega arith)) in
       let rest = count_none (a + 1) n (λ q l h. all q (omega arith) (omega arith)) in
       omega (arith, here, rest)
 
@@ -429,8 +470,11 @@ clipped g low high p n =
     let y = min high (p + n) - max low p in
     let z = n - x - y in
     let whole : n ≡ x + (y + z) = omega arith in
-    let first : count h p x ≡ 0 = count_none h p x (λ q l m. off (nat_le low q) (nat_lt q high) (g q) (inl (lt-leb low q (omega arith)))) in
-    let last : count h (p + x + y) z ≡ 0 = count_none h (p + x + y) z (λ q l m. off (nat_le low q) (nat_lt q high) (g q) (inr (le-ltb q high (omega arith)))) in
+    let first : count h p x ≡ 0 =
+    count_none h p x (λ q l m. off (nat_le low q) (nat_lt q high) (g q) (inl (lt-leb low q (omega arith)))) in
+    let last : count h (p + x + y) z ≡ 0 =
+    count_none h (p + x + y) z
+    (λ q l m. off (nat_le low q) (nat_lt q high) (g q) (inr (le-ltb q high (omega arith)))) in
     let middle : count h (p + x) y ≡ count g (max low p) y = count_same h g (p + x) (max low p) y (λ i l.
     let at : p + x + i ≡ max low p + i = omega arith in
     ap h at ∙ within (nat_le low (max low p + i)) (nat_lt (max low p + i) high) (g (max low p + i))
@@ -466,18 +510,22 @@ all_at P (y ∷ xs) (suc i) x all is = all_at P xs i x (All-tail P y xs all) is
 starts_size : (ps : List ℕ) (rs : List (ℕ × ℕ)) → length (with_starts ps rs) ≡ length ps
 starts_size ps rs = grind (arith, nat_tests, length-append, length-take, length-map, length-drop)
 
-start_at : (ps : List ℕ) (rs : List (ℕ × ℕ)) (i : ℕ) (r : ℕ × ℕ) → i < length ps → slice_get rs i ≡ Some r → slice_get (with_starts ps rs) i ≡ Some r.0
+start_at : (ps : List ℕ) (rs : List (ℕ × ℕ)) (i : ℕ) (r : ℕ × ℕ) → i < length ps → slice_get rs i ≡ Some r →
+    slice_get (with_starts ps rs) i ≡ Some r.0
 start_at ps rs i r l is =
     at-left (take (length ps) (map (λ q. q.0) rs)) (drop (length rs) ps) i r.0
-    (slice_get-take (length ps) (map (λ q. q.0) rs) i ∙ cond-true _ _ _ (lt-ltb i (length ps) l) ∙ slice_get-map (λ q. q.0) rs i ∙ ap (option_map (λ q. q.0)) is)
+    (slice_get-take (length ps) (map (λ q. q.0) rs) i ∙ cond-true _ _ _ (lt-ltb i (length ps) l)
+    ∙ slice_get-map (λ q. q.0) rs i ∙ ap (option_map (λ q. q.0)) is)
 
 recent_size : (k : ℕ) (ps : List ℕ) (calls : Calls) → length (recent_after k ps calls) ≡ length ps
 recent_size k ps [] = refl
 recent_size k ps (call ∷ calls) =
-    starts_size (recent_after k ps calls) (newest_runs k call.0 (call.1 ∷ recent_after k ps calls)) ∙ recent_size k ps calls
+    starts_size (recent_after k ps calls) (newest_runs k call.0 (call.1 ∷ recent_after k ps calls))
+    ∙ recent_size k ps calls
 
 -- ---- what stays together is in one run afterwards
-module _ (s t : Positions) (together : StayTogether s t) (r m : ℕ × ℕ) (max : IsMaximalRun s r) (max' : IsMaximalRun t m) where
+module _ (s t : Positions) (together : StayTogether s t) (r m : ℕ
+    × ℕ) (max : IsMaximalRun s r) (max' : IsMaximalRun t m) where
   in_run : (p q : ℕ) → lies_in p r ≡ true → lies_in q r ≡ true → lies_in p m ≡ true → lies_in q m ≡ true
   in_run p q p_in q_in p_at = grind (arith, nat_tests, lies, lies_from)
 
@@ -486,7 +534,8 @@ module _ (k : ℕ) (ps : List ℕ) where
   abbrev listed_by : Positions × ℕ → Calls → List (ℕ × ℕ)
   listed_by last calls = newest_runs k last.0 (last.1 ∷ recent_after k ps calls)
 
-  lists : (last : Positions × ℕ) (calls : Calls) → AreNewestRuns k last.0 (last.1 ∷ recent_after k ps calls) (listed_by last calls)
+  lists : (last : Positions × ℕ) (calls : Calls) →
+      AreNewestRuns k last.0 (last.1 ∷ recent_after k ps calls) (listed_by last calls)
   lists last calls = newest_runs_are_listed k last.0 (last.1 ∷ recent_after k ps calls)
 
   -- before the run of p only runs of positions that were asked for after it
@@ -495,13 +544,17 @@ module _ (k : ℕ) (ps : List ℕ) where
       slice_get (listed_by last calls) j ≡ Some r → lies_in p r ≡ true → HasOneOf (map (λ c. c.1) (last ∷ calls)) b q
 
   -- one call after the others: the run s of p was listed at j, and the run q has one of the positions before its start
-  module _ (last before : Positions × ℕ) (calls : Calls) (together : StayTogether before.0 last.0) (b p j : ℕ) (s : ℕ × ℕ)
-      (j_in : j ≤ b) (within : b < length ps) (at : slice_get (listed_by before calls) j ≡ Some s) (p_in : lies_in p s ≡ true)
+  module _ (last before : Positions × ℕ) (calls : Calls) (together : StayTogether before.0 last.0)
+      (b p j : ℕ) (s : ℕ × ℕ)
+      (j_in : j ≤ b) (within : b < length ps) (at : slice_get (listed_by before calls) j
+      ≡ Some s) (p_in : lies_in p s ≡ true)
       (later : AreLater before calls b p) (q : ℕ × ℕ) (max : IsMaximalRun last.0 q)
     where
-      named_later : (a e : ℕ) → a < suc j → slice_get (last.1 ∷ recent_after k ps (before ∷ calls)) a ≡ Some e → lies_in e q ≡ true →
+      named_later : (a e : ℕ) → a < suc j → slice_get (last.1 ∷ recent_after k ps (before ∷ calls)) a ≡ Some e →
+          lies_in e q ≡ true →
           HasOneOf (map (λ c. c.1) (last ∷ before ∷ calls)) (suc b) q
-      named_later zero e l is e_in = (0, last.1, omega arith, refl, ap (λ n. lies_in n q) (ap (λ o. unwrap_or o e) is) ∙ e_in)
+      named_later zero e l is e_in =
+          (0, last.1, omega arith, refl, ap (λ n. lies_in n q) (ap (λ o. unwrap_or o e) is) ∙ e_in)
       named_later (suc a) e l is e_in =
           let list = listed_by before calls in
           let size = recent_size k ps calls in
@@ -514,24 +567,29 @@ module _ (k : ℕ) (ps : List ℕ) where
             named.1,
             omega (arith, named.2),
             named.3,
-            in_run before.0 last.0 together r.0 q max_r max r.0.0 named.1 (lies_from r.0.0 r.0 (le_refl _) max_r.some) named.4
+            in_run before.0 last.0 together r.0 q max_r max r.0.0 named.1
+                (lies_from r.0.0 r.0 (le_refl _) max_r.some) named.4
                 (ap (λ n. lies_in n q) (sym same) ∙ e_in),
           )
 
-  newest_first : (calls : Calls) (b : ℕ) (last call : Positions × ℕ) → AllStayTogether (last ∷ calls) → b < k → b ≤ length ps →
+  newest_first : (calls : Calls) (b : ℕ) (last call : Positions × ℕ) → AllStayTogether (last ∷ calls) →
+      b < k → b ≤ length ps →
       slice_get (last ∷ calls) b ≡ Some call → IsHeldSince (last ∷ calls) b call.1 →
       IsListedBy (listed_by last calls) b call.1 × AreLater last calls b call.1
   newest_first calls zero last call together few within is held =
       let same : last ≡ call = ap (λ o. unwrap_or o last) is in
-      let at : contains last.0 last.1 ≡ true = ap (λ (c : Positions × ℕ). contains last.0 c.1) same ∙ held 0 last (omega arith) refl in
+      let at : contains last.0 last.1 ≡ true = ap (λ (c : Positions × ℕ). contains last.0 c.1) same
+      ∙ held 0 last (omega arith) refl in
       subst (λ (c : Positions × ℕ). IsListedBy (listed_by last calls) 0 c.1 × AreLater last calls 0 c.1) same (
         (lists last calls).newest 0 last.1 refl at few,
-        (λ i j q r l at_i at_j p_in. (let named = (lists last calls).order i j 0 last.1 q r l at_i at_j refl p_in in absurd (omega (arith, named.2)))),
+        (λ i j q r l at_i at_j p_in. (let named = (lists last calls).order i j 0 last.1 q r l at_i at_j refl p_in in
+            absurd (omega (arith, named.2)))),
       )
   newest_first [] (suc b) last call together few within is held = absurd (both_ways false refl (ap is_some is))
   newest_first (before ∷ calls) (suc b) last call together few within is held =
       let p = call.1 in
-      let earlier = newest_first calls b before call together.1 (omega (arith, few)) (omega (arith, within)) is (λ a c l at. held (suc a) c (omega (arith, l)) at) in
+      let earlier = newest_first calls b before call together.1 (omega (arith, few)) (omega (arith, within)) is
+      (λ a c l at. held (suc a) c (omega (arith, l)) at) in
       let list = listed_by before calls in
       let j = earlier.0.0 in let s = earlier.0.1 in
       let size = recent_size k ps calls in
@@ -539,7 +597,8 @@ module _ (k : ℕ) (ps : List ℕ) where
       let start = start_at (recent_after k ps calls) list j s (omega (arith, earlier.0.2, within, size)) earlier.0.3 in
       let start_in = lies_from s.0 s (le_refl _) max_s.some in
       let start_held = together.0 s p s.0 max_s earlier.0.4 start_in (held 0 last (omega arith) refl) in
-      let listed = (lists last (before ∷ calls)).newest (suc j) s.0 start start_held (omega (arith, earlier.0.2, few)) in
+      let listed = (lists last (before ∷ calls)).newest (suc j) s.0 start start_held
+      (omega (arith, earlier.0.2, few)) in
       let all = (lists last (before ∷ calls)).maximal in
       let max_l = all_at (IsMaximalRun last.0) (listed_by last (before ∷ calls)) listed.0 listed.1 all listed.3 in (
         (
@@ -554,19 +613,23 @@ module _ (k : ℕ) (ps : List ℕ) where
             let max_q = all_at (IsMaximalRun last.0) (listed_by last (before ∷ calls)) i q all at_i in
             let start_r = in_run before.0 last.0 together.0 s r max_s max_r p s.0 earlier.0.4 start_in p_in in
             let named = (lists last (before ∷ calls)).order i m (suc j) s.0 q r l at_i at_m start start_r in
-            named_later last before calls together.0 b p j s earlier.0.2 (omega (arith, within)) earlier.0.3 earlier.0.4 earlier.1 q max_q
+            named_later last before calls together.0 b p j s earlier.0.2 (omega (arith, within)) earlier.0.3
+            earlier.0.4 earlier.1 q max_q
             named.0 named.1 named.2 named.3 named.4),
       )
 
 pub newest_are_first : NewestAreFirst
-newest_are_first k b ps last call calls together few within is held = newest_first k ps calls b last call together few within is held
+newest_are_first k b ps last call calls together few within is held =
+    newest_first k ps calls b last call together few within is held
 
 -- ---- receivers
-bytes_stay : (N : ℕ) (v : ReceiverState) (cs : List CommandValue) (p : ℕ) → HasByteAt v p → HasByteAt (receiver_after_commands N v cs) p
+bytes_stay : (N : ℕ) (v : ReceiverState) (cs : List CommandValue) (p : ℕ) → HasByteAt v p →
+    HasByteAt (receiver_after_commands N v cs) p
 bytes_stay N v [] p h = h
 bytes_stay N v (c ∷ cs) p h = bytes_stay N (receiver_after_command N v c) cs p (has_byte_stays N v c p h)
 
-sound_after_all : (N : ℕ) (v : ReceiverState) (cs : List CommandValue) → IsSound N v → IsSound N (receiver_after_commands N v cs)
+sound_after_all : (N : ℕ) (v : ReceiverState) (cs : List CommandValue) → IsSound N v →
+    IsSound N (receiver_after_commands N v cs)
 sound_after_all N v [] sound = sound
 sound_after_all N v (c ∷ cs) sound = sound_after_all N (receiver_after_command N v c) cs (sound_stays N v c sound)
 
@@ -580,7 +643,8 @@ held_stay_together N v cs sound r p q max p_in q_in p_held =
     ⊎_elim
     (λ (l : q < next_position u).
     ⊎_elim (λ (no : next_position u < next_position u). absurd (omega (arith, no)))
-    (λ (k : fin.contains_key u.held (next_position u) ≡ true). (let no = after.above (next_position u) k in absurd (omega (arith, no))))
+    (λ (k : fin.contains_key u.held (next_position u) ≡ true). (let no = after.above (next_position u) k in
+    absurd (omega (arith, no))))
     (has_of (next_position u) (omega (arith, l, b.0)) (omega (arith, above, a.1))))
     (λ (k : fin.contains_key u.held q ≡ true). contains-domain u.held q ∙ k)
     (has_of q b.0 b.1)

@@ -28,7 +28,8 @@ use Rattle.net_receiver.specs.{InOrderReaches, IsHeld, HeldChangesNothing, Secon
 use Rattle.net_receiver.specs.{MatchesInWindow, AllMatchInWindow, WindowMatches, OldMatches, AllMatchThere}
 use Rattle.net_receiver.specs.{HasAllReaches, Completes, ReadLeavesNext, ReadLeavesBytes, ReadsAdd, ReadsGiveTogether}
 use Rattle.net_receiver.proofs.Sets.{clip_at, get-with_bytes_at, next_joined, lacks, lacking, updated_has, piece_from}
-use Rattle.net_receiver.proofs.Sets.{piece_at, piece_some, cond_some, slice_get-drop, slice_get-take, first_unique, clip_byte}
+use Rattle.net_receiver.proofs.Sets.{piece_at, piece_some, cond_some, slice_get-drop, slice_get-take, first_unique}
+use Rattle.net_receiver.proofs.Sets.{clip_byte}
 use Rattle.net_receiver.proofs.Sets.{same_both, same_bytes, get_from, updated, left_has, left_above}
 use Rattle.net_receiver.proofs.Schedules.{missing_is, part_cases, window_piece, segment_cases, same_next, queue_length}
 use Rattle.net_receiver.proofs.Schedules.{schedule, setting_kept, settings_kept, queue_agrees, agrees_at, some_of}
@@ -52,49 +53,59 @@ part_kept : (f : ℕ) (x : List ℕ) (w : Setting) (s : KeptState) (pos : ℕ) (
     PieceAgrees f x (window_piece w s (piece pos xs)) → Agrees f (step w s (Segment pos xs)).0.kept x
 part_kept f x w s pos xs all h =
     let part = window_piece w s (piece pos xs) in
-    part_cases (λ y. Agrees f y.0.kept x) w s part (λ _. all) (λ _ _. all) (λ _. All-push (PieceAgrees f x) s.kept part all h)
+    part_cases (λ y. Agrees f y.0.kept x) w s part (λ _. all) (λ _ _. all)
+    (λ _. All-push (PieceAgrees f x) s.kept part all h)
 
-one_kept : (w : Setting) (s : KeptState) (x : List ℕ) (c : CommandValue) → Agrees w.first s.kept x → IsTruthful w.first x c →
+one_kept : (w : Setting) (s : KeptState) (x : List ℕ) (c : CommandValue) → Agrees w.first s.kept x →
+    IsTruthful w.first x c →
     Agrees w.first (step w s c).0.kept x
 one_kept w s x (Segment pos xs) all h =
     part_kept w.first x w s pos xs all (clip_agrees w.first (missing w s) (unread w s + w.capacity) x (piece pos xs) h)
 one_kept w s x (Read count) all h = all
 one_kept w s x Show all h = all
 
-pub truthful_is_kept : (w : Setting) (s : KeptState) (x : List ℕ) (cs : List CommandValue) → Agrees w.first s.kept x → All (IsTruthful w.first x) cs →
+pub truthful_is_kept : (w : Setting) (s : KeptState) (x : List ℕ) (cs : List CommandValue) → Agrees w.first s.kept x →
+    All (IsTruthful w.first x) cs →
     Agrees w.first (state_from w s cs).kept x
 unfolding state_from
 truthful_is_kept w s x [] all h = all
 truthful_is_kept w s x (c ∷ cs) all h =
-    truthful_is_kept w (step w s c).0 x cs (one_kept w s x c all (All-head (IsTruthful w.first x) c cs h)) (All-tail (IsTruthful w.first x) c cs h)
+    truthful_is_kept w (step w s c).0 x cs (one_kept w s x c all (All-head (IsTruthful w.first x) c cs h))
+    (All-tail (IsTruthful w.first x) c cs h)
 
 pub fresh_receives : (x : List ℕ) (first capacity : ℕ) → Receives x (fresh_receiver first capacity)
-fresh_receives x first capacity = record { state = fresh_kept; refines = fresh_refines first capacity; agrees = All-nil (PieceAgrees first x) }
+fresh_receives x first capacity =
+    record { state = fresh_kept; refines = fresh_refines first capacity; agrees = All-nil (PieceAgrees first x) }
 
 -- what the free window takes of segments that match
-all_in_window : (most f : ℕ) (x : List ℕ) (v : ReceiverState) (cs : List CommandValue) → All (IsTruthful f x) cs → AllMatchInWindow most f x v cs
+all_in_window : (most f : ℕ) (x : List ℕ) (v : ReceiverState) (cs : List CommandValue) → All (IsTruthful f x) cs →
+    AllMatchInWindow most f x v cs
 unfolding AllMatchInWindow MatchesInWindow
 all_in_window most f x v [] h = tt
 all_in_window most f x v (Segment pos xs ∷ cs) h = (
   clip_agrees f (next_position v) (limit_of v) x (piece pos xs) (All-head (IsTruthful f x) (Segment pos xs) cs h),
-  all_in_window most f x (receiver_after_command most v (Segment pos xs)) cs (All-tail (IsTruthful f x) (Segment pos xs) cs h),
+  all_in_window most f x (receiver_after_command most v (Segment pos xs)) cs
+      (All-tail (IsTruthful f x) (Segment pos xs) cs h),
 )
 all_in_window most f x v (Read count ∷ cs) h =
     all_in_window most f x (receiver_after_command most v (Read count)) cs (All-tail (IsTruthful f x) (Read count) cs h)
 all_in_window most f x v (Show ∷ cs) h = all_in_window most f x v cs (All-tail (IsTruthful f x) Show cs h)
 
-first_in_window : (most f : ℕ) (x : List ℕ) (v : ReceiverState) (n : ℕ) (cs : List CommandValue) → AllMatchInWindow most f x v cs →
+first_in_window : (most f : ℕ) (x : List ℕ) (v : ReceiverState) (n : ℕ) (cs : List CommandValue) →
+    AllMatchInWindow most f x v cs →
     AllMatchInWindow most f x v (take n cs)
 unfolding AllMatchInWindow
 first_in_window most f x v zero cs h = tt
 first_in_window most f x v (suc n) [] h = tt
 first_in_window most f x v (suc n) (Segment pos xs ∷ cs) h =
     (h.0, first_in_window most f x (receiver_after_command most v (Segment pos xs)) n cs h.1)
-first_in_window most f x v (suc n) (Read count ∷ cs) h = first_in_window most f x (receiver_after_command most v (Read count)) n cs h
+first_in_window most f x v (suc n) (Read count ∷ cs) h =
+    first_in_window most f x (receiver_after_command most v (Read count)) n cs h
 first_in_window most f x v (suc n) (Show ∷ cs) h = first_in_window most f x v n cs h
 
 -- a state that v represents is left with pieces that agree
-all_kept : (most f : ℕ) (x : List ℕ) (v : ReceiverState) (s : KeptState) (cs : List CommandValue) → Refines v s → Agrees f s.kept x →
+all_kept : (most f : ℕ) (x : List ℕ) (v : ReceiverState) (s : KeptState) (cs : List CommandValue) → Refines v s →
+    Agrees f s.kept x →
     AllMatchInWindow most f x v cs → Agrees f (state_from (setting most v) s cs).kept x
 unfolding state_from AllMatchInWindow MatchesInWindow
 all_kept most f x v s [] d all h = all
@@ -102,25 +113,30 @@ all_kept most f x v s (Segment pos xs ∷ cs) d all h =
     let c = Segment pos xs in
     let w = setting most v in
     let room : PieceAgrees f x (piece_within (next_position v) (unread w s + w.capacity) (piece pos xs)) =
-    subst (λ (n : ℕ). PieceAgrees f x (piece_within (next_position v) (v.first + n + v.capacity) (piece pos xs))) d.read h.0 in
+    subst (λ (n : ℕ). PieceAgrees f x
+    (piece_within (next_position v) (v.first + n + v.capacity) (piece pos xs))) d.read h.0 in
     let part : PieceAgrees f x (window_piece w s (piece pos xs)) =
-    subst (λ (n : ℕ). PieceAgrees f x (piece_within n (unread w s + w.capacity) (piece pos xs))) (same_next v s d) room in
+    subst (λ (n : ℕ). PieceAgrees f x (piece_within n (unread w s + w.capacity) (piece pos xs)))
+    (same_next v s d) room in
     subst (λ (z : Setting). Agrees f (state_from z (step w s c).0 cs).kept x) (setting_kept most v c)
     (all_kept most f x (receiver_after_command most v c) (step w s c).0 cs (schedule most v s d (c ∷ [])).0
     (part_kept f x w s pos xs all part) h.1)
 all_kept most f x v s (Read count ∷ cs) d all h =
     let c = Read count in
-    all_kept most f x (receiver_after_command most v c) (step (setting most v) s c).0 cs (schedule most v s d (c ∷ [])).0 all h
+    all_kept most f x (receiver_after_command most v c) (step (setting most v) s c).0 cs
+    (schedule most v s d (c ∷ [])).0 all h
 all_kept most f x v s (Show ∷ cs) d all h = all_kept most f x v s cs d all h
 
-all_receive : (most : ℕ) (x : List ℕ) (v : ReceiverState) (cs : List CommandValue) → Receives x v → AllMatchInWindow most v.first x v cs →
+all_receive : (most : ℕ) (x : List ℕ) (v : ReceiverState) (cs : List CommandValue) → Receives x v →
+    AllMatchInWindow most v.first x v cs →
     Receives x (receiver_after_commands most v cs)
 all_receive most x v cs r h =
     let t = state_from (setting most v) r.state cs in
     record {
       state = t;
       refines = (schedule most v r.state r.refines cs).0;
-      agrees = subst (λ f. Agrees f t.kept x) (sym (ap (λ y. y.first) (settings_kept most v cs))) (all_kept most v.first x v r.state cs r.refines r.agrees h);
+      agrees = subst (λ f. Agrees f t.kept x) (sym (ap (λ y. y.first) (settings_kept most v cs)))
+          (all_kept most v.first x v r.state cs r.refines r.agrees h);
     }
 
 -- a longer list
@@ -139,13 +155,15 @@ longer_receives x more v r = record {
 }
 
 -- the bytes up to the first missing position are those of x
-covered_within : (w : Setting) (s : KeptState) (x : List ℕ) → HasRoom w s → Agrees w.first s.kept x → missing w s - w.first ≤ length x
+covered_within : (w : Setting) (s : KeptState) (x : List ℕ) → HasRoom w s → Agrees w.first s.kept x →
+    missing w s - w.first ≤ length x
 covered_within w s x room all =
     let n = missing w s in
     ⊎_elim
     (λ (l : w.first < n).
     let there = some_of (byte_at s.kept (n - 1)) ((missing_is w s room).before (n - 1) (omega arith) (omega arith)) in
-    let is : slice_get x (n - 1 - w.first) ≡ Some there.0 = agrees_at w.first s.kept x all (n - 1) there.0 (omega arith) there.1 in
+    let is : slice_get x (n - 1 - w.first) ≡ Some there.0 =
+    agrees_at w.first s.kept x all (n - 1) there.0 (omega arith) there.1 in
     let near : n - 1 - w.first < length x = slice_get_within x (n - 1 - w.first) there.0 is in
     omega arith)
     (λ (l : n ≤ w.first). omega arith)
@@ -170,7 +188,8 @@ queue_is_of x v r =
       next = omega arith;
     }
 
-pub run_receives : {most : ℕ} {v u : ReceiverState} {cs : List CommandValue} {rs : List ReplyValue} {complete : Type 0} (x : List ℕ) →
+pub run_receives : {most : ℕ} {v u : ReceiverState} {cs : List CommandValue} {rs : List ReplyValue}
+    {complete : Type 0} (x : List ℕ) →
     Receives x v → AllMatchInWindow most v.first x v cs → Executes most v u cs rs complete →
     Receives x u × (bytes_read rs ++ u.queue ≡ slice_range x v.read (next_position u - u.first))
 run_receives {most} {v} {u} {cs} {rs} x r h run =
@@ -184,9 +203,11 @@ run_receives {most} {v} {u} {cs} {rs} x r h run =
     let end : next_position z - z.first ≡ missing w t - v.first =
     (λ i. same_next z t d.0 i - z.first) ∙ ap (λ y. missing y t - y.first) same in (
       subst (Receives x) (sym run.state) (all_receive most x v prefix r kept),
-      (λ i. bytes_read ((run.replies ∙ d.1) i) ++ (ap (λ y. y.queue) run.state ∙ d.0.queue ∙ ap (λ y. queue y t) same) i)
+      (λ i. bytes_read ((run.replies ∙ d.1) i)
+          ++ (ap (λ y. y.queue) run.state ∙ d.0.queue ∙ ap (λ y. queue y t) same) i)
           ∙ stream w x r.state prefix (all_kept most v.first x v r.state prefix r.refines r.agrees kept)
-          ∙ (λ i. slice_range x (sym r.refines.read i) ((sym end ∙ ap (λ y. next_position y - y.first) (sym run.state)) i)),
+          ∙ (λ i. slice_range x (sym r.refines.read i)
+          ((sym end ∙ ap (λ y. next_position y - y.first) (sym run.state)) i)),
     )
 
 -- ---- what commands change
@@ -195,7 +216,8 @@ first_stays most v c = ap (λ w. w.first) (setting_kept most v c)
 
 pub next_position_grows : NextGrows
 next_position_grows most v (Segment pos xs) =
-    segment_cases (λ u. next_position v ≤ next_position u) most v pos xs (omega arith) (λ part. omega (arith, length-append {A = ℕ}))
+    segment_cases (λ u. next_position v ≤ next_position u) most v pos xs (omega arith)
+    (λ part. omega (arith, length-append {A = ℕ}))
 next_position_grows most v (Read count) = omega (arith, length-drop count v.queue)
 next_position_grows most v Show = omega arith
 
@@ -213,20 +235,24 @@ segment_reads_nothing most v pos xs = segment_cases (λ u. u.read ≡ v.read) mo
 first_of : (N : ℕ) (v u : ReceiverState) (c : CommandValue) → u ≡ receiver_after_command N v c → u.first ≡ v.first
 first_of N v u c e = ap (λ (y : ReceiverState). y.first) e ∙ first_stays N v c
 
-receives_after : (N f : ℕ) (x : List ℕ) (v u : ReceiverState) (c : CommandValue) → u ≡ receiver_after_command N v c → ReceivesFrom f x v →
+receives_after : (N f : ℕ) (x : List ℕ) (v u : ReceiverState) (c : CommandValue) → u ≡ receiver_after_command N v c →
+    ReceivesFrom f x v →
     AllMatchInWindow N f x v (c ∷ []) → ReceivesFrom f x u
 unfolding ReceivesFrom
 receives_after N f x v u c e r h = (
   first_of N v u c e ∙ r.0,
-  subst (Receives x) (sym e) (all_receive N x v (c ∷ []) r.1 (subst (λ b. AllMatchInWindow N b x v (c ∷ [])) (sym r.0) h)),
+  subst (Receives x) (sym e)
+      (all_receive N x v (c ∷ []) r.1 (subst (λ b. AllMatchInWindow N b x v (c ∷ [])) (sym r.0) h)),
 )
 
 pub segment_receives : (N f : ℕ) (x : List ℕ) (v u : ReceiverState) (pos : ℕ) (xs : List ℕ) →
-    u ≡ receiver_after_command N v (Segment pos xs) → ReceivesFrom f x v → MatchesInWindow f x v pos xs → ReceivesFrom f x u
+    u ≡ receiver_after_command N v (Segment pos xs) → ReceivesFrom f x v → MatchesInWindow f x v pos xs →
+    ReceivesFrom f x u
 unfolding AllMatchInWindow
 segment_receives N f x v u pos xs e r h = receives_after N f x v u (Segment pos xs) e r (h, tt)
 
-pub read_receives : (f : ℕ) (x : List ℕ) (v u : ReceiverState) (n : ℕ) → u ≡ receiver_after_read v n → ReceivesFrom f x v → ReceivesFrom f x u
+pub read_receives : (f : ℕ) (x : List ℕ) (v u : ReceiverState) (n : ℕ) → u ≡ receiver_after_read v n →
+    ReceivesFrom f x v → ReceivesFrom f x u
 unfolding AllMatchInWindow
 read_receives f x v u n e r = receives_after 0 f x v u (Read n) e r tt
 
@@ -257,7 +283,8 @@ begun_receives f x v e = subst (ReceivesFrom f x) (sym e) (fresh_receives_from x
 
 pub agreeing_receives : AgreeingReceives
 unfolding ReceivesFrom
-agreeing_receives f x v s e d all = (e, record { state = s; refines = d; agrees = subst (λ b. Agrees b s.kept x) (sym e) all })
+agreeing_receives f x v s e d all =
+    (e, record { state = s; refines = d; agrees = subst (λ b. Agrees b s.kept x) (sym e) all })
 
 pub longer_received : ReceivesFromLonger
 unfolding ReceivesFrom
@@ -270,13 +297,20 @@ pub queue_of : QueueIsOfStream
 unfolding ReceivesFrom
 queue_of f x v r = queue_is_of x v r.1
 
-pub run_receives_from : {N : ℕ} {v u : ReceiverState} {cs : List CommandValue} {rs : List ReplyValue} {complete : Type 0} (f : ℕ) (x : List ℕ) →
+pub run_receives_from : {N : ℕ} {v u : ReceiverState} {cs : List CommandValue} {rs : List ReplyValue}
+    {complete : Type 0} (f : ℕ) (x : List ℕ) →
     Executes N v u cs rs complete → ReceivesFrom f x v → AllMatchInWindow N f x v cs →
     ReceivesFrom f x u × (bytes_read rs ++ u.queue ≡ slice_range x v.read (next_position u - u.first))
 unfolding ReceivesFrom
 run_receives_from {N} {v} {u} {cs} f x run r h =
-    let both = run_receives x r.1 (subst (λ b. AllMatchInWindow N b x v cs) (sym r.0) h) run in
-    ((ap (λ (y : ReceiverState). y.first) run.state ∙ ap (λ w. w.first) (settings_kept N v (take run.prefix.count cs)) ∙ r.0, both.0), both.1)
+    let both = run_receives x r.1 (subst (λ b. AllMatchInWindow N b x v cs) (sym r.0) h) run in (
+      (
+        ap (λ (y : ReceiverState). y.first) run.state ∙ ap (λ w. w.first) (settings_kept N v (take run.prefix.count cs))
+            ∙ r.0,
+        both.0,
+      ),
+      both.1,
+    )
 
 pub matches_what_is_there : MatchesWhatIsThere
 unfolding MatchesStream
@@ -287,42 +321,51 @@ matches_what_is_there f pos x xs h e = λ p b from is.
     ap (slice_get x) (sym at)
     ∙ sym (slice_get-drop (pos - f) x (p - pos))
     ∙ (cond_some (nat_lt (p - pos) (length xs)) (slice_get (drop (pos - f) x) (p - pos)) b
-    (sym (slice_get-take (length xs) (drop (pos - f) x) (p - pos)) ∙ ap (λ l. slice_get l (p - pos)) (sym e) ∙ there.1)).1
+    (sym (slice_get-take (length xs) (drop (pos - f) x) (p - pos))
+    ∙ ap (λ l. slice_get l (p - pos)) (sym e) ∙ there.1)).1
 
 pub matches_longer : MatchesLonger
 unfolding MatchesStream
 matches_longer f pos x more xs h = λ p b from is. longer_at x more _ b (h p b from is)
 
-prefix_of : (x q : List ℕ) (a n : ℕ) → q ≡ take (length q) (drop a x) → n ≤ length q → take n q ≡ slice_range x a (a + n)
+prefix_of : (x q : List ℕ) (a n : ℕ) → q ≡ take (length q) (drop a x) → n ≤ length q →
+    take n q ≡ slice_range x a (a + n)
 prefix_of x q a n e h = grind (arith, common_steps)
 
 few_of : (q : List ℕ) (k n : ℕ) → n ≡ min k (length q) → take k q ≡ take n q
 few_of q k n e = grind (arith, common_steps)
 
-pub read_bytes : (f : ℕ) (x : List ℕ) (v : ReceiverState) (into old : List ℕ) (n : ℕ) → n ≡ min (length old) (length v.queue) →
+pub read_bytes : (f : ℕ) (x : List ℕ) (v : ReceiverState) (into old : List ℕ) (n : ℕ) →
+    n ≡ min (length old) (length v.queue) →
     into ≡ take (length old) v.queue ++ drop (length v.queue) old → ReceivesFrom f x v →
     take n into ≡ slice_range x v.read (v.read + n)
 read_bytes f x v into old n count is r =
-    read_prefix v.queue into old n count is ∙ few_of v.queue (length old) n count ∙ prefix_of x v.queue v.read n (queue_of f x v r).queue (omega arith)
+    read_prefix v.queue into old n count is ∙ few_of v.queue (length old) n count
+    ∙ prefix_of x v.queue v.read n (queue_of f x v r).queue (omega arith)
 
 -- ---- a segment
 values_of : (m : HeldBytes) (xs : List ℕ) (p n : ℕ) → length xs ≤ n →
-    ((q i b : ℕ) → q ≡ p + i → slice_get xs i ≡ Some b → fin.get m q ≡ Some b) → take (length xs) (held_bytes_at m p n) ≡ xs
+    ((q i b : ℕ) → q ≡ p + i → slice_get xs i ≡ Some b → fin.get m q ≡ Some b) →
+    take (length xs) (held_bytes_at m p n) ≡ xs
 values_of m [] p n h at = refl
 values_of m (x ∷ xs) p zero h at = absurd (omega arith)
 values_of m (x ∷ xs) p (suc n) h at =
     let first : unwrap_or (fin.get m p) 0 ≡ x = ap (λ o. unwrap_or o 0) (at p 0 x (omega arith) refl) in
     (λ i. first i ∷ values_of m xs (p + 1) n (omega arith) (λ q j b e is. at q (suc j) b (omega arith) is) i)
 
-updated_at : (v : ReceiverState) (part : Piece) (q i b : ℕ) → q ≡ part.start + i → slice_get part.bytes i ≡ Some b → fin.get (held_with_piece v part) q ≡ Some b
+updated_at : (v : ReceiverState) (part : Piece) (q i b : ℕ) → q ≡ part.start + i → slice_get part.bytes i ≡ Some b →
+    fin.get (held_with_piece v part) q ≡ Some b
 updated_at v part q i b e is = grind (arith, nat_tests, get-with_bytes_at, piece_from)
 
-reaches : (v : ReceiverState) (part : Piece) → part.start ≡ next_position v → next_position v + length part.bytes ≤ lacks v part
+reaches : (v : ReceiverState) (part : Piece) → part.start ≡ next_position v →
+    next_position v + length part.bytes ≤ lacks v part
 reaches v part at = grind (arith, nat_tests, lacking, updated_has, or_left, piece_some)
 
-splits : (q w part : List ℕ) → take (length part) w ≡ part → q ++ w ≡ q ++ part ++ drop (length q + length part) (q ++ w)
+splits : (q w part : List ℕ) → take (length part) w ≡ part →
+    q ++ w ≡ q ++ part ++ drop (length q + length part) (q ++ w)
 splits q w part e =
-    ap (λ l. q ++ l) (sym (take-append-drop (length part) w) ∙ (λ i. e i ++ drop (length part) (sym (drop_at q w (length q) refl) i))
+    ap (λ l. q ++ l) (sym (take-append-drop (length part) w)
+    ∙ (λ i. e i ++ drop (length part) (sym (drop_at q w (length q) refl) i))
     ∙ ap (λ l. part ++ l) (drop-drop (length part) (length q) (q ++ w)))
     ∙ sym (append_assoc q part (drop (length q + length part) (q ++ w)))
 
@@ -340,12 +383,14 @@ in_order N v u pos xs r state told h =
     let at : part.start ≡ n = omega arith in
     let far = reaches v part at in
     let more = next_joined v part in
-    let all = follows_verdict (λ y. JoinsQueue v part.bytes (state_after v y) (segment_result v y)) n N (domain v.held) part at
+    let all = follows_verdict (λ y. JoinsQueue v part.bytes (state_after v y) (segment_result v y)) n N
+    (domain v.held) part at
     (λ none. record { accepted = refl; joins = omega arith; appends = splits_none v.queue part.bytes none })
     (λ some. record {
       accepted = refl;
       joins = omega arith;
-      appends = splits v.queue (held_bytes_at (held_with_piece v part) n (first_lacking (held_with_piece v part) n - n)) part.bytes
+      appends = splits v.queue (held_bytes_at (held_with_piece v part) n
+          (first_lacking (held_with_piece v part) n - n)) part.bytes
           (values_of (held_with_piece v part) part.bytes n (first_lacking (held_with_piece v part) n - n) (omega arith)
           (λ q i b e is. updated_at v part q i b (omega arith) is));
     }) in
@@ -362,7 +407,8 @@ any_order N v u pos xs r state told =
     let part = piece_within n (v.first + v.read + v.capacity) (piece pos xs) in
     let more = next_joined v part in
     let from = (lacking v part).from in
-    let all = any_verdict (λ y. KeepsOrRefuses v part.bytes (state_after v y) (segment_result v y)) n N (domain v.held) part
+    let all = any_verdict (λ y. KeepsOrRefuses v part.bytes (state_after v y) (segment_result v y)) n N
+    (domain v.held) part
     (λ none. record { read = refl; refused = tt; kept = sym none; queued = omega arith; grows = omega arith })
     (record { read = refl; refused = refl; kept = tt; queued = tt; grows = omega arith })
     (record { read = refl; refused = tt; kept = refl; queued = omega arith; grows = omega arith }) in
@@ -373,7 +419,8 @@ any_order N v u pos xs r state told =
 pub kept_any : (N : ℕ) (v u : ReceiverState) (pos : ℕ) (xs : List ℕ) (r : Result KeptBytes TooManyHolesError) →
     u ≡ state_after v (verdict N v (piece pos xs)) →
     r ≡ numbers v (verdict N v (piece pos xs)) →
-    OnErr r (u ≡ v) × IfOk r (λ k. k.kept ≡ length (window_part v pos xs)) × IfOk r (λ k. next_position u ≡ next_position v + k.queued)
+    OnErr r (u ≡ v) × IfOk r (λ k. k.kept ≡ length (window_part v pos xs))
+    × IfOk r (λ k. next_position u ≡ next_position v + k.queued)
 kept_any N v u pos xs r state told = grind (arith, nat_tests, common_steps, next_joined, lacking, any_verdict)
 
 pub kept_in_order : (N : ℕ) (v : ReceiverState) (pos : ℕ) (xs : List ℕ) (r : Result KeptBytes TooManyHolesError) →
@@ -382,7 +429,8 @@ kept_in_order N v pos xs r told h =
     let n = next_position v in
     let part = piece_within n (v.first + v.read + v.capacity) (piece pos xs) in
     let at : part.start ≡ n = omega arith in
-    subst IsOk (sym told) (follows_verdict (λ y. IsOk (numbers v y)) n N (domain v.held) part at (λ none. refl) (λ some. refl))
+    subst IsOk (sym told) (follows_verdict (λ y. IsOk (numbers v y)) n N (domain v.held) part at
+    (λ none. refl) (λ some. refl))
 
 -- ---- what is held
 pub held_of_stream : HeldIsOfStream
@@ -402,16 +450,19 @@ stays_by : (N : ℕ) (v u : ReceiverState) → setting N u ≡ setting N v → I
 stays_by N v u e sound = record { first = ap (λ w. w.first) e; capacity = ap (λ w. w.capacity) e; bound = sound.few }
 
 -- after a command
-pub stays : (N : ℕ) (v u : ReceiverState) (c : CommandValue) → u ≡ receiver_after_command N v c → IsSound N u → StaysInSetting N v u
+pub stays : (N : ℕ) (v u : ReceiverState) (c : CommandValue) → u ≡ receiver_after_command N v c → IsSound N u →
+    StaysInSetting N v u
 stays N v u c e sound = stays_by N v u (ap (setting N) e ∙ setting_kept N v c) sound
 
 pub run_stays : {N : ℕ} {v u : ReceiverState} {cs : List CommandValue} {rs : List ReplyValue} {complete : Type 0} →
     Executes N v u cs rs complete → IsSound N u → StaysInSetting N v u
-run_stays {N} {v} {u} {cs} run sound = stays_by N v u (ap (setting N) run.state ∙ settings_kept N v (take run.prefix.count cs)) sound
+run_stays {N} {v} {u} {cs} run sound =
+    stays_by N v u (ap (setting N) run.state ∙ settings_kept N v (take run.prefix.count cs)) sound
 
 -- ---- segments that follow on one another
 pub reached :
-    {N : ℕ} {v u : ReceiverState} {cs : List CommandValue} {rs : List ReplyValue} {T E : Type 0} (r : Result T E) (s : KeptState) →
+    {N : ℕ} {v u : ReceiverState} {cs : List CommandValue} {rs : List ReplyValue} {T E : Type 0} (r : Result T E)
+    (s : KeptState) →
     Executes N v u cs rs (IsOk r) → Refines v s →
     Follows (setting N v) s (next_position v) cs → IfOk r (λ _. EndsBy (next_position u) cs)
 reached (Err e) s run d follows = tt
@@ -422,10 +473,12 @@ reached {N} {v} {u} {cs} (Ok t) s run d follows =
     let t = state_from (setting N v) s cs in
     let there : Refines u t = subst (λ l. Refines u (state_from (setting N v) s l)) all seen.refines in
     let end : next_position u ≡ missing (setting N v) t = same_next u t there ∙ ap (λ y. missing y t) same in
-    subst (λ n. EndsBy n cs) (sym end) (seen.recovers refl (subst (λ n. Follows (setting N v) s n cs) (same_next v s d) follows))
+    subst (λ n. EndsBy n cs) (sym end)
+    (seen.recovers refl (subst (λ n. Follows (setting N v) s n cs) (same_next v s d) follows))
 
 -- ---- parts of the queue
-pub head_bytes : (f : ℕ) (x : List ℕ) (v : ReceiverState) (n : ℕ) → n ≤ length v.queue → ReceivesFrom f x v → take n v.queue ≡ slice_range x v.read (v.read + n)
+pub head_bytes : (f : ℕ) (x : List ℕ) (v : ReceiverState) (n : ℕ) → n ≤ length v.queue → ReceivesFrom f x v →
+    take n v.queue ≡ slice_range x v.read (v.read + n)
 head_bytes f x v n few r = prefix_of x v.queue v.read n (queue_of f x v r).queue few
 
 -- ---- a segment in order
@@ -458,7 +511,8 @@ module _ (v : ReceiverState) (part : Piece) where
   has_updated : (p : ℕ) → fin.contains_key (updated v part) p ≡ true → HasByteAt (receiver_with_piece v part) p
   has_updated p h =
       let at = next_joined v part in
-      ⊎_elim (λ (l : p < lacks v part). inl (omega arith)) (λ (l : lacks v part ≤ p). inr (left_has v part p ∙ and_from _ _ (le-leb _ p l) h))
+      ⊎_elim (λ (l : p < lacks v part). inl (omega arith))
+      (λ (l : lacks v part ≤ p). inr (left_has v part p ∙ and_from _ _ (le-leb _ p l) h))
       (cases_lt p (lacks v part))
 
   has_joined : (p : ℕ) → HasByteAt v p → HasByteAt (receiver_with_piece v part) p
@@ -486,18 +540,26 @@ kept_held v part above same =
     or_same (Some b) m h = sym (h b refl)
 
     updated_same : held_with_piece v part ≡ v.held
-    updated_same = same_bytes _ _ (λ q. get-with_bytes_at v.held part.start part.bytes q ∙ or_same (piece_byte_at part q) (fin.get v.held q) (same q))
+    updated_same = same_bytes _ _ (λ q. get-with_bytes_at v.held part.start part.bytes q
+        ∙ or_same (piece_byte_at part q) (fin.get v.held q) (same q))
 
     lacking_same : lacks v part ≡ next_position v
     lacking_same =
         first_unique (fin.contains_key (held_with_piece v part)) (next_position v) _ _ (lacking v part)
-        (record { from = omega arith; before = λ q a b. absurd (omega arith); here = ap (λ m. fin.contains_key m (next_position v)) updated_same ∙ missing_of v above })
+        (record {
+          from = omega arith;
+          before = λ q a b. absurd (omega arith);
+          here =
+              ap (λ m. fin.contains_key m (next_position v)) updated_same ∙ missing_of v above;
+        })
 
     queue_same : v.queue ++ held_bytes_at v.held (next_position v) (next_position v - next_position v) ≡ v.queue
     queue_same =
-        (let none : next_position v - next_position v ≡ 0 = omega arith in ap (λ k. v.queue ++ held_bytes_at v.held (next_position v) k) none ∙ append-nil v.queue)
+        (let none : next_position v - next_position v ≡ 0 = omega arith in
+        ap (λ k. v.queue ++ held_bytes_at v.held (next_position v) k) none ∙ append-nil v.queue)
 
-    kept : (q : ℕ) (o : Option ℕ) → (is_some o ≡ true → next_position v < q) → cond (nat_le (next_position v) q) o None ≡ o
+    kept : (q : ℕ) (o : Option ℕ) → (is_some o ≡ true → next_position v < q) →
+        cond (nat_le (next_position v) q) o None ≡ o
     kept q None above = same_both (nat_le (next_position v) q) None
     kept q (Some b) above = (let l = above refl in cond-true _ _ _ (le-leb (next_position v) q (omega arith)))
 
@@ -510,7 +572,8 @@ held_changes_nothing_above most v pos xs above held =
     let limit = v.first + v.read + v.capacity in
     let part = piece_within (next_position v) limit (piece pos xs) in
     any_verdict (λ y. state_after v y ≡ v) (next_position v) most (domain v.held) part (λ _. refl) refl
-    (kept_held v part above (λ q b is. (let at = clip_at (next_position v) limit (piece pos xs) q b is in held q b at.0 at.1 at.2)))
+    (kept_held v part above (λ q b is. (let at = clip_at (next_position v) limit (piece pos xs) q b is in
+    held q b at.0 at.1 at.2)))
 
 pub held_changes_nothing : HeldChangesNothing
 held_changes_nothing most v pos xs sound held = held_changes_nothing_above most v pos xs sound.above held
@@ -532,12 +595,14 @@ second_copy most v pos xs sound =
     ∙ cond-true _ _ _ (le-leb (lacks v part) p (omega arith))
     ∙ get-with_bytes_at v.held part.start part.bytes p
     ∙ ap (λ o. option_or o (fin.get v.held p))
-    (clip_byte (next_position v) limit e p ∙ cond-true _ _ _ (and_from _ _ (le-leb _ p (omega arith)) (lt-ltb p limit to)) ∙ at)))
+    (clip_byte (next_position v) limit e p
+    ∙ cond-true _ _ _ (and_from _ _ (le-leb _ p (omega arith)) (lt-ltb p limit to)) ∙ at)))
     refl
 
 -- ---- segments that cover a range
 pub has_byte_stays : HasByteStays
-has_byte_stays most v (Segment pos xs) p h = segment_cases (λ u. HasByteAt u p) most v pos xs h (λ part. has_joined v part p h)
+has_byte_stays most v (Segment pos xs) p h =
+    segment_cases (λ u. HasByteAt u p) most v pos xs h (λ part. has_joined v part p h)
 has_byte_stays most v (Read count) p h =
     let size = length-drop count v.queue in
     ⊎_elim (λ (l : p < next_position v). inl (omega arith)) (λ (k : fin.contains_key v.held p ≡ true). inr k) h
@@ -548,11 +613,13 @@ accepted_brings most v pos xs p accepted from to below =
     let part = piece_within (next_position v) (v.first + v.read + v.capacity) (piece pos xs) in
     let cut = length-drop (next_position v - pos) (take (v.first + v.read + v.capacity - pos) xs) in
     let size = length-take (v.first + v.read + v.capacity - pos) xs in
-    any_verdict (λ y. IsAccepted (SegmentReply (segment_result v y)) → HasByteAt (state_after v y) p) (next_position v) most (domain v.held) part
+    any_verdict (λ y. IsAccepted (SegmentReply (segment_result v y)) →
+    HasByteAt (state_after v y) p) (next_position v) most (domain v.held) part
     (λ none _. inl (omega arith))
     (λ no. absurd no)
     (λ _. ⊎_elim (λ (l : p < next_position v). has_joined v part p (inl l))
-    (λ (l : next_position v ≤ p). has_updated v part p (updated_has v part p ∙ or_left _ _ (piece_some part p (omega arith, omega arith))))
+    (λ (l : next_position v ≤ p). has_updated v part p (updated_has v part p
+    ∙ or_left _ _ (piece_some part p (omega arith, omega arith))))
     (cases_lt p (next_position v)))
     accepted
 
@@ -560,7 +627,8 @@ accepted_brings most v pos xs p accepted from to below =
 missing_stays : (most : ℕ) (v : ReceiverState) (c : CommandValue) → fin.contains_key v.held (next_position v) ≡ false →
     fin.contains_key (receiver_after_command most v c).held (next_position (receiver_after_command most v c)) ≡ false
 missing_stays most v (Segment pos xs) h =
-    segment_cases (λ u. fin.contains_key u.held (next_position u) ≡ false) most v pos xs h (λ part. missing_of (receiver_with_piece v part) (above_joined v part))
+    segment_cases (λ u. fin.contains_key u.held (next_position u)
+    ≡ false) most v pos xs h (λ part. missing_of (receiver_with_piece v part) (above_joined v part))
 missing_stays most v (Read count) h =
     let size = length-drop count v.queue in
     let same : next_position (receiver_after_read v count) ≡ next_position v = omega arith in
@@ -569,22 +637,27 @@ missing_stays most v Show h = h
 
 -- so does the end of the free window, or it rises
 limit_rises : (most : ℕ) (v : ReceiverState) (c : CommandValue) →
-    v.first + v.read + v.capacity ≤ (receiver_after_command most v c).first + (receiver_after_command most v c).read + (receiver_after_command most v c).capacity
+    v.first + v.read + v.capacity ≤ (receiver_after_command most v c).first + (receiver_after_command most v c).read
+    + (receiver_after_command most v c).capacity
 limit_rises most v (Segment pos xs) =
-    segment_cases (λ u. v.first + v.read + v.capacity ≤ u.first + u.read + u.capacity) most v pos xs (omega arith) (λ part. omega arith)
+    segment_cases (λ u. v.first + v.read + v.capacity ≤ u.first + u.read
+    + u.capacity) most v pos xs (omega arith) (λ part. omega arith)
 limit_rises most v (Read count) = omega arith
 limit_rises most v Show = omega arith
 
-reaches_all : (v : ReceiverState) (end : ℕ) → fin.contains_key v.held (next_position v) ≡ false → ((p : ℕ) → next_position v ≤ p → p < end → HasByteAt v p) → end ≤ next_position v
+reaches_all : (v : ReceiverState) (end : ℕ) → fin.contains_key v.held (next_position v) ≡ false →
+    ((p : ℕ) → next_position v ≤ p → p < end → HasByteAt v p) → end ≤ next_position v
 reaches_all v end missing all = grind (arith, nat_tests)
 
 pub has_all_reaches : HasAllReaches
 has_all_reaches most v end sound all = reaches_all v end (missing_of v sound.above) all
 
 -- what commands bring is there after the first one, or is brought by the others
-brings_now : (most : ℕ) (v : ReceiverState) (c : CommandValue) (cs : List CommandValue) (p : ℕ) → IsAccepted (receiver_reply most v c) →
+brings_now : (most : ℕ) (v : ReceiverState) (c : CommandValue) (cs : List CommandValue) (p : ℕ) →
+    IsAccepted (receiver_reply most v c) →
     p < v.first + v.read + v.capacity → Brings (c ∷ cs) p → HasByteAt (receiver_after_command most v c) p ⊎ Brings cs p
-brings_now most v (Segment pos xs) cs p accepted below (inl k) = inl (accepted_brings most v pos xs p accepted k.0 k.1 below)
+brings_now most v (Segment pos xs) cs p accepted below (inl k) =
+    inl (accepted_brings most v pos xs p accepted k.0 k.1 below)
 brings_now most v (Segment pos xs) cs p accepted below (inr k) = inr k
 brings_now most v (Read count) cs p accepted below k = inr k
 brings_now most v Show cs p accepted below k = inr k
@@ -593,18 +666,22 @@ brings_now most v Show cs p accepted below k = inr k
 completes_from : (most : ℕ) (cs : List CommandValue) (v : ReceiverState) (end : ℕ) →
     fin.contains_key v.held (next_position v) ≡ false → end ≤ v.first + v.read + v.capacity →
     All IsAccepted (receiver_replies most v cs) →
-    ((p : ℕ) → next_position v ≤ p → p < end → HasByteAt v p ⊎ Brings cs p) → end ≤ next_position (receiver_after_commands most v cs)
-completes_from most [] v end missing within accepted all = reaches_all v end missing (λ p a b. ⊎_elim (λ (h : HasByteAt v p). h) (λ no. absurd no) (all p a b))
+    ((p : ℕ) → next_position v ≤ p → p < end → HasByteAt v p ⊎ Brings cs p) →
+    end ≤ next_position (receiver_after_commands most v cs)
+completes_from most [] v end missing within accepted all =
+    reaches_all v end missing (λ p a b. ⊎_elim (λ (h : HasByteAt v p). h) (λ no. absurd no) (all p a b))
 completes_from most (c ∷ cs) v end missing within accepted all =
     let u = receiver_after_command most v c in
     let now = All-head IsAccepted (receiver_reply most v c) (receiver_replies most u cs) accepted in
     completes_from most cs u end (missing_stays most v c missing) (le_trans within (limit_rises most v c))
     (All-tail IsAccepted (receiver_reply most v c) (receiver_replies most u cs) accepted)
-    (λ p a b. ⊎_elim (λ (h : HasByteAt v p). inl (has_byte_stays most v c p h)) (brings_now most v c cs p now (le_trans b within))
+    (λ p a b. ⊎_elim (λ (h : HasByteAt v p). inl (has_byte_stays most v c p h))
+    (brings_now most v c cs p now (le_trans b within))
     (all p (le_trans (next_position_grows most v c) a) b))
 
 pub completes : Completes
-completes most v cs end sound within accepted all = completes_from most cs v end (missing_of v sound.above) within accepted (λ p a b. inr (all p a b))
+completes most v cs end sound within accepted all =
+    completes_from most cs v end (missing_of v sound.above) within accepted (λ p a b. inr (all p a b))
 
 -- ---- What reads leave.
 pub read_leaves_next : ReadLeavesNext
@@ -620,8 +697,16 @@ read_leaves_bytes v n p =
 pub reads_add : ReadsAdd
 reads_add v m n =
     let size = length-drop m v.queue in
-    let count : v.read + min m (length v.queue) + min n (length (drop m v.queue)) ≡ v.read + min (m + n) (length v.queue) = omega arith in
-    λ i. record { first = v.first; capacity = v.capacity; read = count i; queue = drop-drop n m v.queue i; held = v.held }
+    let count : v.read + min m (length v.queue) + min n (length (drop m v.queue)) ≡ v.read
+    + min (m + n) (length v.queue) = omega arith in
+    λ i. record {
+      first = v.first;
+      capacity = v.capacity;
+      read = count i;
+      queue =
+          drop-drop n m v.queue i;
+      held = v.held;
+    }
 
 pub reads_give_together : ReadsGiveTogether
 reads_give_together v m n = sym (take-add m n v.queue)

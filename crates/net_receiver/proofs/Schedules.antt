@@ -54,17 +54,24 @@ record Leads (t : ℕ → Bool) (a n k : ℕ) : Type 0 where
   here : k < n → t (a + k) ≡ false
 
 leads : (t : ℕ → Bool) (a n : ℕ) → Leads t a n (prefix_len t (range_with_len a n))
-leads t a zero = record { within = omega arith; before = λ q l m. absurd (omega arith); here = λ l. absurd (omega arith) }
+leads t a zero = record {
+  within = omega arith;
+  before = λ q l m. absurd (omega arith);
+  here =
+      λ l. absurd (omega arith);
+}
 leads t a (suc n) = by (t a) refl (leads t (a + 1) n)
   where
     by : (b : Bool) → t a ≡ b → Leads t (a + 1) n (prefix_len t (range_with_len (a + 1) n)) →
         Leads t a (suc n) (cond b (1 + prefix_len t (range_with_len (a + 1) n)) 0)
     by true e r =
         let l = r.within in
-        let place : a + (1 + prefix_len t (range_with_len (a + 1) n)) ≡ (a + 1) + prefix_len t (range_with_len (a + 1) n) = omega arith in
+        let place : a + (1 + prefix_len t (range_with_len (a + 1) n)) ≡ (a + 1)
+        + prefix_len t (range_with_len (a + 1) n) = omega arith in
         record {
           within = omega arith;
-          before = λ q l m. ⊎_elim (λ (same : q ≡ a). ap t same ∙ e) (λ other. r.before q (omega arith) (omega arith)) (cases_eq q a);
+          before = λ q l m. ⊎_elim (λ (same : q ≡ a). ap t same
+              ∙ e) (λ other. r.before q (omega arith) (omega arith)) (cases_eq q a);
           here = λ l. ap t place ∙ r.here (omega arith);
         }
     by false e r =
@@ -106,14 +113,16 @@ abbrev pub window_piece : Setting → KeptState → Piece → Piece
 window_piece w s e = piece_within (missing w s) (unread w s + w.capacity) e
 
 -- a part is empty, or it is refused, if it misses the first missing position, or it is kept
-pub part_cases : (P : KeptState × ReplyValue → Type 0) (w : Setting) (s : KeptState) (e : Piece) → (length e.bytes ≡ 0 → P (keeps w s s 0)) →
+pub part_cases : (P : KeptState × ReplyValue → Type 0) (w : Setting) (s : KeptState) (e : Piece) →
+    (length e.bytes ≡ 0 → P (keeps w s s 0)) →
     (0 < length e.bytes → is_some (piece_byte_at e (missing w s)) ≡ false → P (s, SegmentReply (Err (record {})))) →
     (0 < length e.bytes → P (keeps w s (with_kept w s e) (length e.bytes))) → P (after_part w s e)
 part_cases P w s e empty refused kept =
     let size = length e.bytes in
     cond_both (nat_eq size 0) (keeps w s s 0) _ P (λ none. empty (eqb-true size 0 none)) (λ some.
     let full : 0 < size = (let other = eqb-false size 0 some in omega arith) in
-    cond_both (not (is_some (piece_byte_at e (missing w s))) && nat_lt w.most_runs (length (held_runs w (with_kept w s e))))
+    cond_both (not (is_some (piece_byte_at e (missing w s)))
+    && nat_lt w.most_runs (length (held_runs w (with_kept w s e))))
     (s, SegmentReply (Err (record {}))) (keeps w s (with_kept w s e) size) P
     (λ yes. refused full (not-true _ (and_parts _ _ yes).0)) (λ no. kept full))
 
@@ -129,7 +138,8 @@ module _ (w : Setting) (s : KeptState) where
   queued_covered q a b = lead.before q a b
 
   -- all that is below a place with room is covered, so the first missing position is not below it
-  pub reached : (b : ℕ) → b ≤ unread w s + w.capacity → ((q : ℕ) → unread w s ≤ q → q < b → is_covered s.kept q ≡ true) → b ≤ missing w s
+  pub reached : (b : ℕ) → b ≤ unread w s + w.capacity →
+      ((q : ℕ) → unread w s ≤ q → q < b → is_covered s.kept q ≡ true) → b ≤ missing w s
   reached b room all =
       ⊎_elim
       (λ (some : queued w s < w.capacity).
@@ -143,10 +153,12 @@ module _ (w : Setting) (s : KeptState) where
     missing_is = record {
       from = omega arith;
       before = λ q a b.
-          ⊎_elim (λ (low : q < unread w s). room.before q a low) (λ (high : unread w s ≤ q). lead.before q high b) (cases_lt q (unread w s));
+          ⊎_elim (λ (low : q < unread w s). room.before q a low) (λ (high : unread w s ≤ q). lead.before q high b)
+          (cases_lt q (unread w s));
       here =
           ⊎_elim (λ (some : queued w s < w.capacity). lead.here some)
-          (λ (full : w.capacity ≤ queued w s). false_from_ne_true _ (λ h. let b = room.below (missing w s) (omega arith) h in omega arith))
+          (λ (full : w.capacity ≤ queued w s). false_from_ne_true _ (λ h. let b =
+          room.below (missing w s) (omega arith) h in omega arith))
           (cases_lt (queued w s) w.capacity);
     }
 
@@ -188,19 +200,26 @@ none_of None e = refl
 none_of (Some x) e = absurd (both_ways true e refl)
 
 -- a part is empty; or it is refused, if it begins above the first missing position and makes too many runs; or it is kept
-pub verdict_by : (P : Verdict → Type 0) (n most : ℕ) (h : Positions) (part : Piece) → (length part.bytes ≡ 0 → P KeepsNone) →
-    (0 < length part.bytes → is_some (piece_byte_at part n) ≡ false → most < runs (with_range h part.start (length part.bytes)) → P Refuses) →
-    (0 < length part.bytes → (is_some (piece_byte_at part n) ≡ true) ⊎ (runs (with_range h part.start (length part.bytes)) ≤ most) → P (Keeps part)) →
+pub verdict_by : (P : Verdict → Type 0) (n most : ℕ) (h : Positions) (part : Piece) →
+    (length part.bytes ≡ 0 → P KeepsNone) →
+    (0 < length part.bytes → is_some (piece_byte_at part n) ≡ false →
+    most < runs (with_range h part.start (length part.bytes)) → P Refuses) →
+    (0 < length part.bytes → (is_some (piece_byte_at part n) ≡ true)
+    ⊎ (runs (with_range h part.start (length part.bytes)) ≤ most) → P (Keeps part)) →
     P (verdict_of_piece n most h part)
 verdict_by P n most h part empty refused keeps =
     let size = length part.bytes in
     cond_both (nat_eq size 0) KeepsNone _ P (λ none. empty (eqb-true size 0 none)) (λ some.
     let full : 0 < size = (let other = eqb-false size 0 some in omega arith) in
-    cond_both (not (is_some (piece_byte_at part n)) && makes_too_many_runs most h part.start size) Refuses (Keeps part) P
-    (λ yes. (let both = and_parts _ _ yes in refused full (not-true _ both.0) ((too_many most h part.start size).0 both.1).1))
-    (λ no. keeps full (⊎_elim (λ near. inl (not-false _ near)) (λ few. inr (few_enough most h part.start size full few)) (and_cases _ _ no))))
+    cond_both (not (is_some (piece_byte_at part n)) && makes_too_many_runs most h part.start size)
+    Refuses (Keeps part) P
+    (λ yes. (let both = and_parts _ _ yes in
+    refused full (not-true _ both.0) ((too_many most h part.start size).0 both.1).1))
+    (λ no. keeps full (⊎_elim (λ near. inl (not-false _ near))
+    (λ few. inr (few_enough most h part.start size full few)) (and_cases _ _ no))))
 
-pub any_verdict : (P : Verdict → Type 0) (n most : ℕ) (h : Positions) (part : Piece) → (length part.bytes ≡ 0 → P KeepsNone) → P Refuses →
+pub any_verdict : (P : Verdict → Type 0) (n most : ℕ) (h : Positions) (part : Piece) →
+    (length part.bytes ≡ 0 → P KeepsNone) → P Refuses →
     P (Keeps part) → P (verdict_of_piece n most h part)
 any_verdict P n most h part empty refused keeps = verdict_by P n most h part empty (λ _ _ _. refused) (λ _ _. keeps)
 
@@ -208,7 +227,8 @@ any_verdict P n most h part empty refused keeps = verdict_by P n most h part emp
 pub segment_cases : (P : ReceiverState → Type 0) (most : ℕ) (v : ReceiverState) (pos : ℕ) (xs : List ℕ) → P v →
     ((part : Piece) → P (receiver_with_piece v part)) → P (receiver_after_command most v (Segment pos xs))
 segment_cases P most v pos xs same kept =
-    any_verdict (λ y. P (state_after v y)) (next_position v) most (domain v.held) (piece_within (next_position v) (limit_of v) (piece pos xs))
+    any_verdict (λ y. P (state_after v y)) (next_position v) most (domain v.held)
+    (piece_within (next_position v) (limit_of v) (piece pos xs))
     (λ _. same) same (kept _)
 
 -- ---- one more piece, which is in the free window
@@ -221,7 +241,8 @@ module _ (w : Setting) (s : KeptState) (room : HasRoom w s) (part : Piece) (abov
   room_for = record {
     before = λ p a b. covered_push s.kept part p (room.before p a b);
     below = λ p a h.
-        ⊎_elim (λ (new : is_some (piece_byte_at part p) ≡ true). below p new) (λ (old : is_covered s.kept p ≡ true). room.below p a old)
+        ⊎_elim (λ (new : is_some (piece_byte_at part p) ≡ true). below p new)
+        (λ (old : is_covered s.kept p ≡ true). room.below p a old)
         (or_cases _ _ (sym (covered_more p) ∙ h));
   }
 
@@ -242,12 +263,27 @@ module _ (w : Setting) (s : KeptState) (room : HasRoom w s) (part : Piece) (abov
 
     more_held : (H : Positions) → ((p : ℕ) → is_held w s p ≡ contains H p) → (q : ℕ) →
         is_held w (with_kept w s part) q ≡ contains (with_range H part.start (length part.bytes)) q
-    more_held H same q = grind (arith, nat_tests, same_missing, covered_more, is_some, piece_has, contains-with_range, Bool, and_from, lt-ltb, part_above, or_right)
+    more_held H same q = grind (
+      arith,
+      nat_tests,
+      same_missing,
+      covered_more,
+      is_some,
+      piece_has,
+      contains-with_range,
+      Bool,
+      and_from,
+      lt-ltb,
+      part_above,
+      or_right,
+    )
 
   -- it is refused by one rule where it is by the other
   same_refusal : (H : Positions) → ((p : ℕ) → is_held w s p ≡ contains H p) → nat_eq (length part.bytes) 0 ≡ false →
-      (not (is_some (piece_byte_at part (missing w s))) && nat_lt w.most_runs (length (held_runs w (with_kept w s part))))
-      ≡ (not (is_some (piece_byte_at part (missing w s))) && makes_too_many_runs w.most_runs H part.start (length part.bytes))
+      (not (is_some (piece_byte_at part (missing w s)))
+      && nat_lt w.most_runs (length (held_runs w (with_kept w s part))))
+      ≡ (not (is_some (piece_byte_at part (missing w s)))
+      && makes_too_many_runs w.most_runs H part.start (length part.bytes))
   same_refusal H same some = by (is_some (piece_byte_at part (missing w s))) refl
     where
       by : (b : Bool) → is_some (piece_byte_at part (missing w s)) ≡ b →
@@ -257,7 +293,8 @@ module _ (w : Setting) (s : KeptState) (room : HasRoom w s) (part : Piece) (abov
       by false e =
           let updated = with_range H part.start (length part.bytes) in
           let full : 0 < length part.bytes = (let other = eqb-false (length part.bytes) 0 some in omega arith) in
-          ap (λ rs. nat_lt w.most_runs (length rs)) (same_runs w (with_kept w s part) room_for updated (more_held e H same))
+          ap (λ rs. nat_lt w.most_runs (length rs))
+          (same_runs w (with_kept w s part) room_for updated (more_held e H same))
           ∙ ap (nat_lt w.most_runs) (sym (runs-maximal_runs updated))
           ∙ ap (λ b. b && nat_lt w.most_runs (runs updated)) (sym (lt-ltb 0 (length part.bytes) full))
 
@@ -282,7 +319,8 @@ module _ (v : ReceiverState) (s : KeptState) (d : Refines v s) where
   same_held_runs = sym (same_runs w s d.room (domain v.held) (λ p. sym (same_held p)))
 
   -- one more piece
-  module _ (part : Piece) (above : missing w s ≤ part.start) (below : (p : ℕ) → is_some (piece_byte_at part p) ≡ true → p < unread w s + w.capacity) where
+  module _ (part : Piece) (above : missing w s ≤ part.start) (below : (p : ℕ) →
+      is_some (piece_byte_at part p) ≡ true → p < unread w s + w.capacity) where
     abbrev updated : HeldBytes
     updated = held_with_piece v part
 
@@ -306,10 +344,12 @@ module _ (v : ReceiverState) (s : KeptState) (d : Refines v s) where
         grind (arith, nat_tests)
 
     updated_is : (p : ℕ) → n ≤ p → fin.get updated p ≡ byte_at more p
-    updated_is p h = get-with_bytes_at v.held part.start part.bytes p ∙ ap (option_or (piece_byte_at part p)) (from_next p h) ∙ sym (byte_at_push s.kept part p)
+    updated_is p h = get-with_bytes_at v.held part.start part.bytes p
+        ∙ ap (option_or (piece_byte_at part p)) (from_next p h) ∙ sym (byte_at_push s.kept part p)
 
     below_next : (p : ℕ) → p < n → byte_at more p ≡ byte_at s.kept p
-    below_next p h = byte_at_push s.kept part p ∙ ap (λ o. option_or o (byte_at s.kept p)) (piece_before part p (omega arith))
+    below_next p h = byte_at_push s.kept part p
+        ∙ ap (λ o. option_or o (byte_at s.kept p)) (piece_before part p (omega arith))
 
     lacking : IsFirst (fin.contains_key updated) n m
     lacking = first_lacking_is updated n
@@ -327,7 +367,8 @@ module _ (v : ReceiverState) (s : KeptState) (d : Refines v s) where
         }
 
     missing_more : missing w t ≡ m
-    missing_more = first_unique (is_covered more) v.first _ _ (missing_is w t (room_for w s d.room part above below)) first_more
+    missing_more = first_unique (is_covered more) v.first _ _
+        (missing_is w t (room_for w s d.room part above below)) first_more
 
     joined_queue : v.queue ++ held_bytes_at updated n (m - n) ≡ queue w t
     joined_queue =
@@ -336,7 +377,8 @@ module _ (v : ReceiverState) (s : KeptState) (d : Refines v s) where
         let size : queued w s + (m - n) ≡ queued w t = omega arith in
         grind (arith, nat_tests, map_range_same, more, unwrap_or, below_next, updated_is, map_range_split)
 
-    joined_held : (p : ℕ) → fin.get (fin.retain_keys updated (λ q. nat_le m q)) p ≡ cond (is_held w t p) (byte_at more p) None
+    joined_held : (p : ℕ) → fin.get (fin.retain_keys updated (λ q. nat_le m q)) p
+        ≡ cond (is_held w t p) (byte_at more p) None
     joined_held p = grind (arith, nat_tests, get_from, lacking, none_of, missing_more, updated_is)
 
     pub refines_joined : Refines (receiver_with_piece v part) t
@@ -357,7 +399,8 @@ module _ (v : ReceiverState) (s : KeptState) (d : Refines v s) where
     room_read : HasRoom w given
     room_read = record {
       before = λ p a b.
-          ⊎_elim (λ (low : p < unread w s). d.room.before p a low) (λ (high : unread w s ≤ p). queued_covered w s p high (omega arith)) (cases_lt p (unread w s));
+          ⊎_elim (λ (low : p < unread w s). d.room.before p a low)
+          (λ (high : unread w s ≤ p). queued_covered w s p high (omega arith)) (cases_lt p (unread w s));
       below = λ p a h. (let l = d.room.below p a h in omega arith);
     }
 
@@ -379,7 +422,8 @@ module _ (v : ReceiverState) (s : KeptState) (d : Refines v s) where
           held = λ p. d.held p ∙ ap (λ k. cond (nat_lt k p && is_covered s.kept p) (byte_at s.kept p) None) (sym e);
         }
       where
-        placed : (a b x y : ℕ) → a ≡ b → x ≡ y → map (byte s.kept) (range_with_len a x) ≡ map (byte s.kept) (range_with_len b y)
+        placed : (a b x y : ℕ) → a ≡ b → x ≡ y → map (byte s.kept) (range_with_len a x)
+            ≡ map (byte s.kept) (range_with_len b y)
         placed a b x y p q = λ i. map (byte s.kept) (range_with_len (p i) (q i))
 
 -- ---- one command
@@ -391,7 +435,8 @@ module _ (most : ℕ) (v : ReceiverState) (s : KeptState) (d : Refines v s) wher
   Left x y = Refines (state_after v x) y.0 × (SegmentReply (segment_result v x) ≡ y.1)
 
   chosen : (part : Piece) (none a b : Bool) → (none ≡ false → a ≡ b) → {x y z : KeptState × ReplyValue} →
-      Left KeepsNone x → Left Refuses y → Left (Keeps part) z → Left (cond none KeepsNone (cond b Refuses (Keeps part))) (cond none x (cond a y z))
+      Left KeepsNone x → Left Refuses y → Left (Keeps part) z →
+      Left (cond none KeepsNone (cond b Refuses (Keeps part))) (cond none x (cond a y z))
   chosen part true a b e k r p = k
   chosen part false true true e k r p = r
   chosen part false false false e k r p = p
@@ -428,16 +473,20 @@ module _ (most : ℕ) (v : ReceiverState) (s : KeptState) (d : Refines v s) wher
 
     segment_left : Left (verdict_of_piece (missing by s) most (domain v.held) part) (after_part by s part)
     segment_left =
-        chosen part (nat_eq (length part.bytes) 0) _ _ (same_refusal by s (record { before = d.room.before; below = d.room.below }) part above below (domain v.held) (λ p. sym (same_held v s d p)))
+        chosen part (nat_eq (length part.bytes) 0) _ _
+        (same_refusal by s (record { before = d.room.before; below = d.room.below }) part above below
+        (domain v.held) (λ p. sym (same_held v s d p)))
         none_left (d, refl) kept_left
 
     same_verdict : verdict most v e ≡ verdict_of_piece (missing by s) most (domain v.held) part
-    same_verdict = λ i. verdict_of_piece (same_next v s d i) most (domain v.held) (piece_within (same_next v s d i) (v.first + d.read i + v.capacity) e)
+    same_verdict = λ i. verdict_of_piece (same_next v s d i) most (domain v.held)
+        (piece_within (same_next v s d i) (v.first + d.read i + v.capacity) e)
 
   pub one_step : (c : CommandValue) →
       Refines (receiver_after_command most v c) (step by s c).0 × (receiver_reply most v c ≡ (step by s c).1)
   one_step (Segment pos xs) =
-      subst (λ x. Left x (after_part by s (window_piece by s (piece pos xs)))) (sym (same_verdict (piece pos xs))) (segment_left (piece pos xs))
+      subst (λ x. Left x (after_part by s (window_piece by s (piece pos xs)))) (sym (same_verdict (piece pos xs)))
+      (segment_left (piece pos xs))
   one_step (Read count) = (refines_read v s d count, ap (λ xs. ReadReply (take count xs)) d.queue)
   one_step Show =
       let size = queue_length v s d in
@@ -446,17 +495,21 @@ module _ (most : ℕ) (v : ReceiverState) (s : KeptState) (d : Refines v s) wher
 -- ---- A whole schedule: what is stored goes on representing the state, and the replies agree.
 module _ (most : ℕ) where
   -- first position and capacity stay
-  pub setting_kept : (v : ReceiverState) (c : CommandValue) → setting most (receiver_after_command most v c) ≡ setting most v
-  setting_kept v (Segment pos xs) = segment_cases (λ u. setting most u ≡ setting most v) most v pos xs refl (λ part. refl)
+  pub setting_kept : (v : ReceiverState) (c : CommandValue) →
+      setting most (receiver_after_command most v c) ≡ setting most v
+  setting_kept v (Segment pos xs) =
+      segment_cases (λ u. setting most u ≡ setting most v) most v pos xs refl (λ part. refl)
   setting_kept v (Read count) = refl
   setting_kept v Show = refl
 
-  pub settings_kept : (v : ReceiverState) (cs : List CommandValue) → setting most (receiver_after_commands most v cs) ≡ setting most v
+  pub settings_kept : (v : ReceiverState) (cs : List CommandValue) →
+      setting most (receiver_after_commands most v cs) ≡ setting most v
   settings_kept v [] = refl
   settings_kept v (c ∷ cs) = settings_kept (receiver_after_command most v c) cs ∙ setting_kept v c
 
   pub schedule : (v : ReceiverState) (s : KeptState) → Refines v s → (cs : List CommandValue) →
-      Refines (receiver_after_commands most v cs) (state_from (setting most v) s cs) × (receiver_replies most v cs ≡ replies_from (setting most v) s cs)
+      Refines (receiver_after_commands most v cs) (state_from (setting most v) s cs)
+      × (receiver_replies most v cs ≡ replies_from (setting most v) s cs)
   unfolding state_from replies_from
   schedule v s d [] = (d, refl)
   schedule v s d (c ∷ cs) =
@@ -465,24 +518,29 @@ module _ (most : ℕ) where
       let one = one_step most v s d c in
       let rest = schedule (receiver_after_command most v c) t one.0 cs in
       let same = setting_kept v c in (
-        subst (λ w. Refines (receiver_after_commands most (receiver_after_command most v c) cs) (state_from w t cs)) same rest.0,
+        subst (λ w. Refines (receiver_after_commands most (receiver_after_command most v c) cs)
+            (state_from w t cs)) same rest.0,
         λ i. one.1 i ∷ (rest.1 ∙ ap (λ w. replies_from w t cs) same) i,
       )
 
 -- no more is read than is queued
-pub read_less : (v : ReceiverState) (count n : ℕ) → n ≡ min count (length v.queue) → receiver_after_read v n ≡ receiver_after_read v count
+pub read_less : (v : ReceiverState) (count n : ℕ) → n ≡ min count (length v.queue) →
+    receiver_after_read v n ≡ receiver_after_read v count
 read_less v count n e = grind (arith, nat_tests, drop_min)
 
 -- commands after others
 module _ (most : ℕ) where
-  pub after_all_append : (cs ds : List CommandValue) (v : ReceiverState) → receiver_after_commands most v (cs ++ ds) ≡ receiver_after_commands most (receiver_after_commands most v cs) ds
+  pub after_all_append : (cs ds : List CommandValue) (v : ReceiverState) →
+      receiver_after_commands most v (cs ++ ds) ≡ receiver_after_commands most (receiver_after_commands most v cs) ds
   after_all_append [] ds v = refl
   after_all_append (c ∷ cs) ds v = after_all_append cs ds (receiver_after_command most v c)
 
   pub replies_append : (cs ds : List CommandValue) (v : ReceiverState) →
-      receiver_replies most v (cs ++ ds) ≡ receiver_replies most v cs ++ receiver_replies most (receiver_after_commands most v cs) ds
+      receiver_replies most v (cs ++ ds) ≡ receiver_replies most v cs
+      ++ receiver_replies most (receiver_after_commands most v cs) ds
   replies_append [] ds v = refl
-  replies_append (c ∷ cs) ds v = ap (λ rs. receiver_reply most v c ∷ rs) (replies_append cs ds (receiver_after_command most v c))
+  replies_append (c ∷ cs) ds v =
+      ap (λ rs. receiver_reply most v c ∷ rs) (replies_append cs ds (receiver_after_command most v c))
 
 take_mapped : {A B : Type 0} (f : A → B) (cs : List A) (i : ℕ) (c : A) → i < length cs → c ≡ get_or cs i c →
     take (i + 1) (map f cs) ≡ take i (map f cs) ++ f c ∷ []
@@ -493,13 +551,16 @@ push_appended : {A : Type 0} (old now new : List A) (r : A) → now ≡ old ++ i
     items_after old new ≡ items_after old now ++ r ∷ []
 push_appended old now new r e e' = grind (arith, nat_tests, append_assoc, drop_at)
 
-pub whole_appended : {A : Type 0} (old now new : List A) (r : A) → now ≡ old ++ items_after old now → new ≡ now ++ r ∷ [] → new ≡ old ++ items_after old new
+pub whole_appended : {A : Type 0} (old now new : List A) (r : A) → now ≡ old ++ items_after old now →
+    new ≡ now ++ r ∷ [] → new ≡ old ++ items_after old new
 whole_appended old now new r e e' =
-    e' ∙ ap (λ xs. xs ++ r ∷ []) e ∙ append_assoc old (items_after old now) (r ∷ []) ∙ ap (λ xs. old ++ xs) (sym (push_appended old now new r e e'))
+    e' ∙ ap (λ xs. xs ++ r ∷ []) e ∙ append_assoc old (items_after old now) (r ∷ [])
+    ∙ ap (λ xs. old ++ xs) (sym (push_appended old now new r e e'))
 
 -- a turn of the loop: command i was run
 module _ (most : ℕ) where
-  pub state_more : {A : Type 0} (v u w : ReceiverState) (cs : List (Command A)) (i : ℕ) (c : Command A) → i < length cs →
+  pub state_more : {A : Type 0} (v u w : ReceiverState) (cs : List (Command A)) (i : ℕ)
+      (c : Command A) → i < length cs →
       c ≡ get_or cs i c → u ≡ receiver_after_commands most v (take i (command_values cs)) →
       w ≡ receiver_after_command most u (command_value c) →
       w ≡ receiver_after_commands most v (take (i + 1) (command_values cs))
@@ -510,7 +571,8 @@ module _ (most : ℕ) where
       ∙ ap (receiver_after_commands most v) (sym (take_mapped command_value cs i c l is))
 
   pub replies_more :
-      {A : Type 0} (v u : ReceiverState) (old now new : List (Reply A)) (r : Reply A) (cs : List (Command A)) (i : ℕ) (c : Command A) →
+      {A : Type 0} (v u : ReceiverState) (old now new : List (Reply A)) (r : Reply A) (cs : List (Command A)) (i : ℕ)
+      (c : Command A) →
       i < length cs → c ≡ get_or cs i c → u ≡ receiver_after_commands most v (take i (command_values cs)) →
       now ≡ old ++ items_after old now → new_replies old now ≡ receiver_replies most v (take i (command_values cs)) →
       reply_value r ≡ receiver_reply most u (command_value c) → new ≡ now ++ r ∷ [] →
@@ -533,12 +595,14 @@ some_of None e = absurd (both_ways false refl e)
 some_of (Some x) e = (x, refl)
 
 -- the byte of the last entry is that of some entry
-pub agrees_at : (f : ℕ) (k : List Piece) (x : List ℕ) → Agrees f k x → (p b : ℕ) → f ≤ p → byte_at k p ≡ Some b → slice_get x (p - f) ≡ Some b
+pub agrees_at : (f : ℕ) (k : List Piece) (x : List ℕ) → Agrees f k x → (p b : ℕ) → f ≤ p → byte_at k p ≡ Some b →
+    slice_get x (p - f) ≡ Some b
 unfolding byte_at
 agrees_at f [] x all p b h e = absurd (both_ways false refl (ap is_some e))
 agrees_at f (y ∷ k) x all p b h e = by (byte_at k p) (agrees_at f k x (All-tail (PieceAgrees f x) y k all) p b h) e
   where
-    by : (o : Option ℕ) → (o ≡ Some b → slice_get x (p - f) ≡ Some b) → option_or o (piece_byte_at y p) ≡ Some b → slice_get x (p - f) ≡ Some b
+    by : (o : Option ℕ) → (o ≡ Some b → slice_get x (p - f) ≡ Some b) → option_or o (piece_byte_at y p) ≡ Some b →
+        slice_get x (p - f) ≡ Some b
     by None deeper is = All-head (PieceAgrees f x) y k all p b h is
     by (Some c) deeper is = deeper is
 
@@ -550,14 +614,17 @@ bytes_agree f k x all (suc n) p h cover =
     let there = some_of (byte_at k p) (cover p (omega arith) (omega arith)) in
     let is : slice_get x (p - f) ≡ Some there.0 = agrees_at f k x all p there.0 h there.1 in
     let near : p - f < length x = slice_get_within x (p - f) there.0 is in
-    let value : byte k p ≡ get_or x (p - f) 0 = ap (λ o. unwrap_or o 0) there.1 ∙ sym (get_or_from_slice_get x (p - f) there.0 0 is) in
+    let value : byte k p ≡ get_or x (p - f) 0 = ap (λ o. unwrap_or o 0) there.1
+    ∙ sym (get_or_from_slice_get x (p - f) there.0 0 is) in
     let on : p + 1 - f ≡ p - f + 1 = omega arith in
-    (λ i. value i ∷ (bytes_agree f k x all n (p + 1) (omega arith) (λ q a b. cover q (omega arith) (omega arith)) ∙ ap (λ j. take n (drop j x)) on) i)
+    (λ i. value i ∷ (bytes_agree f k x all n (p + 1) (omega arith) (λ q a b. cover q (omega arith) (omega arith))
+    ∙ ap (λ j. take n (drop j x)) on) i)
     ∙ ap (take (suc n)) (sym (drop_more x (p - f) 0 near))
 
 All-prefix : {X : Type 0} (P : X → Type 0) (xs ys : List X) → All P (xs ++ ys) → All P xs
 All-prefix P [] ys all = All-nil P
-All-prefix P (x ∷ xs) ys all = All-cons P x xs (All-head P x (xs ++ ys) all) (All-prefix P xs ys (All-tail P x (xs ++ ys) all))
+All-prefix P (x ∷ xs) ys all =
+    All-cons P x xs (All-head P x (xs ++ ys) all) (All-prefix P xs ys (All-tail P x (xs ++ ys) all))
 
 take_seam : (x : List ℕ) (r a b : ℕ) → take a (drop r x) ++ take b (drop (r + a) x) ≡ take (a + b) (drop r x)
 take_seam x r a b = sym (take-add a b (drop r x) ∙ ap (λ l. take a (drop r x) ++ take b l) (drop-drop a r x))
@@ -568,7 +635,8 @@ module _ (w : Setting) (x : List ℕ) where
       map (byte s.kept) (range_with_len (unread w s) n) ≡ take n (drop s.read x)
   queue_agrees s all n few =
       let gone : unread w s - w.first ≡ s.read = omega arith in
-      bytes_agree w.first s.kept x all n (unread w s) (omega arith) (λ q a b. queued_covered w s q a (omega arith)) ∙ ap (λ j. take n (drop j x)) gone
+      bytes_agree w.first s.kept x all n (unread w s) (omega arith) (λ q a b. queued_covered w s q a (omega arith))
+      ∙ ap (λ j. take n (drop j x)) gone
 
   -- from s on to t nothing is forgotten
   record Grows (s t : KeptState) : Type 0 where
@@ -579,7 +647,10 @@ module _ (w : Setting) (x : List ℕ) where
   grows s (Segment pos xs) =
       let same : Grows s s = record { agrees = λ a. a; read = omega arith } in
       part_cases (λ y. Grows s y.0) w s (window_piece w s (piece pos xs)) (λ _. same) (λ _ _. same)
-      (λ _. record { agrees = All-prefix (PieceAgrees w.first x) s.kept (window_piece w s (piece pos xs) ∷ []); read = omega arith })
+      (λ _. record {
+        agrees = All-prefix (PieceAgrees w.first x) s.kept (window_piece w s (piece pos xs) ∷ []);
+        read = omega arith;
+      })
   grows s (Read count) = record { agrees = λ a. a; read = omega arith }
   grows s Show = record { agrees = λ a. a; read = omega arith }
 
@@ -597,7 +668,8 @@ module _ (w : Setting) (x : List ℕ) where
   reads s [] all = (let e : 0 ≡ s.read - s.read = omega arith in ap (λ n. take n (drop s.read x)) e)
   reads s (Segment pos xs ∷ cs) all =
       let t = (step w s (Segment pos xs)).0 in
-      let both = part_cases (λ y. (bytes_read (y.1 ∷ replies_from w t cs) ≡ bytes_read (replies_from w t cs)) × (y.0.read ≡ s.read))
+      let both = part_cases (λ y. (bytes_read (y.1 ∷ replies_from w t cs) ≡ bytes_read (replies_from w t cs))
+      × (y.0.read ≡ s.read))
       w s (window_piece w s (piece pos xs)) (λ _. (refl, refl)) (λ _ _. (refl, refl)) (λ _. (refl, refl)) in
       both.0 ∙ reads t cs all ∙ (λ i. take ((state_from w t cs).read - both.1 i) (drop (both.1 i) x))
   reads s (Read count ∷ cs) all =
@@ -606,14 +678,16 @@ module _ (w : Setting) (x : List ℕ) where
       let l = rest.read in
       let m = min count (queued w s) in
       let size : m + ((state_from w t cs).read - (s.read + m)) ≡ (state_from w t cs).read - s.read = omega arith in
-      (λ i. (take_range (byte s.kept) count (unread w s) (queued w s) ∙ queue_agrees s (rest.agrees all) m (omega arith)) i ++ reads t cs all i)
+      (λ i. (take_range (byte s.kept) count (unread w s) (queued w s)
+      ∙ queue_agrees s (rest.agrees all) m (omega arith)) i ++ reads t cs all i)
       ∙ take_seam x s.read m ((state_from w t cs).read - (s.read + m))
       ∙ ap (λ n. take n (drop s.read x)) size
   reads s (Show ∷ cs) all = reads s cs all
 
   -- what was read, and then what is queued
   pub stream : (s : KeptState) (cs : List CommandValue) → Agrees w.first (state_from w s cs).kept x →
-      bytes_read (replies_from w s cs) ++ queue w (state_from w s cs) ≡ slice_range x s.read (missing w (state_from w s cs) - w.first)
+      bytes_read (replies_from w s cs) ++ queue w (state_from w s cs)
+      ≡ slice_range x s.read (missing w (state_from w s cs) - w.first)
   stream s cs all =
       let t = state_from w s cs in
       let l = (grows_all s cs).read in
@@ -625,11 +699,14 @@ module _ (w : Setting) (x : List ℕ) where
 -- ---- Recovery: segments that follow on from what is reached, and fit, are all accepted, and reach their ends.
 -- a part that begins at the first missing position is empty or kept
 pub follows_verdict : (P : Verdict → Type 0) (n most : ℕ) (h : Positions) (part : Piece) → part.start ≡ n →
-    (length part.bytes ≡ 0 → P KeepsNone) → (0 < length part.bytes → P (Keeps part)) → P (verdict_of_piece n most h part)
+    (length part.bytes ≡ 0 → P KeepsNone) → (0 < length part.bytes → P (Keeps part)) →
+    P (verdict_of_piece n most h part)
 follows_verdict P n most h part at empty keeps =
-    verdict_by P n most h part empty (λ some out _. absurd (both_ways _ out (piece_some part n (omega arith)))) (λ some _. keeps some)
+    verdict_by P n most h part empty (λ some out _. absurd (both_ways _ out (piece_some part n (omega arith))))
+    (λ some _. keeps some)
 
-clip_length : (low high : ℕ) (e : Piece) → end e ≤ high → length (piece_within low high e).bytes ≡ length e.bytes - (low - e.start)
+clip_length : (low high : ℕ) (e : Piece) → end e ≤ high → length (piece_within low high e).bytes
+    ≡ length e.bytes - (low - e.start)
 clip_length low high e h = simp (length-drop, length-take) (omega arith)
 
 module _ (w : Setting) where
@@ -637,7 +714,8 @@ module _ (w : Setting) where
   abbrev Reaches : KeptState → Piece → KeptState × ReplyValue → Type 0
   Reaches s e y = (end e ≤ missing w y.0) × (missing w s ≤ missing w y.0) × IsAccepted y.1
 
-  reaches : (s : KeptState) (e : Piece) → e.start ≤ missing w s → end e ≤ unread w s + w.capacity → Reaches s e (after_part w s (window_piece w s e))
+  reaches : (s : KeptState) (e : Piece) → e.start ≤ missing w s → end e ≤ unread w s + w.capacity →
+      Reaches s e (after_part w s (window_piece w s e))
   reaches s e begins ends =
       let part = window_piece w s e in
       let size = clip_length (missing w s) (unread w s + w.capacity) e ends in
@@ -653,14 +731,16 @@ module _ (w : Setting) where
       grown : (part : Piece) → part.start ≡ missing w s → missing w s ≤ missing w (with_kept w s part)
       grown part at = reached w (with_kept w s part) (missing w s) (let l = few w s in omega arith) (old part)
 
-      covers : (part : Piece) → part.start ≡ missing w s → length part.bytes ≡ length e.bytes - (missing w s - e.start) →
+      covers : (part : Piece) → part.start ≡ missing w s → length part.bytes
+          ≡ length e.bytes - (missing w s - e.start) →
           end e ≤ missing w (with_kept w s part)
       covers part at size =
           let there : missing w s + length part.bytes ≤ missing w (with_kept w s part) =
           reached w (with_kept w s part) (missing w s + length part.bytes) (let l = few w s in omega arith) (λ q a b.
           ⊎_elim (λ (l : q < missing w s). old part q a l)
           (λ (l : missing w s ≤ q).
-          ap is_some (byte_at_push s.kept part q) ∙ some_or (piece_byte_at part q) _ ∙ or_left _ _ (piece_some part q (omega arith, omega arith)))
+          ap is_some (byte_at_push s.kept part q) ∙ some_or (piece_byte_at part q) _
+          ∙ or_left _ _ (piece_some part q (omega arith, omega arith)))
           (cases_lt q (missing w s))) in
           omega arith
 
@@ -669,7 +749,8 @@ module _ (w : Setting) where
     pub reached : EndsBy (missing w (state_from w s cs)) cs
     pub on : missing w s ≤ missing w (state_from w s cs)
 
-  pub recover : (cs : List CommandValue) (s : KeptState) (reach : ℕ) → reach ≤ missing w s → Follows w s reach cs → Recovers s cs
+  pub recover : (cs : List CommandValue) (s : KeptState) (reach : ℕ) → reach ≤ missing w s →
+      Follows w s reach cs → Recovers s cs
   unfolding state_from replies_from
   recover [] s reach at follows = record { accepted = All-nil IsAccepted; reached = tt; on = omega arith }
   recover (Segment pos xs ∷ cs) s reach at follows =
@@ -695,10 +776,16 @@ module _ (w : Setting) where
       }
   recover (Show ∷ cs) s reach at follows =
       let rest = recover cs s reach at follows in
-      record { accepted = All-cons IsAccepted (step w s Show).1 (replies_from w s cs) tt rest.accepted; reached = rest.reached; on = rest.on }
+      record {
+        accepted = All-cons IsAccepted (step w s Show).1 (replies_from w s cs) tt rest.accepted;
+        reached =
+            rest.reached;
+        on = rest.on;
+      }
 
   -- the premise for a prefix of the list
-  pub follows_prefix : (cs : List CommandValue) (k : ℕ) (s : KeptState) (reach : ℕ) → Follows w s reach cs → Follows w s reach (take k cs)
+  pub follows_prefix : (cs : List CommandValue) (k : ℕ) (s : KeptState) (reach : ℕ) → Follows w s reach cs →
+      Follows w s reach (take k cs)
   follows_prefix cs zero s reach follows = tt
   follows_prefix [] (suc k) s reach follows = tt
   follows_prefix (Segment pos xs ∷ cs) (suc k) s reach follows =
@@ -708,7 +795,8 @@ module _ (w : Setting) where
 
 -- ---- Convergence: two receivers of one stream that cover the same positions are alike.
 pub converge : (x : List ℕ) (v u : ReceiverState) (s t : KeptState) → Refines v s → Refines u t → v.first ≡ u.first →
-    Agrees v.first s.kept x → Agrees v.first t.kept x → ((p : ℕ) → is_covered s.kept p ≡ is_covered t.kept p) → s.read ≡ t.read → IsSameState v u
+    Agrees v.first s.kept x → Agrees v.first t.kept x → ((p : ℕ) → is_covered s.kept p ≡ is_covered t.kept p) →
+    s.read ≡ t.read → IsSameState v u
 converge x v u s t d e first agrees agrees' same read =
     let z : ReceiverState = record u { first = v.first } in
     let e' : Refines z t = subst (λ f. Refines (record u { first = f }) t) (sym first) e in
@@ -725,11 +813,13 @@ converge x v u s t d e first agrees agrees' same read =
       d.queue ∙ queue_agrees w x s agrees (queued w s) (omega arith)
           ∙ (λ i. take (many i) (drop (read i) x))
           ∙ sym (e'.queue ∙ queue_agrees y x t agrees' (queued y t) (omega arith)),
-      ap maximal_runs (same_positions _ _ (λ q. same_held v s d q ∙ (λ i. nat_lt (reached i) q && same q i) ∙ sym (same_held z t e' q))),
+      ap maximal_runs (same_positions _ _ (λ q. same_held v s d q ∙ (λ i. nat_lt (reached i) q && same q i)
+          ∙ sym (same_held z t e' q))),
     )
 
 -- two receivers are the same exactly if the states that they represent are alike
-pub alike_states : (v u : ReceiverState) (s t : KeptState) → Refines v s → Refines u t → IsSameState v u ↔ AreAlike (setting 0 v) s (setting 0 u) t
+pub alike_states : (v u : ReceiverState) (s t : KeptState) → Refines v s → Refines u t →
+    IsSameState v u ↔ AreAlike (setting 0 v) s (setting 0 u) t
 alike_states v u s t d e = grind (arith, nat_tests, same_next, same_held_runs)
 
 -- a test that is exact tells states apart
@@ -740,4 +830,5 @@ tells_states v u b exact s t d e =
 
 -- and is true of receivers of one stream that cover the same positions
 pub converge_by : (v u : ReceiverState) (b : Bool) → IsTrue b ↔ IsSameState v u → Converges v u b
-converge_by v u b exact x s t d e first agrees agrees' same read = exact.1 (converge x v u s t d e first agrees agrees' same read)
+converge_by v u b exact x s t d e first agrees agrees' same read =
+    exact.1 (converge x v u s t d e first agrees agrees' same read)

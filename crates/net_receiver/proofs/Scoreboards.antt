@@ -36,7 +36,8 @@ is_in_run ranges p = list_any (lies_in p) ranges
 
 -- ---- of some maximal runs
 -- their positions are in the set
-inside : (s : Positions) (rs : List (ℕ × ℕ)) (p : ℕ) → All (IsMaximalRun s) rs → is_in_run rs p ≡ true → contains s p ≡ true
+inside : (s : Positions) (rs : List (ℕ × ℕ)) (p : ℕ) → All (IsMaximalRun s) rs → is_in_run rs p ≡ true →
+    contains s p ≡ true
 inside s [] p all h = absurd (cc)
 inside s (r ∷ rs) p all h =
     let here = (All-head (IsMaximalRun s) r rs all).inside p in
@@ -60,7 +61,8 @@ not_in_run s p h = grind (arith, nat_tests, inside, are_maximal_runs)
 ruleset sets = (contains-with_range, contains-shift_up, contains-shift_down, contains-nothing, nat_tests)
 
 -- which positions a scoreboard has
-pub contains-board : (b : ℕ) (s : Positions) (p : ℕ) → contains (board b s) p ≡ (nat_lt p b || (nat_le b p && contains s (p - b)))
+pub contains-board : (b : ℕ) (s : Positions) (p : ℕ) → contains (board b s) p
+    ≡ (nat_lt p b || (nat_le b p && contains s (p - b)))
 contains-board b s p = grind (arith, sets)
 
 -- a membership in a board, as one in the set of its offsets
@@ -130,10 +132,12 @@ module _ (b : ℕ) (s : Positions) (begins : contains s 0 ≡ false) where
   beyond_board = λ i. shift_up (offsets_board i) (front_board i)
 
 -- a range beyond the base
-pub with_range_beyond : (b : ℕ) (s : Positions) (o n : ℕ) → b ≤ o → board b (with_range s (o - b) n) ≡ with_range (board b s) o n
+pub with_range_beyond : (b : ℕ) (s : Positions) (o n : ℕ) → b ≤ o →
+    board b (with_range s (o - b) n) ≡ with_range (board b s) o n
 with_range_beyond b s o n le = same_positions _ _ (λ q. grind (arith, boards))
 
-range_shifted : (b : ℕ) (s : Positions) (o n : ℕ) → b ≤ o → IsShiftedUp b (with_range s (o - b) n) (with_range (shift_up s b) o n)
+range_shifted : (b : ℕ) (s : Positions) (o n : ℕ) → b ≤ o →
+    IsShiftedUp b (with_range s (o - b) n) (with_range (shift_up s b) o n)
 range_shifted b s o n le = λ q. grind (arith, boards)
 
 pub no_room : (most b : ℕ) (s : Positions) (o n : ℕ) → contains s 0 ≡ false → b < o →
@@ -149,11 +153,13 @@ no_room most b s o n begins l =
     (λ many. (omega (arith, at, l), test ∙ many), λ none. sym test ∙ none.1)
 
 -- a range that begins at the base or below
-pub with_range_below : (b : ℕ) (s : Positions) (o n : ℕ) → o ≤ b → with_range (board b s) 0 (o + n) ≡ with_range (board b s) o n
+pub with_range_below : (b : ℕ) (s : Positions) (o n : ℕ) → o ≤ b →
+    with_range (board b s) 0 (o + n) ≡ with_range (board b s) o n
 with_range_below b s o n le = same_positions _ _ (λ q. grind (arith, boards))
 
 -- what the call that adds a range says
-pub added_within : (most : ℕ) (old : Positions) (o n : ℕ) (r : Result (Unit {0}) TooManyHolesError) (new : Positions) → Adds most old o n r new →
+pub added_within : (most : ℕ) (old : Positions) (o n : ℕ) (r : Result (Unit {0}) TooManyHolesError)
+    (new : Positions) → Adds most old o n r new →
     (q : ℕ) → contains new q ≡ true → (contains old q ≡ true) ⊎ ((o ≤ q) × (q < o + n))
 added_within most old o n (Err e) new added q has = inl (sym (ap (λ t. contains t q) added.unchanged) ∙ has)
 added_within most old o n (Ok t) new added q has =
@@ -162,25 +168,32 @@ added_within most old o n (Ok t) new added q has =
     either (cases_Bool (contains old q)) (λ old_has. inl old_has)
     (λ old_none. inr (grind (arith, nat_tests), grind (arith, nat_tests)))
 
-pub added_begins : (most : ℕ) (old : Positions) (o n : ℕ) (r : Result (Unit {0}) TooManyHolesError) (new : Positions) → Adds most old o n r new →
+pub added_begins : (most : ℕ) (old : Positions) (o n : ℕ) (r : Result (Unit {0}) TooManyHolesError)
+    (new : Positions) → Adds most old o n r new →
     contains old 0 ≡ false → 0 < o → contains new 0 ≡ false
 added_begins most old o n r new added misses some =
     either (cases_Bool (contains new 0))
-    (λ has. absurd (either (added_within most old o n r new added 0 has) (λ h. both_ways (contains old 0) misses h) (λ h. omega (arith, h.0, some))))
+    (λ has. absurd (either (added_within most old o n r new added 0 has) (λ h. both_ways (contains old 0) misses h)
+    (λ h. omega (arith, h.0, some))))
     (λ none. none)
 
-pub added_fits : (b most : ℕ) (old : Positions) (o n : ℕ) (r : Result (Unit {0}) TooManyHolesError) (new : Positions) → Adds most old o n r new →
-    ((p : ℕ) → IsTrue (contains old p) → b + p + 1 < 2 ^ 64) → b + o + n < 2 ^ 64 → (p : ℕ) → IsTrue (contains new p) → b + p + 1 < 2 ^ 64
+pub added_fits : (b most : ℕ) (old : Positions) (o n : ℕ) (r : Result (Unit {0}) TooManyHolesError)
+    (new : Positions) → Adds most old o n r new →
+    ((p : ℕ) → IsTrue (contains old p) → b + p + 1 < 2 ^ 64) → b + o + n < 2 ^ 64 → (p : ℕ) →
+    IsTrue (contains new p) → b + p + 1 < 2 ^ 64
 added_fits b most old o n r new added fits word p has =
     either (added_within most old o n r new added p has) (λ h. fits p h) (λ h. omega (arith, h.0, h.1, word))
 
 -- ---- an acknowledgement
 -- to shift by a limit, which no position reaches, is to shift by more
-pub shifted_more : (s : Positions) (limit full count : ℕ) → ((p : ℕ) → IsTrue (contains s p) → p < limit) → count ≡ min full limit →
+pub shifted_more : (s : Positions) (limit full count : ℕ) → ((p : ℕ) → IsTrue (contains s p) → p < limit) →
+    count ≡ min full limit →
     shift_down s count ≡ shift_down s full
-shifted_more s limit full count below least = grind (arith, nat_tests, same_positions, contains-shift_down, false_from_ne_true)
+shifted_more s limit full count below least =
+    grind (arith, nat_tests, same_positions, contains-shift_down, false_from_ne_true)
 
-module _ (b : ℕ) (s : Positions) (next count n : ℕ) (one rest : Positions) (at : b + count ≡ next) (shifted : one ≡ shift_down s count)
+module _ (b : ℕ) (s : Positions) (next count n : ℕ) (one rest : Positions) (at : b + count ≡ next) (shifted : one
+    ≡ shift_down s count)
     (size : n ≡ front one) (left : rest ≡ shift_down one (front one)) where
   -- what is left is what was beyond
   left_at : (p : ℕ) → contains rest p ≡ contains s (p + n + count)
@@ -269,29 +282,44 @@ sizes_up : (b : ℕ) (rs : List (ℕ × ℕ)) → sizes (runs_shifted_up b rs) �
 sizes_up b [] = refl
 sizes_up b (r ∷ rs) = let rest = sizes_up b rs in omega (arith, rest)
 
-pub number_beyond : (b : ℕ) (s : Positions) → contains s 0 ≡ false → sizes (maximal_runs s) ≡ length (positions (beyond (board b s)))
+pub number_beyond : (b : ℕ) (s : Positions) → contains s 0 ≡ false →
+    sizes (maximal_runs s) ≡ length (positions (beyond (board b s)))
 number_beyond b s begins = grind (arith, nat_tests, sizes_up, maximal_runs-shift_up, number_of, beyond_board)
 
-sizes_within : (low limit : ℕ) (rs : List (ℕ × ℕ)) → IsRising low rs → All (λ r. r.1 ≤ limit) rs → low ≤ limit → low + sizes rs ≤ limit
+sizes_within : (low limit : ℕ) (rs : List (ℕ × ℕ)) → IsRising low rs → All (λ r. r.1 ≤ limit) rs → low ≤ limit →
+    low + sizes rs ≤ limit
 sizes_within low limit [] h all le = omega (arith, le)
 sizes_within low limit (r ∷ rs) h all le =
     let here = All-head (λ r. r.1 ≤ limit) r rs all in
-    let rest = sizes_within r.1 limit rs (rising_from r.1 (r.1 + 1) rs (omega arith) h.2) (All-tail (λ r. r.1 ≤ limit) r rs all) here in
+    let rest = sizes_within r.1 limit rs (rising_from r.1 (r.1 + 1) rs (omega arith) h.2)
+    (All-tail (λ r. r.1 ≤ limit) r rs all) here in
     omega (arith, h.0, h.1, rest)
 
 -- they are as few as there are positions below a limit
-pub sizes_few : (limit : ℕ) (s : Positions) → ((p : ℕ) → IsTrue (contains s p) → p < limit) → sizes (maximal_runs s) ≤ limit
+pub sizes_few : (limit : ℕ) (s : Positions) → ((p : ℕ) → IsTrue (contains s p) → p < limit) →
+    sizes (maximal_runs s) ≤ limit
 sizes_few limit s below =
     let all = ends_within are_maximal_runs limit s below in
     let few = sizes_within 0 limit (maximal_runs s) (rising-maximal_runs s) all (omega arith) in
     omega (arith, few)
 
-pub sizes_fit : (b : ℕ) (s : Positions) → ((p : ℕ) → IsTrue (contains s p) → b + p + 1 < 2 ^ 64) → sizes (maximal_runs s) < 2 ^ 64
-sizes_fit b s fits = let few = sizes_few (2 ^ 64 - 1) s (λ p has. let l = fits p has in omega (arith, l)) in omega (arith, few)
+pub sizes_fit : (b : ℕ) (s : Positions) → ((p : ℕ) → IsTrue (contains s p) → b + p + 1 < 2 ^ 64) →
+    sizes (maximal_runs s) < 2 ^ 64
+sizes_fit b s fits = let few = sizes_few (2 ^ 64 - 1) s (λ p has. let l = fits p has in omega (arith, l)) in
+    omega (arith, few)
 
 -- as many runs as are stored
-pub as_many : (h : ScoreboardHead) (rs : List (ℕ × ℕ)) → IsSoundBoard h rs → h.reported.used ≡ length (maximal_runs (beyond (reported_by h rs)))
-as_many h rs sound = grind (arith, nat_tests, beyond_board, maximal_runs-shift_up, length-up, maximal_runs-set_of, length-runs_of)
+pub as_many : (h : ScoreboardHead) (rs : List (ℕ × ℕ)) → IsSoundBoard h rs →
+    h.reported.used ≡ length (maximal_runs (beyond (reported_by h rs)))
+as_many h rs sound = grind (
+  arith,
+  nat_tests,
+  beyond_board,
+  maximal_runs-shift_up,
+  length-up,
+  maximal_runs-set_of,
+  length-runs_of,
+)
 
 -- what is true of its positions
 risen : (low : ℕ) (rs : List (ℕ × ℕ)) → IsRising 0 rs → All (λ r. (low < r.0) × (r.0 < r.1)) rs → IsRising (low + 1) rs
@@ -300,9 +328,11 @@ risen low (r ∷ rs) h all = (omega (arith, (All-head (λ r. (low < r.0) × (r.0
 
 above_base : (b : ℕ) (s : Positions) → contains s 0 ≡ false → (p : ℕ) → contains (shift_up s b) p ≡ true → b < p
 above_base b s begins p has =
-    either (cases_lt b p) (λ l. l) (λ l. let same = ap (contains s) (let e : p - b ≡ 0 = omega (arith, l) in e) in grind (arith, boards))
+    either (cases_lt b p) (λ l. l) (λ l. let same = ap (contains s) (let e : p - b ≡ 0 = omega (arith, l) in e) in
+    grind (arith, boards))
 
-pub sound_positions : (h : ScoreboardHead) (rs : List (ℕ × ℕ)) → IsSoundBoard h rs → front (reported_by h rs) < 2 ^ 64 → IsSoundScoreboard (length rs) (reported_by h rs)
+pub sound_positions : (h : ScoreboardHead) (rs : List (ℕ × ℕ)) → IsSoundBoard h rs →
+    front (reported_by h rs) < 2 ^ 64 → IsSoundScoreboard (length rs) (reported_by h rs)
 sound_positions h rs sound word =
     let b = h.base in
     let s = set_of h.reported rs in
@@ -312,7 +342,8 @@ sound_positions h rs sound word =
       count = omega (arith, as_many h rs sound, sound.runs.room);
       rise =
           risen _ _ (rising-maximal_runs _)
-          (begins_above are_maximal_runs _ _ (λ p has. let l = above_base b s sound.begins p (is p ∙ has) in omega (arith, at, l)));
+          (begins_above are_maximal_runs _ _ (λ p has. let l = above_base b s sound.begins p (is p ∙ has) in
+          omega (arith, at, l)));
       within = ends_below are_maximal_runs _ _ (λ p has. beyond_fits b s sound.fits p (is p ∙ has));
       fits = λ p has. let l = sound.fits (p - b) in grind (arith, boards);
     }
@@ -336,15 +367,18 @@ fewer (r ∷ rs) p =
     (grind (arith, nat_tests), grind (arith, nat_tests))
 
 -- fewer runs tell less
-pub tells_less : (d n : ℕ) (rs : List (ℕ × ℕ)) (p : ℕ) → tell_loss d n rs ≡ false → tell_loss d n (runs_above rs p) ≡ false
+pub tells_less : (d n : ℕ) (rs : List (ℕ × ℕ)) (p : ℕ) → tell_loss d n rs ≡ false →
+    tell_loss d n (runs_above rs p) ≡ false
 tells_less d n rs p h = grind (arith, nat_tests, fewer)
 
 -- what the code counts tells it or not: most is the product, or as large as a number of 64 bits is
-pub few_tell : (d n count bytes most : ℕ) (rs : List (ℕ × ℕ)) → count ≡ length rs → bytes ≡ sizes rs → most ≤ (d - 1) * n →
+pub few_tell : (d n count bytes most : ℕ) (rs : List (ℕ × ℕ)) → count ≡ length rs → bytes ≡ sizes rs →
+    most ≤ (d - 1) * n →
     count < max 1 d → bytes ≤ most → tell_loss d n rs ≡ false
 few_tell d n count bytes most rs e e' product less few = grind (arith, nat_tests)
 
-pub many_tell : (d n count bytes most : ℕ) (rs : List (ℕ × ℕ)) → count ≡ length rs → bytes ≡ sizes rs → (most < bytes → (d - 1) * n ≤ most) →
+pub many_tell : (d n count bytes most : ℕ) (rs : List (ℕ × ℕ)) → count ≡ length rs → bytes ≡ sizes rs →
+    (most < bytes → (d - 1) * n ≤ most) →
     (max 1 d ≤ count) ⊎ (most < bytes) → tell_loss d n rs ≡ true
 many_tell d n count bytes most rs e e' product which = elim which [
   | inl many ↦ grind (arith, nat_tests)
@@ -354,12 +388,21 @@ many_tell d n count bytes most rs e e' product which = elim which [
 -- there is one such limit
 pub one_bound : (d n : ℕ) (s : Positions) (a b : ℕ) → IsLossBound d n s a → IsLossBound d n s b → a ≡ b
 one_bound d n s a b x y =
-    let left : a ≤ b = elim (cases_lt b a) [ inl g ↦ absurd (let m = (y b).1 ((x b).0 g) in omega (arith, m)) | inr l ↦ l ] in
-    let right : b ≤ a = elim (cases_lt a b) [ inl g ↦ absurd (let m = (x a).1 ((y a).0 g) in omega (arith, m)) | inr l ↦ l ] in
+    let left : a ≤ b = elim (cases_lt b a) [
+      | inl g ↦
+          absurd (let m = (y b).1 ((x b).0 g) in omega (arith, m))
+      | inr l ↦ l
+    ] in
+    let right : b ≤ a = elim (cases_lt a b) [
+      | inl g ↦
+          absurd (let m = (x a).1 ((y a).0 g) in omega (arith, m))
+      | inr l ↦ l
+    ] in
     omega (arith, left, right)
 
 -- a range without a position is at the limit
-pub no_hole : (s : Positions) (p limit start end : ℕ) → IsNextHole s p limit start end → end ≤ start → IsNextHole s p limit limit limit
+pub no_hole : (s : Positions) (p limit start end : ℕ) → IsNextHole s p limit start end → end ≤ start →
+    IsNextHole s p limit limit limit
 no_hole s p limit start end h le =
     let same : end ≡ start = omega (arith, h.order, le) in
     let at : start ≡ limit = elim (cases_lt end limit) [
@@ -375,11 +418,13 @@ contains-beyond : (s : Positions) (q : ℕ) → front s ≤ q → contains (beyo
 contains-beyond s q from = grind (arith, nat_tests, contains-shift_up, contains-shift_down)
 
 -- a run that begins at p or below has no position above p, if it lacks p
-counted_above_one : (r : ℕ × ℕ) (rs : List (ℕ × ℕ)) (p q : ℕ) → count_by (lies_in q) (runs_above rs p) ≡ count_by (lies_in q) rs →
+counted_above_one : (r : ℕ × ℕ) (rs : List (ℕ × ℕ)) (p q : ℕ) →
+    count_by (lies_in q) (runs_above rs p) ≡ count_by (lies_in q) rs →
     lies_in p r ≡ false → p < q → count_by (lies_in q) (runs_above (r ∷ rs) p) ≡ count_by (lies_in q) (r ∷ rs)
 counted_above_one r rs p q others h l = grind (arith, nat_tests, common_steps, sum_by-cons)
 
-first_lacks : (r : ℕ × ℕ) (rs : List (ℕ × ℕ)) (p : ℕ) → is_in_run (r ∷ rs) p ≡ false → (lies_in p r ≡ false) × (is_in_run rs p ≡ false)
+first_lacks : (r : ℕ × ℕ) (rs : List (ℕ × ℕ)) (p : ℕ) → is_in_run (r ∷ rs) p ≡ false →
+    (lies_in p r ≡ false) × (is_in_run rs p ≡ false)
 first_lacks r rs p h = (grind arith, grind arith)
 
 counted_above : (rs : List (ℕ × ℕ)) (p q : ℕ) → is_in_run rs p ≡ false → p < q →

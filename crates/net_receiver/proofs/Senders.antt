@@ -39,7 +39,8 @@ lent_says says f w v pos xs s h is =
     let place : (v.first_unacknowledged - f) + (pos - v.first_unacknowledged) ≡ pos - f = omega arith in
     says f pos w xs (omega arith)
     (is ∙ ap (λ q. take (length xs) (drop (pos - v.first_unacknowledged) q)) s.queue
-    ∙ ap (take (length xs)) (drop-drop (pos - v.first_unacknowledged) (v.first_unacknowledged - f) w ∙ ap (λ n. drop n w) place))
+    ∙ ap (take (length xs)) (drop-drop (pos - v.first_unacknowledged) (v.first_unacknowledged - f) w
+    ∙ ap (λ n. drop n w) place))
 
 pub lent_bytes : (f : ℕ) (w : List ℕ) (v : SenderState) (pos : ℕ) (xs : List ℕ) → Sends f w v →
     v.first_unacknowledged ≤ pos → xs ≡ take (length xs) (drop (pos - v.first_unacknowledged) v.queue) →
@@ -47,17 +48,20 @@ pub lent_bytes : (f : ℕ) (w : List ℕ) (v : SenderState) (pos : ℕ) (xs : Li
 lent_bytes = lent_says matches_what_is_there
 
 -- and each of its bytes is kept there
-pub lent_at : (head pos : ℕ) (queue xs : List ℕ) → head ≤ pos → xs ≡ take (length xs) (drop (pos - head) queue) → (q d : ℕ) →
+pub lent_at : (head pos : ℕ) (queue xs : List ℕ) → head ≤ pos →
+    xs ≡ take (length xs) (drop (pos - head) queue) → (q d : ℕ) →
     pos ≤ q → q < pos + length xs → get_or queue (q - head) d ≡ get_or xs (q - pos) d
 lent_at head pos queue xs h is = grind (arith, nat_tests, get_or-take, get_or-drop)
 
 -- as many bytes are lent as are queued there, at most
-pub lent_within : (v : SenderState) (pos most n : ℕ) → (v.first_unacknowledged ≤ pos → n ≡ min most (contiguous_end v pos - pos)) →
+pub lent_within : (v : SenderState) (pos most n : ℕ) →
+    (v.first_unacknowledged ≤ pos → n ≡ min most (contiguous_end v pos - pos)) →
     (pos < v.first_unacknowledged → n ≡ 0) → pos + n ≤ max pos (end_of v)
 lent_within v pos most n count before = grind (arith, nat_tests)
 
 -- what was written is sent after all before
-pub sends_written : (f : ℕ) (w : List ℕ) (v : SenderState) (xs : List ℕ) → Sends f w v → Sends f (w ++ xs) (with_written v xs)
+pub sends_written : (f : ℕ) (w : List ℕ) (v : SenderState) (xs : List ℕ) → Sends f w v →
+    Sends f (w ++ xs) (with_written v xs)
 sends_written f w v xs s = record {
   from = s.from;
   end = omega (arith, length-append {A = ℕ});
@@ -72,21 +76,29 @@ sends_from f w v n low high s =
     record {
       from = omega (arith, s.from);
       end = omega (arith, length-drop (n - v.first_unacknowledged) v.queue, s.end);
-      queue = ap (drop (n - v.first_unacknowledged)) s.queue ∙ drop-drop (n - v.first_unacknowledged) (v.first_unacknowledged - f) w ∙ ap (λ k. drop k w) place;
+      queue = ap (drop (n - v.first_unacknowledged)) s.queue
+          ∙ drop-drop (n - v.first_unacknowledged) (v.first_unacknowledged - f) w ∙ ap (λ k. drop k w) place;
     }
 
 -- nothing was written
 pub fresh_sends : (f capacity : ℕ) → Sends f [] (sender_state capacity f [] (f + capacity))
-fresh_sends f capacity = record { from = omega arith; end = omega arith; queue = sym (drop_all (f - f) [] (omega arith)) }
+fresh_sends f capacity = record {
+  from = omega arith;
+  end = omega arith;
+  queue =
+      sym (drop_all (f - f) [] (omega arith));
+}
 
 -- ---- Several acknowledgements.
 -- what acknowledgements leave
 abbrev Follow : SenderState → List ℕ → SenderState → Type 0
-Follow v ns u = (u.first_unacknowledged ≡ greatest_within (end_of v) v.first_unacknowledged ns) × (v.first_unacknowledged ≤ u.first_unacknowledged) × (end_of u ≡ end_of v)
+Follow v ns u = (u.first_unacknowledged ≡ greatest_within (end_of v) v.first_unacknowledged ns)
+    × (v.first_unacknowledged ≤ u.first_unacknowledged) × (end_of u ≡ end_of v)
     × (u.queue ≡ drop (u.first_unacknowledged - v.first_unacknowledged) v.queue)
 
 nothing_dropped : (v : SenderState) → v.queue ≡ drop (v.first_unacknowledged - v.first_unacknowledged) v.queue
-nothing_dropped v = ap (λ k. drop k v.queue) (let e : 0 ≡ v.first_unacknowledged - v.first_unacknowledged = omega arith in e)
+nothing_dropped v = ap (λ k. drop k v.queue) (let e : 0 ≡ v.first_unacknowledged - v.first_unacknowledged =
+    omega arith in e)
 
 one_follows : (v : SenderState) (n : ℕ) → Follow v (n ∷ []) (acknowledge v n)
 one_follows v n =
@@ -105,11 +117,14 @@ all_follow v (n ∷ ns) =
     let here = one_follows v n in
     let rest = all_follow u ns in
     let w = acknowledge_each u ns in
-    let place : (u.first_unacknowledged - v.first_unacknowledged) + (w.first_unacknowledged - u.first_unacknowledged) ≡ w.first_unacknowledged - v.first_unacknowledged = omega arith in (
+    let place : (u.first_unacknowledged - v.first_unacknowledged) + (w.first_unacknowledged - u.first_unacknowledged)
+    ≡ w.first_unacknowledged - v.first_unacknowledged = omega arith in (
       rest.0 ∙ (λ i. greatest_within (here.2 i) (here.0 i) ns),
       omega arith,
       rest.2 ∙ here.2,
-      rest.3 ∙ ap (drop (w.first_unacknowledged - u.first_unacknowledged)) here.3 ∙ drop-drop (w.first_unacknowledged - u.first_unacknowledged) (u.first_unacknowledged - v.first_unacknowledged) v.queue ∙ ap (λ k. drop k v.queue) place,
+      rest.3 ∙ ap (drop (w.first_unacknowledged - u.first_unacknowledged)) here.3
+          ∙ drop-drop (w.first_unacknowledged - u.first_unacknowledged)
+          (u.first_unacknowledged - v.first_unacknowledged) v.queue ∙ ap (λ k. drop k v.queue) place,
     )
 
 pub queue_from_greatest : QueueFromGreatest
@@ -117,20 +132,36 @@ queue_from_greatest v ns = (let h = all_follow v ns in (h.0, h.2, h.3))
 
 -- ---- The laws of a sender of a stream that ends.
 pub fresh_sent_is_sound : FreshSentIsSound
-fresh_sent_is_sound capacity first = record { closed = omega arith; finished = omega arith; none_left = λ some. refl; low = omega arith; high = omega arith }
+fresh_sent_is_sound capacity first =
+    record {
+      closed = omega arith;
+      finished = omega arith;
+      none_left = λ some. refl;
+      low =
+          omega arith;
+      high = omega arith;
+    }
 
 -- an acknowledgement is accepted, or changes nothing
 acknowledged_by : (P : FiniteSenderState → Type 0) (s : FiniteSenderState) (n : ℕ) →
     (first_number s ≤ n → n ≤ s.sent → P (acknowledged_below s n)) → P s → P (sender_after_command s (Acknowledges n))
 acknowledged_by P s n on off =
     cond_both (accepts s n) (acknowledged_below s n) s P
-    (λ both. (let parts = and_parts _ _ both in on (leb-true (first_number s) n parts.0) (leb-true n s.sent parts.1))) (λ _. off)
+    (λ both. (let parts = and_parts _ _ both in
+    on (leb-true (first_number s) n parts.0) (leb-true n s.sent parts.1))) (λ _. off)
 
 -- bytes are written, or the sender is closed
 written_by : (P : FiniteSenderState → Type 0) (s : FiniteSenderState) (xs : List ℕ) →
-    (s.closed ≡ 0 → P (record { sender = with_written s.sender xs; closed = s.closed; finished = s.finished; sent = s.sent })) → P s → P (with_bytes s xs)
+    (s.closed ≡ 0 → P (record {
+      sender = with_written s.sender xs;
+      closed = s.closed;
+      finished = s.finished;
+      sent =
+          s.sent;
+    })) → P s → P (with_bytes s xs)
 written_by P s xs on off =
-    cond_both (nat_eq s.closed 0) (with_written s.sender xs) s.sender (λ v. P (record { sender = v; closed = s.closed; finished = s.finished; sent = s.sent }))
+    cond_both (nat_eq s.closed 0) (with_written s.sender xs) s.sender
+    (λ v. P (record { sender = v; closed = s.closed; finished = s.finished; sent = s.sent }))
     (λ zero. on (eqb-true s.closed 0 zero)) (λ _. off)
 
 -- which acknowledges nothing
@@ -155,7 +186,8 @@ sound_sent_stays s Closes sound = record {
   high = omega (arith, sound.high, sound.closed);
 }
 sound_sent_stays s (Marks pos) sound =
-    cond_both (nat_le pos (numbers_end s)) (record { sender = s.sender; closed = s.closed; finished = s.finished; sent = max s.sent pos }) s IsSoundSent
+    cond_both (nat_le pos (numbers_end s))
+    (record { sender = s.sender; closed = s.closed; finished = s.finished; sent = max s.sent pos }) s IsSoundSent
     (λ on. (let within = leb-true pos (numbers_end s) on in record {
       closed = sound.closed;
       finished = sound.finished;
@@ -175,25 +207,32 @@ sound_sent_stays s (Acknowledges n) sound =
 
 -- ---- one command
 module _ (s : FiniteSenderState) where
-  one_sends : (c : SenderCommand) (f : ℕ) (w : List ℕ) → Sends f w s.sender → Sends f (w ++ written_of s c) (sender_after_command s c).sender
+  one_sends : (c : SenderCommand) (f : ℕ) (w : List ℕ) → Sends f w s.sender →
+      Sends f (w ++ written_of s c) (sender_after_command s c).sender
   one_sends (Writes xs) f w sends =
       cond_both (nat_eq s.closed 0) (with_written s.sender _) s.sender (Sends f _)
       (λ _. sends_written f w s.sender _ sends)
-      (λ off. subst (λ l. Sends f l s.sender) (sym (append-nil w) ∙ ap (λ l. w ++ l) (sym (ap (λ b. take (min (length xs) (cond b (open_room s.sender) 0)) xs) off ∙ none xs))) sends)
+      (λ off. subst (λ l. Sends f l s.sender) (sym (append-nil w)
+      ∙ ap (λ l. w ++ l) (sym (ap (λ b. take (min (length xs) (cond b (open_room s.sender) 0)) xs) off
+      ∙ none xs))) sends)
     where
       none : (ys : List ℕ) → take (min (length ys) 0) ys ≡ []
       none ys = (let zero : min (length ys) 0 ≡ 0 = omega arith in ap (λ n. take n ys) zero)
   one_sends Closes f w sends = subst (λ l. Sends f l s.sender) (sym (append-nil w)) sends
   one_sends (Marks pos) f w sends =
-      cond_both (nat_le pos (numbers_end s)) (record { sender = s.sender; closed = s.closed; finished = s.finished; sent = max s.sent pos }) s (λ t. Sends f (w ++ []) t.sender)
-      (λ _. subst (λ l. Sends f l s.sender) (sym (append-nil w)) sends) (λ _. subst (λ l. Sends f l s.sender) (sym (append-nil w)) sends)
+      cond_both (nat_le pos (numbers_end s))
+      (record { sender = s.sender; closed = s.closed; finished = s.finished; sent = max s.sent pos }) s
+      (λ t. Sends f (w ++ []) t.sender)
+      (λ _. subst (λ l. Sends f l s.sender) (sym (append-nil w)) sends)
+      (λ _. subst (λ l. Sends f l s.sender) (sym (append-nil w)) sends)
   one_sends (Acknowledges n) f w sends =
       let same = subst (λ l. Sends f l s.sender) (sym (append-nil w)) sends in
       acknowledged_by (λ t. Sends f (w ++ []) t.sender) s n
       (λ low high. sends_from f (w ++ []) s.sender (min n (end_of s.sender)) (omega arith) (omega arith) same) same
 
   one_closed : (c : SenderCommand) → s.closed ≡ 1 →
-      ((sender_after_command s c).closed ≡ 1) × (written_of s c ≡ []) × (end_of (sender_after_command s c).sender ≡ end_of s.sender)
+      ((sender_after_command s c).closed ≡ 1) × (written_of s c ≡ [])
+      × (end_of (sender_after_command s c).sender ≡ end_of s.sender)
   one_closed (Writes xs) e =
       let off : nat_eq s.closed 0 ≡ false = ap (λ n. nat_eq n 0) e in
       let zero : min (length xs) 0 ≡ 0 = omega arith in (
@@ -203,8 +242,10 @@ module _ (s : FiniteSenderState) where
       )
   one_closed Closes e = (refl, refl, refl)
   one_closed (Marks pos) e =
-      cond_both (nat_le pos (numbers_end s)) (record { sender = s.sender; closed = s.closed; finished = s.finished; sent = max s.sent pos }) s
-      (λ t. (t.closed ≡ 1) × (written_of s Closes ≡ []) × (end_of t.sender ≡ end_of s.sender)) (λ _. (e, refl, refl)) (λ _. (e, refl, refl))
+      cond_both (nat_le pos (numbers_end s))
+      (record { sender = s.sender; closed = s.closed; finished = s.finished; sent = max s.sent pos }) s
+      (λ t. (t.closed ≡ 1) × (written_of s Closes ≡ []) × (end_of t.sender ≡ end_of s.sender)) (λ _. (e, refl, refl))
+      (λ _. (e, refl, refl))
   one_closed (Acknowledges n) e =
       let size = length-drop (min n (end_of s.sender) - s.sender.first_unacknowledged) s.sender.queue in
       acknowledged_by (λ t. (t.closed ≡ 1) × (written_of s Closes ≡ []) × (end_of t.sender ≡ end_of s.sender)) s n
@@ -215,19 +256,23 @@ module _ (s : FiniteSenderState) (sound : IsSoundSent s) where
   one_finished (Writes xs) e = e
   one_finished Closes e = e
   one_finished (Marks pos) e =
-      cond_both (nat_le pos (numbers_end s)) (record { sender = s.sender; closed = s.closed; finished = s.finished; sent = max s.sent pos }) s
+      cond_both (nat_le pos (numbers_end s))
+      (record { sender = s.sender; closed = s.closed; finished = s.finished; sent = max s.sent pos }) s
       (λ t. t.finished ≡ 1) (λ _. e) (λ _. e)
   one_finished (Acknowledges n) e =
       let none = sound.none_left (omega arith) in
       acknowledged_by (λ t. t.finished ≡ 1) s n (λ low high. omega (arith, sound.high, sound.closed)) e
 
-  pub all_acknowledged : (f : ℕ) (w : List ℕ) → Sends f w s.sender → s.finished ≡ 1 → (s.closed ≡ 1) × (s.sender.first_unacknowledged ≡ f + length w)
+  pub all_acknowledged : (f : ℕ) (w : List ℕ) → Sends f w s.sender → s.finished ≡ 1 →
+      (s.closed ≡ 1) × (s.sender.first_unacknowledged ≡ f + length w)
   all_acknowledged f w sends e =
-      let none = sound.none_left (omega arith) in (omega (arith, sound.finished, sound.closed), omega (arith, sends.end))
+      let none = sound.none_left (omega arith) in
+      (omega (arith, sound.finished, sound.closed), omega (arith, sends.end))
 
 -- as many bytes were written as have room
 pub sends_bytes : (f : ℕ) (w : List ℕ) (s : FiniteSenderState) (n : ℕ) (bytes : List ℕ) →
-    n ≡ min (length bytes) (finite_room s) → Sends f w s.sender → Sends f (w ++ take n bytes) (with_bytes s (take n bytes)).sender
+    n ≡ min (length bytes) (finite_room s) → Sends f w s.sender →
+    Sends f (w ++ take n bytes) (with_bytes s (take n bytes)).sender
 sends_bytes f w s n bytes e sends =
     subst (λ k. Sends f (w ++ take k bytes) (with_bytes s (take k bytes)).sender) (sym e)
     (one_sends s (Writes bytes) f w sends)
@@ -263,7 +308,8 @@ module _ (s : FiniteSenderState) (pos limit : ℕ) (xs : List ℕ) where
   lent_none false lent above = (nil_from_length xs (omega (arith, lent_below false lent)), refl)
   lent_none true lent above = (let at = lent.end.0 refl in absurd (omega (arith, at.2)))
 
-  pub lent_numbers : (last : Bool) → IsLent s pos limit xs last → pos ≤ numbers_end s → pos + length xs + from_bool last ≤ numbers_end s
+  pub lent_numbers : (last : Bool) → IsLent s pos limit xs last → pos ≤ numbers_end s →
+      pos + length xs + from_bool last ≤ numbers_end s
   lent_numbers false lent low = omega (arith, lent_below false lent)
   lent_numbers true lent low = (let at = lent.end.0 refl in omega (arith, at.0, at.1))
 
@@ -271,15 +317,18 @@ module _ (s : FiniteSenderState) (pos limit : ℕ) (xs : List ℕ) where
   lent_beyond false lent above = (nil_from_length xs (omega (arith, lent_below false lent)), refl)
   lent_beyond true lent above = (let at = lent.end.0 refl in absurd (omega (arith, at.0, at.1)))
 
-  pub lent_some : (last : Bool) → IsLent s pos limit xs last → s.sender.first_unacknowledged ≤ pos → pos < end_of s.sender →
+  pub lent_some : (last : Bool) → IsLent s pos limit xs last → s.sender.first_unacknowledged ≤ pos →
+      pos < end_of s.sender →
       pos < limit → 0 < length xs
   lent_some last lent from below room = let count = lent.count from in grind (arith, nat_tests, count)
 
-  pub lent_written : (last : Bool) → IsLent s pos limit xs last → pos ≤ end_of s.sender → pos + length xs ≤ end_of s.sender
+  pub lent_written : (last : Bool) → IsLent s pos limit xs last → pos ≤ end_of s.sender →
+      pos + length xs ≤ end_of s.sender
   lent_written last lent low = omega (arith, lent_below last lent)
 
 -- what a head lends has numbers that there are
-pub sent_within : (capacity : ℕ) (h : FiniteSenderHead) (pos limit at total size : ℕ) (last : Bool) → IsSoundFiniteSender capacity h →
+pub sent_within : (capacity : ℕ) (h : FiniteSenderHead) (pos limit at total size : ℕ) (last : Bool) →
+    IsSoundFiniteSender capacity h →
     LendsAt capacity h pos limit at total size last → 0 < size + from_bool last →
     pos + (size + from_bool last) ≤ h.sender.first_unacknowledged + h.sender.place.length + h.closed
 sent_within capacity h pos limit at total size last sound lends some =
@@ -287,8 +336,10 @@ sent_within capacity h pos limit at total size last sound lends some =
     let all : length storage ≡ capacity = length-replicate capacity 0 in
     let s = finite_sender_of h storage in
     let xs = take size (drop at storage) in
-    let queued = length-queue (ring_at storage h.sender.place) (subst (λ k. IsSound k h.sender.place) (sym all) sound.sender.place) in
-    let long : length xs ≡ size = omega (arith, length-take size (drop at storage), length-drop at storage, lends.within, all) in
+    let queued = length-queue (ring_at storage h.sender.place)
+    (subst (λ k. IsSound k h.sender.place) (sym all) sound.sender.place) in
+    let long : length xs ≡ size =
+    omega (arith, length-take size (drop at storage), length-drop at storage, lends.within, all) in
     let lent = lends.lent storage all in
     either (cases_lt (numbers_end s) pos)
     (λ above. let none = lent_beyond s pos limit xs last lent above in
@@ -296,7 +347,8 @@ sent_within capacity h pos limit at total size last sound lends some =
     (λ low. let numbers = lent_numbers s pos limit xs last lent low in omega (arith, numbers, long, queued))
 
 -- a segment of what was written is one of what is written in all: only the last one ends it
-pub matches_later : MatchesLonger → (f : ℕ) (w more : List ℕ) (pos : ℕ) (xs : List ℕ) (last : Bool) → (IsTrue last → more ≡ []) →
+pub matches_later : MatchesLonger → (f : ℕ) (w more : List ℕ) (pos : ℕ) (xs : List ℕ) (last : Bool) →
+    (IsTrue last → more ≡ []) →
     MatchesFinite f w pos xs last → MatchesFinite f (w ++ more) pos xs last
 matches_later says f w more pos xs last none m = record {
   bytes = says f pos w more xs m.bytes;
@@ -315,11 +367,13 @@ pub lent_later : (s : FiniteSenderState) (pos limit : ℕ) (xs : List ℕ) (last
     (f : ℕ) (w more : List ℕ) → Sends f w s.sender → s.sender.first_unacknowledged ≤ pos → (s.closed ≡ 1 → more ≡ []) →
     MatchesFinite f (w ++ more) pos xs last
 lent_later s pos limit xs last lent f w more sends from ended =
-    matches_later matches_longer f w more pos xs last (λ on. ended (lent.end.0 on).0) (lent_matches s pos limit xs last lent f w sends from)
+    matches_later matches_longer f w more pos xs last (λ on. ended (lent.end.0 on).0)
+    (lent_matches s pos limit xs last lent f w sends from)
 
 pub lent_is_of_stream : LentIsOfStream
 lent_is_of_stream s cs f w pos xs sound sends low is =
-    let ends = λ (on : IsTrue (has_end_at s (pos + length xs))). and_parts (nat_eq s.closed 1) (nat_eq (pos + length xs) (end_of s.sender)) on in
+    let ends = λ (on : IsTrue (has_end_at s (pos + length xs))). and_parts (nat_eq s.closed 1)
+    (nat_eq (pos + length xs) (end_of s.sender)) on in
     matches_later matches_longer f w (bytes_written s cs) pos xs _
     (λ on. ((closed_stays s cs f w sound sends).1 (eqb-true s.closed 1 (ends on).0)).1)
     (record {
@@ -328,7 +382,8 @@ lent_is_of_stream s cs f w pos xs sound sends low is =
     })
 
 -- ---- What a receiver reads of what a sender sends.
-sound_after : (s : FiniteSenderState) (cs : List SenderCommand) → IsSoundSent s → IsSoundSent (sender_after_commands s cs)
+sound_after : (s : FiniteSenderState) (cs : List SenderCommand) → IsSoundSent s →
+    IsSoundSent (sender_after_commands s cs)
 sound_after s [] sound = sound
 sound_after s (c ∷ cs) sound = sound_after (sender_after_command s c) cs (sound_sent_stays s c sound)
 
@@ -340,7 +395,8 @@ written_append s (c ∷ cs) ds =
     ap (λ l. written_of s c ++ l) (written_append t cs ds)
     ∙ sym (append_assoc (written_of s c) (bytes_written t cs) (bytes_written (sender_after_commands t cs) ds))
 
-module _ (first capacity : ℕ) (ws : List SenderCommand) (sends : Sends first [] (fresh_finite_sender capacity first).sender) where
+module _ (first capacity : ℕ) (ws : List SenderCommand)
+    (sends : Sends first [] (fresh_finite_sender capacity first).sender) where
   one_matches : (c : FiniteCommand) → ComesFrom (fresh_finite_sender capacity first) ws c →
       CommandMatches first (bytes_written (fresh_finite_sender capacity first) ws) c
   one_matches (Arrives pos xs last) it =
@@ -351,7 +407,8 @@ module _ (first capacity : ℕ) (ws : List SenderCommand) (sends : Sends first [
       (closed_stays s it.before first [] sound sends).0 it.low it.bytes in
       let all : bytes_written s ws ≡ bytes_written s it.before ++ bytes_written u it.after =
       ap (λ l. bytes_written s l) it.moment ∙ written_append s it.before it.after in
-      subst (λ x. MatchesFinite first x pos xs last) (sym all) (record { bytes = m.bytes; end = λ on. m.end (it.end on) })
+      subst (λ x. MatchesFinite first x pos xs last) (sym all)
+      (record { bytes = m.bytes; end = λ on. m.end (it.end on) })
   one_matches (Reads n) it = it
 
   all_match : (cs : List FiniteCommand) → All (ComesFrom (fresh_finite_sender capacity first) ws) cs →
@@ -364,20 +421,25 @@ nothing_sent : (first capacity : ℕ) → Sends first [] (fresh_finite_sender ca
 nothing_sent first capacity = fresh_sends first capacity
 
 -- what is acknowledged is what an acknowledgement said
-number_stays : (a : ℕ) (s : FiniteSenderState) (c : SenderCommand) → SaysAtMost a c → first_number s ≤ a → first_number (sender_after_command s c) ≤ a
+number_stays : (a : ℕ) (s : FiniteSenderState) (c : SenderCommand) → SaysAtMost a c → first_number s ≤ a →
+    first_number (sender_after_command s c) ≤ a
 number_stays a s (Writes xs) says low =
-    cond_both (nat_eq s.closed 0) (with_written s.sender (take (min (length xs) (finite_room s)) xs)) s.sender (λ v. v.first_unacknowledged + s.finished ≤ a) (λ _. low) (λ _. low)
+    cond_both (nat_eq s.closed 0) (with_written s.sender (take (min (length xs) (finite_room s)) xs)) s.sender
+    (λ v. v.first_unacknowledged + s.finished ≤ a) (λ _. low) (λ _. low)
 number_stays a s Closes says low = low
 number_stays a s (Marks pos) says low =
-    cond_both (nat_le pos (numbers_end s)) (record s { sent = max s.sent pos }) s (λ u. first_number u ≤ a) (λ _. low) (λ _. low)
+    cond_both (nat_le pos (numbers_end s)) (record s { sent = max s.sent pos }) s (λ u. first_number u
+    ≤ a) (λ _. low) (λ _. low)
 number_stays a s (Acknowledges n) says low =
     let least : n ≤ a = says in
     cond_both (accepts s n) (acknowledged_below s n) s (λ u. first_number u ≤ a) (λ _. omega arith) (λ _. low)
 
-numbers_stay : (a : ℕ) (s : FiniteSenderState) (cs : List SenderCommand) → All (SaysAtMost a) cs → first_number s ≤ a → first_number (sender_after_commands s cs) ≤ a
+numbers_stay : (a : ℕ) (s : FiniteSenderState) (cs : List SenderCommand) → All (SaysAtMost a) cs →
+    first_number s ≤ a → first_number (sender_after_commands s cs) ≤ a
 numbers_stay a s [] all low = low
 numbers_stay a s (c ∷ cs) all low =
-    numbers_stay a (sender_after_command s c) cs (All-tail (SaysAtMost a) c cs all) (number_stays a s c (All-head (SaysAtMost a) c cs all) low)
+    numbers_stay a (sender_after_command s c) cs (All-tail (SaysAtMost a) c cs all)
+    (number_stays a s c (All-head (SaysAtMost a) c cs all) low)
 
 begins_at : (f : ℕ) (x : List ℕ) (v : ReceiverState) → ReceivesFrom f x v → v.first ≡ f
 unfolding ReceivesFrom
@@ -390,7 +452,8 @@ any_path_carries N first to_send to_receive ws cs fits from =
     let x = bytes_written s ws in
     let t = finite_after_commands N (fresh_finite first to_receive) cs in
     let n = next_position t.receiver in
-    let read = reads_the_stream N first to_receive x cs fits (all_match first to_send ws (nothing_sent first to_send) cs from) in
+    let read = reads_the_stream N first to_receive x cs fits
+    (all_match first to_send ws (nothing_sent first to_send) cs from) in
     let fresh = fresh_sent_is_sound to_send first in
     let sound = sound_after s ws fresh in
     let sends = (closed_stays s ws first [] fresh (nothing_sent first to_send)).0 in
@@ -405,12 +468,14 @@ any_path_carries N first to_send to_receive ws cs fits from =
           let number = numbers_stay (acknowledged t) s ws says (omega (arith, reach, begun)) in
           let starts = sends.from in
           let ends = sends.end in
-          let place : (u.sender.first_unacknowledged - first) + (n - u.sender.first_unacknowledged) ≡ n - first = omega (arith, reach, number, starts) in (
+          let place : (u.sender.first_unacknowledged - first) + (n - u.sender.first_unacknowledged) ≡ n - first =
+          omega (arith, reach, number, starts) in (
             omega (arith, reach, number),
             ⊎_elim (λ (l : 0 < u.finished). absurd (omega (arith, reach, number, within, at, ends, sound.none_left l)))
                 (λ (l : u.finished ≤ 0). omega arith) (cases_lt 0 u.finished),
             ap (drop (n - u.sender.first_unacknowledged)) sends.queue
-                ∙ drop-drop (n - u.sender.first_unacknowledged) (u.sender.first_unacknowledged - first) x ∙ ap (λ k. drop k x) place,
+                ∙ drop-drop (n - u.sender.first_unacknowledged) (u.sender.first_unacknowledged - first) x
+                ∙ ap (λ k. drop k x) place,
           ),
     )
 

@@ -49,7 +49,8 @@ use Rattle.net_receiver.proofs.Heads.{sound_joined, sound_read}
 use Rattle.std.specs.FinMap as fin
 
 -- ---- From what a run did to what is stored to the theorems on schedules.
-pub ran : {most : ℕ} {v u : ReceiverState} {cs : List CommandValue} {rs : List ReplyValue} {complete : Type 0} → Executes most v u cs rs complete →
+pub ran : {most : ℕ} {v u : ReceiverState} {cs : List CommandValue} {rs : List ReplyValue} {complete : Type 0} →
+    Executes most v u cs rs complete →
     (s : KeptState) → Refines v s → ExecutesFor most v u cs rs complete s
 ran {most} {v} {u} {cs} run s d =
     let k = run.prefix.count in
@@ -63,7 +64,8 @@ ran {most} {v} {u} {cs} run s d =
       prefix = run.prefix;
       refines = refines;
       replies = replies;
-      stream = λ x agrees. (λ i. bytes_read (replies i) ++ (refines.queue ∙ ap (λ w. queue w t) same) i) ∙ stream w x s (take k cs) agrees;
+      stream = λ x agrees. (λ i. bytes_read (replies i) ++ (refines.queue ∙ ap (λ w. queue w t) same) i)
+          ∙ stream w x s (take k cs) agrees;
       accepts =
           λ follows. subst (All IsAccepted) (sym replies)
           (recover w (take k cs) s (missing w s) (le_refl _) (follows_prefix w cs k s (missing w s) follows)).accepted;
@@ -89,7 +91,8 @@ pub fresh_sound : (most f capacity : ℕ) → runs nothing ≤ most → IsSound 
 fresh_sound most f capacity few = record {
   few =
       subst (λ t. runs t ≤ most)
-      (sym (same_positions (domain fin.empty) nothing (λ q. contains-domain fin.empty q ∙ not_held q ∙ sym (contains-nothing q))))
+      (sym (same_positions (domain fin.empty) nothing (λ q. contains-domain fin.empty q ∙ not_held q
+      ∙ sym (contains-nothing q))))
       few;
   above = λ p h. absurd (both_ways _ (not_held p) h);
   below = λ p h. absurd (both_ways _ (not_held p) h);
@@ -101,7 +104,8 @@ unfolding byte_at
 fresh_refines f capacity =
     let w : Setting = record { first = f; capacity = capacity; most_runs = 0 } in
     let none : queued w fresh_kept ≡ 0 =
-    ⊎_elim (λ (l : 0 < queued w fresh_kept). absurd (both_ways false refl (queued_covered w fresh_kept f (omega arith) (omega arith))))
+    ⊎_elim (λ (l : 0 < queued w fresh_kept). absurd
+    (both_ways false refl (queued_covered w fresh_kept f (omega arith) (omega arith))))
     (λ (l : queued w fresh_kept ≤ 0). omega arith) (cases_lt 0 (queued w fresh_kept)) in
     record {
       read = refl;
@@ -119,7 +123,8 @@ abbrev counted : ℕ → List (ℕ × ℕ) → ℕ
 counted p rs = count_by (lies_in p) rs
 
 -- where some are counted, p is not below the first position of one of them
-from_one : (p : ℕ) (rs : List (ℕ × ℕ)) (d : ℕ × ℕ) → 0 < counted p rs → (i : ℕ) × (i < length rs) × ((get_or rs i d).0 ≤ p)
+from_one : (p : ℕ) (rs : List (ℕ × ℕ)) (d : ℕ × ℕ) → 0 < counted p rs →
+    (i : ℕ) × (i < length rs) × ((get_or rs i d).0 ≤ p)
 from_one p [] d some = absurd (omega arith)
 from_one p (r ∷ rs) d some = by (lies_in p r) refl (from_one p rs d)
   where
@@ -150,13 +155,15 @@ module _ (s : Positions) where
         λ k d m.
             let at = from_one p (drop 3 rs) d l in
             let apart = rising k (3 + at.0) d (omega arith) (omega (arith, at.1)) in
-            rw (get_or-take 3 rs k d (omega arith)) (omega (arith, apart, at.2, ap (λ (r : ℕ × ℕ). r.0) (get_or-drop 3 rs at.0 d))),
+            rw (get_or-take 3 rs k d (omega arith))
+            (omega (arith, apart, at.2, ap (λ (r : ℕ × ℕ). r.0) (get_or-drop 3 rs at.0 d))),
       ))
       (λ (l : counted p (drop 3 rs) ≤ 0). inl (omega arith))
       (cases_lt 0 (counted p (drop 3 rs)))
 
   -- the first three, as a list
-  listed : (rs : List (ℕ × ℕ)) → (runs_of_sack (first_three rs) ≡ take 3 rs) × (first_three rs ≡ first_three (take 3 rs))
+  listed : (rs : List (ℕ × ℕ)) → (runs_of_sack (first_three rs) ≡ take 3 rs)
+      × (first_three rs ≡ first_three (take 3 rs))
   listed [] = (refl, refl)
   listed (a ∷ []) = (refl, refl)
   listed (a ∷ b ∷ []) = (refl, refl)
@@ -169,15 +176,21 @@ module _ (s : Positions) where
       record {
         entries = (listed rs).1 ∙ ap first_three same;
         maximal = subst (All (IsMaximalRun s)) same (All-take (IsMaximalRun s) 3 rs maximal);
-        rising = subst IsRising same (λ i j d l m. rw (get_or-take 3 rs i d (omega arith), get_or-take 3 rs j d (omega arith)) (rising i j d l (omega arith)));
-        complete = λ p h. subst (λ l. (counted p l ≡ 1) ⊎ ((length l ≡ 3) × All (λ (r : ℕ × ℕ). r.1 < p) l)) same (others rs rising p (complete p h));
+        rising = subst IsRising same
+            (λ i j d l m. rw (
+              get_or-take 3 rs i d (omega arith),
+              get_or-take 3 rs j d (omega arith),
+            ) (rising i j d l (omega arith)));
+        complete = λ p h. subst (λ l. (counted p l ≡ 1) ⊎ ((length l ≡ 3) × All (λ (r : ℕ × ℕ). r.1 < p) l)) same
+            (others rs rising p (complete p h));
       }
 
 abbrev sack_of : Result Kept TooManyHolesError → List (Option (ℕ × ℕ))
 sack_of (Ok kept) = kept.sack
 sack_of (Err e) = []
 
-told : (n : Result KeptBytes TooManyHolesError) (h : Positions) (kept : Kept) → with_sack n h ≡ Ok kept → first_three (maximal_runs h) ≡ kept.sack
+told : (n : Result KeptBytes TooManyHolesError) (h : Positions) (kept : Kept) → with_sack n h ≡ Ok kept →
+    first_three (maximal_runs h) ≡ kept.sack
 told (Ok n) h kept e = ap sack_of e
 told (Err x) h kept e = absurd (both_ways true (sym (ap is_ok e)) refl)
 
@@ -205,8 +218,10 @@ module _ (most : ℕ) where
       record {
         commands = cs ++ rest.commands;
         prefixes = (run.prefix, rest.commands, refl, rest.prefixes);
-        state = rest.state ∙ ap (λ x. receiver_after_commands most x rest.commands) run.state ∙ sym (after_all_append most cs rest.commands v);
-        replies = (λ i. run.replies i ++ (rest.replies ∙ ap (λ x. receiver_replies most x rest.commands) run.state) i) ∙ sym (replies_append most cs rest.commands v);
+        state = rest.state ∙ ap (λ x. receiver_after_commands most x rest.commands) run.state
+            ∙ sym (after_all_append most cs rest.commands v);
+        replies = (λ i. run.replies i ++ (rest.replies ∙ ap (λ x. receiver_replies most x rest.commands) run.state) i)
+            ∙ sym (replies_append most cs rest.commands v);
       }
 
   pub compose : (v u : ReceiverState) (calls : List ReplayCall) → Replays most v calls u → Composes most v calls u
@@ -245,7 +260,8 @@ calls_are most v u [] is = (refl, is)
 calls_are most v u (call ∷ calls) is =
     let rest = calls_are most is.1 u calls is.3 in
     let left = is.2 in (
-      (λ i. is.0 i ∷ rest.0 i) ∙ ap (λ x. receiver_reply most v call.0 ∷ receiver_replies most x (map (λ c. c.0) calls)) left,
+      (λ i. is.0 i ∷ rest.0 i) ∙ ap
+          (λ x. receiver_reply most v call.0 ∷ receiver_replies most x (map (λ c. c.0) calls)) left,
       rest.1 ∙ ap (λ x. receiver_after_commands most x (map (λ c. c.0) calls)) left,
     )
 
@@ -260,7 +276,8 @@ calls_reply w v u calls fresh is =
 pub calls_go_on : CallsGoOn
 calls_go_on most v u t [] c r is told left =
     (told ∙ ap (λ x. receiver_reply most x c) is, t, left ∙ ap (λ x. receiver_after_command most x c) is, refl)
-calls_go_on most v u t (call ∷ calls) c r is told left = (is.0, is.1, is.2, calls_go_on most is.1 u t calls c r is.3 told left)
+calls_go_on most v u t (call ∷ calls) c r is told left =
+    (is.0, is.1, is.2, calls_go_on most is.1 u t calls c r is.3 told left)
 
 -- ---- keep
 abbrev reply_of : ReplyValue → Result Kept TooManyHolesError → Result Kept TooManyHolesError
@@ -275,23 +292,27 @@ pub keep_replies : KeepReplies
 keep_replies most pos xs v r is = sym (ap without_runs (ap (λ x. reply_of x r) is) ∙ without_sack _ _)
 
 -- ---- replay
-replies_take : (w : Setting) (s : KeptState) (k : ℕ) (cs : List CommandValue) → replies_from w s (take k cs) ≡ take k (replies_from w s cs)
+replies_take : (w : Setting) (s : KeptState) (k : ℕ) (cs : List CommandValue) →
+    replies_from w s (take k cs) ≡ take k (replies_from w s cs)
 unfolding replies_from
 replies_take w s zero cs = refl
 replies_take w s (suc k) [] = refl
 replies_take w s (suc k) (c ∷ cs) = ap (λ rs. (step w s c).1 ∷ rs) (replies_take w (step w s c).0 k cs)
 
-pub replay_replies : {most : ℕ} {v u : ReceiverState} {cs : List CommandValue} {rs : List ReplyValue} {complete : Type 0} →
+pub replay_replies : {most : ℕ} {v u : ReceiverState} {cs : List CommandValue} {rs : List ReplyValue}
+    {complete : Type 0} →
     Executes most v u cs rs complete → (first capacity : ℕ) → v ≡ fresh_receiver first capacity →
     RepliesAre (record { first = first; capacity = capacity; most_runs = most }) cs rs complete
 replay_replies {most} {v} {u} {cs} {rs} run first capacity new =
     let w : Setting = record { first = first; capacity = capacity; most_runs = most } in
     let k = run.prefix.count in
-    let these : rs ≡ replies w (take k cs) = run.replies ∙ ap (λ x. receiver_replies most x (take k cs)) new ∙ fresh_replies w (take k cs) in
+    let these : rs ≡ replies w (take k cs) = run.replies ∙ ap (λ x. receiver_replies most x (take k cs)) new
+    ∙ fresh_replies w (take k cs) in
     let some : rs ≡ take k (replies w cs) = these ∙ replies_take w fresh_kept k cs in
     let size = ap length some ∙ length-take k (replies w cs) in (
       some ∙ sym (take_min k (replies w cs)) ∙ ap (λ n. take n (replies w cs)) (sym size),
-      λ done. these ∙ ap (replies w) (ap (λ n. take n cs) (run.prefix.whole done) ∙ take_all (length cs) cs (le_refl _)),
+      λ done. these ∙ ap (replies w) (ap (λ n. take n cs) (run.prefix.whole done)
+          ∙ take_all (length cs) cs (le_refl _)),
     )
 
 -- ---- Every sound receiver represents a kept list: what was read, the queue, and a piece for each held byte.
@@ -311,17 +332,20 @@ either true false x = refl
 either false true x = refl
 either false false x = refl
 
-singles_at : (m : HeldBytes) (ks : List ℕ) (q : ℕ) → byte_at (map (single m) ks) q ≡ cond (has ks q) (Some (held_value m q)) None
+singles_at : (m : HeldBytes) (ks : List ℕ) (q : ℕ) → byte_at (map (single m) ks) q
+    ≡ cond (has ks q) (Some (held_value m q)) None
 unfolding byte_at
 singles_at m [] q = refl
-singles_at m (k ∷ ks) q = (λ i. option_or (singles_at m ks q i) (single_at m k q i)) ∙ either (q == k) (has ks q) (held_value m q)
+singles_at m (k ∷ ks) q = (λ i. option_or (singles_at m ks q i) (single_at m k q i))
+    ∙ either (q == k) (has ks q) (held_value m q)
 
 whole : (o : Option ℕ) → cond (is_some o) (Some (unwrap_or o 0)) None ≡ o
 whole None = refl
 whole (Some x) = refl
 
 held_at : (m : HeldBytes) (q : ℕ) → byte_at (map (single m) (fin.keys m)) q ≡ fin.get m q
-held_at m q = singles_at m (fin.keys m) q ∙ ap (λ b. cond b (Some (held_value m q)) None) (contains-keys m q) ∙ whole (fin.get m q)
+held_at m q = singles_at m (fin.keys m) q ∙ ap (λ b. cond b (Some (held_value m q)) None) (contains-keys m q)
+    ∙ whole (fin.get m q)
 
 cond_held : (b : Bool) (o : Option ℕ) → cond b o None ≡ cond (b && is_some o) o None
 cond_held true None = refl
@@ -329,9 +353,11 @@ cond_held true (Some x) = refl
 cond_held false o = refl
 
 -- a list is read by its positions
-row : (g : ℕ → ℕ) (xs : List ℕ) (p : ℕ) → ((q i b : ℕ) → q ≡ p + i → slice_get xs i ≡ Some b → g q ≡ b) → xs ≡ map g (range_with_len p (length xs))
+row : (g : ℕ → ℕ) (xs : List ℕ) (p : ℕ) → ((q i b : ℕ) → q ≡ p + i → slice_get xs i ≡ Some b → g q ≡ b) →
+    xs ≡ map g (range_with_len p (length xs))
 row g [] p at = refl
-row g (x ∷ xs) p at = λ i. sym (at p 0 x (omega arith) refl) i ∷ row g xs (p + 1) (λ q j b e is. at q (suc j) b (omega arith) is) i
+row g (x ∷ xs) p at = λ i. sym (at p 0 x (omega arith) refl) i ∷ row g xs (p
+    + 1) (λ q j b e is. at q (suc j) b (omega arith) is) i
 
 module _ (most : ℕ) (v : ReceiverState) (sound : IsSound most v) where
   abbrev read_piece : Piece
@@ -343,15 +369,19 @@ module _ (most : ℕ) (v : ReceiverState) (sound : IsSound most v) where
   abbrev pub kept : List Piece
   kept = read_piece ∷ queue_piece ∷ map (single v.held) (fin.keys v.held)
 
-  byte_is : (p : ℕ) → byte_at kept p ≡ option_or (option_or (fin.get v.held p) (piece_byte_at queue_piece p)) (piece_byte_at read_piece p)
+  byte_is : (p : ℕ) → byte_at kept p
+      ≡ option_or (option_or (fin.get v.held p) (piece_byte_at queue_piece p)) (piece_byte_at read_piece p)
   unfolding byte_at
-  byte_is p = ap (λ o. option_or (option_or o (piece_byte_at queue_piece p)) (piece_byte_at read_piece p)) (held_at v.held p)
+  byte_is p = ap (λ o. option_or (option_or o (piece_byte_at queue_piece p)) (piece_byte_at read_piece p))
+      (held_at v.held p)
 
   low : (p : ℕ) → p ≤ next_position v → fin.get v.held p ≡ None
-  low p h = none_of (fin.get v.held p) (false_from_ne_true _ (λ is. (let above = sound.above p is in absurd (omega arith))))
+  low p h = none_of (fin.get v.held p)
+      (false_from_ne_true _ (λ is. (let above = sound.above p is in absurd (omega arith))))
 
   no_piece : (e : Piece) (p : ℕ) → end e ≤ p → piece_byte_at e p ≡ None
-  no_piece e p h = none_of (piece_byte_at e p) (false_from_ne_true _ (λ is. (let within = piece_at e p is in absurd (omega (arith, within.1)))))
+  no_piece e p h = none_of (piece_byte_at e p)
+      (false_from_ne_true _ (λ is. (let within = piece_at e p is in absurd (omega (arith, within.1)))))
 
   read_end : end read_piece ≡ v.first + v.read
   read_end = ap (λ n. v.first + n) (length-replicate v.read 0)
@@ -359,7 +389,8 @@ module _ (most : ℕ) (v : ReceiverState) (sound : IsSound most v) where
   above : (p : ℕ) → next_position v ≤ p → byte_at kept p ≡ fin.get v.held p
   above p h =
       byte_is p
-      ∙ (λ i. option_or (option_or (fin.get v.held p) (no_piece queue_piece p (omega arith) i)) (no_piece read_piece p (omega (arith, read_end)) i))
+      ∙ (λ i. option_or (option_or (fin.get v.held p) (no_piece queue_piece p (omega arith) i))
+      (no_piece read_piece p (omega (arith, read_end)) i))
       ∙ option_or-none _ ∙ option_or-none _
 
   queued_byte : (p b : ℕ) → p < next_position v → piece_byte_at queue_piece p ≡ Some b → byte_at kept p ≡ Some b
@@ -415,7 +446,8 @@ module _ (most : ℕ) (v : ReceiverState) (sound : IsSound most v) where
             ap (λ o. unwrap_or o 0)
             (queued_byte q b (omega arith) (piece_from queue_piece q (omega arith) ∙ ap (slice_get v.queue) on ∙ is)))
             ∙ ap (λ n. map (byte kept) (range_with_len (v.first + v.read) n)) size;
-        held = λ p. subst (λ n. fin.get v.held p ≡ cond (nat_lt n p && is_covered kept p) (byte_at kept p) None) (sym same) (held_is p);
+        held = λ p. subst (λ n. fin.get v.held p ≡ cond (nat_lt n p && is_covered kept p) (byte_at kept p) None)
+            (sym same) (held_is p);
       }
 
 pub sound_represents : SoundRepresents
@@ -429,10 +461,12 @@ module _ (p q here there : List ℕ) (at : ℕ) (h : here ≡ take (length here)
 
   pub differ : not (pointwise nat_eq (take (length there) here) there) ≡ true → p ≡ q → ⊥
   differ other e =
-      let same = (bytes_decides (take (length there) here) there).1 (prefix_is ∙ ap (λ xs. take (length there) (drop at xs)) e ∙ sym t) in
+      let same = (bytes_decides (take (length there) here) there).1 (prefix_is
+      ∙ ap (λ xs. take (length there) (drop at xs)) e ∙ sym t) in
       both_ways true (sym other ∙ ap not same) refl
 
-  pub go_on : not (pointwise nat_eq (take (length there) here) there) ≡ false → take at p ≡ take at q → take (at + length there) p ≡ take (at + length there) q
+  pub go_on : not (pointwise nat_eq (take (length there) here) there) ≡ false → take at p ≡ take at q →
+      take (at + length there) p ≡ take (at + length there) q
   go_on alike before =
       let same = (bytes_decides (take (length there) here) there).0 (is_true _ alike) in
       take-add at (length there) p
@@ -454,7 +488,8 @@ worked_refusal = refl
 
 -- ---- What is true of every receiver is true of a fresh one, and is kept by each command.
 -- ---- the positions of a set from one on that is not in it
-longer : (b c : Bool) (k : ℕ) (xs ys : List ℕ) → length xs ≤ length ys → (b ≡ true → c ≡ true) → length (cond b (k ∷ xs) xs) ≤ length (cond c (k ∷ ys) ys)
+longer : (b c : Bool) (k : ℕ) (xs ys : List ℕ) → length xs ≤ length ys → (b ≡ true → c ≡ true) →
+    length (cond b (k ∷ xs) xs) ≤ length (cond c (k ∷ ys) ys)
 longer true true k xs ys l h = omega arith
 longer true false k xs ys l h = absurd (both_ways false refl (h refl))
 longer false true k xs ys l h = omega arith
@@ -465,27 +500,33 @@ filtered_less : (f g h : ℕ → Bool) (ks : List ℕ) → ((k : ℕ) → has ks
 filtered_less f g h [] all = omega arith
 filtered_less f g h (k ∷ ks) all =
     let rest = filtered_less f g h ks (λ j m. all j (or_right _ _ m)) in
-    cond_both (h k) (k ∷ filter h ks) (filter h ks) (λ l. length (filter f l) ≤ length (cond (g k) (k ∷ filter g ks) (filter g ks)))
-    (λ passes. longer (f k) (g k) k (filter f (filter h ks)) (filter g ks) rest (all k (or_left _ _ (eq-eqb k k refl)) passes))
+    cond_both (h k) (k ∷ filter h ks) (filter h ks) (λ l. length (filter f l)
+    ≤ length (cond (g k) (k ∷ filter g ks) (filter g ks)))
+    (λ passes. longer (f k) (g k) k (filter f (filter h ks)) (filter g ks) rest
+    (all k (or_left _ _ (eq-eqb k k refl)) passes))
     (λ _. longer false (g k) k (filter f (filter h ks)) (filter g ks) rest (λ no. absurd (both_ways false refl no)))
 
 begins : (m k : ℕ) (before before' : Bool) → (m ≡ k → ⊥) → nat_le m k ≡ true → before' ≡ (nat_le m (k - 1) && before) →
     ((k == 0) || not before') ≡ true → ((k == 0) || not before) ≡ true
 begins m k before before' other from is begun = grind (arith, nat_tests)
 
-no_part : (m start last q : ℕ) (a b : Bool) → a ≡ (nat_le start q && nat_lt q last) → (m < last → ⊥) → (nat_le m q && (a || b)) ≡ (nat_le m q && b)
+no_part : (m start last q : ℕ) (a b : Bool) → a ≡ (nat_le start q && nat_lt q last) → (m < last → ⊥) →
+    (nat_le m q && (a || b)) ≡ (nat_le m q && b)
 no_part m start last q a b is past = grind (arith, nat_tests)
 
 -- there are no more runs from it on
-few_from : (s t : Positions) (m : ℕ) → contains s m ≡ false → ((q : ℕ) → contains t q ≡ (nat_le m q && contains s q)) → runs t ≤ runs s
+few_from : (s t : Positions) (m : ℕ) → contains s m ≡ false →
+    ((q : ℕ) → contains t q ≡ (nat_le m q && contains s q)) → runs t ≤ runs s
 unfolding runs run_starts begins_run
 few_from s t m out has_t =
     let listed : positions t ≡ filter (nat_le m) (positions s) =
     rising_unique 0 _ _ (positions_rise t) (filter_rises (nat_le m) 0 (positions s) (positions_rise s)) (λ q.
-    sym (contains-positions t q) ∙ has_t q ∙ ap (λ b. nat_le m q && b) (contains-positions s q) ∙ sym (has-filter (nat_le m) (positions s) q)) in
+    sym (contains-positions t q) ∙ has_t q ∙ ap (λ b. nat_le m q && b) (contains-positions s q)
+    ∙ sym (has-filter (nat_le m) (positions s) q)) in
     subst (λ ks. length (filter (begins_run t) ks) ≤ length (filter (begins_run s) (positions s))) (sym listed)
     (filtered_less (begins_run t) (begins_run s) (nat_le m) (positions s) (λ k there from begun.
-    begins m k (contains s (k - 1)) (contains t (k - 1)) (λ same. both_ways _ out (ap (contains s) same ∙ contains-positions s k ∙ there)) from (has_t (k - 1)) begun))
+    begins m k (contains s (k - 1)) (contains t (k - 1))
+    (λ same. both_ways _ out (ap (contains s) same ∙ contains-positions s k ∙ there)) from (has_t (k - 1)) begun))
 
 -- ---- a kept part makes no more than the most runs
 module _ (most : ℕ) (v : ReceiverState) (sound : IsSound most v) (part : Piece) where
@@ -502,28 +543,33 @@ module _ (most : ℕ) (v : ReceiverState) (sound : IsSound most v) (part : Piece
   ranged_has : (q : ℕ) → contains ranged q ≡ (is_some (piece_byte_at part q) || fin.contains_key v.held q)
   ranged_has q = grind (arith, nat_tests, contains-with_range, contains-domain, piece_has, or_swap)
 
-  few_joined : (is_some (piece_byte_at part (next_position v)) ≡ true) ⊎ (runs ranged ≤ most) → runs (domain (receiver_with_piece v part).held) ≤ most
+  few_joined : (is_some (piece_byte_at part (next_position v)) ≡ true) ⊎ (runs ranged ≤ most) →
+      runs (domain (receiver_with_piece v part).held) ≤ most
   few_joined which =
       ⊎_elim
       (λ (at : is_some (piece_byte_at part (next_position v)) ≡ true).
       let starts = (piece_at part (next_position v) at).0 in
       let from = (lacking v part).from in
-      let past = λ (e : lacks v part < end part). both_ways _ outside.0 (piece_some part (lacks v part) (omega arith, e)) in
+      let past = λ (e : lacks v part < end part). both_ways _ outside.0
+      (piece_some part (lacks v part) (omega arith, e)) in
       le_trans (few_from (domain v.held) _ (lacks v part) (contains-domain v.held _ ∙ outside.1) (λ q.
-      left_in q ∙ no_part (lacks v part) part.start (end part) q (is_some (piece_byte_at part q)) _ (piece_has part q) past
+      left_in q ∙ no_part (lacks v part) part.start (end part) q (is_some (piece_byte_at part q)) _
+      (piece_has part q) past
       ∙ ap (λ b. nat_le (lacks v part) q && b) (sym (contains-domain v.held q)))) sound.few)
       (λ (few : runs ranged ≤ most).
       le_trans (few_from ranged _ (lacks v part) (ranged_has _ ∙ or_from _ _ outside.0 outside.1)
       (λ q. left_in q ∙ ap (λ b. nat_le (lacks v part) q && b) (sym (ranged_has q)))) few)
       which
 
-segment_sound : (most : ℕ) (v : ReceiverState) (pos : ℕ) (xs : List ℕ) → IsSound most v → IsSound most (receiver_after_command most v (Segment pos xs))
+segment_sound : (most : ℕ) (v : ReceiverState) (pos : ℕ) (xs : List ℕ) → IsSound most v →
+    IsSound most (receiver_after_command most v (Segment pos xs))
 segment_sound most v pos xs sound =
     let limit = v.first + v.read + v.capacity in
     let part = piece_within (next_position v) limit (piece pos xs) in
     let cut = length-take (limit - pos) xs in
     let size = length-drop (next_position v - pos) (take (limit - pos) xs) in
-    verdict_by (λ y. IsSound most (state_after v y)) (next_position v) most (domain v.held) part (λ _. sound) (λ _ _ _. sound)
+    verdict_by (λ y. IsSound most (state_after v y)) (next_position v) most (domain v.held) part (λ _. sound)
+    (λ _ _ _. sound)
     (λ some which. sound_joined most v sound part (omega arith) (few_joined most v sound part which))
 
 pub sound_stays : SoundStays

@@ -5,14 +5,21 @@
 --     HasSoundHeld h rs      the runs are those of held bytes
 --     HasSoundParts h c rs      head and runs are those of a receiver whose storage has c bytes
 --     storage_after h xs x      the storage after a segment
+--     verdict_at h rs xs p bytes      what happens to a segment of these bytes at p
+--     counts_of r, with_admitted h xs r bytes      what is counted of an admitted part, and what is written of it
 --     head_after_read c k h      the head after a read of k bytes
-use Rattle.std.specs.Prelude.{◌≡◌, ℕ, ◌+◌, ◌-◌, ◌<◌, ◌^◌, ◌%◌, max, IsTrue, List}
+use Rattle.std.specs.Prelude.{◌≡◌, ℕ, ◌+◌, ◌-◌, ◌<◌, ◌^◌, ◌%◌, max, IsTrue, List, length, take, drop}
+use Rattle.std.specs.Prelude.{nat_eq, if◌then◌else◌, Result, Ok, Err}
 use Rattle.net_ring.specs.Ring.{queue, spare, spare_index, with_elements_wrapping}
 use Rattle.net_ring.specs.RingHead.{IsSound as IsSoundPlace, ring_at, dequeued_place}
 use Rattle.net_assembler.specs.Positions.{Positions, contains, positions, bound_of, shift_up}
 use Rattle.net_assembler.specs.RunLists.{set_of, HasSoundRuns}
 use Rattle.net_receiver.specs.declared.receiver_head.ReceiverHead.{ReceiverHead}
-use Rattle.net_receiver.specs.ReceiverState.{Verdict, KeepsNone, Refuses, Keeps, ReceiverState, parts}
+use Rattle.net_receiver.specs.declared.receiver_head.Admitted.{Admitted}
+use Rattle.net_receiver.specs.declared.kept.KeptBytes.{KeptBytes}
+use Rattle.net_assembler.specs.declared.assembler.error.TooManyHolesError.{TooManyHolesError}
+use Rattle.net_receiver.specs.Schedule.{piece}
+use Rattle.net_receiver.specs.ReceiverState.{Verdict, KeepsNone, Refuses, Keeps, ReceiverState, parts, verdict}
 
 -- what is stored: the queue, and the held bytes at the offsets that the runs have after it
 abbrev pub receiver_of : ReceiverHead → List ℕ → List (ℕ × ℕ) → ReceiverState
@@ -54,6 +61,23 @@ storage_after h xs Refuses = xs
 storage_after h xs (Keeps part) =
     (with_elements_wrapping (ring_at xs h.place)
     (spare_index (ring_at xs h.place) (part.start - (h.first + h.count_read + h.place.length))) part.bytes).storage
+
+-- what happens to a segment, by the parts
+abbrev pub verdict_at : ReceiverHead → List (ℕ × ℕ) → List ℕ → ℕ → List ℕ → Verdict
+verdict_at h rs xs p bytes = verdict (length rs) (receiver_of h xs rs) (piece p bytes)
+
+-- the counts of what is admitted of a segment
+abbrev pub counts_of : Result Admitted TooManyHolesError → Result KeptBytes TooManyHolesError
+counts_of (Ok it) = Ok it.counts
+counts_of (Err e) = Err e
+
+-- the storage xs, with what is admitted of these bytes; as it is, if that is nothing
+abbrev pub with_admitted : ReceiverHead → List ℕ → Result Admitted TooManyHolesError → List ℕ → List ℕ
+with_admitted h xs (Ok it) bytes =
+    if nat_eq it.counts.kept 0 then xs
+    else (with_elements_wrapping (ring_at xs h.place) (spare_index (ring_at xs h.place) it.offset)
+    (take it.counts.kept (drop it.skip bytes))).storage
+with_admitted h xs (Err e) bytes = xs
 
 -- the head after a read of k bytes, where the storage has c
 abbrev pub head_after_read : ℕ → ℕ → ReceiverHead → ReceiverHead

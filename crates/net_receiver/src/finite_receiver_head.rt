@@ -184,7 +184,8 @@ impl FiniteReceiverHead {
             ≡ finite_storage_after self.old storage.old runs.old pos bytes.now is_last }
         ensures unchanged { OnErr result ((self.new ≡ self.old) × (storage.new ≡ storage.old)
             × (runs.new ≡ runs.old)) }
-        ensures canonical { IsCanonical self.old.receiver.held → IsCanonical self.new.receiver.held }
+        ensures canonical { IsCanonical self.old.receiver.held →
+            IsCanonical self.new.receiver.held }
     {
         // A sum above 64 bits becomes `u64::MAX`, where no stream ends.
         let last = pos.saturating_add(bytes.len() as u64);
@@ -215,7 +216,8 @@ impl FiniteReceiverHead {
     /// Lets go of what is held, and of the end.
     #[inline]
     fn keep_queue_alone(&mut self)
-        ensures sound { (capacity : ℕ) (runs : List (ℕ × ℕ)) → HasSoundFinite self.old capacity runs →
+        ensures sound { (capacity : ℕ) (runs : List (ℕ × ℕ)) →
+            HasSoundFinite self.old capacity runs →
             HasSoundFinite self.new capacity runs }
         ensures state { (storage : List ℕ) (runs : List (ℕ × ℕ)) →
             finite_of self.new storage runs ≡ queue_alone (finite_of self.old storage runs) }
@@ -248,7 +250,8 @@ impl FiniteReceiverHead {
             (finite_of self.old storage.old runs.old) pos bytes.now is_last }
         ensures unchanged { OnErr result ((self.new ≡ self.old) × (storage.new ≡ storage.old)
             × (runs.new ≡ runs.old)) }
-        ensures canonical { IsCanonical self.old.receiver.held → IsCanonical self.new.receiver.held }
+        ensures canonical { IsCanonical self.old.receiver.held →
+            IsCanonical self.new.receiver.held }
     {
         // A sum above 64 bits becomes `u64::MAX`, which `can_end` refuses.
         let last = pos.saturating_add(bytes.len() as u64);
@@ -297,7 +300,8 @@ impl FiniteReceiverHead {
             HasSoundFinite self.now (length storage) runs →
             result ≡ acknowledged (finite_of self.now storage runs) }
         ensures value { result
-            ≡ (if next_of self.now == end_of self.now then next_of self.now + 1 else next_of self.now) }
+            ≡ (if next_of self.now == end_of self.now then next_of self.now + 1
+            else next_of self.now) }
     {
         acknowledged(self.receiver.next(), self.after_end)
     }
@@ -328,9 +332,11 @@ impl FiniteReceiverHead {
     #[inline]
     pub fn window_end(&self, capacity: usize) -> Option<u64>
         requires { next_of self.now < no_end }
-        ensures some { let limit = self.now.receiver.first + self.now.receiver.count_read + capacity in
+        ensures some { let limit = self.now.receiver.first
+            + self.now.receiver.count_read + capacity in
             limit < 2 ^ 64 → result ≡ Some (max limit
-            (if next_of self.now == end_of self.now then next_of self.now + 1 else next_of self.now)) }
+            (if next_of self.now == end_of self.now then next_of self.now + 1
+            else next_of self.now)) }
         ensures none { 2 ^ 64 ≤ self.now.receiver.first + self.now.receiver.count_read + capacity →
             result ≡ None }
         ensures state { (storage : List ℕ) (runs : List (ℕ × ℕ)) → length storage ≡ capacity →

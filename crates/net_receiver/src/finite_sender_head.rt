@@ -165,7 +165,8 @@ impl FiniteSenderHead {
     #[inline]
     pub fn peek_at(&self, capacity: usize, pos: u64, limit: u64) -> (Span, bool)
         requires { IsSoundFiniteSender capacity self.now }
-        ensures { LendsAt capacity self.now pos limit result.0.from result.0.count result.0.contiguous result.1 }
+        ensures { LendsAt capacity self.now pos limit result.0.from result.0.count
+            result.0.contiguous result.1 }
     {
         let room = limit
             .saturating_sub(pos)

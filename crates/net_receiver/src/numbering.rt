@@ -81,7 +81,8 @@ impl Numbering {
         // Guarantee.
         ensures near { 2 ^ 31 ≤ near → near + 2 ^ 31 ≤ 2 ^ 64 → IsNear near result }
         // Guarantee.
-        ensures found { (pos : ℕ) → pos < 2 ^ 64 → number_at self.first pos ≡ number → IsNear near pos →
+        ensures found { (pos : ℕ) → pos < 2 ^ 64 → number_at self.first pos ≡ number →
+            IsNear near pos →
             result ≡ pos }
     {
         let ahead = number.ahead_of(self.number(near));

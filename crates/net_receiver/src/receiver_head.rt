@@ -2,9 +2,9 @@
 #![tactic(auto, using(crate::proofs::OneStream::heads))]
 
 ghost use Rattle.std.specs.Prelude.{◌≡◌, ◌↔◌, ℕ, ◌+◌, ◌-◌, ◌<◌, ◌≤◌, ◌^◌, ◌%◌, List, length, All};
-ghost use Rattle.std.specs.Prelude.{IsTrue, OnErr, Some, None, min, ◌++◌, take, drop};
+ghost use Rattle.std.specs.Prelude.{IsTrue, IfOk, OnErr, Some, None, min, ◌++◌, take, drop};
 ghost use Rattle.std.specs.Prelude.{◌∷◌};
-ghost use Rattle.net_assembler.specs.Positions.{contains, maximal_runs, runs as run_count};
+ghost use Rattle.net_assembler.specs.Positions.{contains, maximal_runs, runs as run_count, holes_before};
 ghost use Rattle.net_assembler.specs.RunLists.{HasSoundRuns, IsCanonical, set_of};
 ghost use Rattle.net_receiver.specs.Schedule.{piece};
 ghost use Rattle.net_receiver.specs.ReceiverState.{verdict, state_after, numbers, first_three, segment_result};
@@ -13,14 +13,17 @@ ghost use Rattle.net_receiver.specs.ReceiverState.{count_between};
 ghost use Rattle.net_receiver.specs.Finite.{queue_only};
 ghost use Rattle.net_receiver.specs.NewHeads.{receiver_head};
 ghost use Rattle.net_receiver.specs.Duplicates.{came, TellsPart, TellsFirst};
+ghost use Rattle.net_receiver.specs.PartsOf.{parts_between};
+ghost use Rattle.net_receiver.specs.Differences.{DiffersFrom, HasOther};
 ghost use Rattle.net_receiver.specs.Head.{receiver_of, HasSoundParts, HasSoundHeld, storage_after, head_after_read};
-ghost use Rattle.net_receiver.specs.Head.{next_at, held_at, top_at};
-ghost use Rattle.net_ring.specs.Ring.{queue, contiguous_allocated, contiguous_queued};
+ghost use Rattle.net_receiver.specs.Head.{next_at, held_at, top_at, verdict_at, counts_of, with_admitted};
+ghost use Rattle.net_ring.specs.Ring.{queue, contiguous_allocated, contiguous_queued, rotation};
 ghost use Rattle.net_ring.specs.RingHead.{IsSound as IsSoundPlace, ring_at};
 ghost use Rattle.net_receiver.specs.NewestRuns.{newest_runs, with_starts, run_at, with_run};
 
-use crate::held_runs::{HeldRun, HeldRunIter, is_listed, remember};
-use crate::kept::KeptBytes;
+use crate::held_runs::{HeldRun, HeldRunIter, MissingRunIter, is_listed, remember};
+use crate::kept::{KeptBytes, SegmentParts};
+use net_assembler::assembler::Turns;
 use net_assembler::width::most;
 use net_assembler::{AssemblerHead, Run, TooManyHolesError};
 use net_ring::RingHead;
@@ -73,7 +76,8 @@ impl ReceiverHead {
     /// returns it.
     #[inline]
     pub(crate) fn reset_at(&mut self, first: u64)
-        ensures sound { (capacity : ℕ) (runs : List (ℕ × ℕ)) → HasSoundParts self.new capacity runs }
+        ensures sound { (capacity : ℕ) (runs : List (ℕ × ℕ)) →
+            HasSoundParts self.new capacity runs }
         ensures state { (storage : List ℕ) (runs : List (ℕ × ℕ)) →
             receiver_of self.new storage runs ≡ fresh_receiver first (length storage) }
         ensures canonical { IsCanonical self.new.held }
@@ -84,7 +88,8 @@ impl ReceiverHead {
     /// Lets go of the held runs.
     #[inline]
     pub(crate) fn release_held(&mut self)
-        ensures sound { (capacity : ℕ) (runs : List (ℕ × ℕ)) → HasSoundParts self.old capacity runs →
+        ensures sound { (capacity : ℕ) (runs : List (ℕ × ℕ)) →
+            HasSoundParts self.old capacity runs →
             HasSoundParts self.new capacity runs }
         ensures state { (storage : List ℕ) (runs : List (ℕ × ℕ)) →
             receiver_of self.new storage runs ≡ queue_only (receiver_of self.old storage runs) }
@@ -202,23 +207,73 @@ impl ReceiverHead {
             × (runs.new ≡ runs.old)) }
         ensures canonical { IsCanonical self.old.held → IsCanonical self.new.held }
     {
-        let next = self.next();
-        let window = self.window(storage.len());
-        let late = next.saturating_sub(pos);
-        let ahead = pos.saturating_sub(next);
-        if late >= bytes.len() as u64 || ahead >= window as u64 {
+        let place = self.place;
+        let it = self.admit(runs, storage.len(), pos, bytes.len())?;
+        if it.counts.kept == 0 {
+            // Numbers written out: with `it.counts` this path is three times as slow.
             return Ok(KeptBytes { kept: 0, queued: 0 });
         }
-        prove!(late <= bytes.len() as u64, "in any `usize`");
-        let rest = &bytes[late as usize..];
+        let rest = &bytes[it.skip..];
+        let part = &rest[..it.counts.kept];
+        place.write_unallocated(storage, it.offset, part);
+        Ok(it.counts)
+    }
+
+    /// Takes the numbers of a segment of `len` bytes, as `keep` does, where the storage has `capacity` bytes. It writes
+    /// no byte: what it returns says which bytes are kept, and where.
+    #[inline(always)]
+    pub(crate) fn admit(
+        &mut self,
+        runs: &mut [Run],
+        capacity: usize,
+        pos: u64,
+        len: usize,
+    ) -> Result<Admitted, TooManyHolesError>
+        requires sound { HasSoundParts self.old capacity runs.old }
+        requires fits { pos + len < 2 ^ 64 }
+        ensures sound { HasSoundParts self.new capacity runs.new }
+        // Whatever the storage's bytes and the segment's are.
+        ensures state { (xs bytes : List ℕ) → length xs ≡ capacity → length bytes ≡ len →
+            let x = verdict_at self.old runs.old xs pos bytes in
+            receiver_of self.new (storage_after self.old xs x) runs.new
+            ≡ state_after (receiver_of self.old xs runs.old) x }
+        ensures numbers { (xs bytes : List ℕ) → length xs ≡ capacity → length bytes ≡ len →
+            let x = verdict_at self.old runs.old xs pos bytes in
+            counts_of result ≡ numbers (receiver_of self.old xs runs.old) x }
+        ensures stored { (xs bytes : List ℕ) → length xs ≡ capacity → length bytes ≡ len →
+            let x = verdict_at self.old runs.old xs pos bytes in
+            storage_after self.old xs x ≡ with_admitted self.old xs result bytes }
+        ensures within { IfOk result (λ it. (it.skip + it.counts.kept ≤ len)
+            × (it.counts.kept ≤ capacity - self.old.place.length - it.offset)) }
+        ensures none { IfOk result (λ it. it.counts.kept ≡ 0 → it.counts.queued ≡ 0) }
+        ensures unchanged { OnErr result ((self.new ≡ self.old) × (runs.new ≡ runs.old)) }
+        ensures canonical { IsCanonical self.old.held → IsCanonical self.new.held }
+    {
+        let next = self.next();
+        let window = self.window(capacity);
+        let late = next.saturating_sub(pos);
+        let ahead = pos.saturating_sub(next);
+        if late >= len as u64 || ahead >= window as u64 {
+            let counts = KeptBytes { kept: 0, queued: 0 };
+            return Ok(Admitted {
+                skip: 0,
+                offset: 0,
+                counts,
+            });
+        }
+        prove!(late <= len as u64, "in any `usize`");
+        let skip = late as usize;
         prove!(ahead <= window as u64, "in any `usize`");
         let offset = ahead as usize;
-        let kept = rest.len().min(window - offset);
+        let kept = (len - skip).min(window - offset);
         net_assembler::laws::is_usize(window);
         let queued = self.held.add_then_remove_front(runs, offset, kept)?;
-        self.place.write_unallocated(storage, offset, &rest[..kept]);
-        self.place.enqueue(storage.len(), queued);
-        Ok(KeptBytes { kept, queued })
+        self.place.enqueue(capacity, queued);
+        Ok(Admitted {
+            skip,
+            offset,
+            counts: KeptBytes { kept, queued },
+        })
     }
 
     /// Moves bytes from the head of the queue to the beginning of `into`, and returns how many: as
@@ -416,6 +471,22 @@ impl ReceiverHead {
         HeldRunIter::over(self.held.iter_data(runs), self.next())
     }
 
+    /// Returns the holes between the queue and the last held byte, as `ReceiverOver::holes` does.
+    ///
+    /// # Requires
+    ///
+    /// Head and runs are sound, as `is_sound` tests, with a storage of some length.
+    #[inline(always)]
+    pub(crate) fn holes<'a>(&self, runs: &'a [Run]) -> MissingRunIter<'a>
+        requires { HasSoundHeld self.now runs.now }
+        ensures holes { result
+            ≡ holes_before (next_at self.now) (maximal_runs (held_at self.now runs.now)) }
+        ensures count { length result ≡ run_count (held_at self.now runs.now) }
+        ensures bound { length result ≤ length runs.now }
+    {
+        MissingRunIter::before(self.held(runs), self.next())
+    }
+
     /// Returns how many runs are held, without a look at them.
     #[inline(always)]
     pub(crate) fn held_count(&self) -> usize
@@ -588,6 +659,120 @@ impl ReceiverHead {
         after
     }
 
+    /// Returns whether a byte that is queued or held differs from that of a segment, as `ReceiverOver::differs` does.
+    ///
+    /// # Requires
+    ///
+    /// Head, storage and runs are sound, as `is_sound` tests.
+    pub(crate) fn differs(&self, storage: &[u8], runs: &[Run], pos: u64, bytes: &[u8]) -> bool
+        requires { HasSoundParts self.now (length storage.now) runs.now }
+        ensures { IsTrue result
+            ↔ DiffersFrom (receiver_of self.now storage.now runs.now) pos bytes.now }
+    {
+        // The segment's bytes that weren't read, and where the first of them is, counted from the first
+        // position that wasn't.
+        let unread = self.first + self.count_read;
+        let late = unread.saturating_sub(pos).min(bytes.len() as u64) as usize;
+        let ahead = pos.saturating_sub(unread).min(storage.len() as u64) as usize;
+        let rest = &bytes[late..];
+        if self.part_differs(storage, 0, self.place.length, ahead, rest) {
+            return true;
+        }
+        self.held_differs(storage, runs, ahead, rest)
+    }
+
+    /// Returns whether a held byte differs from that of `data`, whose first byte is at `offset`, counted from the
+    /// first position that wasn't read.
+    fn held_differs(&self, storage: &[u8], runs: &[Run], offset: usize, data: &[u8]) -> bool
+        requires { HasSoundParts self.now (length storage.now) runs.now }
+        ensures { let bytes = rotation storage.now self.now.place.read_at in IsTrue result
+            ↔ ((p : ℕ) × IsTrue (contains (set_of self.now.held runs.now) p)
+            × HasOther bytes offset «data».now (self.now.place.length + p)) }
+    {
+        let queued = self.place.length;
+        let mut turns = Turns::new();
+        // The runs before the last one that starts by `offset` end by then.
+        let first = self
+            .held
+            .runs_by(runs, offset.saturating_sub(queued))
+            .saturating_sub(1);
+        for k in first..self.held.run_count() {
+            turns.step();
+            turns.were_a_pass(runs);
+            let Some((start, end)) = self.held.run_at(runs, k) else {
+                return false;
+            };
+            let start = queued + start;
+            prove!(start <= storage.len(), "in any `usize`");
+            let end = queued + end;
+            prove!(end <= storage.len(), "in any `usize`");
+            if start.saturating_sub(offset) >= data.len() {
+                return false;
+            }
+            if self.part_differs(storage, start, end, offset, data) {
+                return true;
+            }
+        }
+        false
+    }
+
+    /// Returns whether one of the bytes from `start` on and below `end` differs from that of `data`, whose first byte
+    /// is at `offset`. All are counted from the first position that wasn't read.
+    fn part_differs(
+        &self,
+        storage: &[u8],
+        start: usize,
+        end: usize,
+        offset: usize,
+        data: &[u8],
+    ) -> bool
+        requires place { IsSoundPlace (length storage.now) self.now.place }
+        requires end { end ≤ length storage.now }
+        ensures { let bytes = rotation storage.now self.now.place.read_at in IsTrue result
+            ↔ ((p : ℕ) × (start ≤ p) × (p < end) × HasOther bytes offset «data».now p) }
+    {
+        let first = start.saturating_sub(offset);
+        let last = end.saturating_sub(offset).min(data.len());
+        if first >= last {
+            return false;
+        }
+        let place = RingHead {
+            read_at: self.place.read_at,
+            length: storage.len(),
+        };
+        let whole = ReceiverHead { place, ..*self };
+        let (one, two) = whole.peek_slices(storage, start.max(offset), last - first);
+        !is_joined(one, two, &data[first..last])
+    }
+
+    /// Returns where the bytes of a segment are, where the storage has `capacity` bytes, as
+    /// `ReceiverOver::parts_of` does.
+    ///
+    /// # Requires
+    ///
+    /// No more is queued than the capacity, and the first missing position fits 64 bits, as is so where head,
+    /// storage and runs are sound.
+    #[inline]
+    pub(crate) fn parts_of(&self, capacity: usize, pos: u64, len: usize) -> SegmentParts
+        requires queued { self.now.place.length ≤ capacity }
+        requires fits { next_at self.now < 2 ^ 64 }
+        ensures { let limit = self.now.first + self.now.count_read + capacity in
+            result ≡ parts_between (next_at self.now) limit pos len }
+    {
+        let next = self.next();
+        let old = (len as u64).min(next.saturating_sub(pos)) as usize;
+        let from = pos.max(next) - next;
+        let room = (self.window(capacity) as u64).min(u64::MAX - next);
+        let rest = len - old;
+        let in_window = (rest as u64).min(room.saturating_sub(from)) as usize;
+        SegmentParts {
+            old,
+            in_window,
+            beyond: rest - in_window,
+            past_end: 0,
+        }
+    }
+
     /// Returns how many bytes of a segment of `len` bytes at `position` would be new, where the
     /// storage has `capacity` bytes, as `ReceiverOver::count_new` does.
     ///
@@ -687,6 +872,22 @@ impl ReceiverHead {
         }
         true
     }
+}
+
+/// Returns whether these bytes are two parts, one after the other.
+fn is_joined(one: &[u8], two: &[u8], bytes: &[u8]) -> bool
+    requires { length one.now + length two.now ≡ length bytes.now }
+    ensures { IsTrue result ↔ (one.now ++ two.now ≡ bytes.now) }
+{
+    one == &bytes[..one.len()] && two == &bytes[one.len()..]
+}
+
+/// The part of a segment that is kept: how many bytes are before it, how far after the queue it goes, and the counts.
+#[derive(Debug, Clone, Copy)]
+pub(crate) struct Admitted {
+    pub skip: usize,
+    pub offset: usize,
+    pub counts: KeptBytes,
 }
 
 /// Returns how many of `len` positions from `pos` on a stream can have.

@@ -1,6 +1,9 @@
-//! A buffer of fragments in parts: a head, bytes and runs.
+//! A buffer of fragments in parts, a head, bytes and runs; and fragments of the sizes that IP asks for.
+ghost use Rattle.std.specs.Prelude.{◌≤◌};
+
 use crate::assertions::assert_holds;
 use net_base::storage::FragmentsOver;
+use net_base::storage::fragments::table::{FragmentSlot, accept, take_complete};
 use net_base::time::Instant;
 
 /// A buffer keeps the fragments that came, and the packet's size.
@@ -18,4 +21,35 @@ fn a_fragment_buffer_goes_on_from_its_parts(rt: HostRuntime) {
         buffer.assemble() == Some(b"abcd".as_slice()),
         ("bytes", 4),
     );
+}
+
+/// Takes the bytes from `from` on and below `to` of a datagram of 20 bytes, as one fragment.
+fn takes_part(
+    slots: &mut [FragmentSlot<u16, &mut [u8], 4>],
+    from: usize,
+    to: usize,
+    is_last: bool,
+) -> bool
+    requires from { from ≤ to }
+    requires to { to ≤ 20 }
+{
+    let datagram: &[u8] = b"aaaaaaaabbbbbbbbcccc";
+    accept(slots, 7, from, &datagram[from..to], is_last, Instant::ZERO) == Ok(0)
+}
+
+/// A datagram in fragments of which all but the last have a multiple of 8 bytes is whole once all came, in any order.
+#[test]
+fn fragments_of_the_sizes_of_ip_make_a_datagram(rt: HostRuntime) {
+    let mut storage = [0u8; 24];
+    let mut slots = [FragmentSlot::<u16, &mut [u8], 4>::over(&mut storage)];
+    let taken = takes_part(&mut slots, 16, 20, true) && takes_part(&mut slots, 8, 16, false);
+    assert_holds(
+        &rt,
+        taken && take_complete(&mut slots, 7).is_none(),
+        ("fragments", 2),
+    );
+    assert_holds(&rt, takes_part(&mut slots, 0, 8, false), ("fragments", 3));
+    assert_holds(&rt, take_complete(&mut slots, 7) == Some(0), ("slot", 0));
+    let whole = slots[0].buffer.assemble() == Some(b"aaaaaaaabbbbbbbbcccc".as_slice());
+    assert_holds(&rt, whole, ("bytes", 20));
 }

@@ -1,10 +1,16 @@
-//! Segments in order, and timers.
+//! Segments in order, frames and kept pieces, and timers.
+ghost use Rattle.std.specs.Prelude.{All, IfOk};
+ghost use Rattle.net_receiver.specs.Execution.{CommandFits};
 
 use crate::assertions::assert_holds;
 use net_base::time::{Duration, Instant};
-use net_examples::{Timer, acknowledge, poll_at, receive};
-use net_receiver::{Receiver, SequenceNumber};
+use net_examples::{
+    PeerError, Timer, acknowledge, check_frame, keep_both, keep_frame, least_missing, poll_at,
+    read_last, receive,
+};
+use net_receiver::{Command, FiniteReceiver, Receiver, SequenceNumber};
 use net_ring::ManagedSlice;
+use std::alloc::{AllocError, Global};
 
 #[test]
 fn segments_are_read_in_order(rt: HostRuntime) {
@@ -22,6 +28,20 @@ fn segments_are_read_in_order(rt: HostRuntime) {
         ("step", 2),
     );
     assert_holds(&rt, into.starts_with(b"hello, world"), ("step", 3));
+}
+
+/// The third packet has a frame that would make a fifth run.
+#[test]
+fn frames_of_a_packet_are_kept_or_none(rt: HostRuntime) {
+    let mut storage = [0u8; 16];
+    let mut receiver = Receiver::<4>::new(ManagedSlice::Borrowed(&mut storage));
+    let runs = keep_both(&mut receiver, 2, b"c", 4, b"e")
+        && keep_both(&mut receiver, 6, b"g", 8, b"i");
+    assert_holds(&rt, runs && receiver.held_count() == 4, ("step", 1));
+    let refused = !keep_both(&mut receiver, 0, b"a", 10, b"k");
+    assert_holds(&rt, refused && receiver.next() == 0, ("step", 2));
+    let joined = keep_both(&mut receiver, 3, b"d", 0, b"ab");
+    assert_holds(&rt, joined && receiver.next() == 5, ("step", 3));
 }
 
 /// Returns whether a segment of this number is acknowledged by this number and this window.
@@ -75,4 +95,52 @@ fn a_timer_expires_and_waits_longer(rt: HostRuntime) {
         poll_at(&[slow, timer]) == Some(Instant::from_secs(3)) && poll_at(&[]).is_none(),
         ("step", 4),
     );
+}
+
+/// Gives frames to a receiver over eight bytes, of a stream whose end is said to be 6.
+fn checks_frames(storage: &mut [u8]) -> bool {
+    let mut receiver = FiniteReceiver::<4>::over(ManagedSlice::Borrowed(storage));
+    keep_frame(&mut receiver, 2, b"cd") == Some(2)
+        && check_frame(&receiver, 0, b"abcdef", true) == Ok(true)
+        && check_frame(&receiver, 6, b"ghi", false) == Err(PeerError::FlowControl)
+        && check_frame(&receiver, 1, b"bX", false) == Err(PeerError::ProtocolViolation)
+        && receiver.keep(4, b"ef", true).is_ok()
+        && check_frame(&receiver, 4, b"efg", false) == Err(PeerError::FinalSize)
+        && check_frame(&receiver, 4, b"e", true) == Err(PeerError::FinalSize)
+        && keep_frame(&mut receiver, 0, b"ab") == Some(2)
+        && check_frame(&receiver, 0, b"abcdef", true) == Ok(false)
+}
+
+#[test]
+fn frames_are_checked_before_they_are_kept(rt: HostRuntime) {
+    let mut storage = [0u8; 8];
+    assert_holds(&rt, checks_frames(&mut storage), ("frames", 9));
+}
+
+/// Returns two segments that disagree at position 3, and the bytes before them.
+fn disagreeing(alloc: Global) -> Result<Vec<Command>, AllocError>
+    ensures { IfOk result (λ commands. All CommandFits commands.items) }
+{
+    let mut commands = Vec::new(alloc);
+    let bytes = Vec::from_slice(alloc, b"AA")?;
+    commands.push(Command::Segment { pos: 2, bytes })?;
+    let bytes = Vec::from_slice(alloc, b"BB")?;
+    commands.push(Command::Segment { pos: 3, bytes })?;
+    let bytes = Vec::from_slice(alloc, b"CC")?;
+    commands.push(Command::Segment { pos: 0, bytes })?;
+    Ok(commands)
+}
+
+/// What no segment has is missing, and of two bytes that were held one after the other the later one is read.
+#[test]
+fn the_last_piece_of_a_position_is_read(rt: HostRuntime) -> Result<(), AllocError> {
+    let mut storage = [0u8; 8];
+    let mut receiver = Receiver::<4>::new(ManagedSlice::Borrowed(&mut storage));
+    let commands = disagreeing(rt.alloc())?;
+    let next = least_missing(rt.alloc(), &mut receiver, 0, &commands)?;
+    assert_holds(&rt, next == 5, ("next", 5));
+    let mut into = [0u8; 8];
+    let count = read_last(rt.alloc(), &mut receiver, 0, &commands, &mut into)?;
+    assert_holds(&rt, count == 5 && into.starts_with(b"CCABB"), ("bytes", 5));
+    Ok(())
 }

@@ -5,7 +5,7 @@ use crate::rattle::prelude::*;
 use crate::proved::net_receiver::finite_receiver_head::{
     NO_END, acknowledged, count_below, end_or_max, is_reached, number_after,
 };
-use crate::proved::net_receiver::kept::{FiniteError, KeptBytes};
+use crate::proved::net_receiver::kept::{FiniteError, KeptBytes, SegmentParts};
 use crate::proved::net_receiver::receiver::ReceiverOver;
 use crate::proved::net_ring::{ManagedSlice, Storage};
 
@@ -276,7 +276,7 @@ impl<S: Storage<u8>, const N: usize> FiniteReceiverOver<S, N> {
     /// Returns whether all bytes were read, up to the end. Once it is so it stays so, until `reset_at`.
     #[must_use]
     pub fn has_read_all(&self) -> bool {
-        self.receiver.unread() == end_or_max(self.after_end)
+        self.receiver.first_unread() == end_or_max(self.after_end)
     }
 
     /// Returns the end of the window to announce: that of the free window, or `acknowledged` if that is
@@ -296,6 +296,49 @@ impl<S: Storage<u8>, const N: usize> FiniteReceiverOver<S, N> {
     pub fn window_end(&self) -> Option<u64> {
         let end = self.receiver.window_end()?;
         Some(end.max(self.acknowledged()))
+    }
+
+    /// Returns whether a byte that is queued or held differs from that of the segment at its position, as
+    /// `ReceiverOver::differs` does. Neither bytes that were read are compared, nor those past the end.
+    ///
+    /// ```
+    /// # use net_base::finite::FiniteReceiver;
+    /// # let mut storage = [0u8; 16];
+    /// # let mut receiver = FiniteReceiver::<4>::empty_at(&mut storage[..], 0);
+    /// assert!(receiver.keep(1, b"bc", true).is_ok());
+    /// assert!(receiver.differs(0, b"aB") && !receiver.differs(0, b"abcd"));
+    /// ```
+    #[must_use]
+    pub fn differs(&self, pos: u64, bytes: &[u8]) -> bool {
+        self.receiver.differs(pos, bytes)
+    }
+
+    /// Returns where the bytes of a segment of `len` bytes at `pos` are, as `ReceiverOver::parts_of` does. Bytes at
+    /// the end or above it are counted as `past_end` alone. While no end is known, that counts bytes which leave no
+    /// number for an end after them: no stream has such.
+    ///
+    /// It is asked before the segment is kept, by callers who refuse a peer that sends bytes past the end, as
+    /// QUIC's do, or past the free window.
+    ///
+    /// ```
+    /// # use net_base::finite::FiniteReceiver;
+    /// # let mut storage = [0u8; 8];
+    /// # let mut receiver = FiniteReceiver::<4>::empty_at(&mut storage[..], 0);
+    /// assert!(receiver.keep(3, b"d", true).is_ok());
+    /// let parts = receiver.parts_of(2, 9);
+    /// assert_eq!((parts.in_window, parts.beyond, parts.past_end), (2, 0, 7));
+    /// ```
+    ///
+    /// # [Guarantees](crate#guarantees)
+    ///
+    /// - `old(result) + result.in_window + result.beyond + result.past_end == len`
+    #[must_use]
+    pub fn parts_of(&self, pos: u64, len: usize) -> SegmentParts {
+        let below = count_below(self.after_end, pos, len);
+        SegmentParts {
+            past_end: len - below,
+            ..self.receiver.parts_of(pos, below)
+        }
     }
 
     /// Returns how many bytes of a segment of `len` bytes at `position` would be new: those in the

@@ -34,6 +34,20 @@ pub struct KeptBytes {
     pub queued: usize,
 }
 
+/// Where the bytes of a segment are, each counted once: what `parts_of` returns.
+#[derive(Debug, Clone, Copy, PartialEq, Eq)]
+pub struct SegmentParts {
+    /// How many are below `next`: they were read or are queued, or are before the stream's first byte.
+    pub old: usize,
+    /// How many are in the free window. `keep` keeps them, unless it refuses the segment.
+    pub in_window: usize,
+    /// How many are at the end of the free window or above it, or from position `u64::MAX` on, which no
+    /// stream has.
+    pub beyond: usize,
+    /// How many are at the stream's end or above it, and so in no other count. A `Receiver` counts none.
+    pub past_end: usize,
+}
+
 /// Why a segment is refused. Nothing changes then.
 #[derive(Debug, Clone, Copy, PartialEq, Eq, Hash)]
 pub enum FiniteError {

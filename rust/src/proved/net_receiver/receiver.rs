@@ -2,8 +2,9 @@
 //! The receiver.
 
 use crate::rattle::prelude::*;
-use crate::proved::net_receiver::held_runs::{HeldRun, HeldRuns, NewestRunIter};
-use crate::proved::net_receiver::kept::{Kept, KeptBytes};
+use crate::proved::net_receiver::held_runs::{HeldRun, HeldRuns, MissingRunIter, NewestRunIter};
+use crate::proved::net_receiver::kept::{Kept, KeptBytes, SegmentParts};
+use crate::proved::net_receiver::plan::Plan;
 use crate::proved::net_receiver::receiver_head::{ReceiverHead, count_existing};
 use crate::proved::net_assembler::{Run, TooManyHolesError};
 use crate::proved::net_ring::{ManagedSlice, Storage};
@@ -195,6 +196,13 @@ impl<S: Storage<u8>, const N: usize> ReceiverOver<S, N> {
     #[inline]
     pub fn keep(&mut self, pos: u64, bytes: &[u8]) -> Result<KeptBytes, TooManyHolesError> {
         self.keep_part(pos, existing(pos, bytes))
+    }
+
+    /// Returns the receiver's numbers and its held runs, of which `Plan::keep` says what would be kept of
+    /// segments, one after another. It copies the N runs, and no bytes. smoltcp has no such call.
+    #[must_use]
+    pub fn plan(&self) -> Plan<N> {
+        Plan::over(self.head, self.runs, self.storage.count())
     }
 
     /// Keeps a segment that ends within 64 bits.
@@ -479,6 +487,22 @@ impl<S: Storage<u8>, const N: usize> ReceiverOver<S, N> {
         self.head.held(&self.runs)
     }
 
+    /// Returns the holes between the queue and the last held byte, as absolute (start, end), the end not
+    /// included, in rising order: one before each held run, so at most `N`. The first begins at `next`. A byte
+    /// in one of them is missing, and a later one was kept. smoltcp has no such call.
+    ///
+    /// ```
+    /// # use net_base::receiver::Receiver;
+    /// # let mut storage = [0u8; 16];
+    /// # let mut receiver = Receiver::new(&mut storage[..]);
+    /// assert!(receiver.keep(2, b"cd").is_ok() && receiver.keep(7, b"h").is_ok());
+    /// assert!(receiver.holes().eq([(0, 2), (4, 7)]));
+    /// ```
+    #[must_use]
+    pub fn holes(&self) -> MissingRunIter<'_> {
+        self.head.holes(&self.runs)
+    }
+
     /// Returns how many runs are held, without a look at them: as many as `held` yields, at most `N`.
     #[must_use]
     pub fn held_count(&self) -> usize {
@@ -538,6 +562,51 @@ impl<S: Storage<u8>, const N: usize> ReceiverOver<S, N> {
         self.head.duplicate_of(&self.runs, pos, pos + count as u64)
     }
 
+    /// Returns whether a byte that is queued or held differs from that of the segment at its position. Bytes that were
+    /// read aren't known any more: a segment doesn't differ from them.
+    ///
+    /// It is asked before the segment is kept, which writes over what is held, by callers who refuse a peer that
+    /// sends two texts for one position. It finds the first held run that the segment meets by a search, and looks
+    /// at those that it meets, and at most two more. smoltcp has no such call.
+    ///
+    /// ```
+    /// # use net_base::receiver::Receiver;
+    /// # let mut storage = [0u8; 16];
+    /// # let mut receiver = Receiver::new(&mut storage[..]);
+    /// assert!(receiver.keep(0, b"ab").is_ok() && receiver.keep(4, b"ef").is_ok());
+    /// assert!(!receiver.differs(1, b"bcdefg") && receiver.differs(1, b"bcdeF"));
+    /// assert!(receiver.differs(0, b"A"));
+    /// assert_eq!(receiver.read(&mut [0; 1]), 1);
+    /// assert!(!receiver.differs(0, b"A"));
+    /// ```
+    #[must_use]
+    pub fn differs(&self, pos: u64, bytes: &[u8]) -> bool {
+        self.head
+            .differs(whole(&self.storage), &self.runs, pos, bytes)
+    }
+
+    /// Returns where the bytes of a segment of `len` bytes at `pos` are: below `next`, in the free window, or above
+    /// it. Any segment may be asked for. `keep` then keeps those in the free window, unless it refuses the
+    /// segment. It is asked before the segment is kept, by callers who refuse a peer that sends more than it was
+    /// offered room for. smoltcp has no such call.
+    ///
+    /// ```
+    /// # use net_base::receiver::Receiver;
+    /// # let mut storage = [0u8; 4];
+    /// # let mut receiver = Receiver::new(&mut storage[..]);
+    /// assert!(receiver.keep(0, b"ab").is_ok());
+    /// let parts = receiver.parts_of(1, 5);
+    /// assert_eq!((parts.old, parts.in_window, parts.beyond), (1, 2, 2));
+    /// ```
+    ///
+    /// # [Guarantees](crate#guarantees)
+    ///
+    /// - `old(result) + result.in_window + result.beyond == len`
+    #[must_use]
+    pub fn parts_of(&self, pos: u64, len: usize) -> SegmentParts {
+        self.head.parts_of(self.storage.count(), pos, len)
+    }
+
     /// Returns how many bytes of a segment of `len` bytes at `position` would be new: those in the
     /// free window whose positions are not held. `segment` keeps the others of the free window too,
     /// and counts them. If all that it brings was read, queued or held, there are none: a duplicate,
@@ -563,8 +632,19 @@ impl<S: Storage<u8>, const N: usize> ReceiverOver<S, N> {
             .count_part(self.storage.count(), &self.runs, position, len)
     }
 
-    /// Returns the position after the bytes that were read.
-    pub(crate) fn unread(&self) -> u64 {
+    /// Returns the position of the first byte that wasn't read: that of the stream's first byte, plus the count of
+    /// bytes read. The queue begins there, and ends at `next`. smoltcp has no such call.
+    ///
+    /// ```
+    /// # use net_base::receiver::Receiver;
+    /// # let mut storage = [0u8; 16];
+    /// # let mut receiver = Receiver::new_at(&mut storage[..], 100);
+    /// assert!(receiver.keep(100, b"abc").is_ok());
+    /// assert_eq!(receiver.read(&mut [0; 2]), 2);
+    /// assert_eq!((receiver.first_unread(), receiver.next()), (102, 103));
+    /// ```
+    #[must_use]
+    pub fn first_unread(&self) -> u64 {
         let head = &self.head;
         head.first + head.count_read
     }

@@ -12,8 +12,11 @@ returns-clause-bytes c = λ text n is.
 
 pub returns-clause-not_empty : goal.returns-clause-not_empty
 returns-clause-not_empty c = λ text n is below.
-    let at : c.next.result ≡ next_position c.args.receiver.now.receiver = c.next.ensures ∙ ap next_position c.receiver.ensures in
+    let at : c.next.result ≡ next_position c.args.receiver.now.receiver = c.next.ensures
+    ∙ ap next_position c.receiver.ensures in
     let low = left_below c.args.sender.now c.args.receiver.now c.requires.kept c.requires.more in
-    let there : c.next.result < end_of c.args.sender.now.sender = omega (arith, at, is.sends.end, length-take n text, is.within) in
-    c.lent_segments.ensures.some c.args.sender.now c.next.result _ _ _ c.peek_at.ensures.lent (omega (arith, low, at)) there
+    let there : c.next.result < end_of c.args.sender.now.sender =
+    omega (arith, at, is.sends.end, length-take n text, is.within) in
+    c.lent_segments.ensures.some c.args.sender.now c.next.result _ _ _ c.peek_at.ensures.lent
+    (omega (arith, low, at)) there
     (omega (arith, there, c.is_sound_sent.ensures.fits))

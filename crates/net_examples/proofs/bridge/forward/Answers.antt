@@ -8,7 +8,8 @@ pub returns-in_err-forward_one-clause-err : goal.returns-in_err-forward_one-clau
 returns-in_err-forward_one-clause-err g c =
     let i = c.loop-count.invariant in
     let e = c.in_err-forward_one.ensures.err in
-    let lost : ForwardsAndLoses g.A.Device.taken g.B.Device.sent g.B.Device.lacks_memory c.args.max c.args.from.now c.forward_one.new.from c.args.to.now
+    let lost : ForwardsAndLoses g.A.Device.taken g.B.Device.sent g.B.Device.lacks_memory c.args.max c.args.from.now
+    c.forward_one.new.from c.args.to.now
     c.forward_one.new.to =
     record {
       frames = i.frames;

@@ -11,4 +11,5 @@ returns c = λ lost highest bound top active sees answered.
     c.args.answer.is_equal c.args.answer.unsent c.args.scoreboard.now c.args.recovery.now in
     subst (λ (after : LossRecovery). r.asked ≤ after.lost) (sym (c.find_losses.ensures.state lost highest bound top))
     (c.arrivals.ensures.probe c.args.segment_size first c.args.numbers.sent c.args.scoreboard.now
-    (max lost (blind_lost c.args.segment_size c.args.answer.first first c.args.numbers.sent r)) highest r active sees answered)
+    (max lost (blind_lost c.args.segment_size c.args.answer.first first c.args.numbers.sent r)) highest r
+    active sees answered)

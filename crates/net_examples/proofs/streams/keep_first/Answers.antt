@@ -10,6 +10,7 @@ returns c =
     let commands = Arrives c.args.pos c.args.bytes.now c.args.is_last ∷ [] in
     let kept = kept_after_all 4 fresh fresh_kept commands in
     let after : FiniteState → FiniteState = λ s. finite_after 4 s c.args.pos c.args.bytes.now c.args.is_last in
-    subst (λ (t : FiniteState). Refines t.receiver kept) (sym (c.keep.ensures.state ∙ ap after c.reset_at.ensures.state))
+    subst (λ (t : FiniteState). Refines t.receiver kept)
+    (sym (c.keep.ensures.state ∙ ap after c.reset_at.ensures.state))
     (c.finite_schedules.ensures.schedules 4 fresh fresh_kept commands
     (c.schedules.ensures.fresh 0 c.args.receiver.now.receiver.capacity)).0

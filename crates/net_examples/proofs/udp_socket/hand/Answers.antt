@@ -14,7 +14,8 @@ returns-clause-dispatched g c =
     (λ answer k.
     let gives = k.gives in
     let met = gives.met in
-    let called : GivesAtDatagram g.F.FnOnce c.args.emit gives.header.now gives.bytes.now answer × (gives.left.0.now ≡ gives.header.now)
+    let called : GivesAtDatagram g.F.FnOnce c.args.emit gives.header.now gives.bytes.now answer
+    × (gives.left.0.now ≡ gives.header.now)
     × (gives.left.1.0.now ≡ gives.bytes.now) = search of_calls parts 8 in
     let header : k.new_header ≡ k.header = sym gives.leaves.0 ∙ called.1 ∙ gives.shows.0 in
     let bytes : k.new_bytes ≡ k.bytes = sym gives.leaves.1 ∙ called.2 ∙ gives.shows.1 in
@@ -38,9 +39,11 @@ returns-clause-dispatched g c =
 pub returns-clause-capacity : goal.returns-clause-capacity
 returns-clause-capacity g c =
     handed_out_same c.overwritten.ensures.count _ _ c.dequeue_with.result c.dequeue_with.ensures.unchanged
-    (IfOk-weaker c.dequeue_with.result _ _ (λ answer k. (is_ok answer, k.new_header, k.new_bytes, k.made)) c.dequeue_with.ensures.handed)
+    (IfOk-weaker c.dequeue_with.result _ _ (λ answer k. (is_ok answer, k.new_header, k.new_bytes, k.made))
+    c.dequeue_with.ensures.handed)
 
 pub dequeue_with-requires : goal.dequeue_with-requires
 dequeue_with-requires g c h bytes first x y is_header is_bytes p is_lent =
     subst (λ (to : Endpoint). g.F.FnOnce.pre c.args.emit (to, (p, tt))) (sym is_header)
-    (c.requires h bytes (c.packets_leave_in_order.ensures.shown c.args.queue.now h bytes c.well_placed.ensures first) p (is_lent ∙ is_bytes))
+    (c.requires h bytes (c.packets_leave_in_order.ensures.shown c.args.queue.now h bytes c.well_placed.ensures first)
+    p (is_lent ∙ is_bytes))

@@ -22,7 +22,8 @@ loop-i-preserved c =
     let old = c.args.recent.now in
     let next : suc i ≡ i + 1 = omega arith in
     (λ k. slice_set (c.loop-i.invariant k) i ((c.run.view_is ∙ c.index-listed-i.is) k).0)
-    ∙ written c.index-listed-i.result i old rs (omega (arith, c.min-i-end.ensures, c.loop-i-test.true)) (omega (arith, c.min-i-end.ensures, c.loop-i-test.true))
+    ∙ written c.index-listed-i.result i old rs (omega (arith, c.min-i-end.ensures, c.loop-i-test.true))
+    (omega (arith, c.min-i-end.ensures, c.loop-i-test.true))
     ∙ ap (λ n. so_far n rs old) next
 
 pub returns : goal.returns
@@ -40,5 +41,6 @@ returns c =
     (λ (l : length old ≤ length rs).
     let all : c.loop-i.i ≡ length old = omega (arith, c.min-i-end.ensures, c.loop-i-test.false, c.loop-i.auto.i-end) in
     ap (λ n. so_far n rs old) all
-    ∙ (λ k. sym (take-map (λ r. r.0) (length old) rs) k ++ (drop_all (length old) old (omega arith) ∙ sym (drop_all (length rs) old l)) k))
+    ∙ (λ k. sym (take-map (λ r. r.0) (length old) rs) k
+    ++ (drop_all (length old) old (omega arith) ∙ sym (drop_all (length rs) old l)) k))
     (cases_lt (length rs) (length old))

@@ -3,4 +3,11 @@ use Rattle.net_receiver.proofs.OneStream.{in_order_reaches}
 use Rattle.net_receiver.proofs.laws.completion.Goals as goal
 
 pub returns : goal.returns
-returns c = record { all = completes; stays = has_byte_stays; brings = accepted_brings; reaches = has_all_reaches; in_order = in_order_reaches }
+returns c = record {
+  all = completes;
+  stays = has_byte_stays;
+  brings = accepted_brings;
+  reaches =
+      has_all_reaches;
+  in_order = in_order_reaches;
+}

@@ -4,4 +4,8 @@ use Rattle.net_receiver.proofs.Words.{receiver_of, length}
 use Rattle.net_receiver.proofs.laws.represents.Goals as goal
 
 pub returns : goal.returns
-returns c = record { state = sound_represents; parts = λ h xs rs sound. sound_represents (length rs) (receiver_of h xs rs) (whole xs sound).sound }
+returns c = record {
+  state = sound_represents;
+  parts =
+      λ h xs rs sound. sound_represents (length rs) (receiver_of h xs rs) (whole xs sound).sound;
+}

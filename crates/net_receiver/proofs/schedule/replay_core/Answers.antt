@@ -26,7 +26,8 @@ loop-command-preserved g c =
           replies_more g.row.N c.args.receiver.now c.loop-command.receiver c.args.replies.now.items
           c.loop-command.replies.items c.push_reserved.new.self.items c.in_ok-reply.reply c.args.commands.now
           c.loop-command.command-index c.command-item.result c.loop-command-test.true c.command-item.is
-          c.loop-command.invariant.state c.loop-command.invariant.pushed c.loop-command.invariant.replies c.in_ok-reply.ensures.reply more;
+          c.loop-command.invariant.state c.loop-command.invariant.pushed c.loop-command.invariant.replies
+          c.in_ok-reply.ensures.reply more;
     }
 
 -- the command that failed left what those before it made
@@ -37,7 +38,8 @@ returns-in_err-reply-clause-stored g c =
         count = c.loop-command.command-index;
         within = let size = length-map c.args.commands.now command_value in omega arith;
         whole =
-            λ done. (let failed = err_from_is_err_and c.from_residual-in_err-reply.result c.from_residual-in_err-reply.ensures.1 in
+            λ done. (let failed = err_from_is_err_and c.from_residual-in_err-reply.result
+            c.from_residual-in_err-reply.ensures.1 in
             absurd (false≢true (sym (ap is_ok failed.1) ∙ done)));
       };
       state = c.in_err-reply.ensures.unchanged ∙ c.loop-command.invariant.state;
@@ -52,7 +54,8 @@ returns-in_err-reserve-clause-stored g c =
         count = c.loop-command.command-index;
         within = let size = length-map c.args.commands.now command_value in omega arith;
         whole =
-            λ done. (let failed = err_from_is_err_and c.from_residual.result c.from_residual.ensures.1 in absurd (false≢true (sym (ap is_ok failed.1) ∙ done)));
+            λ done. (let failed = err_from_is_err_and c.from_residual.result c.from_residual.ensures.1 in
+            absurd (false≢true (sym (ap is_ok failed.1) ∙ done)));
       };
       state = c.loop-command.invariant.state;
       replies = ap (new_replies c.args.replies.now.items) c.reserve.ensures.items ∙ c.loop-command.invariant.replies;
@@ -75,11 +78,13 @@ returns-clause-stored g c =
 -- the replies so far, of which a request for more room leaves all
 pub returns-in_err-reserve-clause-appends : goal.returns-in_err-reserve-clause-appends
 returns-in_err-reserve-clause-appends g c =
-    subst (λ xs. xs ≡ c.args.replies.now.items ++ items_after c.args.replies.now.items xs) (sym c.reserve.ensures.items) c.loop-command.invariant.pushed
+    subst (λ xs. xs ≡ c.args.replies.now.items ++ items_after c.args.replies.now.items xs)
+    (sym c.reserve.ensures.items) c.loop-command.invariant.pushed
 
 pub returns-in_err-reply-clause-appends : goal.returns-in_err-reply-clause-appends
 returns-in_err-reply-clause-appends g c =
-    subst (λ xs. xs ≡ c.args.replies.now.items ++ items_after c.args.replies.now.items xs) (sym c.reserve.ensures.items) c.loop-command.invariant.pushed
+    subst (λ xs. xs ≡ c.args.replies.now.items ++ items_after c.args.replies.now.items xs)
+    (sym c.reserve.ensures.items) c.loop-command.invariant.pushed
 
 pub returns-clause-appends : goal.returns-clause-appends
 returns-clause-appends g c = c.loop-command.invariant.pushed
@@ -89,5 +94,6 @@ loop-command-init g c =
     record {
       state = refl;
       pushed = nothing_pushed c.args.replies.now.items;
-      replies = ap (map reply_value) (drop_all (length c.args.replies.now.items) c.args.replies.now.items (omega arith));
+      replies = ap (map reply_value)
+          (drop_all (length c.args.replies.now.items) c.args.replies.now.items (omega arith));
     }

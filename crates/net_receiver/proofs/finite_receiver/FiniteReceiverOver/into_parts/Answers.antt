@@ -7,4 +7,5 @@ pub returns-clause-sound : goal.returns-clause-sound
 returns-clause-sound g c =
     let made = c.into_parts-storage.ensures in
     sound_finite _ (g.S.Storage.elements c.into_parts-storage.result.1) _ made.sound
-    (subst (λ v. IsSoundEnd (record { receiver = v; end = end_with c.self.inside.after_end })) (sym made.state) c.self.invariant)
+    (subst (λ v. IsSoundEnd (record { receiver = v; end = end_with c.self.inside.after_end })) (sym made.state)
+    c.self.invariant)

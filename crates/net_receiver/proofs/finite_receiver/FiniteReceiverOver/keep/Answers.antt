@@ -2,12 +2,15 @@ use Rattle.net_receiver.specs.{FiniteState, before_segment, usual_after, usual_r
 use Rattle.net_receiver.proofs.FiniteReceivers.{met_alone, met_same, met_of_stream, met_acknowledged, accepted_in_order}
 use Rattle.net_receiver.proofs.FiniteReceivers.{finite_reads_nothing}
 use Rattle.std.specs.Prelude.{IsOk}
-use Rattle.net_receiver.proofs.Words.{◌≡◌, ◌∙◌, ◌+◌, ap, subst, sym, inl, inr, length, arith, acknowledged, ReceivesFinite}
+use Rattle.net_receiver.proofs.Words.{◌≡◌, ◌∙◌, ◌+◌, ap, subst, sym, inl, inr, length, arith, acknowledged}
+use Rattle.net_receiver.proofs.Words.{ReceivesFinite}
 use Rattle.net_receiver.proofs.finite_receiver.FiniteReceiverOver.keep.Given as given
 use Rattle.net_receiver.proofs.finite_receiver.FiniteReceiverOver.keep.Goals as goal
-use Rattle.net_receiver.proofs.finite_receiver.FiniteReceiverOver.keep.Goals.{then-is_last+then-ends_in_order, else-is_last}
+use Rattle.net_receiver.proofs.finite_receiver.FiniteReceiverOver.keep.Goals.{then-is_last+then-ends_in_order}
+use Rattle.net_receiver.proofs.finite_receiver.FiniteReceiverOver.keep.Goals.{else-is_last}
 use Rattle.net_receiver.proofs.finite_receiver.FiniteReceiverOver.keep.Goals.{else-is_last-via-then-is_last+else-ends_in_order}
-use Rattle.net_receiver.proofs.finite_receiver.FiniteReceiverOver.keep.Goals.{else-is_last-via-else-is_last, After-keep_usual}
+use Rattle.net_receiver.proofs.finite_receiver.FiniteReceiverOver.keep.Goals.{else-is_last-via-else-is_last}
+use Rattle.net_receiver.proofs.finite_receiver.FiniteReceiverOver.keep.Goals.{After-keep_usual}
 
 -- what the segment meets
 module _ (g : given.Over) (c : After-keep_usual g) where
@@ -18,12 +21,15 @@ module _ (g : given.Over) (c : After-keep_usual g) where
   met_is = elim c.if-is_last.branch [
     | then-is_last+then-ends_in_order w ↦
         w.self-is ∙ w.keep_queue_alone.ensures
-        ∙ sym (met_alone c.args.self.now c.args.pos _ c.saturating_add-last.result c.args.is_last c.saturating_add-last.ensures w.if-is_last.true (sym w.ends_in_order.ensures ∙ w.if-ends_in_order.true))
+        ∙ sym (met_alone c.args.self.now c.args.pos _ c.saturating_add-last.result c.args.is_last
+        c.saturating_add-last.ensures w.if-is_last.true (sym w.ends_in_order.ensures ∙ w.if-ends_in_order.true))
     | else-is_last w ↦
         w.self-is
-        ∙ sym (met_same c.args.self.now c.args.pos _ c.saturating_add-last.result c.args.is_last c.saturating_add-last.ensures
+        ∙ sym (met_same c.args.self.now c.args.pos _ c.saturating_add-last.result c.args.is_last
+        c.saturating_add-last.ensures
         (elim w.else-is_last.branch [
-          | else-is_last-via-then-is_last+else-ends_in_order w' ↦ inr (sym w'.ends_in_order.ensures ∙ w'.if-ends_in_order.false)
+          | else-is_last-via-then-is_last+else-ends_in_order w' ↦
+              inr (sym w'.ends_in_order.ensures ∙ w'.if-ends_in_order.false)
           | else-is_last-via-else-is_last w' ↦ inl w'.if-is_last.false
         ]))
   ]
@@ -32,7 +38,8 @@ module _ (g : given.Over) (c : After-keep_usual g) where
   state = c.keep_usual.ensures.state ∙ ap (λ t. usual_after g.row.N t c.args.pos c.args.bytes.now c.args.is_last) met_is
 
   value : c.keep_usual.result ≡ usual_result g.row.N met c.args.pos c.args.bytes.now c.args.is_last
-  value = c.keep_usual.ensures.value ∙ ap (λ t. usual_result g.row.N t c.args.pos c.args.bytes.now c.args.is_last) met_is
+  value = c.keep_usual.ensures.value
+      ∙ ap (λ t. usual_result g.row.N t c.args.pos c.args.bytes.now c.args.is_last) met_is
 
 pub returns-clause-state : goal.returns-clause-state
 returns-clause-state g c = state g (goal.at.returns-clause-state g c).After-keep_usual
@@ -44,7 +51,8 @@ pub returns-clause-receives : goal.returns-clause-receives
 returns-clause-receives g c = λ f x r h.
     let w = (goal.at.returns-clause-receives g c).After-keep_usual in
     c.keep_usual.ensures.receives f x
-    (subst (ReceivesFinite f x) (sym (met_is g w)) (met_of_stream f x c.args.self.now c.args.pos (c.args.pos + length c.args.bytes.now) c.args.is_last r)) h
+    (subst (ReceivesFinite f x) (sym (met_is g w))
+    (met_of_stream f x c.args.self.now c.args.pos (c.args.pos + length c.args.bytes.now) c.args.is_last r)) h
 
 pub returns-clause-read : goal.returns-clause-read
 returns-clause-read g c =

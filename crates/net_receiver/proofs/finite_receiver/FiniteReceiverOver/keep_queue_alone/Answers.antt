@@ -6,4 +6,5 @@ use Rattle.net_receiver.proofs.finite_receiver.FiniteReceiverOver.keep_queue_alo
 pub invariant_of-self : goal.invariant_of-self
 invariant_of-self g c =
     let before : FiniteState = record { receiver = c.self.inside.receiver; end = end_with c.self.inside.after_end } in
-    subst (λ v. IsSoundEnd (record { receiver = v; end = no_end })) (sym c.release_held.ensures) (alone_sound before c.self.invariant)
+    subst (λ v. IsSoundEnd (record { receiver = v; end = no_end })) (sym c.release_held.ensures)
+    (alone_sound before c.self.invariant)

@@ -26,10 +26,13 @@ module _ (g : given.Over) (c : After-keep_part g) where
   cut : take c.count_below-count.result c.args.bytes.now ≡ below_end c.args.self.now c.args.pos c.args.bytes.now
   cut =
       cut_is _ c.count_below-count.result c.args.bytes.now
-      (c.count_below-count.ensures ∙ ap (λ (s : FiniteState). min (length c.args.bytes.now) (bytes_end s - c.args.pos)) c.self-2.view_is)
+      (c.count_below-count.ensures
+      ∙ ap (λ (s : FiniteState). min (length c.args.bytes.now) (bytes_end s - c.args.pos)) c.self-2.view_is)
 
-  end : end_with c.after_end_with-after_end.result ≡ end_after c.args.self.now (c.args.pos + length c.args.bytes.now) c.args.is_last
-  end = c.after_end_with-after_end.ensures ∙ end_after_at c.args.self.now _ c.saturating_add-last.result c.args.is_last c.saturating_add-last.ensures ends
+  end : end_with c.after_end_with-after_end.result
+      ≡ end_after c.args.self.now (c.args.pos + length c.args.bytes.now) c.args.is_last
+  end = c.after_end_with-after_end.ensures
+      ∙ end_after_at c.args.self.now _ c.saturating_add-last.result c.args.is_last c.saturating_add-last.ensures ends
 
   -- what was there, as the receiver of the bytes has it
   before : c.self-2.inside.receiver ≡ c.args.self.now.receiver
@@ -38,30 +41,39 @@ module _ (g : given.Over) (c : After-keep_part g) where
   abbrev given_bytes : List ℕ
   given_bytes = take c.count_below-count.result c.args.bytes.now
 
-  left_bytes : c.keep_part.new.self ≡ receiver_after_command g.row.N c.args.self.now.receiver (Segment c.args.pos given_bytes)
-  left_bytes = c.keep_part.ensures.state ∙ ap (λ v. receiver_after_command g.row.N v (Segment c.args.pos given_bytes)) before
+  left_bytes : c.keep_part.new.self
+      ≡ receiver_after_command g.row.N c.args.self.now.receiver (Segment c.args.pos given_bytes)
+  left_bytes = c.keep_part.ensures.state
+      ∙ ap (λ v. receiver_after_command g.row.N v (Segment c.args.pos given_bytes)) before
 
-  counts : c.keep_part.result ≡ numbers c.args.self.now.receiver (verdict g.row.N c.args.self.now.receiver (piece c.args.pos given_bytes))
+  counts : c.keep_part.result
+      ≡ numbers c.args.self.now.receiver (verdict g.row.N c.args.self.now.receiver (piece c.args.pos given_bytes))
   counts = c.keep_part.ensures.counts ∙ ap (λ v. numbers v (verdict g.row.N v (piece c.args.pos given_bytes))) before
 
-  left : (e : ℕ) → e ≡ cond (is_ok c.keep_part.result) (end_after c.args.self.now (c.args.pos + length c.args.bytes.now) c.args.is_last) c.args.self.now.end →
-      record { receiver = c.keep_part.new.self; end = e } ≡ usual_after g.row.N c.args.self.now c.args.pos c.args.bytes.now c.args.is_last
+  left : (e : ℕ) → e ≡ cond (is_ok c.keep_part.result)
+      (end_after c.args.self.now (c.args.pos + length c.args.bytes.now) c.args.is_last) c.args.self.now.end →
+      record { receiver = c.keep_part.new.self; end = e }
+      ≡ usual_after g.row.N c.args.self.now c.args.pos c.args.bytes.now c.args.is_last
   left e is = left_state g.row.N c.args.self.now _ _ _ other _ cut _ left_bytes _ counts e is
 
-  value : with_error c.keep_part.result ≡ usual_result g.row.N c.args.self.now c.args.pos c.args.bytes.now c.args.is_last
+  value : with_error c.keep_part.result
+      ≡ usual_result g.row.N c.args.self.now c.args.pos c.args.bytes.now c.args.is_last
   value = left_result g.row.N c.args.self.now _ _ _ other _ cut _ left_bytes _ counts
 
   -- the segment is kept
   module _ (k : KeptBytes) (is : c.keep_part.result ≡ Ok k) where
     state_is : record { receiver = c.keep_part.new.self; end = end_with c.after_end_with-after_end.result }
         ≡ usual_after g.row.N c.args.self.now c.args.pos c.args.bytes.now c.args.is_last
-    state_is = left _ (end ∙ ap (λ r. cond (is_ok r) (end_after c.args.self.now (c.args.pos + length c.args.bytes.now) c.args.is_last) c.args.self.now.end) (sym is))
+    state_is = left _ (end ∙ ap
+        (λ r. cond (is_ok r) (end_after c.args.self.now (c.args.pos + length c.args.bytes.now) c.args.is_last)
+        c.args.self.now.end) (sym is))
 
     was_sound : IsSoundEnd c.args.self.now
     was_sound = subst IsSoundEnd c.self-2.view_is c.self-2.invariant
 
     is_sound : IsSoundEnd (record { receiver = c.keep_part.new.self; end = end_with c.after_end_with-after_end.result })
-    is_sound = subst IsSoundEnd (sym state_is) (usual_sound g.row.N c.args.self.now c.args.pos c.args.bytes.now c.args.is_last was_sound)
+    is_sound = subst IsSoundEnd (sym state_is)
+        (usual_sound g.row.N c.args.self.now c.args.pos c.args.bytes.now c.args.is_last was_sound)
 
 pub invariant_of-self : goal.invariant_of-self
 invariant_of-self g c = is_sound g (goal.at.invariant_of-self g c).After-keep_part c.in-Ok.kept c.in-Ok.is
@@ -75,19 +87,23 @@ returns-in-Ok g c =
       state = state;
       value = ap with_error (sym c.in-Ok.is) ∙ value g w;
       receives = λ f x r h.
-          subst (ReceivesFinite f x) (sym state) (usual_of_stream g.row.N f x s c.args.pos c.args.bytes.now c.args.is_last r h);
+          subst (ReceivesFinite f x) (sym state)
+          (usual_of_stream g.row.N f x s c.args.pos c.args.bytes.now c.args.is_last r h);
       read =
           ap (λ (t : FiniteState). t.receiver.read) state
           ∙ usual_reads_nothing g.row.N s c.args.pos c.args.bytes.now c.args.is_last;
       grows =
           subst (λ t. acknowledged s ≤ acknowledged t) (sym state)
-          (usual_acknowledged g.row.N s c.args.pos c.args.bytes.now c.args.is_last (was_sound g w c.in-Ok.kept c.in-Ok.is));
+          (usual_acknowledged g.row.N s c.args.pos c.args.bytes.now c.args.is_last
+          (was_sound g w c.in-Ok.kept c.in-Ok.is));
     }
 
 pub returns-in-Err-clause-state : goal.returns-in-Err-clause-state
 returns-in-Err-clause-state g c =
     let w = (goal.at.returns-in-Err-clause-state g c).After-keep_part in
-    left g w (end_with c.self-2.inside.after_end) (ap (λ (s : FiniteState). s.end) c.self-2.view_is ∙ ap (λ r. cond (is_ok r) (end_after c.args.self.now (c.args.pos + length c.args.bytes.now) c.args.is_last) c.args.self.now.end) (sym c.in-Err.is))
+    left g w (end_with c.self-2.inside.after_end) (ap (λ (s : FiniteState). s.end) c.self-2.view_is
+    ∙ ap (λ r. cond (is_ok r) (end_after c.args.self.now (c.args.pos + length c.args.bytes.now) c.args.is_last)
+    c.args.self.now.end) (sym c.in-Err.is))
 
 pub returns-in-Err-clause-value : goal.returns-in-Err-clause-value
 returns-in-Err-clause-value g c =

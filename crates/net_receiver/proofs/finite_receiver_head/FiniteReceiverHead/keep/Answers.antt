@@ -1,19 +1,23 @@
 use Rattle.std.specs.Prelude.{OnErr, IsOk}
 use Rattle.net_receiver.specs.{FiniteState, finite_of, before_segment, usual_after, usual_result, HasSoundFinite}
 use Rattle.net_receiver.specs.FiniteHead.{usual_storage_after}
-use Rattle.net_receiver.proofs.FiniteReceivers.{met_alone, met_same, accepted_in_order, order_is, usual_stored_same, ok_no_err, in_order_at}
+use Rattle.net_receiver.proofs.FiniteReceivers.{met_alone, met_same, accepted_in_order, order_is, usual_stored_same}
+use Rattle.net_receiver.proofs.FiniteReceivers.{ok_no_err, in_order_at}
 use Rattle.net_receiver.proofs.Words.{◌≡◌, ◌∙◌, ◌+◌, ap, subst, sym, inl, inr, length, List, ℕ}
 use Rattle.net_receiver.proofs.finite_receiver_head.FiniteReceiverHead.keep.Goals as goal
-use Rattle.net_receiver.proofs.finite_receiver_head.FiniteReceiverHead.keep.Goals.{then-is_last+then-ends_in_order, else-is_last}
+use Rattle.net_receiver.proofs.finite_receiver_head.FiniteReceiverHead.keep.Goals.{then-is_last+then-ends_in_order}
+use Rattle.net_receiver.proofs.finite_receiver_head.FiniteReceiverHead.keep.Goals.{else-is_last}
 use Rattle.net_receiver.proofs.finite_receiver_head.FiniteReceiverHead.keep.Goals.{else-is_last-via-then-is_last+else-ends_in_order}
-use Rattle.net_receiver.proofs.finite_receiver_head.FiniteReceiverHead.keep.Goals.{else-is_last-via-else-is_last, After-keep_usual}
+use Rattle.net_receiver.proofs.finite_receiver_head.FiniteReceiverHead.keep.Goals.{else-is_last-via-else-is_last}
+use Rattle.net_receiver.proofs.finite_receiver_head.FiniteReceiverHead.keep.Goals.{After-keep_usual}
 
 pub keep_usual-requires : goal.keep_usual-requires
 keep_usual-requires c = elim c.if-is_last.branch [
   | then-is_last+then-ends_in_order w ↦
       subst (λ h. HasSoundFinite h (length c.args.storage.now) c.args.runs.now) (sym w.self-is)
       (w.keep_queue_alone.ensures.sound (length c.args.storage.now) c.args.runs.now c.requires)
-  | else-is_last w ↦ subst (λ h. HasSoundFinite h (length c.args.storage.now) c.args.runs.now) (sym w.self-is) c.requires
+  | else-is_last w ↦ subst (λ h. HasSoundFinite h (length c.args.storage.now) c.args.runs.now)
+      (sym w.self-is) c.requires
 ]
 
 -- what the segment meets
@@ -29,37 +33,45 @@ module _ (c : After-keep_usual) where
     | then-is_last+then-ends_in_order w ↦
         ap (λ h. finite_of h c.args.storage.now c.args.runs.now) w.self-is
         ∙ w.keep_queue_alone.ensures.state c.args.storage.now c.args.runs.now
-        ∙ sym (met_alone s c.args.pos _ c.saturating_add-last.result c.args.is_last c.saturating_add-last.ensures w.if-is_last.true
-        (sym (order_is c.args.self.now c.args.storage.now c.args.runs.now c.requires.parts c.args.pos c.saturating_add-last.result)
+        ∙ sym (met_alone s c.args.pos _ c.saturating_add-last.result c.args.is_last c.saturating_add-last.ensures
+        w.if-is_last.true
+        (sym (order_is c.args.self.now c.args.storage.now c.args.runs.now c.requires.parts c.args.pos
+        c.saturating_add-last.result)
         ∙ sym w.ends_in_order.ensures ∙ w.if-ends_in_order.true))
     | else-is_last w ↦
         ap (λ h. finite_of h c.args.storage.now c.args.runs.now) w.self-is
         ∙ sym (met_same s c.args.pos _ c.saturating_add-last.result c.args.is_last c.saturating_add-last.ensures
         (elim w.else-is_last.branch [
           | else-is_last-via-then-is_last+else-ends_in_order w' ↦
-              inr (sym (order_is c.args.self.now c.args.storage.now c.args.runs.now c.requires.parts c.args.pos c.saturating_add-last.result)
+              inr (sym (order_is c.args.self.now c.args.storage.now c.args.runs.now c.requires.parts c.args.pos
+              c.saturating_add-last.result)
               ∙ sym w'.ends_in_order.ensures ∙ w'.if-ends_in_order.false)
           | else-is_last-via-else-is_last w' ↦ inl w'.if-is_last.false
         ]))
   ]
 
   value : c.keep_usual.result ≡ usual_result (length c.args.runs.now) met c.args.pos c.args.bytes.now c.args.is_last
-  value = c.keep_usual.ensures.value ∙ ap (λ t. usual_result (length c.args.runs.now) t c.args.pos c.args.bytes.now c.args.is_last) met_is
+  value = c.keep_usual.ensures.value
+      ∙ ap (λ t. usual_result (length c.args.runs.now) t c.args.pos c.args.bytes.now c.args.is_last) met_is
 
   stored_by : (xs : List ℕ) (t : FiniteState) →
       usual_storage_after (length c.args.runs.now) c.if-is_last.self xs t c.args.pos c.args.bytes.now c.args.is_last
       ≡ usual_storage_after (length c.args.runs.now) c.args.self.now xs t c.args.pos c.args.bytes.now c.args.is_last
   stored_by xs t = elim c.if-is_last.branch [
     | then-is_last+then-ends_in_order w ↦
-        ap (λ h. usual_storage_after (length c.args.runs.now) h xs t c.args.pos c.args.bytes.now c.args.is_last) w.self-is
-        ∙ usual_stored_same (length c.args.runs.now) w.keep_queue_alone.new.self c.args.self.now _ w.keep_queue_alone.ensures.place xs t c.args.pos c.args.bytes.now c.args.is_last
-    | else-is_last w ↦ ap (λ h. usual_storage_after (length c.args.runs.now) h xs t c.args.pos c.args.bytes.now c.args.is_last) w.self-is
+        ap (λ h. usual_storage_after (length c.args.runs.now) h xs t c.args.pos c.args.bytes.now
+        c.args.is_last) w.self-is
+        ∙ usual_stored_same (length c.args.runs.now) w.keep_queue_alone.new.self c.args.self.now _
+        w.keep_queue_alone.ensures.place xs t c.args.pos c.args.bytes.now c.args.is_last
+    | else-is_last w ↦ ap (λ h. usual_storage_after (length c.args.runs.now) h xs t c.args.pos c.args.bytes.now
+        c.args.is_last) w.self-is
   ]
 
 pub returns-clause-state : goal.returns-clause-state
 returns-clause-state c =
     c.keep_usual.ensures.state
-    ∙ ap (λ t. usual_after (length c.args.runs.now) t c.args.pos c.args.bytes.now c.args.is_last) (met_is (goal.at.returns-clause-state c).After-keep_usual)
+    ∙ ap (λ t. usual_after (length c.args.runs.now) t c.args.pos c.args.bytes.now c.args.is_last)
+    (met_is (goal.at.returns-clause-state c).After-keep_usual)
 
 pub returns-clause-value : goal.returns-clause-value
 returns-clause-value c = value (goal.at.returns-clause-value c).After-keep_usual
@@ -68,20 +80,25 @@ pub returns-clause-stored : goal.returns-clause-stored
 returns-clause-stored c =
     let w = (goal.at.returns-clause-stored c).After-keep_usual in
     c.keep_usual.ensures.stored
-    ∙ ap (λ t. usual_storage_after (length c.args.runs.now) c.if-is_last.self c.args.storage.now t c.args.pos c.args.bytes.now c.args.is_last) (met_is w)
+    ∙ ap (λ t. usual_storage_after (length c.args.runs.now) c.if-is_last.self c.args.storage.now t c.args.pos
+    c.args.bytes.now c.args.is_last) (met_is w)
     ∙ stored_by w c.args.storage.now (met w)
 
 pub returns-clause-unchanged : goal.returns-clause-unchanged
 returns-clause-unchanged c = elim c.if-is_last.branch [
   | then-is_last+then-ends_in_order w ↦
       (let order =
-      sym (in_order_at (finite_of c.args.self.now c.args.storage.now c.args.runs.now) c.args.pos _ c.saturating_add-last.result c.args.is_last c.saturating_add-last.ensures)
-      ∙ sym (order_is c.args.self.now c.args.storage.now c.args.runs.now c.requires.parts c.args.pos c.saturating_add-last.result)
+      sym (in_order_at (finite_of c.args.self.now c.args.storage.now c.args.runs.now) c.args.pos _
+      c.saturating_add-last.result c.args.is_last c.saturating_add-last.ensures)
+      ∙ sym (order_is c.args.self.now c.args.storage.now c.args.runs.now c.requires.parts c.args.pos
+      c.saturating_add-last.result)
       ∙ sym w.ends_in_order.ensures ∙ w.if-ends_in_order.true in
       ok_no_err c.keep_usual.result _
       (subst IsOk (sym (value (goal.at.returns-clause-unchanged c).After-keep_usual))
-      (accepted_in_order (length c.args.runs.now) (finite_of c.args.self.now c.args.storage.now c.args.runs.now) c.args.pos c.args.bytes.now c.args.is_last w.if-is_last.true order)))
+      (accepted_in_order (length c.args.runs.now) (finite_of c.args.self.now c.args.storage.now c.args.runs.now)
+      c.args.pos c.args.bytes.now c.args.is_last w.if-is_last.true order)))
   | else-is_last w ↦
-      subst (λ h. OnErr c.keep_usual.result ((c.keep_usual.new.self ≡ h) × (c.keep_usual.new.storage ≡ c.args.storage.now) × (c.keep_usual.new.runs ≡ c.args.runs.now)))
+      subst (λ h. OnErr c.keep_usual.result ((c.keep_usual.new.self ≡ h)
+      × (c.keep_usual.new.storage ≡ c.args.storage.now) × (c.keep_usual.new.runs ≡ c.args.runs.now)))
       w.self-is c.keep_usual.ensures.unchanged
 ]

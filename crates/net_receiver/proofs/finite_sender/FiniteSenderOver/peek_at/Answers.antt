@@ -14,7 +14,9 @@ returns g c =
     let span = c.peek_at-lent.result.0 in
     let last = c.peek_at-lent.result.1 in
     let met = c.peek_at-lent.ensures in
-    let shown = part_is xs span.from _ span.contiguous (omega arith) (omega (arith, met.within, c.count.ensures)) _ c.part.ensures in
-    let there = subst (λ (ys : List ℕ). IsLent (finite_sender_of h xs) p l ys last) (sym shown.1) (met.lent xs (sym c.count.ensures)) in
+    let shown = part_is xs span.from _ span.contiguous (omega arith) (omega (arith, met.within, c.count.ensures)) _
+    c.part.ensures in
+    let there = subst (λ (ys : List ℕ). IsLent (finite_sender_of h xs) p l ys last) (sym shown.1)
+    (met.lent xs (sym c.count.ensures)) in
     let lent = subst (λ (s : FiniteSenderState). IsLent s p l c.part.result.now last) c.self.view_is there in
     record { lent = lent; later = lent_later v p l c.part.result.now last lent }

@@ -15,14 +15,18 @@ returns g c =
     let span = c.send_at-lent.result.0 in
     let last = c.send_at-lent.result.1 in
     let met = c.send_at-lent.ensures.lends in
-    let shown = part_is xs span.from _ span.contiguous (omega arith) (omega (arith, met.within, c.count.ensures)) _ c.part.ensures in
-    let there = subst (λ (ys : List ℕ). IsLent (finite_sender_of c.self.inside.head xs) p l ys last) (sym shown.1) (met.lent xs (sym c.count.ensures)) in
+    let shown = part_is xs span.from _ span.contiguous (omega arith) (omega (arith, met.within, c.count.ensures)) _
+    c.part.ensures in
+    let there = subst (λ (ys : List ℕ). IsLent (finite_sender_of c.self.inside.head xs) p l ys last) (sym shown.1)
+    (met.lent xs (sym c.count.ensures)) in
     let lent = subst (λ (s : FiniteSenderState). IsLent s p l now last) c.self.view_is there in
-    let marked : FiniteSenderState → ℕ → FiniteSenderState = λ o n. record o { sent = sent_after o.sent p (n + from_bool last) } in (
+    let marked : FiniteSenderState → ℕ → FiniteSenderState =
+    λ o n. record o { sent = sent_after o.sent p (n + from_bool last) } in (
       (
         refl,
         λ _. tt,
-        ap (λ (h : FiniteSenderHead). finite_sender_of h xs) c.send_at-lent.ensures.mark ∙ ap (λ o. marked o span.contiguous) c.self.view_is
+        ap (λ (h : FiniteSenderHead). finite_sender_of h xs) c.send_at-lent.ensures.mark
+            ∙ ap (λ o. marked o span.contiguous) c.self.view_is
             ∙ ap (marked v) (sym shown.0),
       ),
       record {

@@ -9,7 +9,8 @@ invariant_of-self g c =
     let all = lent_whole c.count-capacity.result (g.S.Storage.elements s) _ c.write.new.storage
     c.count-capacity.ensures c.part_mut.ensures.value c.write.auto.storage in
     subst (λ n. IsSoundFiniteSender n c.write.new.self)
-    (sym (ap length (g.met.S.Storage.part_written s 0 c.write.new.storage ∙ all.1) ∙ c.write.auto.storage)) c.write.ensures.sound
+    (sym (ap length (g.met.S.Storage.part_written s 0 c.write.new.storage ∙ all.1) ∙ c.write.auto.storage))
+    c.write.ensures.sound
 
 pub returns-clause-state : goal.returns-clause-state
 returns-clause-state g c =

@@ -7,7 +7,8 @@ use Rattle.net_receiver.proofs.finite_sender_head.FiniteSenderHead.send_at.Goals
 pub overflow_add-count : goal.overflow_add-count
 overflow_add-count c =
     ⊎_elim
-    (λ some. let within = sent_within _ c.args.self.now _ c.args.limit _ _ _ _ c.requires c.peek_at-is_last.ensures some in
+    (λ some. let within = sent_within _ c.args.self.now _ c.args.limit _ _ _ _ c.requires
+    c.peek_at-is_last.ensures some in
     omega (arith, within, c.requires.fits, c.requires.closed, c.from.ensures))
     (λ none. omega (arith, none, c.from.ensures))
     (cases_lt 0 (c.peek_at-is_last.result.0.contiguous + from_bool c.peek_at-is_last.result.1))

@@ -18,7 +18,8 @@ returns c =
     let whole : cond (nat_eq h.closed 0) (open_room v) 0 ≡ open_room v = ap (λ b. cond b (open_room v) 0) isopen in
     let room = c.room.ensures c.args.storage.now refl in
     let most = length-take n xs in
-    let same : take c.write.result (take n xs) ≡ take c.write.result xs = take-take c.write.result n xs (omega (arith, done.count, most)) in
+    let same : take c.write.result (take n xs) ≡ take c.write.result xs =
+    take-take c.write.result n xs (omega (arith, done.count, most)) in
     let g = rewind_if_empty (ring_at c.args.storage.now h.sender.place) in
     let sound = subst (λ n. IsSound n c.write.new.self.place) (sym c.write.auto.storage) done.sound.place in
     let old = length-queue (ring_at c.args.storage.now h.sender.place) c.requires.sender.place in
@@ -33,13 +34,28 @@ returns c =
         closed = c.requires.closed;
         finished = c.requires.finished;
         none_left = λ some. absurd (omega (arith, c.requires.finished));
-        fits = omega (arith, old, new, first, more, size, long, room, whole, done.count, most, c.min-count.ensures, c.requires.fits);
+        fits = omega (
+          arith,
+          old,
+          new,
+          first,
+          more,
+          size,
+          long,
+          room,
+          whole,
+          done.count,
+          most,
+          c.min-count.ensures,
+          c.requires.fits,
+        );
         low = omega (arith, first, c.requires.low);
         high = omega (arith, old, new, first, more, size, c.requires.high);
       };
       count = omega (arith, done.count, room, whole, most, c.min-count.ensures);
       state = λ i. record {
-        sender = (done.state ∙ ap (with_written v) same ∙ ap (λ b. cond b (with_written v (take c.write.result xs)) v) (sym isopen)) i;
+        sender = (done.state ∙ ap (with_written v) same
+            ∙ ap (λ b. cond b (with_written v (take c.write.result xs)) v) (sym isopen)) i;
         closed = h.closed;
         finished = h.finished;
         sent = h.sent;

@@ -5,4 +5,5 @@ use Rattle.net_receiver.proofs.receiver.ReceiverOver.is_sound.Goals as goal
 
 pub returns : goal.returns
 returns g c =
-    subst (IsSound g.row.N) c.self.view_is (sound_for (g.S.Storage.elements c.self.inside.storage) c.self.invariant.0 g.row.N c.self.invariant.1)
+    subst (IsSound g.row.N) c.self.view_is
+    (sound_for (g.S.Storage.elements c.self.inside.storage) c.self.invariant.0 g.row.N c.self.invariant.1)

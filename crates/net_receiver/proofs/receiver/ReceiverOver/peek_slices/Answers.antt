@@ -12,6 +12,12 @@ returns-clause-cut g c =
     let first = c.peek_slices.result.0.now in
     let rest = drop c.args.offset (queue ring) in
     lent_from ring h.count_read sound.read_at c.args.offset c.args.size (length first) c.peek_slices.ensures.cut
-    (omega (arith, ap length c.peek_slices.ensures.bytes, length-append first c.peek_slices.result.1.now, length-take c.args.size rest, length-drop c.args.offset (queue ring)))
+    (omega (
+      arith,
+      ap length c.peek_slices.ensures.bytes,
+      length-append first c.peek_slices.result.1.now,
+      length-take c.args.size rest,
+      length-drop c.args.offset (queue ring),
+    ))
     ∙ ap (λ v. contiguous_count_from v c.args.offset c.args.size)
     (lent_view _ _ _ _ c.whole.ensures c.args.self.now c.self.view_is)

@@ -16,12 +16,14 @@ pub returns-clause-state : goal.returns-clause-state
 returns-clause-state g c =
     back_view _ _ _ _ c.whole.ensures (receiver_after_read c.args.self.now (length c.args.into.now))
     (c.read.ensures.state c.self.inside.runs (lent_sound _ _ _ _ c.whole.ensures c.self.invariant.0)
-    ∙ ap (λ v. receiver_after_read v (length c.args.into.now)) (lent_view _ _ _ _ c.whole.ensures c.args.self.now c.self.view_is))
+    ∙ ap (λ v. receiver_after_read v (length c.args.into.now))
+    (lent_view _ _ _ _ c.whole.ensures c.args.self.now c.self.view_is))
 
 pub returns-clause-count : goal.returns-clause-count
 returns-clause-count g c =
     c.read.ensures.count
-    ∙ ap (min (length c.args.into.now)) (sym (queue_size _ c.self.invariant.0) ∙ ap (λ (v : ReceiverState). length v.queue) c.self.view_is)
+    ∙ ap (min (length c.args.into.now)) (sym (queue_size _ c.self.invariant.0)
+    ∙ ap (λ (v : ReceiverState). length v.queue) c.self.view_is)
 
 pub returns-clause-into : goal.returns-clause-into
 returns-clause-into g c =
@@ -39,4 +41,5 @@ returns-clause-receives g c = λ f x r. read_receives f x _ _ (length c.args.int
 
 pub returns-clause-bytes : goal.returns-clause-bytes
 returns-clause-bytes g c = λ f x r.
-    read_bytes f x c.args.self.now c.read.new.into c.args.into.now c.read.result (returns-clause-count g c) (returns-clause-into g c) r
+    read_bytes f x c.args.self.now c.read.new.into c.args.into.now c.read.result (returns-clause-count g c)
+    (returns-clause-into g c) r

@@ -2,4 +2,9 @@ use Rattle.net_receiver.proofs.Words.{length}
 use Rattle.net_receiver.proofs.receiver.ReceiverOver.reset_at.Goals as goal
 
 pub invariant_of-self : goal.invariant_of-self
-invariant_of-self g c = (c.reset_at.ensures.sound (length (g.S.Storage.elements c.self.inside.storage)) c.self.inside.runs, c.self.invariant.1, c.reset_at.ensures.canonical)
+invariant_of-self g c = (
+  c.reset_at.ensures.sound (length (g.S.Storage.elements c.self.inside.storage))
+      c.self.inside.runs,
+  c.self.invariant.1,
+  c.reset_at.ensures.canonical,
+)

@@ -3,6 +3,7 @@ use Rattle.net_receiver.proofs.receiver_head.ReceiverHead.has_all_below.Goals as
 
 pub returns-then-next-pos : goal.returns-then-next-pos
 returns-then-next-pos c = (
-  (λ yes. offsets_below c.requires c.next-next.result c.next-next.ensures c.args.pos c.if-next-pos.true (c.is_held_below.ensures.0 yes)),
+  (λ yes. offsets_below c.requires c.next-next.result c.next-next.ensures c.args.pos c.if-next-pos.true
+      (c.is_held_below.ensures.0 yes)),
   (λ top. c.is_held_below.ensures.1 (below_offsets c.requires c.next-next.result c.next-next.ensures c.args.pos top)),
 )

@@ -12,7 +12,12 @@ overflow_add-end c =
     let ends = ap (λ (r : ℕ × ℕ). r.1) c.last.view_is
     ∙ ap (λ (r : ℕ × ℕ). r.1) (c.index-runs-used.is ∙ get_or_default c.args.runs.now k c.index-runs-used.result (0, 0)
     (omega (arith, c.requires.room, c.if-used-eq0.false))) in
-    omega (arith, ends, pair_fits c.args.self.now.held c.args.runs.now c.requires k (omega (arith, c.if-used-eq0.false)))
+    omega (
+      arith,
+      ends,
+      pair_fits c.args.self.now.held c.args.runs.now c.requires k
+          (omega (arith, c.if-used-eq0.false)),
+    )
 
 pub prove-unreachable-requires : goal.prove-unreachable-requires
 prove-unreachable-requires c =
@@ -20,7 +25,12 @@ prove-unreachable-requires c =
     let ends = ap (λ (r : ℕ × ℕ). r.1) c.last.view_is
     ∙ ap (λ (r : ℕ × ℕ). r.1) (c.index-runs-used.is ∙ get_or_default c.args.runs.now k c.index-runs-used.result (0, 0)
     (omega (arith, c.requires.room, c.if-used-eq0.false))) in
-    omega (arith, ends, pair_fits c.args.self.now.held c.args.runs.now c.requires k (omega (arith, c.if-used-eq0.false)))
+    omega (
+      arith,
+      ends,
+      pair_fits c.args.self.now.held c.args.runs.now c.requires k
+          (omega (arith, c.if-used-eq0.false)),
+    )
 
 pub returns-then-used-eq0 : goal.returns-then-used-eq0
 returns-then-used-eq0 c = (

@@ -11,7 +11,8 @@ returns-then-length-other c =
     let g = ring_at c.args.storage.now c.args.self.now.place in
     let g' = ring_at c.args.other_storage.now c.args.other.now.place in (
       (λ no. absurd (both_ways false refl no)),
-      (λ e. absurd (c.if-length-other.true (sym (length-queue g c.requires.place) ∙ ap length e ∙ length-queue g' c.requires.other_place))),
+      (λ e. absurd (c.if-length-other.true (sym (length-queue g c.requires.place) ∙ ap length e
+          ∙ length-queue g' c.requires.other_place))),
     )
 
 pub returns-then-ne : goal.returns-then-ne
@@ -21,7 +22,8 @@ returns-then-ne c =
     let count = c.peek-there.ensures.count in
     let few : length there ≤ length here = omega arith in (
       (λ no. absurd (both_ways false refl no)),
-      (λ e. absurd (differ (queue (ring_at c.args.storage.now c.args.self.now.place)) (queue (ring_at c.args.other_storage.now c.args.other.now.place)) here there
+      (λ e. absurd (differ (queue (ring_at c.args.storage.now c.args.self.now.place))
+          (queue (ring_at c.args.other_storage.now c.args.other.now.place)) here there
           c.loop-at.at c.peek-here.ensures.value c.peek-there.ensures.value few (sym c.ne.ensures ∙ c.if-ne.true) e)),
     )
 
@@ -36,8 +38,10 @@ loop-at-preserved c =
     record {
       within = omega arith;
       same =
-          go_on (queue (ring_at c.args.storage.now c.args.self.now.place)) (queue (ring_at c.args.other_storage.now c.args.other.now.place)) here there
-          c.loop-at.at c.peek-here.ensures.value c.peek-there.ensures.value few (sym c.ne.ensures ∙ c.if-ne.false) c.loop-at.invariant.same;
+          go_on (queue (ring_at c.args.storage.now c.args.self.now.place))
+          (queue (ring_at c.args.other_storage.now c.args.other.now.place)) here there
+          c.loop-at.at c.peek-here.ensures.value c.peek-there.ensures.value few (sym c.ne.ensures
+          ∙ c.if-ne.false) c.loop-at.invariant.same;
     }
 
 pub returns : goal.returns

@@ -8,7 +8,8 @@ abbrev pub invariant-loop-at : goal.invariant-loop-at
 invariant-loop-at l =
     record {
       within : l.at ≤ l.fn.self.place.length;
-      same : take l.at (queue (ring_at l.fn.storage l.fn.self.place)) ≡ take l.at (queue (ring_at l.fn.other_storage l.fn.other.place));
+      same : take l.at (queue (ring_at l.fn.storage l.fn.self.place))
+          ≡ take l.at (queue (ring_at l.fn.other_storage l.fn.other.place));
     }
 
 abbrev pub decreases-loop-at : goal.decreases-loop-at

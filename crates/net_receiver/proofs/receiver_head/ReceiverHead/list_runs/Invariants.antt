@@ -18,4 +18,5 @@ invariant-loop-start l =
     (goal.iterator-loop-start).can_next l.start-iterator
     × (goal.iterator-loop-start).is_finite l.start-iterator
     × (l.count ≤ k) × (length l.into ≡ k) × (drop l.count l.into ≡ drop l.count l.fn.into)
-    × (runs_of k held (take l.count l.into) (map (λ r. r.0) l.start-iterator) ≡ newest_runs k held (l.position ∷ l.recent))
+    × (runs_of k held (take l.count l.into) (map (λ r. r.0) l.start-iterator)
+    ≡ newest_runs k held (l.position ∷ l.recent))

@@ -9,7 +9,8 @@ returns c =
     let g = ring_at c.args.storage.now c.args.self.now.place in
     let span = c.allocated-span.ensures in
     let at : c.allocated-span.result.from ≡ queue_index g c.args.offset = span.from in
-    let count : c.allocated-span.result.contiguous ≡ contiguous_allocated g c.args.offset c.args.size = omega (arith, span.count, span.contiguous, at) in
+    let count : c.allocated-span.result.contiguous ≡ contiguous_allocated g c.args.offset c.args.size =
+    omega (arith, span.count, span.contiguous, at) in
     let shown = shown_in_queue g g refl c.requires c.args.offset c.args.size _ _ at (omega (arith, count)) _ refl in
     record {
       count = shown.0;

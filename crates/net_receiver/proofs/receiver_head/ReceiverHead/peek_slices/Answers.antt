@@ -17,6 +17,7 @@ returns-clause-bytes c =
     let count : s.count ≡ min c.args.size (length rest) =
     omega (arith, met.count, length-drop c.args.offset (queue g), length-queue g c.requires) in
     ap (λ n. take n (drop s.from xs) ++ take (s.count - s.contiguous) xs) size
-    ∙ queued_elements xs c.args.self.now.place c.args.offset s c.requires met.from (omega (arith, met.count)) met.contiguous
+    ∙ queued_elements xs c.args.self.now.place c.args.offset s c.requires met.from
+    (omega (arith, met.count)) met.contiguous
     ∙ ap (λ n. take n rest) count
     ∙ take_min c.args.size rest

@@ -5,7 +5,8 @@ use Rattle.net_receiver.proofs.scoreboard_head.ScoreboardHead.acknowledge.Goals 
 
 pub returns-then-next-self-clause-set : goal.returns-then-next-self-clause-set
 returns-then-next-self-clause-set c =
-    acknowledged_again c.args.self.now.base (set_of c.args.self.now.reported c.args.runs.now) c.args.next (omega (arith, c.if-next-self.true))
+    acknowledged_again c.args.self.now.base (set_of c.args.self.now.reported c.args.runs.now) c.args.next
+    (omega (arith, c.if-next-self.true))
 
 pub overflow_add-self : goal.overflow_add-self
 overflow_add-self c =
@@ -13,9 +14,11 @@ overflow_add-self c =
     let b = c.args.self.now.base in
     let at : b + (c.args.next - b) ≡ c.args.next = omega (arith, c.if-next-self.false) in
     let shifted = c.shift.ensures.set ∙ shifted_more s c.most.result (c.args.next - b) c.min-count.result
-    (λ p has. let l = position_fits c.args.self.now.reported c.args.runs.now c.requires.sound.runs p has in omega (arith, l, c.most.ensures.greatest)) c.min-count.ensures in
+    (λ p has. let l = position_fits c.args.self.now.reported c.args.runs.now c.requires.sound.runs p has in
+    omega (arith, l, c.most.ensures.greatest)) c.min-count.ensures in
     let left = c.remove_front-front.ensures.removed in
-    let fits = base_fits b s c.args.next (c.args.next - b) c.remove_front-front.result _ _ at shifted left.length left.rest c.requires.sound.fits c.ranges.next.fits in
+    let fits = base_fits b s c.args.next (c.args.next - b) c.remove_front-front.result _ _ at shifted left.length
+    left.rest c.requires.sound.fits c.ranges.next.fits in
     omega (arith, fits)
 
 pub returns-clause-sound : goal.returns-clause-sound
@@ -24,12 +27,15 @@ returns-clause-sound c =
     let b = c.args.self.now.base in
     let at : b + (c.args.next - b) ≡ c.args.next = omega (arith, c.if-next-self.false) in
     let shifted = c.shift.ensures.set ∙ shifted_more s c.most.result (c.args.next - b) c.min-count.result
-    (λ p has. let l = position_fits c.args.self.now.reported c.args.runs.now c.requires.sound.runs p has in omega (arith, l, c.most.ensures.greatest)) c.min-count.ensures in
+    (λ p has. let l = position_fits c.args.self.now.reported c.args.runs.now c.requires.sound.runs p has in
+    omega (arith, l, c.most.ensures.greatest)) c.min-count.ensures in
     let left = c.remove_front-front.ensures.removed in
     record {
       runs = c.remove_front-front.ensures.sound;
-      begins = acknowledged_begins b s c.args.next (c.args.next - b) c.remove_front-front.result _ _ at shifted left.length left.rest;
-      fits = acknowledged_fits b s c.args.next (c.args.next - b) c.remove_front-front.result _ _ at shifted left.length left.rest c.requires.sound.fits;
+      begins = acknowledged_begins b s c.args.next (c.args.next - b) c.remove_front-front.result _ _ at shifted
+          left.length left.rest;
+      fits = acknowledged_fits b s c.args.next (c.args.next - b) c.remove_front-front.result _ _ at shifted
+          left.length left.rest c.requires.sound.fits;
     }
 
 pub returns-clause-set : goal.returns-clause-set
@@ -38,6 +44,7 @@ returns-clause-set c =
     let b = c.args.self.now.base in
     let at : b + (c.args.next - b) ≡ c.args.next = omega (arith, c.if-next-self.false) in
     let shifted = c.shift.ensures.set ∙ shifted_more s c.most.result (c.args.next - b) c.min-count.result
-    (λ p has. let l = position_fits c.args.self.now.reported c.args.runs.now c.requires.sound.runs p has in omega (arith, l, c.most.ensures.greatest)) c.min-count.ensures in
+    (λ p has. let l = position_fits c.args.self.now.reported c.args.runs.now c.requires.sound.runs p has in
+    omega (arith, l, c.most.ensures.greatest)) c.min-count.ensures in
     let left = c.remove_front-front.ensures.removed in
     acknowledged_is b s c.args.next (c.args.next - b) c.remove_front-front.result _ _ at shifted left.length left.rest

@@ -6,7 +6,8 @@ use Rattle.net_receiver.proofs.scoreboard_head.ScoreboardHead.lost_below.Given a
 abbrev pub invariant-loop-above : goal.invariant-loop-above
 invariant-loop-above l = record {
   bytes : l.bytes ≡ sizes (drop (l.used - l.above) (maximal_runs (beyond (reported_by l.self l.runs))));
-  few : tell_loss l.duplicates l.segment_size (drop (l.used - l.above) (maximal_runs (beyond (reported_by l.self l.runs)))) ≡ false;
+  few : tell_loss l.duplicates l.segment_size
+      (drop (l.used - l.above) (maximal_runs (beyond (reported_by l.self l.runs)))) ≡ false;
   looks : l.turns.0 ≡ l.above;
   moves : l.turns.1 ≡ 0;
 }

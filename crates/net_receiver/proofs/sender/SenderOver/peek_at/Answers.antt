@@ -7,7 +7,8 @@ returns-clause-value g c =
     let xs = g.S.Storage.elements c.self.inside.storage in
     let v = c.args.self.now in
     let span = c.peek_at-span in
-    let shown = part_is xs span.result.from _ span.result.contiguous (omega arith) (omega (arith, span.ensures.within, c.count.ensures)) _ c.part.ensures in
+    let shown = part_is xs span.result.from _ span.result.contiguous (omega arith)
+    (omega (arith, span.ensures.within, c.count.ensures)) _ c.part.ensures in
     shown.1 ∙ span.ensures.bytes xs (sym c.count.ensures)
     ∙ ap (λ o. take span.result.contiguous (drop (c.args.pos - o.first_unacknowledged) o.queue)) c.self.view_is
     ∙ ap (λ n. take n (drop (c.args.pos - v.first_unacknowledged) v.queue)) (sym shown.0)

@@ -13,11 +13,13 @@ returns-clause-state c = λ accepted xs size.
     let n = c.args.next in
     let sound = subst (λ k. IsSound k p) (sym size) c.requires.place in
     let place = c.dequeue.ensures.place ∙ ap (λ k. dequeued_place k (n - first) p) (sym size) in
-    let rest = ap (λ q. queue (ring_at xs q)) place ∙ (with_dequeued_parts (ring_at xs p) sound (n - first) (omega arith)).0 in
+    let rest = ap (λ q. queue (ring_at xs q)) place
+    ∙ (with_dequeued_parts (ring_at xs p) sound (n - first) (omega arith)).0 in
     let read_at = ap (λ q. q.read_at) place in
     let within = read_at_le (ring_at xs p) sound in
     let wraps : n + (length xs - c.dequeue.new.self.read_at)
-    ≡ (if nat_lt n (first + (length xs - p.read_at)) then first + (length xs - p.read_at) else first + (length xs - p.read_at) + length xs) =
+    ≡ (if nat_lt n (first + (length xs - p.read_at)) then first + (length xs - p.read_at) else first
+    + (length xs - p.read_at) + length xs) =
     grind (arith, nat_tests, read_at, within, sound) in
     λ j. sender_state (length xs) n (rest j) (wraps j)
 
