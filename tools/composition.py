@@ -15,7 +15,7 @@ LOOPS = {
     "the last runs, at most as many as the threshold of duplicates": "net_receiver::scoreboard_head::lost_below",
     "the runs until the list of K positions is full": "net_receiver::receiver_head::list_runs",
     "a list of K positions, or of runs at them": "net_receiver::held_runs::is_listed net_receiver::held_runs::remember",
-    "the blocks of one acknowledgement": "net_ends::sending_end::report_blocks net_ends::sending_end::has_block",
+    "the blocks of one acknowledgement": "net_ends::send_buffer::report_blocks net_ends::send_buffer::has_block",
     "the slots of a table, once": """net_base::fragments::table::find net_base::fragments::table::find_free
         net_base::fragments::table::find_overdue net_base::fragments::table::first_to_expire
         net_base::fragments::table::remove_expired""",

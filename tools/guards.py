@@ -31,7 +31,7 @@ use net_base::phy::DeviceCapabilities;
 use net_base::time::{Duration, Instant};
 use net_base::storage::FragmentsOver;
 use net_base::storage::fragments::table::FragmentSlot;
-use net_ends::{ReceivingEndOver, SendingEndOver};
+use net_ends::{ReceivingEndOver, SendBufferOver, SendingEndOver};
 use net_receiver::{FiniteReceiverOver, FiniteSenderOver, ReceiverOver, Scoreboard};
 use net_ring::{RingOver, Storage};
 use net_split_ring::SplitCounts;

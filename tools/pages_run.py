@@ -31,7 +31,6 @@ GATE = "the gate runs it too, in the repository"
 EMULATORS = "it wants compilers and emulators, and takes minutes"
 SLOW = {
     ".ci/run": "it is the gate",
-    "(cd crates/net_bench && rt try -- ring 4 < stdin)": "it wants the kit, and half a minute",
     "rt new crates/my_crate start_lib ..": PROVES,
     "(cd rust && cargo test --offline) && sh c/run.sh": GATE,
     "cargo test --offline": GATE,

@@ -30,7 +30,7 @@ ROWLESS = {
         Loopback PacketLoopback SegmentationCapabilities Device RxToken TxToken""",
     "rust/tests/split_ring.rs plays both ends beside a queue": "Span SplitCounts SplitSpan",
     "rust/tests/ends.rs tests both ends, whose parts have rows": """Acknowledged Expired Acknowledgement Outgoing
-        ReceivingEnd ReceivingEndOver SendingEnd SendingEndOver""",
+        ReceivingEnd ReceivingEndOver SendBuffer SendBufferOver SendingEnd SendingEndOver""",
 }
 
 

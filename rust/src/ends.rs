@@ -1,5 +1,6 @@
 //! The two ends of a connection, each of them one machine: a sender with what it knows of losses, its timer and
-//! the peer's window; and a receiver with what it announced. (Not in smoltcp.)
+//! the peer's window; and a receiver with what it announced. What the first knows without a clock is a [`SendBuffer`].
+//! (Not in smoltcp.)
 //!
 //! They know positions, moments and bytes: no headers, no states of a connection and no clock. How much may be
 //! in flight is the caller's choice.
@@ -14,6 +15,20 @@ use crate::time::Duration;
 
 pub use crate::proved::net_ends::{Acknowledged, Expired, Outgoing, SendingEnd, SendingEndOver};
 pub use crate::proved::net_ends::{Acknowledgement, ReceivingEnd, ReceivingEndOver};
+pub use crate::proved::net_ends::{SendBuffer, SendBufferOver};
+
+impl<'a, const N: usize> SendBuffer<'a, N> {
+    /// Returns what `over_at` does.
+    ///
+    /// # Panics
+    ///
+    /// If `first` is `u64::MAX`: no number is left for the end.
+    #[must_use]
+    #[track_caller]
+    pub fn new_at<S: Into<ManagedSlice<'a, u8>>>(storage: S, first: u64) -> Self {
+        SendBufferOver::over_at(storage.into(), first)
+    }
+}
 
 impl<'a, const N: usize> SendingEnd<'a, N> {
     /// Returns what `over_at` does.
@@ -47,6 +62,15 @@ impl<'a, const N: usize> ReceivingEnd<'a, N> {
         segment_size: u16,
     ) -> Self {
         ReceivingEndOver::over_at(storage.into(), first, segment_size)
+    }
+}
+
+impl<S: Storage<u8>, const N: usize> fmt::Debug for SendBufferOver<S, N> {
+    fn fmt(&self, f: &mut fmt::Formatter) -> fmt::Result {
+        f.debug_struct("SendBuffer")
+            .field("numbers", &self.numbers())
+            .field("window", &self.window())
+            .finish_non_exhaustive()
     }
 }
 

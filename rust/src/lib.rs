@@ -1,11 +1,13 @@
 //! Rings, packet queues, the assembler and times with smoltcp's names, and both ends of a TCP stream: machine-checked Rust
 //! without a heap, `unsafe` or dependencies.
 //!
-//! Of smoltcp there are `storage`, `time`, `rand`, and of `phy` capabilities, checksums and metadata. Names, signatures and behaviour are those of [smoltcp](https://github.com/smoltcp-rs/smoltcp) 0.14.0, except where an
-//! item says otherwise. Beyond smoltcp there are [`receiver::Receiver`], which joins segments that come in any order to a
-//! stream, [`sender::Sender`], which stores bytes until they are acknowledged, the same for streams that end
-//! ([`finite`]), [`scoreboard::Scoreboard`], which says what to send again, [`sequence_number::SequenceNumber`], TCP's
-//! numbers that wrap, the small machines of [`tcp`], and [`storage::Assembler`]s of any number of runs.
+//! Of smoltcp there are `storage`, `time`, `rand`, and of `phy` capabilities, checksums and metadata. Names, signatures
+//! and behaviour are those of [smoltcp](https://github.com/smoltcp-rs/smoltcp) 0.14.0, except where an item says otherwise.
+//! Beyond smoltcp there are [`receiver::Receiver`], which joins segments that come in any order to a stream,
+//! [`sender::Sender`], which stores bytes until they are acknowledged, the same for streams that end ([`finite`]),
+//! [`scoreboard::Scoreboard`], which says what to send again, [`sequence_number::SequenceNumber`], TCP's numbers that wrap,
+//! the small machines of [`tcp`], and [`storage::Assembler`]s of any number of runs. [`ends`] has all of these as the two
+//! ends of a connection, and "A TCP from these parts" in README the order of their calls.
 //!
 //! ```
 //! use net_base::receiver::Receiver;
@@ -14,9 +16,10 @@
 //! let mut receiver = Receiver::<1>::empty(&mut storage[..]); // at most one run is held
 //! assert!(receiver.segment(2, b"cd").is_ok()); // too early: held
 //! assert!(receiver.segment(6, b"gh").is_err()); // a second run: refused, and nothing changes
+//! assert!(receiver.segment(4, b"ef").is_ok()); // it touches the run, which grows
 //! assert!(receiver.segment(0, b"ab").is_ok()); // the next bytes: never refused
 //! let mut into = [0; 8];
-//! assert_eq!((receiver.read(&mut into), &into[..4]), (4, &b"abcd"[..]));
+//! assert_eq!((receiver.read(&mut into), &into[..6]), (6, &b"abcdef"[..]));
 //! ```
 //!
 //! # What is proved

@@ -1,9 +1,9 @@
 //! The two ends of a connection: whatever arrives, forged acknowledgements too, what is sent is what was written, nothing is
 //! sent beyond the peer's edge but a probe, and a timer runs while anything waits.
 #![cfg(feature = "alloc")]
-use net_base::ends::{Acknowledged, Expired, ReceivingEnd, SendingEnd};
+use net_base::ends::{Acknowledged, Expired, ReceivingEnd, SendBuffer, SendBufferOver, SendingEnd};
 use net_base::rand::Rand;
-use net_base::tcp::{Announcement, TimeoutBounds};
+use net_base::tcp::{Announcement, SentNumbers, TimeoutBounds};
 use net_base::time::{Duration, Instant};
 
 const RUNS: u32 = if cfg!(target_pointer_width = "64") { 20_000 } else { 200 };
@@ -34,6 +34,7 @@ fn whatever_arrives() {
             any(rand, [0, 1]) == 1,
             Instant::ZERO,
         );
+        end.set_nagle_enabled(seed % 2 == 0);
         let mut edge = first.saturating_add(window);
         let (mut written, mut closed, mut now) = (first, false, Instant::ZERO);
         for _step in 0..60 {
@@ -252,6 +253,127 @@ fn reports_that_were_dropped() {
     assert_eq!(sent(&mut end), [(30, true), (40, true)]);
 }
 
+/// Positions from 0 on, in segments of 20 bytes, to a peer with room for 60, after three segments that it acknowledged.
+fn after_three_segments(bytes: usize) -> SendingEnd<'static, 4> {
+    let mut end = SendingEnd::<4>::new_at(vec![0; 100], 0, SECOND, TimeoutBounds::default());
+    end.open(Announcement { seq: 0, ack: 0, window: 60 }, 20, true, Instant::ZERO);
+    assert_eq!(end.write(&vec![7; 60 + bytes]), 60 + bytes);
+    assert_eq!(sent(&mut end), [0, 20, 40].map(|pos| (pos, false)));
+    end
+}
+
+/// The peer acknowledges up to a position, with a window.
+fn announce(end: &mut SendingEnd<'_, 4>, ack: u64, window: u64, now: Instant) {
+    let taken = end.acknowledged(Announcement { seq: 1, ack, window }, &[], true, now);
+    assert!(matches!(taken, Acknowledged::Taken { .. }));
+}
+
+/// What is sent now: where it begins and ends.
+fn ranges(end: &mut SendingEnd<'_, 4>, now: Instant) -> Vec<(u64, u64)> {
+    core::iter::from_fn(|| end.next_segment(1_000, now).map(|it| (it.pos, it.end))).collect()
+}
+
+/// A window that opens byte by byte gives one whole segment. Of a peer whose greatest window has room for less than two
+/// segments half of it will do, and all that is left is sent however little it is.
+#[test]
+fn a_window_that_opens_byte_by_byte() {
+    let mut end = after_three_segments(40);
+    for window in 0..20 {
+        announce(&mut end, 60, window, Instant::ZERO);
+        assert_eq!(ranges(&mut end, Instant::ZERO), []);
+    }
+    announce(&mut end, 60, 20, Instant::ZERO);
+    assert_eq!(ranges(&mut end, Instant::ZERO), [(60, 80)]);
+    announce(&mut end, 80, 19, Instant::ZERO);
+    assert_eq!(ranges(&mut end, Instant::ZERO), []);
+    let mut end = SendingEnd::<4>::new_at(vec![0; 100], 0, SECOND, TimeoutBounds::default());
+    end.open(Announcement { seq: 0, ack: 0, window: 31 }, 20, true, Instant::ZERO);
+    assert_eq!(end.write(&[7; 33]), 33);
+    assert_eq!(ranges(&mut end, Instant::ZERO), [(0, 20)]);
+    announce(&mut end, 20, 7, Instant::ZERO);
+    assert_eq!(ranges(&mut end, Instant::ZERO), []);
+    announce(&mut end, 20, 13, Instant::ZERO);
+    assert_eq!(ranges(&mut end, Instant::ZERO), [(20, 33)]);
+    let mut end = SendingEnd::<4>::new_at(vec![0; 100], 0, SECOND, TimeoutBounds::default());
+    end.open(Announcement { seq: 0, ack: 0, window: 15 }, 20, true, Instant::ZERO);
+    assert_eq!(end.write(&[7; 33]), 33);
+    assert_eq!(ranges(&mut end, Instant::ZERO), [(0, 15)]);
+    announce(&mut end, 15, 7, Instant::ZERO);
+    assert_eq!(ranges(&mut end, Instant::ZERO), []);
+    announce(&mut end, 15, 8, Instant::ZERO);
+    assert_eq!(ranges(&mut end, Instant::ZERO), [(15, 23)]);
+}
+
+/// A window stays too small: whenever the timer ends one segment is sent, of what the window has room for.
+#[test]
+fn what_is_held_back_waits_for_the_timer() {
+    let mut end = after_three_segments(40);
+    announce(&mut end, 60, 3, Instant::ZERO);
+    for pos in [60, 63, 66] {
+        assert_eq!(ranges(&mut end, Instant::ZERO), []);
+        let now = end.expires_at().expect("a timer");
+        assert_eq!(end.expired(now), Expired::Probe);
+        assert_eq!(ranges(&mut end, now), [(pos, pos + 3)]);
+        announce(&mut end, pos + 3, 3, now);
+    }
+    // While something is in flight it is what the timer asks with: no copy is held back.
+    let mut end = after_three_segments(40);
+    let mut now = Instant::ZERO;
+    announce(&mut end, 30, 31, now);
+    assert_eq!(ranges(&mut end, now), []);
+    while end.expired(now) != Expired::Lost {
+        now = end.expires_at().expect("a timer");
+    }
+    assert_eq!(ranges(&mut end, now), [(30, 50), (50, 60)]);
+    // A window that is shut after the timeout is probed at once.
+    let mut end = after_three_segments(40);
+    announce(&mut end, 60, 3, now);
+    assert_eq!(ranges(&mut end, now), []);
+    now = end.expires_at().expect("a timer");
+    assert_eq!(end.expired(now), Expired::Probe);
+    announce(&mut end, 60, 0, now);
+    assert_eq!(ranges(&mut end, now), [(60, 61)]);
+}
+
+/// By Nagle's rule less than a whole segment waits while something is in flight, but for the timer and for the last of a
+/// stream that is closed. Without it all that is left is sent.
+#[test]
+fn nagles_rule() {
+    let mut end = after_three_segments(0);
+    let now = Instant::ZERO;
+    assert!(end.nagle_enabled());
+    assert_eq!(end.write(&[7; 9]), 9);
+    assert_eq!(ranges(&mut end, now), []);
+    // A whole segment is sent, and what is left over waits until all is acknowledged.
+    assert_eq!(end.write(&[7; 14]), 14);
+    announce(&mut end, 20, 60, now);
+    assert_eq!(ranges(&mut end, now), [(60, 80)]);
+    announce(&mut end, 79, 60, now);
+    assert_eq!(ranges(&mut end, now), []);
+    announce(&mut end, 80, 60, now);
+    assert_eq!(ranges(&mut end, now), [(80, 83)]);
+    assert_eq!(end.write(&[7; 2]), 2);
+    assert_eq!(ranges(&mut end, now), []);
+    end.set_nagle_enabled(false);
+    assert_eq!((end.nagle_enabled(), ranges(&mut end, now)), (false, vec![(83, 85)]));
+    end.set_nagle_enabled(true);
+    assert_eq!(end.write(&[7; 2]), 2);
+    assert_eq!(ranges(&mut end, now), []);
+    // No answer comes: the probe for one is what waits.
+    let mut late = end.expires_at().expect("a probe");
+    assert_eq!(end.expired(late), Expired::Overdue { begins: false });
+    assert_eq!(ranges(&mut end, late), [(85, 87)]);
+    assert_eq!(end.write(&[7; 2]), 2);
+    while end.expired(late) != Expired::Lost {
+        late = end.expires_at().expect("a timer");
+    }
+    assert_eq!(ranges(&mut end, late), [(80, 87)]);
+    assert_eq!(end.write(&[7; 2]), 2);
+    assert_eq!(ranges(&mut end, late), []);
+    end.close();
+    assert_eq!(ranges(&mut end, late), [(87, 92)]);
+}
+
 /// What is in flight when a peer is forgotten, and when another one answers, has a timer that runs.
 #[test]
 fn a_timer_runs_for_what_is_in_flight() {
@@ -367,4 +489,32 @@ fn what_came_twice_is_reported_once() {
     // It is beyond an end in order: it wasn't of the stream.
     assert!(end.arrived(110, b"k", false).is_ok() && end.arrived(106, b"", true).is_ok());
     assert_eq!((blocks(&mut end), end.acknowledgement().next), (vec![], 107));
+}
+
+/// What a stream has sent, told by what a connection knows: no clock, no window of a peer.
+#[test]
+fn a_send_buffer() {
+    assert_eq!(SendBuffer::<2>::new_at(vec![0; 8], 7).window(), 8);
+    let mut buffer = SendBufferOver::<_, 2>::over_at([0; 8], 7);
+    buffer.expect_reports(true);
+    assert_eq!((buffer.window(), buffer.write(b"abcd")), (8, 4));
+    buffer.close();
+    assert!(buffer.is_closed() && buffer.window() == 0 && buffer.numbers_end() == 12);
+    for (from, to) in [(7, 9), (9, 11), (11, 12)] {
+        assert_eq!(buffer.next(12, 10, 2), Some((from, to)));
+        buffer.mark(from, to, false, false);
+    }
+    assert_eq!(buffer.numbers(), SentNumbers { first_unacknowledged: 7, sent: 12 });
+    assert_eq!(buffer.bytes(9, 12), (&b"cd"[..], &[][..], true));
+    assert_eq!(buffer.acknowledge(7, &[(9, 11)], 2, true, false), Some((true, false)));
+    assert!(buffer.contains(9) && !buffer.is_blind() && !buffer.is_recovering());
+    // No answer for two round trips.
+    assert!(buffer.find_overdue() && buffer.is_recovering());
+    assert_eq!(buffer.next_probe(12, 2), Some((7, 9)));
+    assert_eq!(buffer.acknowledge(13, &[], 2, true, false), None);
+    buffer.lose_all();
+    assert_eq!(buffer.next(12, 10, 2), Some((7, 9)));
+    assert_eq!(buffer.acknowledge(12, &[], 2, true, true), Some((false, false)));
+    assert!(buffer.is_done());
+    assert!(format!("{buffer:?}").starts_with("SendBuffer { numbers: SentNumbers {"));
 }

@@ -1,5 +1,5 @@
 -- Why nothing is sent beyond what the peer allowed, and the timer runs.
-use Rattle.std.proofs.Common.{◌≡◌, ℕ, ℤ, zero, suc, ◌+◌, ◌-◌, ◌<◌, ◌≤◌, inl, inr, refl, sym, ap, ◌∙◌}
+use Rattle.std.proofs.Common.{◌≡◌, ℕ, ℤ, ◌-◌, ◌<◌, ◌≤◌, refl, sym, ap, ◌∙◌, ◌+◌, inl, inr}
 use Rattle.std.proofs.Common.{arith, rules, List, [], ◌∷◌, ◌++◌}
 use Rattle.std.proofs.Common.{true, false}
 use Rattle.std.specs.Prelude.{◌⊎◌, All, Bool, IsTrue, min, ◌&&◌, nat_le, nat_lt, is_some, if◌then◌else◌}
@@ -7,16 +7,18 @@ use Rattle.net_tcp.specs.Retransmission.{running, lasting, timed_after, after_se
 use Rattle.net_tcp.specs.declared.retransmission.TimeoutBounds.{TimeoutBounds}
 use Rattle.net_tcp.specs.declared.retransmission_timer.RetransmissionTimer.{RetransmissionTimer}
 use Rattle.std.proofs.lemmas.List.{length-drop}
-use Rattle.std.proofs.lemmas.Bool.{leb-true}
 use Rattle.std.proofs.lemmas.Bool.Decides.{nat_tests}
 use Rattle.net_receiver.specs.SenderState.{end_of}
 use Rattle.net_assembler.specs.Positions.{Positions}
 use Rattle.net_recovery.specs.declared.loss_recovery.LossRecovery.{LossRecovery}
 use Rattle.net_receiver.specs.FiniteSender.{FiniteSenderState, first_number, acknowledged_below, accepts, SenderCommand}
-use Rattle.net_receiver.specs.FiniteSender.{sender_after_commands, sender_after_command, numbers_end, IsSoundSent, Marks}
-use Rattle.net_ends.specs.Ends.{End, Event, Opened, Forgot, Opening, Wrote, Shut, Heard, Looked, Sent, Rested, after_event, after_events}
-use Rattle.net_ends.specs.Ends.{commands, commands_of, Run, run, run_on, begun, IsAllowed, first, rest, IsUnacknowledged}
-use Rattle.net_ends.specs.Ends.{runs, sends_of, SentRange, end, may_send, limit}
+use Rattle.net_receiver.specs.FiniteSender.{sender_after_commands, sender_after_command, numbers_end, IsSoundSent}
+use Rattle.net_receiver.specs.FiniteSender.{Marks}
+use Rattle.net_ends.specs.Ends.{End, Event, Opened, Forgot, Enabled, Opening, Wrote, Shut, Heard, Looked, Sent, Rested}
+use Rattle.net_ends.specs.Ends.{after_event, after_events}
+use Rattle.net_ends.specs.Ends.{commands, commands_of, Run, run, run_on, begun, IsAllowed, first, rest}
+use Rattle.net_ends.specs.Ends.{IsUnacknowledged}
+use Rattle.net_ends.specs.Ends.{runs, end, may_send, limit, SentRange, asks, is_due}
 
 -- ---- the sender's commands
 appended : (s : FiniteSenderState) (cs ds : List SenderCommand) →
@@ -24,15 +26,27 @@ appended : (s : FiniteSenderState) (cs ds : List SenderCommand) →
 appended s [] ds = refl
 appended s (c ∷ cs) ds = appended (sender_after_command s c) cs ds
 
+sent_refines : (b : Bool) (e d : End) (to : ℕ) → d.sender ≡ sender_after_command e.sender (Marks to) →
+    (if b then d else e).sender ≡ sender_after_commands e.sender (if b then Marks to ∷ [] else [])
+sent_refines true e d to marked = marked
+sent_refines false e d to marked = refl
+
 pub step_refines : (e : End) (v : Event) → (after_event e v).sender ≡ sender_after_commands e.sender (commands_of e v)
 step_refines e (Opened seq ack window size reports now) = search rules
 step_refines e (Forgot now) = search rules
+step_refines e (Enabled on) = search rules
 step_refines e (Opening now) = search rules
 step_refines e (Wrote xs) = search rules
 step_refines e Shut = search rules
 step_refines e (Heard s r says seq ack window now) = search rules
 step_refines e (Looked r now) = search rules
-step_refines e (Sent r from to now) = search rules
+step_refines e (Sent r from to now) = sent_refines (may_send e from to) e (record e {
+  sender = sender_after_command e.sender (Marks to);
+  recovery = r;
+  timer = after_sending e.bounds from to (first e) e.sender.sent now e.timer;
+  probes = false;
+  overdue = false;
+}) to refl
 step_refines e (Rested now) = search rules
 
 pub refines : (e : End) (vs : List Event) →
@@ -65,7 +79,8 @@ either_runs : (g : Bool) (t u : RetransmissionTimer) → g ≡ true → IsTrue (
 either_runs true t u is on = on
 either_runs false t u is on = search rules
 
-sending_runs : (b : TimeoutBounds) (from to first sent : ℕ) (now : ℤ) (t : RetransmissionTimer) → nat_lt from to ≡ true →
+sending_runs : (b : TimeoutBounds) (from to first sent : ℕ) (now : ℤ) (t : RetransmissionTimer) →
+    nat_lt from to ≡ true →
     IsTrue (is_some (after_sending b from to first sent now t).ends_at)
 sending_runs b from to first sent now t some = either_runs (nat_lt from to)
     (timed_after from to sent now
@@ -74,12 +89,12 @@ sending_runs b from to first sent now t some = either_runs (nat_lt from to)
     (lasting (nat_lt sent to) from (running b.ack_delay (nat_le sent first) (nat_lt sent to) now t))
     (running_runs b.ack_delay (nat_le sent first) (nat_lt sent to) now t))
 
-left_of : (a b c : Bool) → (a && b && c) ≡ true → a ≡ true
-left_of true b c all = refl
-left_of false b c all = search rules
+left_of : (a b c d : Bool) → (a && b && c && d) ≡ true → a ≡ true
+left_of true b c d all = refl
+left_of false b c d all = search rules
 
 some_of : (e : End) (from to : ℕ) → may_send e from to ≡ true → nat_lt from to ≡ true
-some_of e from to may = left_of (nat_lt from to) (nat_le to (limit e)) (nat_le (first e) from) may
+some_of e from to may = left_of (nat_lt from to) (nat_le to (limit e)) (nat_le (first e) from) (is_due e from to) may
 
 sent_runs : (e : End) (r : LossRecovery) (from to : ℕ) (now : ℤ) → Runs e → Runs (after_event e (Sent r from to now))
 sent_runs e r from to now is = runs_by (may_send e from to) e
@@ -95,6 +110,7 @@ sent_runs e r from to now is = runs_by (may_send e from to) e
 runs_on : (e : End) (v : Event) → Runs e → Runs (after_event e v)
 runs_on e (Opened seq ack window size reports now) is = search rules
 runs_on e (Forgot now) is = search rules
+runs_on e (Enabled on) is = search rules
 runs_on e (Opening now) is = search rules
 runs_on e (Wrote xs) is = search rules
 runs_on e Shut is = search rules
@@ -115,15 +131,37 @@ pub record IsKept (u : Run) : Type 0 where
   pub told : u.end.peer.edge ≤ u.edge
   pub allowed : All IsAllowed u.log
 
+allowed_by : (asks due : Bool) (from to first edge end most : ℕ) → edge ≤ most →
+    (nat_lt from to && nat_le to (if asks then first + 1 else min edge end) && nat_le first from && due) ≡ true →
+    (to ≤ most) ⊎ ((from ≡ first) × (to ≡ first + 1))
+allowed_by true due from to first edge end most told may =
+    inr (grind (arith, nat_tests, may), grind (arith, nat_tests, may))
+allowed_by false due from to first edge end most told may = inl (grind (arith, nat_tests, may, told))
+
+logged : (b : Bool) (r : SentRange) (log : List SentRange) → (b ≡ true → IsAllowed r) → All IsAllowed log →
+    All IsAllowed (if b then r ∷ log else log)
+logged true r log one all = let first = one refl in search rules
+logged false r log one all = all
+
+sent_allowed : (u : Run) (from to : ℕ) → u.end.peer.edge ≤ u.edge → may_send u.end from to ≡ true →
+    IsAllowed (record { from = from; to = to; first = first u.end; edge = u.edge })
+sent_allowed u from to told may =
+    allowed_by (asks u.end) (is_due u.end from to) from to (first u.end) u.end.peer.edge (end u.end) u.edge told may
+
 keeps : (u : Run) (v : Event) → IsKept u → IsKept (run_on u v)
 keeps u (Opened seq ack window size reports now) is = record { told = search rules; allowed = is.allowed }
 keeps u (Forgot now) is = record { told = search rules; allowed = is.allowed }
+keeps u (Enabled on) is = record { told = search rules; allowed = is.allowed }
 keeps u (Opening now) is = record { told = search rules; allowed = is.allowed }
 keeps u (Wrote xs) is = record { told = search rules; allowed = is.allowed }
 keeps u Shut is = record { told = search rules; allowed = is.allowed }
 keeps u (Heard s r says seq ack window now) is = record { told = search rules; allowed = is.allowed }
 keeps u (Looked r now) is = record { told = search rules; allowed = is.allowed }
-keeps u (Sent r from to now) is = record { told = search rules; allowed = search rules }
+keeps u (Sent r from to now) is = record {
+  told = search rules;
+  allowed = logged (may_send u.end from to) (record { from = from; to = to; first = first u.end; edge = u.edge }) u.log
+      (sent_allowed u from to is.told) is.allowed;
+}
 keeps u (Rested now) is = record { told = search rules; allowed = is.allowed }
 
 all_keep : (u : Run) (vs : List Event) → IsKept u → All IsAllowed (run u vs).log
@@ -135,12 +173,14 @@ within_edge e vs = all_keep (begun e) vs (record { told = omega arith; allowed =
 
 -- ---- progress
 pub less : (s : FiniteSenderState) (n : ℕ) → IsSoundSent s → first_number s ≤ n → n ≤ s.sent →
-    numbers_end (acknowledged_below s n) - first_number (acknowledged_below s n) ≡ numbers_end s - first_number s - (n - first_number s)
+    numbers_end (acknowledged_below s n) - first_number (acknowledged_below s n)
+    ≡ numbers_end s - first_number s - (n - first_number s)
 less s n is low high =
     let len = length-drop (min n (end_of s.sender) - s.sender.first_unacknowledged) s.sender.queue in
     omega (arith, len, low, high, is.closed, is.finished, is.none_left, is.low, is.high)
 
-pub falls : (e : End) (s : Positions) (r : LossRecovery) (says : Bool) (seq ack window : ℕ) (now : ℤ) → IsSoundSent e.sender →
+pub falls : (e : End) (s : Positions) (r : LossRecovery) (says : Bool) (seq ack window : ℕ) (now : ℤ) →
+    IsSoundSent e.sender →
     IsTrue (accepts e.sender ack) →
     rest (after_event e (Heard s r says seq ack window now)) ≡ rest e - (ack - first e)
 falls e s r says seq ack window now sound is =

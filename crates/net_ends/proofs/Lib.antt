@@ -1,6 +1,11 @@
+pub mod Choices
 pub mod Ends
+pub mod Expiries
+pub mod Found
+pub mod PathLaws
 pub mod Progress
 pub mod Receiving
 pub mod ReceivingLaws
 pub mod Segments
+pub mod Small
 pub mod Steps

@@ -1,8 +1,8 @@
 -- Why all is acknowledged in the end: what isn't yet never grows while nothing is written, and falls with each
 -- acknowledgement that says something new.
-use Rattle.std.proofs.Common.{◌≡◌, ℕ, ◌+◌, ◌-◌, ◌<◌, ◌≤◌, true, false, refl, sym, ap, ◌∙◌, subst, arith}
+use Rattle.std.proofs.Common.{◌≡◌, ℕ, ◌+◌, ◌-◌, ◌≤◌, true, false, refl, sym, subst, arith}
 use Rattle.std.proofs.Common.{List, [], ◌∷◌}
-use Rattle.std.specs.Prelude.{Bool, IsTrue, All, ◌&&◌, nat_lt, nat_le, min, max, if◌then◌else◌}
+use Rattle.std.specs.Prelude.{Bool, All, ◌&&◌, nat_lt, nat_le, min, max, if◌then◌else◌}
 use Rattle.std.specs.Int.{from_bool}
 use Rattle.std.proofs.lemmas.List.{length-drop}
 use Rattle.std.proofs.Common.{length-append}
@@ -12,9 +12,9 @@ use Rattle.net_receiver.specs.FiniteSender.{closed_sender, finite_room}
 use Rattle.std.proofs.lemmas.List.Elements.{All-head, All-tail}
 use Rattle.std.proofs.lemmas.Bool.Decides.{nat_tests}
 use Rattle.net_receiver.specs.FiniteSender.{FiniteSenderState, first_number, numbers_end, acknowledged_below, accepts}
-use Rattle.net_receiver.specs.FiniteSender.{IsSoundSent, SenderCommand, Marks, sender_after_command, sender_after_commands}
-use Rattle.net_ends.specs.Ends.{End, Event, Opened, Forgot, Opening, Wrote, Shut, Heard, Looked, Sent, Rested, after_event, after_events, rest}
-use Rattle.net_ends.specs.Ends.{commands_of, may_send, is_news, news, IsNoWrite}
+use Rattle.net_receiver.specs.FiniteSender.{IsSoundSent, Marks, sender_after_commands}
+use Rattle.net_ends.specs.Ends.{End, Event, Opened, Forgot, Opening, Wrote, Shut, Heard, Looked, Sent, Rested}
+use Rattle.net_ends.specs.Ends.{after_event, after_events, rest, may_send, is_news, news, IsNoWrite, Enabled}
 use Rattle.net_ends.proofs.Ends.{step_refines, less}
 
 abbrev left : FiniteSenderState → ℕ
@@ -34,7 +34,8 @@ sound_ack s n is low high =
 accept_says : (s : FiniteSenderState) (n : ℕ) → accepts s n ≡ true → (first_number s ≤ n) × (n ≤ s.sent)
 accept_says s n is = (grind (arith, nat_tests, is), grind (arith, nat_tests, is))
 
-heard_step : (b : Bool) (s : FiniteSenderState) (n : ℕ) → (b ≡ true → (first_number s ≤ n) × (n ≤ s.sent)) → IsSoundSent s →
+heard_step : (b : Bool) (s : FiniteSenderState) (n : ℕ) →
+    (b ≡ true → (first_number s ≤ n) × (n ≤ s.sent)) → IsSoundSent s →
     let t = if b then acknowledged_below s n else s in
     (left t + from_bool (b && nat_lt (first_number s) n) ≤ left s) × IsSoundSent t
 heard_step true s n ok is =
@@ -48,7 +49,13 @@ mark_says : (s : FiniteSenderState) (to : ℕ) → nat_le to (numbers_end s) ≡
 mark_says s to is = grind (arith, nat_tests, is)
 
 mark_step : (b : Bool) (s : FiniteSenderState) (to : ℕ) → (b ≡ true → to ≤ numbers_end s) → IsSoundSent s →
-    let t = if b then record { sender = s.sender; closed = s.closed; finished = s.finished; sent = max s.sent to } else s in
+    let t = if b then record {
+      sender = s.sender;
+      closed = s.closed;
+      finished = s.finished;
+      sent =
+          max s.sent to;
+    } else s in
     (left t + 0 ≤ left s) × IsSoundSent t
 mark_step true s to ok is = let in_it = ok refl in (
   omega arith,
@@ -71,6 +78,7 @@ step : (e : End) (v : Event) → IsSoundSent e.sender → IsNoWrite v →
     (left (after_event e v).sender + from_bool (is_news e v) ≤ left e.sender) × IsSoundSent (after_event e v).sender
 step e (Opened seq ack window size reports now) is none = (omega arith, is)
 step e (Forgot now) is none = (omega arith, is)
+step e (Enabled on) is none = (omega arith, is)
 step e (Opening now) is none = (omega arith, is)
 step e (Wrote xs) is none = absurd none
 step e Shut is none = absurd none
@@ -130,9 +138,11 @@ shut_step s is = record {
 sound_step : (e : End) (v : Event) → IsSoundSent e.sender → IsSoundSent (after_event e v).sender
 sound_step e (Opened seq ack window size reports now) is = is
 sound_step e (Forgot now) is = is
+sound_step e (Enabled on) is = is
 sound_step e (Opening now) is = is
 sound_step e (Wrote xs) is =
-    wrote_step (nat_eq e.sender.closed 0) e.sender (take (min (length xs) (finite_room e.sender)) xs) (open_says e.sender) is
+    wrote_step (nat_eq e.sender.closed 0) e.sender (take (min (length xs) (finite_room e.sender)) xs)
+    (open_says e.sender) is
 sound_step e Shut is = shut_step e.sender is
 sound_step e (Heard s r says seq ack window now) is = (step e (Heard s r says seq ack window now) is tt).1
 sound_step e (Looked r now) is = (step e (Looked r now) is tt).1

@@ -6,7 +6,8 @@ use Rattle.std.proofs.lemmas.Bool.{cases_lt}
 use Rattle.std.proofs.lemmas.Bool.Decides.{nat_tests}
 use Rattle.std.proofs.lemmas.Nat.{div-add-mod', mod_below, pow_pos, mul-le}
 use Rattle.net_tcp.specs.Windows.{field_for, announced, shift_count}
-use Rattle.net_receiver.specs.ReceiverState.{ReceiverState, limit_of, next_position, receiver_after_command, Segment, Read}
+use Rattle.net_receiver.specs.ReceiverState.{ReceiverState, limit_of, next_position, receiver_after_command, Segment}
+use Rattle.net_receiver.specs.ReceiverState.{Read}
 use Rattle.net_receiver.specs.OneStream.{LimitGrows}
 use Rattle.net_receiver.specs.Finite.{FiniteState, FiniteCommand, finite_after_command}
 use Rattle.net_receiver.specs.Finite.{finite_after_commands, acknowledged, no_end, IsSoundEnd}

@@ -1,5 +1,5 @@
 -- Why two parts are the bytes of a segment.
-use Rattle.std.proofs.Common.{◌≡◌, ℕ, ◌+◌, ◌-◌, ◌<◌, ◌≤◌, arith, ap, sym, ◌∙◌, subst, List, [], ◌++◌, take-add}
+use Rattle.std.proofs.Common.{◌≡◌, ℕ, ◌+◌, ◌-◌, ◌<◌, ◌≤◌, arith, ap, sym, ◌∙◌, subst, List, ◌++◌, take-add}
 use Rattle.std.proofs.Common.{length-append}
 use Rattle.std.specs.Prelude.{Bool, IsTrue, ◌↔◌, max, min, length, take, drop}
 use Rattle.std.proofs.lemmas.List.{drop-drop}

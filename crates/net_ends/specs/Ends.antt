@@ -5,20 +5,29 @@
 --     is_acceptable e ack      whether a segment may acknowledge that (RFC 5961)
 --     timer_after, peer_after, greatest_after, heard      what an acknowledgement leaves
 --     kept s ack sent      what counts as reported then
---     is_shut e, limit e      whether a probe may be sent; the end of what may be
+--     is_shut e, open_to e, limit e      whether a probe may be sent; the end of what the window has room for, and of what
+--         may be sent
 --     asks e      whether the next segment is a probe
+--     hurries e, delays e      whether the timer asks for a segment; whether Nagle's rule has small ones wait
+--     is_enough e from to, is_worth e from to      whether a range is all that is left or much; whether it is worth a segment
+--     found e limit window lost others, due_of e r      what the recovery sends next, with the holes that it looks at
+--         (AreHoles); a range, unless it is held back
+--     may_send e from to      whether a range may be sent
 --     IsSegment s from to xs last      the bytes of a range
 --     Event, after_event, after_events      what happens to an end, and what that leaves
 --     commands      the sender's commands that they come to
 --     Run, run      an end, the greatest edge that the peer gave, and what was sent
-use Rattle.std.specs.Prelude.{◌≡◌, ℕ, ℤ, ◌+◌, ◌-◌, ◌/◌, ◌<◌, ◌≤◌, ◌⊎◌, min, max, Option, Some, None, is_some}
-use Rattle.std.specs.Prelude.{Bool, true, false, not, ◌&&◌, nat_lt, nat_le, IsTrue, if◌then◌else◌, List, [], ◌||◌, ◌↔◌, take, drop, length}
+--     small_sends, expiries      how many small segments are sent for the timer, and how often it ends
+use Rattle.std.specs.Prelude.{◌≡◌, ℕ, ℤ, ◌+◌, ◌-◌, ◌*◌, ◌/◌, ◌<◌, ◌≤◌, ◌⊎◌, min, max, Option, Some, None, is_some}
+use Rattle.std.specs.Prelude.{Bool, true, false, not, ◌&&◌, nat_lt, nat_le, nat_eq, IsTrue, if◌then◌else◌, List, [], ◌||◌, ◌↔◌, take, drop, length}
 use Rattle.std.specs.Prelude.{◌∷◌, ◌++◌}
 use Rattle.std.specs.Coded.{Coded, coded_ℕ}
 use Rattle.std.specs.Int.{from_bool}
 use Rattle.std.specs.FinSet as set
 use Rattle.net_assembler.specs.Positions.{Positions, contains, with_range, nothing}
 use Rattle.net_recovery.specs.LossRecovery.{begun as begun_recovery, forgotten, new_recovery}
+use Rattle.net_recovery.specs.LossRecovery.{next_segment as recovery_segment, next_range, in_flight, resumed, gone_on}
+use Rattle.net_receiver.specs.Scoreboards.{IsHole}
 use Rattle.net_tcp.specs.Estimate.{Estimate}
 use Rattle.net_tcp.specs.Retransmission.{after_acknowledged, with_sample, after_expiry, after_sending, started}
 use Rattle.net_tcp.specs.Retransmission.{after_report, has_expired, has_ended, new_timer, stopped}
@@ -28,6 +37,7 @@ use Rattle.net_tcp.specs.declared.retransmission.TimeoutBounds.{TimeoutBounds}
 use Rattle.net_tcp.specs.declared.retransmission_timer.TimedSegment.{TimedSegment}
 use Rattle.net_tcp.specs.declared.retransmission_timer.RetransmissionTimer.{RetransmissionTimer}
 use Rattle.net_recovery.specs.declared.loss_recovery.LossRecovery.{LossRecovery}
+use Rattle.net_ends.specs.declared.sending_end.Outgoing.{Outgoing}
 use Rattle.net_ends.specs.declared.sending_end.Acknowledged.{Acknowledged}
 use Rattle.net_ends.specs.declared.sending_end.Acknowledged.TheVariants.{Refused, Old, Taken}
 use Rattle.net_receiver.specs.SenderState.{end_of}
@@ -50,6 +60,7 @@ pub record End : Type 0 where
   pub last : ℕ
   pub size : ℕ
   pub is_open : Bool
+  pub nagle : Bool
   pub probes : Bool
   pub overdue : Bool
 
@@ -67,6 +78,7 @@ new_end capacity first timeout bounds = record {
   last = 0;
   size = 1;
   is_open = false;
+  nagle = true;
   probes = false;
   overdue = false;
 }
@@ -112,6 +124,12 @@ abbrev pub reports_of : Acknowledged → Bool
 reports_of (Taken new says begins) = says
 reports_of Refused = false
 reports_of Old = false
+
+-- whether it begins a recovery
+abbrev pub begins_of : Acknowledged → Bool
+begins_of (Taken new says begins) = begins
+begins_of Refused = false
+begins_of Old = false
 
 -- one that ends where something was reported says that the peer has dropped that: nothing counts as reported then
 abbrev pub has_dropped : Positions → ℕ → ℕ → Bool
@@ -178,13 +196,56 @@ is_shut e = nat_le e.peer.edge (first e) && nat_lt (first e) (end e)
 abbrev pub asks : End → Bool
 asks e = e.probes && is_shut e
 
+-- the end of what the peer's window has room for
+abbrev pub open_to : End → ℕ
+open_to e = min e.peer.edge (end e)
+
 -- one number of a shut window, if the timer has ended; else what the peer's window has room for
 abbrev pub limit : End → ℕ
-limit e = if asks e then first e + 1 else min e.peer.edge (end e)
+limit e = if asks e then first e + 1 else open_to e
+
+-- the timer asks for a segment: a timeout has passed, or no answer has come in time, and nothing was sent since then
+abbrev pub hurries : End → Bool
+hurries e = e.probes || e.overdue
+
+-- by Nagle's rule less than a whole segment waits while something is in flight, unless the stream is closed
+abbrev pub delays : End → Bool
+delays e = e.nagle && nat_lt (first e) e.sender.sent && not (nat_eq e.sender.closed 1)
+
+-- a range is all that is left, or half of the greatest window
+abbrev pub is_enough : End → ℕ → ℕ → Bool
+is_enough e from to = nat_le (end e) to || nat_le e.greatest (2 * (to - from))
+
+-- it is worth a segment: a whole one, or enough, unless that has to wait
+abbrev pub is_worth : End → ℕ → ℕ → Bool
+is_worth e from to = nat_le e.size (to - from) || (is_enough e from to && not (delays e))
+
+-- nothing is held back but what was never sent and isn't worth a segment
+abbrev pub is_due : End → ℕ → ℕ → Bool
+is_due e from to = hurries e || nat_lt from e.sender.sent || is_worth e from to
+
+-- the holes in what was reported that the recovery looks at
+pub record AreHoles (e : End) (limit : ℕ) (lost others : Option (ℕ × ℕ)) : Type 0 where
+  pub first_hole : IsHole e.reported (resumed e.recovery (first e)) (min (min e.recovery.turn e.recovery.lost) limit) lost
+  pub other_hole : IsHole e.reported (gone_on e.recovery (first e)) (min e.recovery.lost limit) others
+
+-- what the recovery sends next, and that unless it is held back
+abbrev pub found : End → ℕ → ℕ → Option (ℕ × ℕ) → Option (ℕ × ℕ) → Option (ℕ × ℕ)
+found e limit window lost others =
+    recovery_segment (first e) (in_flight e.recovery (first e) e.sender.sent e.reported) window (max 1 e.size)
+    (next_range e.recovery (first e) e.sender.sent limit lost others)
+
+abbrev pub due_of : End → Option (ℕ × ℕ) → Option (ℕ × ℕ)
+due_of e None = None
+due_of e (Some r) = if is_due e r.0 r.1 then Some r else None
+
+abbrev pub range_of : Option Outgoing → Option (ℕ × ℕ)
+range_of None = None
+range_of (Some it) = Some (it.pos, it.end)
 
 -- a range that may be sent: a probe is the first number alone
 abbrev pub may_send : End → ℕ → ℕ → Bool
-may_send e from to = nat_lt from to && nat_le to (limit e) && nat_le (first e) from
+may_send e from to = nat_lt from to && nat_le to (limit e) && nat_le (first e) from && is_due e from to
 
 -- the bytes from one position on, below another, and whether the stream ends after them, below that too
 pub record IsSegment (s : FiniteSenderState) (from to : ℕ) (xs : List ℕ) (last : Bool) : Type 0 where
@@ -209,7 +270,7 @@ is_overdue e now = has_expired e.timer now && (has_ended e.timer now || not e.re
 abbrev pub all_lost : End → End
 all_lost e = record e {
   recovery = begun_recovery (first e) e.sender.sent e.sender.sent (forgotten e.recovery);
-  probes = is_shut e;
+  probes = true;
   overdue = false;
 }
 
@@ -218,12 +279,13 @@ abbrev pub timed_out : End → ℤ → End
 timed_out e now = all_lost (record e { timer = after_expiry e.bounds now e.timer })
 
 -- ---- what happens
--- a SYN comes, or the peer is forgotten, a SYN may be due, bytes are written, the stream is closed, an acknowledgement comes, from whomever, with what is reported then, the
--- recovery that it leaves, and whether a block says what is new; the timer is looked at; and a range is sent, with the
--- recovery that it leaves, or none
+-- a SYN comes, or the peer is forgotten, Nagle's rule is enabled or disabled, a SYN may be due, bytes are written, the
+-- stream is closed, an acknowledgement comes, from whomever, with what is reported then, the recovery that it leaves, and
+-- whether a block says what is new; the timer is looked at; and a range is sent, with the recovery that it leaves, or none
 pub data Event : Type 0 where
   Opened : ℕ → ℕ → ℕ → ℕ → Bool → ℤ → Event
   Forgot : ℤ → Event
+  Enabled : Bool → Event
   Opening : ℤ → Event
   Wrote : List ℕ → Event
   Shut : Event
@@ -235,6 +297,7 @@ pub data Event : Type 0 where
 abbrev pub after_event : End → Event → End
 after_event e (Opened seq ack window size reports now) = opened e seq ack window size reports now
 after_event e (Forgot now) = record e { timer = renewed e false now; is_open = false }
+after_event e (Enabled on) = record e { nagle = on }
 after_event e (Opening now) = record e { timer = started now (after_expiry e.bounds now e.timer) }
 after_event e (Wrote xs) = record e { sender = sender_after_command e.sender (Writes xs) }
 after_event e Shut = record e { sender = sender_after_command e.sender Closes }
@@ -245,7 +308,7 @@ after_event e (Looked r now) =
     then record e {
       recovery = r;
       timer = after_expiry e.bounds now e.timer;
-      probes = is_shut e && has_ended e.timer now;
+      probes = has_ended e.timer now;
       overdue = not (has_ended e.timer now) && not e.recovery.is_blind && not (is_shut e);
     } else e
 after_event e (Sent r from to now) =
@@ -267,6 +330,7 @@ after_events e (v ∷ vs) = after_events (after_event e v) vs
 abbrev pub commands_of : End → Event → List SenderCommand
 commands_of e (Opened seq ack window size reports now) = []
 commands_of e (Forgot now) = []
+commands_of e (Enabled on) = []
 commands_of e (Opening now) = []
 commands_of e (Wrote xs) = Writes xs ∷ []
 commands_of e Shut = Closes ∷ []
@@ -339,3 +403,22 @@ abbrev pub IsNoWrite : Event → Type 0
 IsNoWrite (Wrote xs) = ⊥
 IsNoWrite Shut = ⊥
 IsNoWrite _ = Unit {0}
+
+-- ---- small segments
+-- one that isn't worth it, and was never sent
+abbrev pub is_small : End → Event → Bool
+is_small e (Sent r from to now) = may_send e from to && nat_le e.sender.sent from && not (is_worth e from to)
+is_small e _ = false
+
+abbrev pub small_sends : End → List Event → ℕ
+small_sends e [] = 0
+small_sends e (v ∷ vs) = from_bool (is_small e v) + small_sends (after_event e v) vs
+
+-- the timer has ended
+abbrev pub is_expiry : End → Event → Bool
+is_expiry e (Looked r now) = has_expired e.timer now
+is_expiry e _ = false
+
+abbrev pub expiries : End → List Event → ℕ
+expiries e [] = 0
+expiries e (v ∷ vs) = from_bool (is_expiry e v) + expiries (after_event e v) vs

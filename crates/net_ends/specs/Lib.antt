@@ -1,2 +1,5 @@
+pub mod Acknowledgements
+pub mod Buffers
 pub mod Ends
+pub mod Path
 pub mod Receiving

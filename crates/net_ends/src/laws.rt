@@ -1,10 +1,12 @@
-//! Laws of the sending end. No function here changes anything: its contract is the law.
-ghost use Rattle.std.specs.Prelude.{◌≡◌, ℕ, ℤ, ◌+◌, ◌-◌, ◌<◌, ◌≤◌, List, All, Bool, IsTrue};
+//! Laws of the sending end, and of both ends. No function here changes anything: its contract is the law.
+ghost use Rattle.std.specs.Prelude.{◌≡◌, ℕ, ℤ, ◌+◌, ◌-◌, ◌<◌, ◌≤◌, List, All, Bool, IsTrue, IsFalse};
 ghost use Rattle.net_assembler.specs.Positions.{Positions};
 ghost use Rattle.net_recovery.specs.declared.loss_recovery.LossRecovery.{LossRecovery};
 ghost use Rattle.net_receiver.specs.FiniteSender.{sender_after_commands, accepts, IsSoundSent};
 ghost use Rattle.net_ends.specs.Ends.{End, Event, after_event, after_events, commands, run, begun, IsAllowed, first, rest};
-ghost use Rattle.net_ends.specs.Ends.{IsUnacknowledged, runs, Heard, Rested, end, news, IsNoWrite};
+ghost use Rattle.net_ends.specs.Ends.{IsUnacknowledged, runs, Heard, Rested, end, news, IsNoWrite, hurries};
+ghost use Rattle.net_ends.specs.Ends.{small_sends, expiries};
+ghost use Rattle.net_ends.specs.Path.{LentIsWritten, EndsCarry};
 
 /// States of every end and of every list of what happens to it, forged acknowledgements among it: that its sender is that
 /// of a list of the sender's own commands; that nothing is sent beyond the greatest edge that the peer gave, but a probe,
@@ -17,8 +19,10 @@ pub fn sending_ends()
     ensures edge { (e : End) (vs : List Event) → All IsAllowed (run (begun e) vs).log }
     ensures runs { (e : End) (vs : List Event) → (IsUnacknowledged e → IsTrue (runs e)) →
         IsUnacknowledged (after_events e vs) → IsTrue (runs (after_events e vs)) }
-    ensures waits { (e : End) (now : ℤ) → first e < end e → IsTrue (runs (after_event e (Rested now))) }
-    ensures falls { (e : End) (s : Positions) (r : LossRecovery) (says : Bool) (seq ack window : ℕ) (now : ℤ) →
+    ensures waits { (e : End) (now : ℤ) → first e < end e →
+        IsTrue (runs (after_event e (Rested now))) }
+    ensures falls { (e : End) (s : Positions) (r : LossRecovery) (says : Bool)
+        (seq ack window : ℕ) (now : ℤ) →
         IsSoundSent e.sender → IsTrue (accepts e.sender ack) →
         rest (after_event e (Heard s r says seq ack window now)) ≡ rest e - (ack - first e) }
 {}
@@ -28,7 +32,32 @@ pub fn sending_ends()
 /// that an end stays sound, whatever happens.
 #[tactic(auto, using(crate::proofs::Progress::progress))]
 pub fn progress()
-    ensures finishes { (e : End) (vs : List Event) → IsSoundSent e.sender → All IsNoWrite vs → rest e ≤ news e vs →
+    ensures finishes { (e : End) (vs : List Event) → IsSoundSent e.sender → All IsNoWrite vs →
+        rest e ≤ news e vs →
         rest (after_events e vs) ≡ 0 }
-    ensures sound { (e : End) (vs : List Event) → IsSoundSent e.sender → IsSoundSent (after_events e vs).sender }
+    ensures sound { (e : End) (vs : List Event) → IsSoundSent e.sender →
+        IsSoundSent (after_events e vs).sender }
+{}
+
+/// States what a receiving end reads of what a sending end lends, whatever the path between them does. What a sending end
+/// lends is of the stream that is written to it in the end, whatever is acknowledged (`lent`). If each segment that arrives
+/// at a new receiving end was lent by a new sending end at some moment, what is read is a prefix of what is written, and
+/// all of it once the receiver says so. If no acknowledgement says more than the receiver has, what it lacks can be sent
+/// again: the sender has all that was written from the receiver's first missing position on, and its end isn't acknowledged
+/// (`carry`).
+pub fn both_ends()
+    ensures lent { LentIsWritten }
+    ensures carry { EndsCarry }
+{
+    net_receiver::laws::finite_senders();
+    net_receiver::laws::transfers();
+}
+
+/// States that small segments are rare, of every end and of every list of what happens to it. What was never sent, and isn't
+/// worth a segment, is sent no more often than the timer ends, if it asked for no segment at first. A whole segment is worth
+/// one; and, unless Nagle's rule has it wait, all that is left, or half of the greatest window that the peer announced.
+#[tactic(auto, using(crate::proofs::Small::small))]
+pub fn small_segments()
+    ensures rare { (e : End) (vs : List Event) → IsFalse (hurries e) →
+        small_sends e vs ≤ expiries e vs }
 {}

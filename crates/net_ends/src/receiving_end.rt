@@ -127,7 +127,8 @@ impl<S: Storage<u8>, const N: usize> ReceivingEndOver<S, N> {
 
     /// Announces all the room that is free, without a scale.
     fn announce_whole(&mut self) -> u16
-        ensures window { result ≡ field_for 0 (free_end self.old.receiver - acknowledged self.old.receiver) }
+        ensures window { result ≡ field_for 0
+            (free_end self.old.receiver - acknowledged self.old.receiver) }
         ensures state { self.new ≡ record self.old {
           edge = max self.old.edge (announced (acknowledged self.old.receiver) 0 result);
         } }
@@ -139,8 +140,10 @@ impl<S: Storage<u8>, const N: usize> ReceivingEndOver<S, N> {
     /// Returns what to do with a segment, as `net_tcp::classify` says, in the window that was announced.
     #[must_use]
     pub fn classify(&self, segment: Segment) -> Arrival
-        ensures { IsArrival Arrival.Take Arrival.AcknowledgementOnly Arrival.Answer Arrival.Reset Arrival.Ignore
-            (acknowledged self.now.receiver) (self.now.edge - acknowledged self.now.receiver) segment result }
+        ensures { IsArrival Arrival.Take Arrival.AcknowledgementOnly Arrival.Answer
+            Arrival.Reset Arrival.Ignore
+            (acknowledged self.now.receiver) (self.now.edge - acknowledged self.now.receiver)
+            segment result }
     {
         self.advertised
             .classify(self.receiver.acknowledged(), segment)
@@ -162,7 +165,8 @@ impl<S: Storage<u8>, const N: usize> ReceivingEndOver<S, N> {
     ) -> Result<KeptBytes, FiniteError>
         ensures value { result ≡ arrival_result N self.old.receiver pos bytes.now is_last }
         ensures twice { WaitsAfter self.old pos (length bytes.now) self.new.duplicate }
-        ensures step { self.new ≡ after_event N self.old (Arrived pos bytes.now is_last self.new.duplicate) }
+        ensures step { self.new ≡ after_event N self.old
+            (Arrived pos bytes.now is_last self.new.duplicate) }
     {
         if bytes.is_empty() && !is_last {
             return Ok(KeptBytes { kept: 0, queued: 0 });
@@ -174,7 +178,8 @@ impl<S: Storage<u8>, const N: usize> ReceivingEndOver<S, N> {
     fn take(&mut self, pos: u64, bytes: &[u8], is_last: bool) -> Result<KeptBytes, FiniteError>
         ensures value { result ≡ finite_result N self.old.receiver pos bytes.now is_last }
         ensures twice { WaitsAfter self.old pos (length bytes.now) self.new.duplicate }
-        ensures step { self.new ≡ after_arrival N self.old pos bytes.now is_last self.new.duplicate }
+        ensures step { self.new ≡ after_arrival N self.old pos bytes.now is_last
+            self.new.duplicate }
     {
         let duplicate = self.duplicate_after(pos, bytes.len());
         let held = self.receiver.receiver().held_count();
@@ -370,7 +375,8 @@ impl<S: Storage<u8>, const N: usize> ReceivingEndOver<S, N> {
     #[track_caller]
     pub fn read_with<R, F: FnOnce(&[u8]) -> (usize, R)>(&mut self, f: F) -> (usize, R)
         requires callable { FnOnceTakesAt F.FnOnce f (first_part self.old.receiver.receiver) }
-        requires count { (r : ℕ × R) → FnOnceReturnsAt F.FnOnce f (first_part self.old.receiver.receiver) r →
+        requires count { (r : ℕ × R) →
+            FnOnceReturnsAt F.FnOnce f (first_part self.old.receiver.receiver) r →
             r.0 ≤ length (first_part self.old.receiver.receiver) }
         ensures called { FnOnceReturnsAt F.FnOnce f (first_part self.old.receiver.receiver) result }
         ensures count { result.0 ≤ contiguous_count self.old.receiver.receiver }

@@ -1,20 +1,27 @@
 //! What sends a stream that ends.
-ghost use Rattle.std.specs.Prelude.{◌≡◌, ◌↔◌, ◌-◌, ◌+◌, ◌<◌, ◌≤◌, ◌&&◌, ◌==◌, ℕ, Option, Some, IsTrue, IsFalse, min, max};
-ghost use Rattle.std.specs.Prelude.{IfSome, IfNone, is_some, is_none, ◌||◌, ◌++◌, not, nat_lt, true, false, if◌then◌else◌, length};
-ghost use Rattle.net_assembler.specs.Positions.{contains, nothing, with_range};
+ghost use Rattle.std.specs.Prelude.{◌≡◌, ◌↔◌, ◌-◌, ◌+◌, ◌<◌, ◌≤◌, ◌&&◌, ◌==◌, ℕ, Option, Some, IsTrue, IsFalse, min};
+ghost use Rattle.std.specs.Prelude.{IfSome, IfNone, is_some, is_none, ◌||◌, ◌++◌, not, nat_lt, true, false, if◌then◌else◌, length, Bool};
+ghost use Rattle.net_assembler.specs.Positions.{contains};
 ghost use Rattle.net_recovery.specs.LossRecovery.{is_active};
-ghost use Rattle.net_receiver.specs.FiniteSender.{sender_after_command, Writes, Closes, Marks, Acknowledges, accepts, finite_room, first_number};
+ghost use Rattle.net_receiver.specs.FiniteSender.{sender_after_command, Marks, Acknowledges, accepts, finite_room};
 ghost use Rattle.net_receiver.specs.Finite.{no_end};
 ghost use Rattle.net_ends.specs.Ends.{new_end, first, end, is_acceptable, greatest_of, is_shut, asks, told};
 ghost use Rattle.net_ends.specs.Ends.{limit, may_send, waiting, after_event, Wrote, Shut, Heard, Looked, Sent, Rested};
-ghost use Rattle.net_ends.specs.Ends.{IsSegment, round_trip, Opened, Forgot, Opening, renewed, synchronized, sampled, timed_out, all_lost, has_timed_out, is_overdue, reports_of, new_of, kept, has_dropped};
-ghost use Rattle.net_tcp.specs.Retransmission.{has_expired, after_expiry, after_sending, with_sample, after_acknowledged, expires_at};
+ghost use Rattle.net_ends.specs.Ends.{IsSegment, round_trip, Opened, Forgot, Opening, renewed, synchronized, sampled};
+ghost use Rattle.net_ends.specs.Ends.{timed_out, all_lost, has_timed_out, is_overdue, reports_of, new_of, kept};
+ghost use Rattle.net_ends.specs.Ends.{has_dropped, begins_of, is_due, is_worth, is_enough, delays, hurries, Enabled};
+ghost use Rattle.net_ends.specs.Acknowledgements.{with_block, is_new, after_blocks, reported_by, has_block};
+ghost use Rattle.net_ends.specs.Acknowledgements.{is_duplicated, numbers_of, unsent_of, doubted, IsLeft, Recovers};
+ghost use Rattle.net_ends.specs.Acknowledgements.{is_sought, begins_by, after_segment, after_wait, loses_nothing, expiry_of};
+ghost use Rattle.net_receiver.specs.Scoreboards.{IsEnd};
+ghost use Rattle.net_tcp.specs.Retransmission.{has_ended, expiry, has_expired, after_expiry, after_sending};
+ghost use Rattle.net_tcp.specs.Retransmission.{with_sample, after_acknowledged, expires_at};
+ghost use Rattle.net_ends.specs.Ends.{AreHoles, open_to, found, due_of, range_of};
 ghost use Rattle.net_tcp.specs.Windows.{after_update, acknowledgement_number};
 
+use crate::send_buffer::SendBufferOver;
 use net_base::time::{Duration, Instant};
 use net_numbers::SentNumbers;
-use net_receiver::{FiniteSenderOver, Scoreboard};
-use net_recovery::{Answer, LossRecovery, is_duplicate_block, is_equal_acknowledgement};
 use net_ring::{ManagedSlice, Storage};
 use net_tcp::{
     Announcement, Expiry, PeerWindow, RetransmissionTimer, TimeoutBounds, is_acknowledgement,
@@ -51,7 +58,8 @@ pub enum Expired {
         /// Whether it begins a recovery: then halve the congestion window.
         begins: bool,
     },
-    /// The peer's window is shut: the next segment is a probe of it.
+    /// The peer's window is shut, and the next segment is a probe of it; or nothing is in flight, and the next segment has
+    /// what was held back.
     Probe,
     /// All that was sent is lost: let one segment be in flight.
     Lost,
@@ -71,12 +79,10 @@ pub struct Outgoing {
 /// What sends a stream that ends, over storage that is lent or owned.
 pub type SendingEnd<'a, const N: usize> = SendingEndOver<ManagedSlice<'a, u8>, N>;
 
-/// A [`SendingEnd`] over any storage: a sender, a scoreboard, a recovery, a timer and the peer's window.
+/// A [`SendingEnd`] over any storage: a buffer, a timer and the peer's window.
 #[derive(Drop)]
 pub struct SendingEndOver<S: Storage<u8>, const N: usize> {
-    sender: FiniteSenderOver<S>,
-    scoreboard: Scoreboard<N>,
-    recovery: LossRecovery,
+    buffer: SendBufferOver<S, N>,
     timer: RetransmissionTimer,
     first_timeout: Duration,
     bounds: TimeoutBounds,
@@ -88,8 +94,12 @@ pub struct SendingEndOver<S: Storage<u8>, const N: usize> {
     segment_size: usize,
     // Whether the peer has acknowledged anything, if only the own SYN.
     is_open: bool,
-    // Whether the next segment is a probe of a window that is shut, or one for an answer, if nothing else may be sent.
+    // Whether Nagle's rule is enabled.
+    nagle: bool,
+    // Whether the timeout has passed and nothing was sent since then: nothing is held back, and if the window is shut, the
+    // next segment is a probe of it.
     is_window_probe_due: bool,
+    // Whether the next segment is a probe for an answer, if nothing else may be sent.
     is_overdue: bool,
 }
 
@@ -102,9 +112,9 @@ impl<S: Storage<u8>, const N: usize> Model for SendingEndOver<S, N> {
     ghost coded = { Prim.hlevel (codes, positions_code) };
 
     ghost view = { λ s. record {
-      sender = s.sender;
-      reported = s.scoreboard;
-      recovery = s.recovery;
+      sender = s.buffer.sender;
+      reported = s.buffer.reported;
+      recovery = s.buffer.recovery;
       timer = s.timer;
       first_timeout = s.first_timeout;
       bounds = s.bounds;
@@ -113,6 +123,7 @@ impl<S: Storage<u8>, const N: usize> Model for SendingEndOver<S, N> {
       last = s.last_window;
       size = s.segment_size;
       is_open = s.is_open;
+      nagle = s.nagle;
       probes = s.is_window_probe_due;
       overdue = s.is_overdue;
     } };
@@ -137,9 +148,7 @@ impl<S: Storage<u8>, const N: usize> SendingEndOver<S, N> {
         prove!(N >= 1, "N is at least 1");
         prove!(first < u64::MAX, "no number is left for an end");
         SendingEndOver {
-            sender: FiniteSenderOver::over_at(storage, first),
-            scoreboard: Scoreboard::empty_at(first),
-            recovery: LossRecovery::new(),
+            buffer: SendBufferOver::over_at(storage, first),
             timer: RetransmissionTimer::new(first_timeout, false),
             first_timeout,
             bounds,
@@ -148,6 +157,7 @@ impl<S: Storage<u8>, const N: usize> SendingEndOver<S, N> {
             last_window: 0,
             segment_size: 1,
             is_open: false,
+            nagle: true,
             is_window_probe_due: false,
             is_overdue: false,
         }
@@ -157,9 +167,10 @@ impl<S: Storage<u8>, const N: usize> SendingEndOver<S, N> {
     /// (SACK): one that doesn't couldn't answer a probe, and is sent none. What was written stays. It is done once, before
     /// anything is sent; a second time begins with another peer, and the timer runs if something is in flight.
     pub fn open(&mut self, it: Announcement, segment_size: usize, reports: bool, now: Instant)
-        ensures { self.new ≡ after_event self.old (Opened it.seq it.ack it.window segment_size reports now) }
+        ensures { self.new ≡ after_event self.old
+            (Opened it.seq it.ack it.window segment_size reports now) }
     {
-        self.recovery.expect_reports(reports);
+        self.buffer.expect_reports(reports);
         self.renew(reports, now);
         self.peer_window = PeerWindow::of(it);
         self.greatest_window = it.window;
@@ -178,7 +189,11 @@ impl<S: Storage<u8>, const N: usize> SendingEndOver<S, N> {
 
     /// Begins with a timer that had no sample.
     fn renew(&mut self, reports: bool, now: Instant)
-        ensures { self.new ≡ record self.old { timer = renewed self.old reports now; is_open = false } }
+        ensures { self.new ≡ record self.old {
+          timer =
+              renewed self.old reports now;
+          is_open = false;
+        } }
     {
         let numbers = self.numbers();
         self.timer = RetransmissionTimer::new(self.first_timeout, reports);
@@ -190,11 +205,12 @@ impl<S: Storage<u8>, const N: usize> SendingEndOver<S, N> {
 
     /// Returns whether a SYN is to be sent now, and starts the timer for the next one: until something is acknowledged.
     pub fn is_opening_due(&mut self, now: Instant) -> bool
-        ensures value { result ≡ (has_expired self.old.timer now || is_none (expires_at self.old.timer)) }
+        ensures value { result ≡ (has_expired self.old.timer now
+            || is_none (expires_at self.old.timer)) }
         ensures step { self.new ≡ after_event self.old (Opening now) }
     {
-        let is_first = self.timer.expires_at().is_none();
-        let has_expired = self.timer.expire(self.bounds, now).is_some();
+        let is_first = self.expires_at().is_none();
+        let has_expired = self.expire(now).is_some();
         self.timer.start(now);
         has_expired || is_first
     }
@@ -205,18 +221,22 @@ impl<S: Storage<u8>, const N: usize> SendingEndOver<S, N> {
         ensures count { result ≡ min (length bytes.now) (finite_room self.old.sender) }
         ensures step { self.new ≡ after_event self.old (Wrote bytes.now) }
     {
-        self.sender.write(bytes)
+        self.buffer.write(bytes)
     }
 
     /// Ends the stream after what was written.
     pub fn close(&mut self)
         ensures { self.new ≡ after_event self.old Shut }
     {
-        self.sender.close();
+        self.buffer.close();
     }
 
     /// Takes what a segment acknowledges and announces, and the blocks that it reports. It `is_empty` if it has no byte
     /// and no FIN. Whatever it says, the end stays sound.
+    ///
+    /// A block counts that begins above the first number that isn't reported, has a number, and ends where something was
+    /// sent and less than 2^32 above that one, if what is reported beyond that one is at most `N` runs then. Any other
+    /// block says nothing.
     #[tactic(auto, using(crate::proofs::Steps::steps))]
     pub fn acknowledged(
         &mut self,
@@ -225,25 +245,39 @@ impl<S: Storage<u8>, const N: usize> SendingEndOver<S, N> {
         is_empty: bool,
         now: Instant,
     ) -> Acknowledged
-        ensures refused { (result ≡ Acknowledged.Refused) ↔ IsFalse (is_acceptable self.old it.ack) }
+        ensures refused { (result ≡ Acknowledged.Refused)
+            ↔ IsFalse (is_acceptable self.old it.ack) }
         ensures old { (result ≡ Acknowledged.Old)
             ↔ (IsTrue (is_acceptable self.old it.ack) × IsFalse (accepts self.old.sender it.ack)) }
-        ensures new { IsTrue (accepts self.old.sender it.ack) → new_of result ≡ it.ack - first self.old }
+        ensures new { IsTrue (accepts self.old.sender it.ack) →
+            new_of result ≡ it.ack - first self.old }
         ensures step { self.new ≡ after_event self.old
-            (Heard self.new.reported self.new.recovery (reports_of result) it.seq it.ack it.window now) }
+            (Heard self.new.reported self.new.recovery (reports_of result) it.seq it.ack
+            it.window now) }
         ensures missing { IsTrue (accepts self.old.sender it.ack) → it.ack < self.old.sender.sent →
             IsFalse (contains self.new.reported it.ack) }
+        ensures reported { IsTrue (accepts self.old.sender it.ack) → self.new.reported
+            ≡ kept (reported_by N self.old.sender.sent self.old.reported it.ack blocks.now).0
+            it.ack self.old.sender.sent }
+        ensures reports { IsTrue (accepts self.old.sender it.ack) → reports_of result
+            ≡ (reported_by N self.old.sender.sent self.old.reported it.ack blocks.now).1 }
+        ensures recovery { IsTrue (accepts self.old.sender it.ack) →
+            Recovers N self.old.size (numbers_of self.old.sender)
+            (unsent_of self.old.sender self.old.reported
+            self.old.recovery) self.old.reported self.old.recovery it.ack blocks.now is_empty
+            (it.window == self.old.last)
+            (reports_of result) self.new.recovery (begins_of result) }
         ensures unchanged { IsFalse (accepts self.old.sender it.ack) → self.new ≡ self.old }
     {
         let numbers = self.numbers();
         if !self.is_acceptable(it.ack) {
             return Acknowledged::Refused;
         }
-        let unsent = self.recovery.unsent(numbers, &self.scoreboard);
-        if !self.accept(it.ack) {
+        let is_same = it.window == self.last_window;
+        let Some((reports, begins)) = self.hear(it.ack, blocks, is_empty, is_same) else {
             return Acknowledged::Old;
-        }
-        let (reports, begins) = self.take(numbers, it, blocks, is_empty, unsent, now);
+        };
+        self.take(numbers, it, reports, now);
         Acknowledged::Taken {
             new: it.ack - numbers.first_unacknowledged,
             reports,
@@ -251,78 +285,82 @@ impl<S: Storage<u8>, const N: usize> SendingEndOver<S, N> {
         }
     }
 
-    /// Takes an acknowledgement that the sender has taken, and returns whether a block reports what wasn't known, and whether
-    /// a recovery begins.
-    #[tactic(auto, using(crate::proofs::Steps::steps))]
-    fn take(
+    /// Has the buffer take an acknowledgement. Returns `None` if it doesn't; else whether a block reports what wasn't known,
+    /// and whether a recovery begins.
+    fn hear(
         &mut self,
-        numbers: SentNumbers,
-        it: Announcement,
+        ack: u64,
         blocks: &[(u64, u64)],
         is_empty: bool,
-        unsent: u64,
-        now: Instant,
-    ) -> (bool, bool)
-        ensures state { self.new ≡ record self.old {
-          reported = self.new.reported;
+        is_same: bool,
+    ) -> Option<(bool, bool)>
+        ensures refused { is_some result ≡ accepts self.old.sender ack }
+        ensures within { IfSome result (λ _. (first self.old ≤ ack)
+            × (ack ≤ self.old.sender.sent)) }
+        ensures unchanged { IfNone result (self.new ≡ self.old) }
+        ensures state { IfSome result (λ r. self.new ≡ record self.old {
+          sender = sender_after_command self.old.sender (Acknowledges ack);
+          reported = kept (reported_by N self.old.sender.sent self.old.reported ack blocks.now).0
+              ack self.old.sender.sent;
           recovery = self.new.recovery;
-          timer = told result.0 now (after_acknowledged self.old.bounds numbers.first_unacknowledged numbers.sent it.ack
-              now (sampled self.new.reported self.old.bounds now (synchronized self.old.is_open
+        }) }
+        ensures reports { IfSome result (λ r. r.0
+            ≡ (reported_by N self.old.sender.sent self.old.reported ack blocks.now).1) }
+        ensures recovery { IfSome result (λ r. Recovers N self.old.size (numbers_of self.old.sender)
+            (unsent_of self.old.sender self.old.reported self.old.recovery) self.old.reported
+            self.old.recovery ack
+            blocks.now is_empty is_same r.0 self.new.recovery r.1) }
+    {
+        self.buffer
+            .acknowledge(ack, blocks, self.segment_size, is_empty, is_same)
+    }
+
+    /// Takes the window of an acknowledgement that the buffer has taken, and tells the timer.
+    fn take(&mut self, numbers: SentNumbers, it: Announcement, reports: bool, now: Instant)
+        ensures { self.new ≡ record self.old {
+          timer = told reports now (after_acknowledged self.old.bounds
+              numbers.first_unacknowledged numbers.sent it.ack
+              now (sampled self.old.reported self.old.bounds now (synchronized self.old.is_open
               numbers.first_unacknowledged numbers.sent self.old.timer)));
-          peer = after_update self.old.peer numbers.first_unacknowledged numbers.sent it.seq it.ack it.window;
-          greatest = greatest_of self.old.peer self.old.greatest numbers.first_unacknowledged numbers.sent
+          peer = after_update self.old.peer numbers.first_unacknowledged numbers.sent it.seq
+              it.ack it.window;
+          greatest = greatest_of self.old.peer self.old.greatest
+              numbers.first_unacknowledged numbers.sent
               it.seq it.ack it.window;
           last = it.window;
           is_open = true;
         } }
-        ensures missing { it.ack < numbers.sent → IsFalse (contains self.new.reported it.ack) }
     {
-        let is_same = self.take_window(numbers, it);
-        let reports = self.report(it.ack, blocks, numbers.sent);
-        let is_bare = is_empty && !has_block(blocks);
-        let answer = Answer {
-            first: numbers.first_unacknowledged,
-            unsent,
-            reports,
-            is_equal: is_equal_acknowledgement(numbers, it.ack, is_bare, is_same),
-        };
-        let begins = self.find_losses(numbers, it.ack, blocks, answer);
+        self.take_window(numbers, it);
         self.time(numbers, it.ack, reports, now);
-        (reports, begins)
     }
 
     /// Returns the first number that isn't acknowledged, near which those of an acknowledgement are, and the one after the
     /// last that was sent.
     #[must_use]
     pub fn numbers(&self) -> SentNumbers
-        ensures value { result ≡ record { first_unacknowledged = first self.now; sent = self.now.sender.sent } }
+        ensures value { result ≡ record {
+          first_unacknowledged = first self.now;
+          sent =
+              self.now.sender.sent;
+        } }
         ensures order { result.first_unacknowledged ≤ result.sent }
     {
-        self.sender.sent_numbers()
+        self.buffer.numbers()
     }
 
     /// Returns whether a segment may acknowledge that.
     fn is_acceptable(&self, ack: u64) -> bool
         ensures { result ≡ is_acceptable self.now ack }
     {
-        is_acknowledgement(self.sender.sent_numbers(), self.greatest_window, ack)
-    }
-
-    /// Has the sender take an acknowledgement, and returns whether it does.
-    fn accept(&mut self, ack: u64) -> bool
-        ensures value { result ≡ accepts self.old.sender ack }
-        ensures within { IsTrue result → (first self.old ≤ ack) × (ack ≤ self.old.sender.sent) }
-        ensures step { self.new ≡ record self.old {
-          sender = sender_after_command self.old.sender (Acknowledges ack);
-        } }
-    {
-        accept(&mut self.sender, ack)
+        is_acknowledgement(self.buffer.numbers(), self.greatest_window, ack)
     }
 
     /// Stops the timer of the SYN, if this is the first acknowledgement and nothing is in flight.
     fn synchronize(&mut self, numbers: SentNumbers)
         ensures { self.new ≡ record self.old {
-          timer = synchronized self.old.is_open numbers.first_unacknowledged numbers.sent self.old.timer;
+          timer = synchronized self.old.is_open numbers.first_unacknowledged
+              numbers.sent self.old.timer;
           is_open = true;
         } }
     {
@@ -332,20 +370,21 @@ impl<S: Storage<u8>, const N: usize> SendingEndOver<S, N> {
         self.is_open = true;
     }
 
-    /// Takes the window that is announced, and that a peer answers. Returns whether it is the window that was announced last.
-    fn take_window(&mut self, numbers: SentNumbers, it: Announcement) -> bool
-        ensures same { result ≡ (it.window == self.old.last) }
-        ensures state { self.new ≡ record self.old {
-          timer = synchronized self.old.is_open numbers.first_unacknowledged numbers.sent self.old.timer;
-          peer = after_update self.old.peer numbers.first_unacknowledged numbers.sent it.seq it.ack it.window;
-          greatest = greatest_of self.old.peer self.old.greatest numbers.first_unacknowledged numbers.sent
+    /// Takes the window that is announced, and that a peer answers.
+    fn take_window(&mut self, numbers: SentNumbers, it: Announcement)
+        ensures { self.new ≡ record self.old {
+          timer = synchronized self.old.is_open numbers.first_unacknowledged
+              numbers.sent self.old.timer;
+          peer = after_update self.old.peer numbers.first_unacknowledged numbers.sent it.seq
+              it.ack it.window;
+          greatest = greatest_of self.old.peer self.old.greatest
+              numbers.first_unacknowledged numbers.sent
               it.seq it.ack it.window;
           last = it.window;
           is_open = true;
         } }
     {
         self.synchronize(numbers);
-        let is_same = it.window == self.last_window;
         self.greatest_window = take_window(
             &mut self.peer_window,
             self.greatest_window,
@@ -353,60 +392,14 @@ impl<S: Storage<u8>, const N: usize> SendingEndOver<S, N> {
             it,
         );
         self.last_window = it.window;
-        is_same
-    }
-
-    /// Reports all below `ack`, and the blocks. Returns whether a block reports what wasn't known.
-    fn report(&mut self, ack: u64, blocks: &[(u64, u64)], sent: u64) -> bool
-        ensures { self.new ≡ record self.old { reported = self.new.reported } }
-    {
-        self.scoreboard.acknowledge(ack);
-        report_blocks(&mut self.scoreboard, blocks, sent)
-    }
-
-    /// Finds what is lost by an acknowledgement, and returns whether a recovery begins.
-    fn find_losses(
-        &mut self,
-        numbers: SentNumbers,
-        ack: u64,
-        blocks: &[(u64, u64)],
-        answer: Answer,
-    ) -> bool
-        ensures { self.new ≡ record self.old {
-          reported = kept self.old.reported ack numbers.sent;
-          recovery = self.new.recovery;
-        } }
-    {
-        self.doubt(numbers, ack, blocks);
-        let after = SentNumbers {
-            first_unacknowledged: ack,
-            sent: numbers.sent,
-        };
-        if ack < numbers.sent && self.scoreboard.contains(ack) {
-            return self.lose_dropped(after);
-        }
-        self.recovery
-            .find_losses(after, &self.scoreboard, self.segment_size, answer)
-    }
-
-    /// Loses what the peer had reported and has dropped: else it would acknowledge that (RFC 2018, section 8). Nothing counts
-    /// as reported any more. Returns whether a recovery begins.
-    fn lose_dropped(&mut self, after: SentNumbers) -> bool
-        ensures { self.new ≡ record self.old {
-          reported = with_range nothing 0 after.first_unacknowledged;
-          recovery = self.new.recovery;
-        } }
-    {
-        let begins = self.recovery.lose_dropped(after, &self.scoreboard);
-        self.scoreboard.reset_at(after.first_unacknowledged);
-        begins
     }
 
     /// Takes the sample of a timed segment that is reported, and tells the timer what was acknowledged, and whether a block
     /// reported what wasn't known.
     fn time(&mut self, numbers: SentNumbers, ack: u64, reports: bool, now: Instant)
         ensures { self.new ≡ record self.old {
-          timer = told reports now (after_acknowledged self.old.bounds numbers.first_unacknowledged numbers.sent ack now
+          timer = told reports now (after_acknowledged self.old.bounds
+              numbers.first_unacknowledged numbers.sent ack now
               (sampled self.old.reported self.old.bounds now self.old.timer));
         } }
     {
@@ -421,18 +414,9 @@ impl<S: Storage<u8>, const N: usize> SendingEndOver<S, N> {
         } }
     {
         if let Some(segment) = self.timer.timed() {
-            if self.scoreboard.contains(segment.pos) {
+            if self.buffer.contains(segment.pos) {
                 self.timer.take_sample(self.bounds, now);
             }
-        }
-    }
-
-    /// Tells the recovery, if the first block reports what came twice.
-    fn doubt(&mut self, numbers: SentNumbers, ack: u64, blocks: &[(u64, u64)])
-        ensures { self.new ≡ record self.old { recovery = self.new.recovery } }
-    {
-        if is_duplicated(ack, blocks) {
-            self.recovery.duplicated(numbers);
         }
     }
 
@@ -442,13 +426,30 @@ impl<S: Storage<u8>, const N: usize> SendingEndOver<S, N> {
         ensures no { (result ≡ Expired.No) ↔ IsFalse (is_overdue self.old now) }
         ensures unchanged { IsFalse (has_expired self.old.timer now) → self.new ≡ self.old }
         ensures step { self.new ≡ after_event self.old (Looked self.new.recovery now) }
+        ensures value { (highest : ℕ) → IsEnd self.old.reported highest →
+            result ≡ expiry_of self.old now highest }
+        ensures recovery { (highest : ℕ) → IsEnd self.old.reported highest →
+            IsTrue (has_expired self.old.timer now) →
+            IsFalse (has_ended self.old.timer now) →
+            self.new.recovery ≡ after_wait (is_sought self.old) (numbers_of self.old.sender)
+            highest self.old.recovery }
         ensures state { IsTrue (has_timed_out self.old now) → self.new ≡ timed_out self.old now }
     {
-        match self.timer.expire(self.bounds, now) {
+        match self.expire(now) {
             None => Expired::No,
             Some(Expiry::Probe) => self.take_silence(),
             Some(Expiry::Timeout) => self.take_timeout(),
         }
+    }
+
+    /// Starts the timer again, if it has ended, and returns what that is.
+    fn expire(&mut self, now: Instant) -> Option<Expiry>
+        ensures value { result ≡ expiry self.old.timer now }
+        ensures state { self.new ≡ record self.old {
+          timer = after_expiry self.old.bounds now self.old.timer;
+        } }
+    {
+        self.timer.expire(self.bounds, now)
     }
 
     /// Finds what is overdue, unless the peer's window is shut, or it reports nothing: then it is sent no probe.
@@ -457,38 +458,42 @@ impl<S: Storage<u8>, const N: usize> SendingEndOver<S, N> {
         ensures state { self.new ≡ record self.old {
           recovery = self.new.recovery;
           probes = false;
-          overdue = not self.old.recovery.is_blind && not (is_shut self.old);
+          overdue = is_sought self.old;
         } }
+        ensures recovery { (highest : ℕ) → IsEnd self.old.reported highest →
+            self.new.recovery ≡ after_wait (is_sought self.old) (numbers_of self.old.sender)
+            highest self.old.recovery }
+        ensures begins { (highest : ℕ) → IsEnd self.old.reported highest →
+            IsFalse self.old.recovery.is_blind →
+            result ≡ Expired.Overdue (is_sought self.old
+            && begins_by (numbers_of self.old.sender) highest self.old.recovery) }
     {
+        let is_sought = self.is_sought();
         self.is_window_probe_due = false;
-        let is_blind = self.recovery.is_blind();
-        self.is_overdue = !is_blind && !self.is_shut();
-        if is_blind {
+        self.is_overdue = is_sought;
+        if self.buffer.is_blind() {
             return Expired::No;
         }
-        let begins = self.find_overdue();
+        let begins = seek(&mut self.buffer, is_sought);
         Expired::Overdue { begins }
     }
 
-    /// Finds what is overdue, if it is to be found, and returns whether a recovery begins.
-    fn find_overdue(&mut self) -> bool
-        ensures { self.new ≡ record self.old { recovery = self.new.recovery } }
+    /// Returns whether what is overdue is sought, where the timer's probe is due.
+    fn is_sought(&self) -> bool
+        ensures { result ≡ is_sought self.now }
     {
-        self.is_overdue
-            && self
-                .recovery
-                .find_overdue(self.sender.sent_numbers(), &self.scoreboard)
+        !self.buffer.is_blind() && !self.is_shut()
     }
 
     /// Loses all that was sent and isn't reported.
     fn take_timeout(&mut self) -> Expired
-        ensures some { (result ≡ Expired.No) → ⊥ }
+        ensures value { result ≡ (if loses_nothing self.old then Expired.Probe else Expired.Lost) }
         ensures state { self.new ≡ all_lost self.old }
     {
-        self.recovery.lose_all(self.sender.sent_numbers());
-        self.is_window_probe_due = self.is_shut();
+        self.buffer.lose_all();
+        self.is_window_probe_due = true;
         self.is_overdue = false;
-        if self.is_window_probe_due {
+        if self.is_shut() || self.flight_size() == 0 {
             Expired::Probe
         } else {
             Expired::Lost
@@ -500,8 +505,8 @@ impl<S: Storage<u8>, const N: usize> SendingEndOver<S, N> {
         ensures { result ≡ is_shut self.now }
     {
         self.peer_window.is_probe_allowed(
-            self.sender.sent_numbers().first_unacknowledged,
-            self.sender.numbers_end(),
+            self.buffer.numbers().first_unacknowledged,
+            self.buffer.numbers_end(),
         )
     }
 
@@ -515,43 +520,111 @@ impl<S: Storage<u8>, const N: usize> SendingEndOver<S, N> {
     /// Returns the range that is to be sent next, if the peer's window and the congestion window have room for one; and
     /// else, where no answer came, a probe, and true.
     fn choose(&self, congestion_window: u64) -> (Option<(u64, u64)>, bool)
-        ensures within { IfSome result.0 (λ r. (r.0 < r.1) × (r.1 ≤ limit self.now) × (first self.now ≤ r.0)) }
-        ensures probe { IsTrue (asks self.now) → result.0 ≡ Some (first self.now, first self.now + 1) }
+        ensures within { IfSome result.0 (λ r. (r.0 < r.1) × (r.1 ≤ limit self.now)
+            × (first self.now ≤ r.0)) }
+        ensures probe { IsTrue (asks self.now) → result.0
+            ≡ Some (first self.now, first self.now + 1) }
+        ensures overdue { IsTrue result.1 → IsTrue self.now.overdue }
+        ensures due { IfSome result.0 (λ r. IsTrue (is_due self.now r.0 r.1)) }
+        ensures next { (lost others : Option (ℕ × ℕ)) → IsFalse (asks self.now) →
+            IsFalse self.now.overdue →
+            AreHoles self.now (open_to self.now) lost others →
+            result.0 ≡ due_of self.now
+            (found self.now (open_to self.now) congestion_window lost others) }
+        ensures late { IsTrue self.now.probes →
+            IsFalse (is_active self.now.recovery (first self.now)) →
+            first self.now ≡ self.now.sender.sent → first self.now < end self.now →
+            IsTrue (is_some result.0) }
     {
-        let numbers = self.numbers();
-        let end = self.sender.numbers_end();
+        let first = self.numbers().first_unacknowledged;
+        let end = self.buffer.numbers_end();
         if self.asks() {
-            return (
-                Some((
-                    numbers.first_unacknowledged,
-                    numbers.first_unacknowledged + 1,
-                )),
-                false,
-            );
+            return (Some((first, first + 1)), false);
         }
         let limit = self.peer_window.send_limit(end);
-        let next = self.recovery.next_segment(
-            numbers,
-            &self.scoreboard,
-            limit,
-            congestion_window,
-            self.segment_size,
-        );
+        let next = self.next_range(limit, congestion_window);
         if next.is_some() || !self.is_overdue {
             return (next, false);
         }
-        (
-            self.recovery
-                .next_probe(numbers, &self.scoreboard, limit, self.segment_size),
-            true,
-        )
+        (self.next_probe(limit), true)
+    }
+
+    /// Returns what a probe for an answer sends below a limit.
+    fn next_probe(&self, limit: u64) -> Option<(u64, u64)>
+        ensures within { IfSome result (λ r. (r.0 < r.1) × (r.1 ≤ limit) × (first self.now ≤ r.0)) }
+    {
+        self.buffer.next_probe(limit, self.segment_size)
+    }
+
+    /// Returns what the recovery sends next below a limit, unless that is held back.
+    fn next_range(&self, limit: u64, congestion_window: u64) -> Option<(u64, u64)>
+        ensures next { (lost others : Option (ℕ × ℕ)) → AreHoles self.now limit lost others →
+            result ≡ due_of self.now (found self.now limit congestion_window lost others) }
+        ensures within { IfSome result (λ r. (r.0 < r.1) × (r.1 ≤ limit) × (first self.now ≤ r.0)) }
+        ensures due { IfSome result (λ r. IsTrue (is_due self.now r.0 r.1)) }
+        ensures late { IsTrue (hurries self.now) →
+            IsFalse (is_active self.now.recovery (first self.now)) →
+            first self.now ≡ self.now.sender.sent → first self.now < limit →
+            IsTrue (is_some result) }
+    {
+        let Some((from, to)) = self
+            .buffer
+            .next(limit, congestion_window, self.segment_size)
+        else {
+            return None;
+        };
+        if self.is_due(from, to) {
+            Some((from, to))
+        } else {
+            None
+        }
+    }
+
+    /// Returns whether a range isn't held back: the timer asks for it, it was sent before, or it is worth a segment.
+    fn is_due(&self, from: u64, to: u64) -> bool
+        ensures { result ≡ is_due self.now from to }
+    {
+        self.hurries() || from < self.numbers().sent || self.is_worth(from, to)
+    }
+
+    /// Returns whether the timer asks for a segment.
+    fn hurries(&self) -> bool
+        ensures { result ≡ hurries self.now }
+    {
+        self.is_window_probe_due || self.is_overdue
+    }
+
+    /// Returns whether a range is worth a segment (RFC 9293, 3.8.6.2.1): a whole one; or, unless Nagle's rule has it wait,
+    /// all that is left, or half of the greatest window that the peer announced.
+    fn is_worth(&self, from: u64, to: u64) -> bool
+        ensures { result ≡ is_worth self.now from to }
+    {
+        let is_whole = self.segment_size as u64 <= to.saturating_sub(from);
+        is_whole || self.is_enough(from, to) && !self.delays()
+    }
+
+    /// Returns whether a range is all that is left, or half of the greatest window that the peer announced.
+    fn is_enough(&self, from: u64, to: u64) -> bool
+        ensures { result ≡ is_enough self.now from to }
+    {
+        let len = to.saturating_sub(from);
+        self.buffer.numbers_end() <= to || self.greatest_window.saturating_sub(len) <= len
+    }
+
+    /// Returns whether less than a whole segment waits, by Nagle's rule: something is in flight, and the stream isn't
+    /// closed.
+    fn delays(&self) -> bool
+        ensures { result ≡ delays self.now }
+    {
+        let numbers = self.numbers();
+        self.nagle && numbers.first_unacknowledged < numbers.sent && !self.buffer.is_closed()
     }
 
     /// Starts the timer, unless it runs, if anything that was written isn't acknowledged.
     fn wait(&mut self, now: Instant)
         ensures { self.new ≡ record self.old { timer = waiting self.old now } }
     {
-        if self.sender.sent_numbers().first_unacknowledged < self.sender.numbers_end() {
+        if self.buffer.numbers().first_unacknowledged < self.buffer.numbers_end() {
             self.timer.start(now);
         }
     }
@@ -560,69 +633,63 @@ impl<S: Storage<u8>, const N: usize> SendingEndOver<S, N> {
     fn mark(&mut self, from: u64, to: u64, asks: bool, is_probe: bool, now: Instant)
         ensures { self.new ≡ record self.old {
           sender = sender_after_command self.old.sender (Marks to);
-          recovery = self.new.recovery;
-          timer = after_sending self.old.bounds from to (first self.old) self.old.sender.sent now self.old.timer;
+          recovery = after_segment (numbers_of self.old.sender) from to asks is_probe
+              self.old.recovery;
+          timer = after_sending self.old.bounds from to (first self.old) self.old.sender.sent
+              now self.old.timer;
           probes = false;
           overdue = false;
         } }
     {
-        let numbers = self.numbers();
         self.clock(from, to, now);
-        self.note(to);
-        self.recover(numbers, from, to, asks, is_probe);
-    }
-
-    /// Notes that all below a number was sent, so that no probe is due any more.
-    fn note(&mut self, to: u64)
-        ensures { self.new ≡ record self.old {
-          sender = sender_after_command self.old.sender (Marks to);
-          probes = false;
-          overdue = false;
-        } }
-    {
-        let _is_written = self.sender.mark_sent(to);
         self.is_window_probe_due = false;
         self.is_overdue = false;
+        self.buffer.mark(from, to, asks, is_probe);
     }
 
     /// Tells the timer what is sent.
     fn clock(&mut self, from: u64, to: u64, now: Instant)
         ensures { self.new ≡ record self.old {
-          timer = after_sending self.old.bounds from to (first self.old) self.old.sender.sent now self.old.timer;
+          timer = after_sending self.old.bounds from to (first self.old) self.old.sender.sent
+              now self.old.timer;
         } }
     {
         let numbers = self.numbers();
         self.timer.sent(self.bounds, from..to, numbers, now);
     }
 
-    /// Tells the recovery what is sent.
-    fn recover(&mut self, numbers: SentNumbers, from: u64, to: u64, asks: bool, is_probe: bool)
-        ensures { self.new ≡ record self.old { recovery = self.new.recovery } }
-    {
-        if asks {
-            // A peer whose window is shut drops it.
-            self.recovery.lose_all(SentNumbers {
-                first_unacknowledged: numbers.first_unacknowledged,
-                sent: numbers.sent.max(to),
-            });
-        } else if is_probe {
-            self.recovery.probed(numbers, from);
-        } else {
-            self.recovery.sent(numbers, from..to);
-        }
-    }
-
     /// Returns the segment that is to be sent now, and takes notice that it is: if the peer's window and the congestion
-    /// window have room for one, or as a probe. While anything that was written isn't acknowledged, the timer runs.
+    /// window have room for one, or as a probe. What was never sent is held back if it is less than a segment, unless it is
+    /// all that is left, or half of the greatest window that the peer announced (RFC 9293, 3.8.6.2.1), and Nagle's rule
+    /// doesn't have it wait. Once the timer has ended, the next segment isn't held back. While anything that was written
+    /// isn't acknowledged, the timer runs.
     #[tactic(auto, using(crate::proofs::Steps::steps))]
     pub fn next_segment(&mut self, congestion_window: u64, now: Instant) -> Option<Outgoing>
         ensures within { IfSome result (λ r. IsTrue (may_send self.old r.pos r.end)) }
         ensures probe { IsTrue (asks self.old) →
             IfSome result (λ r. (r.pos ≡ first self.old) × (r.end ≡ first self.old + 1)) }
         ensures asked { IsTrue (asks self.old) → IsTrue (is_some result) }
+        ensures worth { IfSome result (λ r. IsFalse (hurries self.old) →
+            self.old.sender.sent ≤ r.pos →
+            IsTrue (is_worth self.old r.pos r.end)) }
+        ensures late { IsTrue self.old.probes →
+            IsFalse (is_active self.old.recovery (first self.old)) →
+            first self.old ≡ self.old.sender.sent → first self.old < end self.old →
+            IsTrue (is_some result) }
+        ensures next { (lost others : Option (ℕ × ℕ)) → IsFalse (asks self.old) →
+            IsFalse self.old.overdue →
+            AreHoles self.old (open_to self.old) lost others →
+            range_of result ≡ due_of self.old
+            (found self.old (open_to self.old) congestion_window lost others) }
         ensures again { IfSome result (λ r. r.is_again ≡ nat_lt r.pos self.old.sender.sent) }
         ensures rests { IfNone result (self.new ≡ after_event self.old (Rested now)) }
-        ensures sends { IfSome result (λ r. self.new ≡ after_event self.old (Sent self.new.recovery r.pos r.end now)) }
+        ensures sends { IfSome result (λ r. self.new
+            ≡ after_event self.old (Sent self.new.recovery r.pos r.end now)) }
+        ensures recovery { IfSome result (λ r. (probe : Bool)
+            × (IsTrue probe → IsTrue self.old.overdue)
+            × (self.new.recovery
+            ≡ after_segment (numbers_of self.old.sender) r.pos r.end (asks self.old) probe
+            self.old.recovery)) }
     {
         let sent = self.numbers().sent;
         let (chosen, is_probe) = self.choose(congestion_window);
@@ -646,7 +713,7 @@ impl<S: Storage<u8>, const N: usize> SendingEndOver<S, N> {
     pub fn bytes(&self, pos: u64, end: u64) -> (&[u8], &[u8], bool)
         ensures { IsSegment self.now.sender pos end (result.0.now ++ result.1.now) result.2 }
     {
-        lend(&self.sender, pos, end)
+        self.buffer.bytes(pos, end)
     }
 
     /// Returns whether all that was written is acknowledged, and the end.
@@ -654,7 +721,7 @@ impl<S: Storage<u8>, const N: usize> SendingEndOver<S, N> {
     pub fn is_done(&self) -> bool
         ensures { result ≡ (self.now.sender.finished == 1) }
     {
-        self.sender.is_closed_and_acknowledged()
+        self.buffer.is_done()
     }
 
     /// Returns when `expired` is to be asked.
@@ -691,7 +758,7 @@ impl<S: Storage<u8>, const N: usize> SendingEndOver<S, N> {
     pub fn is_recovering(&self) -> bool
         ensures { result ≡ is_active self.now.recovery (first self.now) }
     {
-        self.recovery.is_active(self.sender.sent_numbers())
+        self.buffer.is_recovering()
     }
 
     /// Returns how many numbers were sent and aren't acknowledged.
@@ -699,16 +766,17 @@ impl<S: Storage<u8>, const N: usize> SendingEndOver<S, N> {
     pub fn flight_size(&self) -> u64
         ensures { result ≡ self.now.sender.sent - first self.now }
     {
-        self.sender.sent_numbers().flight_size()
+        self.buffer.numbers().flight_size()
     }
 
     /// Returns the number of a segment without positions.
     #[must_use]
     pub fn acknowledgement_number(&self) -> u64
-        ensures { result ≡ acknowledgement_number self.now.peer (first self.now) self.now.sender.sent }
+        ensures { result ≡ acknowledgement_number self.now.peer (first self.now)
+            self.now.sender.sent }
     {
         self.peer_window
-            .acknowledgement_number(self.sender.sent_numbers())
+            .acknowledgement_number(self.buffer.numbers())
     }
 
     /// Returns how many bytes `write` would take.
@@ -716,7 +784,24 @@ impl<S: Storage<u8>, const N: usize> SendingEndOver<S, N> {
     pub fn window(&self) -> usize
         ensures { result ≡ finite_room self.now.sender }
     {
-        self.sender.window()
+        self.buffer.window()
+    }
+
+    /// Enables Nagle's rule (RFC 9293, 3.7.4), or disables it. While something that was sent isn't acknowledged, less than a
+    /// whole segment waits by it, unless the stream is closed or the timer has ended. It is enabled at first, as in a socket
+    /// of smoltcp: the RFC wants it so. Disable it where few bytes are written at a time, and none of them is to wait.
+    pub fn set_nagle_enabled(&mut self, enabled: bool)
+        ensures { self.new ≡ after_event self.old (Enabled enabled) }
+    {
+        self.nagle = enabled;
+    }
+
+    /// Returns whether Nagle's rule is enabled.
+    #[must_use]
+    pub fn nagle_enabled(&self) -> bool
+        ensures { result ≡ self.now.nagle }
+    {
+        self.nagle
     }
 
     /// Returns the most bytes of a segment.
@@ -726,27 +811,6 @@ impl<S: Storage<u8>, const N: usize> SendingEndOver<S, N> {
     {
         self.segment_size
     }
-}
-
-/// Has a sender take an acknowledgement, and returns whether it does.
-fn accept<S: Storage<u8>>(sender: &mut FiniteSenderOver<S>, ack: u64) -> bool
-    ensures value { result ≡ accepts sender.old ack }
-    ensures within { IsTrue result → (first_number sender.old ≤ ack) × (ack ≤ sender.old.sent) }
-    ensures step { sender.new ≡ sender_after_command sender.old (Acknowledges ack) }
-{
-    sender.acknowledge(ack)
-}
-
-/// Lends the bytes of a segment from `pos` on, whose numbers are below `end`, in two parts, and returns whether the stream
-/// ends after them.
-#[tactic(auto, using(crate::proofs::Segments::segments))]
-fn lend<S: Storage<u8>>(sender: &FiniteSenderOver<S>, pos: u64, end: u64) -> (&[u8], &[u8], bool)
-    ensures { IsSegment sender.now pos end (result.0.now ++ result.1.now) result.2 }
-{
-    let (front, _ends) = sender.peek_at(pos, end);
-    let after = pos + front.len() as u64;
-    let (back, is_last) = sender.peek_at(after, end);
-    (front, back, is_last)
 }
 
 /// Tells the timer what was acknowledged, and whether a block reported what wasn't known.
@@ -767,6 +831,18 @@ fn tell(
     }
 }
 
+/// Finds what is overdue, if it is sought, and returns whether a recovery begins.
+fn seek<S: Storage<u8>, const N: usize>(buffer: &mut SendBufferOver<S, N>, is_sought: bool) -> bool
+    ensures state { buffer.new ≡ record buffer.old { recovery = buffer.new.recovery } }
+    ensures recovery { (highest : ℕ) → IsEnd buffer.old.reported highest → buffer.new.recovery
+        ≡ after_wait is_sought (numbers_of buffer.old.sender) highest buffer.old.recovery }
+    ensures begins { (highest : ℕ) → IsEnd buffer.old.reported highest →
+        result ≡ (is_sought && begins_by (numbers_of buffer.old.sender) highest
+        buffer.old.recovery) }
+{
+    is_sought && buffer.find_overdue()
+}
+
 /// Takes the window that is announced. Returns the greatest one so far.
 fn take_window(peer: &mut PeerWindow, greatest: u64, numbers: SentNumbers, it: Announcement) -> u64
     ensures value { result ≡ greatest_of peer.old greatest numbers.first_unacknowledged numbers.sent
@@ -779,58 +855,4 @@ fn take_window(peer: &mut PeerWindow, greatest: u64, numbers: SentNumbers, it: A
     } else {
         greatest
     }
-}
-
-/// Reports blocks. Returns whether one of them reports what wasn't known.
-fn report_blocks<const N: usize>(
-    board: &mut Scoreboard<N>,
-    blocks: &[(u64, u64)],
-    sent: u64,
-) -> bool {
-    let mut reports = false;
-    for block in blocks {
-        if report_block(board, block.0, block.1, sent) {
-            reports = true;
-        }
-    }
-    reports
-}
-
-/// Reports a block, if it begins beyond the first position that wasn't reported. Returns whether that wasn't known: what is
-/// refused is sent again.
-fn report_block<const N: usize>(
-    board: &mut Scoreboard<N>,
-    start: u64,
-    end: u64,
-    sent: u64,
-) -> bool {
-    if start <= board.first_unreported() {
-        return false;
-    }
-    let is_new = board.first_missing(start) < end;
-    board.report(start, end, sent).is_ok() && is_new
-}
-
-/// Returns whether one of the blocks has a position.
-fn has_block(blocks: &[(u64, u64)]) -> bool {
-    let mut is_found = false;
-    for block in blocks {
-        if block.0 < block.1 {
-            is_found = true;
-        }
-    }
-    is_found
-}
-
-/// Returns whether the first block reports what came twice.
-fn is_duplicated(ack: u64, blocks: &[(u64, u64)]) -> bool {
-    if blocks.is_empty() {
-        return false;
-    }
-    let second = if blocks.len() > 1 {
-        Some(blocks[1])
-    } else {
-        None
-    };
-    is_duplicate_block(ack, blocks[0], second)
 }

@@ -1,14 +1,19 @@
 -- What an acknowledgement leaves of an end that sends, and what is read of one that receives.
-use Rattle.std.proofs.Common.{◌≡◌, ◌≤◌, ◌∙◌, ℕ, ℤ, refl, sym, ap, rules, arith, true, false, append-nil, length-take}
+use Rattle.std.proofs.Common.{◌≡◌, ◌<◌, ◌≤◌, ◌∙◌, ℕ, ℤ, refl, sym, ap, rules, arith, true, false, append-nil}
+use Rattle.std.proofs.Common.{length-take, subst}
 use Rattle.std.proofs.Common.{List, [], ◌∷◌, ◌++◌, length, take, drop}
 use Rattle.std.specs.Prelude.{◌↔◌, ◌-◌, ◌&&◌, nat_lt, min, Bool, Option, Some, None, IsTrue, IsFalse, IsSome, is_some}
 use Rattle.std.specs.Prelude.{if◌then◌else◌, All}
 use Rattle.std.specs.Int.{from_bool}
+use Rattle.std.proofs.lemmas.Bool.Decides.{nat_tests}
 use Rattle.std.proofs.lemmas.List.{take_min}
 use Rattle.std.proofs.lemmas.List.Elements.{All-nil, All-cons}
 use Rattle.net_receiver.specs.Finite.{Arrives, Reads, MatchesFinite, CommandMatches, bytes_taken}
 use Rattle.net_tcp.specs.Retransmission.{expires_from}
 use Rattle.net_tcp.specs.declared.retransmission_timer.RetransmissionTimer.{RetransmissionTimer}
+use Rattle.net_recovery.specs.LossRecovery.{is_active}
+use Rattle.net_ends.specs.Ends.{End, end, first, timed_out}
+use Rattle.net_ends.specs.declared.sending_end.Outgoing.{Outgoing}
 use Rattle.net_ends.specs.Receiving.{Receiving, after_arrival}
 use Rattle.net_examples.proofs.AnyPathFacts.{read_is}
 
@@ -18,7 +23,8 @@ ends t None on = search rules
 ends t (Some at) on = search rules
 
 -- one that is neither refused nor old is accepted
-pub is_accepted : (a b : Bool) {R O : Type 0} → (R ↔ IsFalse a) → (O ↔ (IsTrue a × IsFalse b)) → (R → ⊥) → (O → ⊥) → IsTrue b
+pub is_accepted : (a b : Bool) {R O : Type 0} → (R ↔ IsFalse a) → (O ↔ (IsTrue a × IsFalse b)) → (R → ⊥) →
+    (O → ⊥) → IsTrue b
 is_accepted a true refused old r o = refl
 is_accepted true false refused old r o = absurd (o (old.1 (refl, refl)))
 is_accepted false false refused old r o = absurd (r (refused.1 refl))
@@ -46,7 +52,8 @@ with_first false P y ys is all = All-cons P y ys is all
 pub matches : (b : Bool) (x : List ℕ) (pos : ℕ) (xs : List ℕ) (last : Bool) (n : ℕ) → MatchesFinite 0 x pos xs last →
     All (CommandMatches 0 x) ((if b then [] else Arrives pos xs last ∷ []) ++ Reads n ∷ [])
 matches b x pos xs last n is =
-    let read : All (CommandMatches 0 x) (Reads n ∷ []) = All-cons (CommandMatches 0 x) (Reads n) [] tt (All-nil (CommandMatches 0 x)) in
+    let read : All (CommandMatches 0 x) (Reads n ∷ []) =
+    All-cons (CommandMatches 0 x) (Reads n) [] tt (All-nil (CommandMatches 0 x)) in
     with_first b (CommandMatches 0 x) (Arrives pos xs last) (Reads n ∷ []) is read
 
 -- if these are the first bytes of the stream, the buffer has so many of them
@@ -56,3 +63,17 @@ read_is_first q old new x n r k is count first =
     let size = ap length first in
     read_is q old new n r is count ∙ first ∙ sym (take_min k x)
     ∙ ap (λ m. take m x) (omega (arith, count, size, length-take n q, length-take k x))
+
+-- ---- once the timeout has passed
+abbrev IsLate : End → Option Outgoing → Type 0
+IsLate e o = IsTrue e.probes → IsFalse (is_active e.recovery (first e)) → first e ≡ e.sender.sent → first e < end e →
+    IsTrue (is_some o)
+
+none_active : (a b : ℕ) → a ≡ b → nat_lt a b ≡ false
+none_active a b is = grind (arith, nat_tests, is)
+
+-- where nothing was in flight, no recovery lasts
+pub late_is_sent : (e f : End) (now : ℤ) (o : Option Outgoing) → f ≡ timed_out e now → IsLate f o →
+    first e ≡ e.sender.sent → first e < end e → IsTrue (is_some o)
+late_is_sent e f now o is late all some =
+    subst (λ x. IsLate x o) is late refl (none_active (first e) e.sender.sent all) all some

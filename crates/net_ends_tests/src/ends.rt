@@ -1,13 +1,13 @@
 //! What laws say of both ends of a connection: small functions, each with a contract that is by a law.
-ghost use Rattle.std.specs.Prelude.{◌≡◌, ◌≤◌, ℕ, List, IsTrue, IsSome, take};
+ghost use Rattle.std.specs.Prelude.{◌≡◌, ◌<◌, ◌≤◌, ℕ, List, IsTrue, IsSome, is_some, take};
 ghost use Rattle.net_receiver.specs.Finite.{MatchesFinite, acknowledged};
 ghost use Rattle.net_receiver.specs.FiniteSender.{IsSoundSent};
-ghost use Rattle.net_ends.specs.Ends.{IsUnacknowledged, rest, runs};
+ghost use Rattle.net_ends.specs.Ends.{IsUnacknowledged, rest, runs, Event, small_sends, expiries, has_timed_out, first, end};
 ghost use Rattle.net_ends.specs.Receiving.{IsSoundReceiving};
 
 use net_base::time::Instant;
 use net_ends::{
-    Acknowledged, Acknowledgement, ReceivingEnd, ReceivingEndOver, SendingEndOver, laws,
+    Acknowledged, Acknowledgement, Outgoing, ReceivingEnd, ReceivingEndOver, SendingEndOver, laws,
     receiving_end,
 };
 use net_ring::{ManagedSlice, Storage};
@@ -40,6 +40,33 @@ pub fn take_last<S: Storage<u8>, const N: usize>(
         Acknowledged::Taken { new, .. } => new > 0,
         _ => false,
     }
+}
+
+/// Begins with a peer. Whatever happens then, what isn't worth a segment is sent no more often than the timer ends.
+pub fn begin<S: Storage<u8>, const N: usize>(
+    sender: &mut SendingEndOver<S, N>,
+    it: Announcement,
+    segment_size: usize,
+    now: Instant,
+)
+    ensures { (vs : List Event) → small_sends sender.new vs ≤ expiries sender.new vs }
+{
+    laws::small_segments();
+    sender.open(it, segment_size, true, now);
+}
+
+/// Looks at the timer, and sends what is next, and returns it. If the timeout has passed, nothing is in flight, and something
+/// waits, that is a segment, however small the peer's window is.
+pub fn send_late<S: Storage<u8>, const N: usize>(
+    sender: &mut SendingEndOver<S, N>,
+    congestion_window: u64,
+    now: Instant,
+) -> Option<Outgoing>
+    ensures { IsTrue (has_timed_out sender.old now) → first sender.old ≡ sender.old.sender.sent →
+        first sender.old < end sender.old → IsTrue (is_some result) }
+{
+    let _expired = sender.expired(now);
+    sender.next_segment(congestion_window, now)
 }
 
 /// Takes a segment, whatever it says, and returns what acknowledges it: no number below those that were acknowledged, and

@@ -4,7 +4,11 @@
 #![tactic(auto)]
 
 mod ends;
+mod path;
+#[cfg(test)]
+mod send_buffer;
 #[cfg(test)]
 mod sending_end;
 
-pub use ends::{read_first, take_acknowledgement, take_last, take_segment};
+pub use ends::{begin, read_first, send_late, take_acknowledgement, take_last, take_segment};
+pub use path::{Event, Transfer, carry, happen};

@@ -54,14 +54,14 @@ fn the_peer_s_mss() {
 #[test]
 fn the_peer_s_window() {
     let mut talk = talk(9_000);
-    // 1,500 bytes, in units of 4.
+    // 1,500 bytes, in units of 4. Less than a segment waits for more room (RFC 9293, 3.8.6.2.1).
     talk.say(&peer(0, 1).window(375));
-    assert_eq!(places(&talk.wait(0)), [(1, 1000), (1001, 500)]);
+    assert_eq!(places(&talk.wait(0)), [(1, 1000)]);
     // An older segment's window is not taken: neither an older number nor an older acknowledgement.
     talk.say(&peer(10, 1).window(500));
     talk.say(&peer(0, 1).window(5_000));
     talk.say(&peer(10, 0).window(5_000));
-    assert_eq!(places(&talk.wait(0)), [(1501, 500)]);
+    assert_eq!(places(&talk.wait(0)), [(1001, 1000)]);
     // One that acknowledges something new is, though its number is older, so that no forged segment
     // ahead of it shuts it out: the edge stays at 2,001.
     talk.say(&peer(9, 1001).window(250));

@@ -13,8 +13,10 @@ ghost use Rattle.net_ends.specs.Receiving.{free_end, IsSoundReceiving};
 /// receiver says so (`reads`).
 pub fn receiving_ends()
     ensures refines { (most_runs : ℕ) (e : Receiving) (vs : List Event) →
-        (after_events most_runs e vs).receiver ≡ finite_after_commands most_runs e.receiver (commands vs) }
-    ensures reads { (most_runs f capacity : ℕ) (x : List ℕ) (e : Receiving) (vs : List Event) → f < no_end →
+        (after_events most_runs e vs).receiver
+        ≡ finite_after_commands most_runs e.receiver (commands vs) }
+    ensures reads { (most_runs f capacity : ℕ) (x : List ℕ) (e : Receiving)
+        (vs : List Event) → f < no_end →
         e.receiver ≡ fresh_finite f capacity → All (CommandMatches f x) (commands vs) →
         let t = (after_events most_runs e vs).receiver in
         (bytes_taken most_runs e.receiver (commands vs) ≡ take t.receiver.read x)
@@ -30,8 +32,10 @@ pub fn receiving_ends()
 /// 0 no window goes back (`kept`). The number after the end is named only once all bytes before the end are queued or
 /// were read (`last`).
 pub fn announcements()
-    ensures new { (capacity first size : ℕ) → first < no_end → IsSoundReceiving (new_receiving capacity first size) }
-    ensures opened { (e : Receiving) (first scale : ℕ) → first < no_end → IsSoundReceiving (opened e first scale) }
+    ensures new { (capacity first size : ℕ) → first < no_end →
+        IsSoundReceiving (new_receiving capacity first size) }
+    ensures opened { (e : Receiving) (first scale : ℕ) → first < no_end →
+        IsSoundReceiving (opened e first scale) }
     ensures sound { (most_runs : ℕ) (e : Receiving) (vs : List Event) → IsSoundReceiving e →
         IsSoundReceiving (after_events most_runs e vs) }
     ensures edge { (most_runs : ℕ) (e : Receiving) (vs : List Event) → IsSoundReceiving e →
@@ -39,7 +43,8 @@ pub fn announcements()
     ensures number { (most_runs : ℕ) (e : Receiving) (vs : List Event) → IsSoundReceiving e →
         acknowledged e.receiver ≤ acknowledged (after_events most_runs e vs).receiver }
     ensures room { (e : Receiving) → IsSoundReceiving e → promise e ≤ free_end e.receiver }
-    ensures kept { (e : Receiving) → IsSoundReceiving e → e.edge < promise e + 2 ^ shift_count e.scale }
+    ensures kept { (e : Receiving) → IsSoundReceiving e →
+        e.edge < promise e + 2 ^ shift_count e.scale }
     ensures last { (s : FiniteState) → IsSoundEnd s → s.end < acknowledged s →
         next_position s.receiver ≡ s.end }
 {

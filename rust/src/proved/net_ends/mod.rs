@@ -1,7 +1,9 @@
 // Written by tools/erase.py from crates/net_ends/src/lib.rt: a change here would be lost.
 //! The two ends of a connection, each of them one machine.
 pub mod receiving_end;
+pub mod send_buffer;
 pub mod sending_end;
 
 pub use receiving_end::{Acknowledgement, ReceivingEnd, ReceivingEndOver};
+pub use send_buffer::{SendBuffer, SendBufferOver};
 pub use sending_end::{Acknowledged, Expired, Outgoing, SendingEnd, SendingEndOver};

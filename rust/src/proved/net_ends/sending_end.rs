@@ -2,10 +2,9 @@
 //! What sends a stream that ends.
 
 use crate::rattle::prelude::*;
+use crate::proved::net_ends::send_buffer::SendBufferOver;
 use crate::proved::net_base::time::{Duration, Instant};
 use crate::proved::net_numbers::SentNumbers;
-use crate::proved::net_receiver::{FiniteSenderOver, Scoreboard};
-use crate::proved::net_recovery::{Answer, LossRecovery, is_duplicate_block, is_equal_acknowledgement};
 use crate::proved::net_ring::{ManagedSlice, Storage};
 use crate::proved::net_tcp::{
     Announcement, Expiry, PeerWindow, RetransmissionTimer, TimeoutBounds, is_acknowledgement,
@@ -45,7 +44,8 @@ pub enum Expired {
         /// Whether it begins a recovery: then halve the congestion window.
         begins: bool,
     },
-    /// The peer's window is shut: the next segment is a probe of it.
+    /// The peer's window is shut, and the next segment is a probe of it; or nothing is in flight, and the next segment has
+    /// what was held back.
     Probe,
     /// All that was sent is lost: let one segment be in flight.
     Lost,
@@ -67,13 +67,11 @@ pub struct Outgoing {
 /// What sends a stream that ends, over storage that is lent or owned.
 pub type SendingEnd<'a, const N: usize> = SendingEndOver<ManagedSlice<'a, u8>, N>;
 
-/// A [`SendingEnd`] over any storage: a sender, a scoreboard, a recovery, a timer and the peer's window.
+/// A [`SendingEnd`] over any storage: a buffer, a timer and the peer's window.
 ///
 /// Contracts: `crates/net_ends/src/sending_end.rt`.
 pub struct SendingEndOver<S: Storage<u8>, const N: usize> {
-    sender: FiniteSenderOver<S>,
-    scoreboard: Scoreboard<N>,
-    recovery: LossRecovery,
+    buffer: SendBufferOver<S, N>,
     timer: RetransmissionTimer,
     first_timeout: Duration,
     bounds: TimeoutBounds,
@@ -85,8 +83,12 @@ pub struct SendingEndOver<S: Storage<u8>, const N: usize> {
     segment_size: usize,
     // Whether the peer has acknowledged anything, if only the own SYN.
     is_open: bool,
-    // Whether the next segment is a probe of a window that is shut, or one for an answer, if nothing else may be sent.
+    // Whether Nagle's rule is enabled.
+    nagle: bool,
+    // Whether the timeout has passed and nothing was sent since then: nothing is held back, and if the window is shut, the
+    // next segment is a probe of it.
     is_window_probe_due: bool,
+    // Whether the next segment is a probe for an answer, if nothing else may be sent.
     is_overdue: bool,
 }
 
@@ -105,9 +107,7 @@ impl<S: Storage<u8>, const N: usize> SendingEndOver<S, N> {
         prove!(N >= 1, "N is at least 1");
         prove!(first < u64::MAX, "no number is left for an end");
         SendingEndOver {
-            sender: FiniteSenderOver::over_at(storage, first),
-            scoreboard: Scoreboard::empty_at(first),
-            recovery: LossRecovery::new(),
+            buffer: SendBufferOver::over_at(storage, first),
             timer: RetransmissionTimer::new(first_timeout, false),
             first_timeout,
             bounds,
@@ -116,6 +116,7 @@ impl<S: Storage<u8>, const N: usize> SendingEndOver<S, N> {
             last_window: 0,
             segment_size: 1,
             is_open: false,
+            nagle: true,
             is_window_probe_due: false,
             is_overdue: false,
         }
@@ -125,7 +126,7 @@ impl<S: Storage<u8>, const N: usize> SendingEndOver<S, N> {
     /// (SACK): one that doesn't couldn't answer a probe, and is sent none. What was written stays. It is done once, before
     /// anything is sent; a second time begins with another peer, and the timer runs if something is in flight.
     pub fn open(&mut self, it: Announcement, segment_size: usize, reports: bool, now: Instant) {
-        self.recovery.expect_reports(reports);
+        self.buffer.expect_reports(reports);
         self.renew(reports, now);
         self.peer_window = PeerWindow::of(it);
         self.greatest_window = it.window;
@@ -152,8 +153,8 @@ impl<S: Storage<u8>, const N: usize> SendingEndOver<S, N> {
 
     /// Returns whether a SYN is to be sent now, and starts the timer for the next one: until something is acknowledged.
     pub fn is_opening_due(&mut self, now: Instant) -> bool {
-        let is_first = self.timer.expires_at().is_none();
-        let has_expired = self.timer.expire(self.bounds, now).is_some();
+        let is_first = self.expires_at().is_none();
+        let has_expired = self.expire(now).is_some();
         self.timer.start(now);
         has_expired || is_first
     }
@@ -161,16 +162,20 @@ impl<S: Storage<u8>, const N: usize> SendingEndOver<S, N> {
     /// Enqueues the first of these bytes, as many as there is room for, and returns how many.
     #[must_use]
     pub fn write(&mut self, bytes: &[u8]) -> usize {
-        self.sender.write(bytes)
+        self.buffer.write(bytes)
     }
 
     /// Ends the stream after what was written.
     pub fn close(&mut self) {
-        self.sender.close();
+        self.buffer.close();
     }
 
     /// Takes what a segment acknowledges and announces, and the blocks that it reports. It `is_empty` if it has no byte
     /// and no FIN. Whatever it says, the end stays sound.
+    ///
+    /// A block counts that begins above the first number that isn't reported, has a number, and ends where something was
+    /// sent and less than 2^32 above that one, if what is reported beyond that one is at most `N` runs then. Any other
+    /// block says nothing.
     pub fn acknowledged(
         &mut self,
         it: Announcement,
@@ -182,11 +187,11 @@ impl<S: Storage<u8>, const N: usize> SendingEndOver<S, N> {
         if !self.is_acceptable(it.ack) {
             return Acknowledged::Refused;
         }
-        let unsent = self.recovery.unsent(numbers, &self.scoreboard);
-        if !self.accept(it.ack) {
+        let is_same = it.window == self.last_window;
+        let Some((reports, begins)) = self.hear(it.ack, blocks, is_empty, is_same) else {
             return Acknowledged::Old;
-        }
-        let (reports, begins) = self.take(numbers, it, blocks, is_empty, unsent, now);
+        };
+        self.take(numbers, it, reports, now);
         Acknowledged::Taken {
             new: it.ack - numbers.first_unacknowledged,
             reports,
@@ -194,46 +199,35 @@ impl<S: Storage<u8>, const N: usize> SendingEndOver<S, N> {
         }
     }
 
-    /// Takes an acknowledgement that the sender has taken, and returns whether a block reports what wasn't known, and whether
-    /// a recovery begins.
-    fn take(
+    /// Has the buffer take an acknowledgement. Returns `None` if it doesn't; else whether a block reports what wasn't known,
+    /// and whether a recovery begins.
+    fn hear(
         &mut self,
-        numbers: SentNumbers,
-        it: Announcement,
+        ack: u64,
         blocks: &[(u64, u64)],
         is_empty: bool,
-        unsent: u64,
-        now: Instant,
-    ) -> (bool, bool) {
-        let is_same = self.take_window(numbers, it);
-        let reports = self.report(it.ack, blocks, numbers.sent);
-        let is_bare = is_empty && !has_block(blocks);
-        let answer = Answer {
-            first: numbers.first_unacknowledged,
-            unsent,
-            reports,
-            is_equal: is_equal_acknowledgement(numbers, it.ack, is_bare, is_same),
-        };
-        let begins = self.find_losses(numbers, it.ack, blocks, answer);
+        is_same: bool,
+    ) -> Option<(bool, bool)> {
+        self.buffer
+            .acknowledge(ack, blocks, self.segment_size, is_empty, is_same)
+    }
+
+    /// Takes the window of an acknowledgement that the buffer has taken, and tells the timer.
+    fn take(&mut self, numbers: SentNumbers, it: Announcement, reports: bool, now: Instant) {
+        self.take_window(numbers, it);
         self.time(numbers, it.ack, reports, now);
-        (reports, begins)
     }
 
     /// Returns the first number that isn't acknowledged, near which those of an acknowledgement are, and the one after the
     /// last that was sent.
     #[must_use]
     pub fn numbers(&self) -> SentNumbers {
-        self.sender.sent_numbers()
+        self.buffer.numbers()
     }
 
     /// Returns whether a segment may acknowledge that.
     fn is_acceptable(&self, ack: u64) -> bool {
-        is_acknowledgement(self.sender.sent_numbers(), self.greatest_window, ack)
-    }
-
-    /// Has the sender take an acknowledgement, and returns whether it does.
-    fn accept(&mut self, ack: u64) -> bool {
-        accept(&mut self.sender, ack)
+        is_acknowledgement(self.buffer.numbers(), self.greatest_window, ack)
     }
 
     /// Stops the timer of the SYN, if this is the first acknowledgement and nothing is in flight.
@@ -244,10 +238,9 @@ impl<S: Storage<u8>, const N: usize> SendingEndOver<S, N> {
         self.is_open = true;
     }
 
-    /// Takes the window that is announced, and that a peer answers. Returns whether it is the window that was announced last.
-    fn take_window(&mut self, numbers: SentNumbers, it: Announcement) -> bool {
+    /// Takes the window that is announced, and that a peer answers.
+    fn take_window(&mut self, numbers: SentNumbers, it: Announcement) {
         self.synchronize(numbers);
-        let is_same = it.window == self.last_window;
         self.greatest_window = take_window(
             &mut self.peer_window,
             self.greatest_window,
@@ -255,41 +248,6 @@ impl<S: Storage<u8>, const N: usize> SendingEndOver<S, N> {
             it,
         );
         self.last_window = it.window;
-        is_same
-    }
-
-    /// Reports all below `ack`, and the blocks. Returns whether a block reports what wasn't known.
-    fn report(&mut self, ack: u64, blocks: &[(u64, u64)], sent: u64) -> bool {
-        self.scoreboard.acknowledge(ack);
-        report_blocks(&mut self.scoreboard, blocks, sent)
-    }
-
-    /// Finds what is lost by an acknowledgement, and returns whether a recovery begins.
-    fn find_losses(
-        &mut self,
-        numbers: SentNumbers,
-        ack: u64,
-        blocks: &[(u64, u64)],
-        answer: Answer,
-    ) -> bool {
-        self.doubt(numbers, ack, blocks);
-        let after = SentNumbers {
-            first_unacknowledged: ack,
-            sent: numbers.sent,
-        };
-        if ack < numbers.sent && self.scoreboard.contains(ack) {
-            return self.lose_dropped(after);
-        }
-        self.recovery
-            .find_losses(after, &self.scoreboard, self.segment_size, answer)
-    }
-
-    /// Loses what the peer had reported and has dropped: else it would acknowledge that (RFC 2018, section 8). Nothing counts
-    /// as reported any more. Returns whether a recovery begins.
-    fn lose_dropped(&mut self, after: SentNumbers) -> bool {
-        let begins = self.recovery.lose_dropped(after, &self.scoreboard);
-        self.scoreboard.reset_at(after.first_unacknowledged);
-        begins
     }
 
     /// Takes the sample of a timed segment that is reported, and tells the timer what was acknowledged, and whether a block
@@ -302,55 +260,50 @@ impl<S: Storage<u8>, const N: usize> SendingEndOver<S, N> {
     /// Takes the sample of a timed segment that is reported.
     fn sample(&mut self, now: Instant) {
         if let Some(segment) = self.timer.timed() {
-            if self.scoreboard.contains(segment.pos) {
+            if self.buffer.contains(segment.pos) {
                 self.timer.take_sample(self.bounds, now);
             }
-        }
-    }
-
-    /// Tells the recovery, if the first block reports what came twice.
-    fn doubt(&mut self, numbers: SentNumbers, ack: u64, blocks: &[(u64, u64)]) {
-        if is_duplicated(ack, blocks) {
-            self.recovery.duplicated(numbers);
         }
     }
 
     /// Returns whether the timer has ended, and what that means. If it has, it starts again, and `next_segment` returns
     /// what is then to be sent.
     pub fn expired(&mut self, now: Instant) -> Expired {
-        match self.timer.expire(self.bounds, now) {
+        match self.expire(now) {
             None => Expired::No,
             Some(Expiry::Probe) => self.take_silence(),
             Some(Expiry::Timeout) => self.take_timeout(),
         }
     }
 
+    /// Starts the timer again, if it has ended, and returns what that is.
+    fn expire(&mut self, now: Instant) -> Option<Expiry> {
+        self.timer.expire(self.bounds, now)
+    }
+
     /// Finds what is overdue, unless the peer's window is shut, or it reports nothing: then it is sent no probe.
     fn take_silence(&mut self) -> Expired {
+        let is_sought = self.is_sought();
         self.is_window_probe_due = false;
-        let is_blind = self.recovery.is_blind();
-        self.is_overdue = !is_blind && !self.is_shut();
-        if is_blind {
+        self.is_overdue = is_sought;
+        if self.buffer.is_blind() {
             return Expired::No;
         }
-        let begins = self.find_overdue();
+        let begins = seek(&mut self.buffer, is_sought);
         Expired::Overdue { begins }
     }
 
-    /// Finds what is overdue, if it is to be found, and returns whether a recovery begins.
-    fn find_overdue(&mut self) -> bool {
-        self.is_overdue
-            && self
-                .recovery
-                .find_overdue(self.sender.sent_numbers(), &self.scoreboard)
+    /// Returns whether what is overdue is sought, where the timer's probe is due.
+    fn is_sought(&self) -> bool {
+        !self.buffer.is_blind() && !self.is_shut()
     }
 
     /// Loses all that was sent and isn't reported.
     fn take_timeout(&mut self) -> Expired {
-        self.recovery.lose_all(self.sender.sent_numbers());
-        self.is_window_probe_due = self.is_shut();
+        self.buffer.lose_all();
+        self.is_window_probe_due = true;
         self.is_overdue = false;
-        if self.is_window_probe_due {
+        if self.is_shut() || self.flight_size() == 0 {
             Expired::Probe
         } else {
             Expired::Lost
@@ -360,8 +313,8 @@ impl<S: Storage<u8>, const N: usize> SendingEndOver<S, N> {
     /// Returns whether the peer's window is shut, and something waits.
     fn is_shut(&self) -> bool {
         self.peer_window.is_probe_allowed(
-            self.sender.sent_numbers().first_unacknowledged,
-            self.sender.numbers_end(),
+            self.buffer.numbers().first_unacknowledged,
+            self.buffer.numbers_end(),
         )
     }
 
@@ -373,55 +326,82 @@ impl<S: Storage<u8>, const N: usize> SendingEndOver<S, N> {
     /// Returns the range that is to be sent next, if the peer's window and the congestion window have room for one; and
     /// else, where no answer came, a probe, and true.
     fn choose(&self, congestion_window: u64) -> (Option<(u64, u64)>, bool) {
-        let numbers = self.numbers();
-        let end = self.sender.numbers_end();
+        let first = self.numbers().first_unacknowledged;
+        let end = self.buffer.numbers_end();
         if self.asks() {
-            return (
-                Some((
-                    numbers.first_unacknowledged,
-                    numbers.first_unacknowledged + 1,
-                )),
-                false,
-            );
+            return (Some((first, first + 1)), false);
         }
         let limit = self.peer_window.send_limit(end);
-        let next = self.recovery.next_segment(
-            numbers,
-            &self.scoreboard,
-            limit,
-            congestion_window,
-            self.segment_size,
-        );
+        let next = self.next_range(limit, congestion_window);
         if next.is_some() || !self.is_overdue {
             return (next, false);
         }
-        (
-            self.recovery
-                .next_probe(numbers, &self.scoreboard, limit, self.segment_size),
-            true,
-        )
+        (self.next_probe(limit), true)
+    }
+
+    /// Returns what a probe for an answer sends below a limit.
+    fn next_probe(&self, limit: u64) -> Option<(u64, u64)> {
+        self.buffer.next_probe(limit, self.segment_size)
+    }
+
+    /// Returns what the recovery sends next below a limit, unless that is held back.
+    fn next_range(&self, limit: u64, congestion_window: u64) -> Option<(u64, u64)> {
+        let Some((from, to)) = self
+            .buffer
+            .next(limit, congestion_window, self.segment_size)
+        else {
+            return None;
+        };
+        if self.is_due(from, to) {
+            Some((from, to))
+        } else {
+            None
+        }
+    }
+
+    /// Returns whether a range isn't held back: the timer asks for it, it was sent before, or it is worth a segment.
+    fn is_due(&self, from: u64, to: u64) -> bool {
+        self.hurries() || from < self.numbers().sent || self.is_worth(from, to)
+    }
+
+    /// Returns whether the timer asks for a segment.
+    fn hurries(&self) -> bool {
+        self.is_window_probe_due || self.is_overdue
+    }
+
+    /// Returns whether a range is worth a segment (RFC 9293, 3.8.6.2.1): a whole one; or, unless Nagle's rule has it wait,
+    /// all that is left, or half of the greatest window that the peer announced.
+    fn is_worth(&self, from: u64, to: u64) -> bool {
+        let is_whole = self.segment_size as u64 <= to.saturating_sub(from);
+        is_whole || self.is_enough(from, to) && !self.delays()
+    }
+
+    /// Returns whether a range is all that is left, or half of the greatest window that the peer announced.
+    fn is_enough(&self, from: u64, to: u64) -> bool {
+        let len = to.saturating_sub(from);
+        self.buffer.numbers_end() <= to || self.greatest_window.saturating_sub(len) <= len
+    }
+
+    /// Returns whether less than a whole segment waits, by Nagle's rule: something is in flight, and the stream isn't
+    /// closed.
+    fn delays(&self) -> bool {
+        let numbers = self.numbers();
+        self.nagle && numbers.first_unacknowledged < numbers.sent && !self.buffer.is_closed()
     }
 
     /// Starts the timer, unless it runs, if anything that was written isn't acknowledged.
     fn wait(&mut self, now: Instant) {
-        if self.sender.sent_numbers().first_unacknowledged < self.sender.numbers_end() {
+        if self.buffer.numbers().first_unacknowledged < self.buffer.numbers_end() {
             self.timer.start(now);
         }
     }
 
     /// Takes notice that a range is sent: `asks` of a shut window, or as a probe, or neither.
     fn mark(&mut self, from: u64, to: u64, asks: bool, is_probe: bool, now: Instant) {
-        let numbers = self.numbers();
         self.clock(from, to, now);
-        self.note(to);
-        self.recover(numbers, from, to, asks, is_probe);
-    }
-
-    /// Notes that all below a number was sent, so that no probe is due any more.
-    fn note(&mut self, to: u64) {
-        let _is_written = self.sender.mark_sent(to);
         self.is_window_probe_due = false;
         self.is_overdue = false;
+        self.buffer.mark(from, to, asks, is_probe);
     }
 
     /// Tells the timer what is sent.
@@ -430,23 +410,11 @@ impl<S: Storage<u8>, const N: usize> SendingEndOver<S, N> {
         self.timer.sent(self.bounds, from..to, numbers, now);
     }
 
-    /// Tells the recovery what is sent.
-    fn recover(&mut self, numbers: SentNumbers, from: u64, to: u64, asks: bool, is_probe: bool) {
-        if asks {
-            // A peer whose window is shut drops it.
-            self.recovery.lose_all(SentNumbers {
-                first_unacknowledged: numbers.first_unacknowledged,
-                sent: numbers.sent.max(to),
-            });
-        } else if is_probe {
-            self.recovery.probed(numbers, from);
-        } else {
-            self.recovery.sent(numbers, from..to);
-        }
-    }
-
     /// Returns the segment that is to be sent now, and takes notice that it is: if the peer's window and the congestion
-    /// window have room for one, or as a probe. While anything that was written isn't acknowledged, the timer runs.
+    /// window have room for one, or as a probe. What was never sent is held back if it is less than a segment, unless it is
+    /// all that is left, or half of the greatest window that the peer announced (RFC 9293, 3.8.6.2.1), and Nagle's rule
+    /// doesn't have it wait. Once the timer has ended, the next segment isn't held back. While anything that was written
+    /// isn't acknowledged, the timer runs.
     pub fn next_segment(&mut self, congestion_window: u64, now: Instant) -> Option<Outgoing> {
         let sent = self.numbers().sent;
         let (chosen, is_probe) = self.choose(congestion_window);
@@ -468,13 +436,13 @@ impl<S: Storage<u8>, const N: usize> SendingEndOver<S, N> {
     /// stream ends after them. Of a position that is acknowledged it lends none.
     #[must_use]
     pub fn bytes(&self, pos: u64, end: u64) -> (&[u8], &[u8], bool) {
-        lend(&self.sender, pos, end)
+        self.buffer.bytes(pos, end)
     }
 
     /// Returns whether all that was written is acknowledged, and the end.
     #[must_use]
     pub fn is_done(&self) -> bool {
-        self.sender.is_closed_and_acknowledged()
+        self.buffer.is_done()
     }
 
     /// Returns when `expired` is to be asked.
@@ -503,26 +471,39 @@ impl<S: Storage<u8>, const N: usize> SendingEndOver<S, N> {
     /// Returns whether a recovery lasts.
     #[must_use]
     pub fn is_recovering(&self) -> bool {
-        self.recovery.is_active(self.sender.sent_numbers())
+        self.buffer.is_recovering()
     }
 
     /// Returns how many numbers were sent and aren't acknowledged.
     #[must_use]
     pub fn flight_size(&self) -> u64 {
-        self.sender.sent_numbers().flight_size()
+        self.buffer.numbers().flight_size()
     }
 
     /// Returns the number of a segment without positions.
     #[must_use]
     pub fn acknowledgement_number(&self) -> u64 {
         self.peer_window
-            .acknowledgement_number(self.sender.sent_numbers())
+            .acknowledgement_number(self.buffer.numbers())
     }
 
     /// Returns how many bytes `write` would take.
     #[must_use]
     pub fn window(&self) -> usize {
-        self.sender.window()
+        self.buffer.window()
+    }
+
+    /// Enables Nagle's rule (RFC 9293, 3.7.4), or disables it. While something that was sent isn't acknowledged, less than a
+    /// whole segment waits by it, unless the stream is closed or the timer has ended. It is enabled at first, as in a socket
+    /// of smoltcp: the RFC wants it so. Disable it where few bytes are written at a time, and none of them is to wait.
+    pub fn set_nagle_enabled(&mut self, enabled: bool) {
+        self.nagle = enabled;
+    }
+
+    /// Returns whether Nagle's rule is enabled.
+    #[must_use]
+    pub fn nagle_enabled(&self) -> bool {
+        self.nagle
     }
 
     /// Returns the most bytes of a segment.
@@ -530,20 +511,6 @@ impl<S: Storage<u8>, const N: usize> SendingEndOver<S, N> {
     pub fn segment_size(&self) -> usize {
         self.segment_size
     }
-}
-
-/// Has a sender take an acknowledgement, and returns whether it does.
-fn accept<S: Storage<u8>>(sender: &mut FiniteSenderOver<S>, ack: u64) -> bool {
-    sender.acknowledge(ack)
-}
-
-/// Lends the bytes of a segment from `pos` on, whose numbers are below `end`, in two parts, and returns whether the stream
-/// ends after them.
-fn lend<S: Storage<u8>>(sender: &FiniteSenderOver<S>, pos: u64, end: u64) -> (&[u8], &[u8], bool) {
-    let (front, _ends) = sender.peek_at(pos, end);
-    let after = pos + front.len() as u64;
-    let (back, is_last) = sender.peek_at(after, end);
-    (front, back, is_last)
 }
 
 /// Tells the timer what was acknowledged, and whether a block reported what wasn't known.
@@ -561,6 +528,11 @@ fn tell(
     }
 }
 
+/// Finds what is overdue, if it is sought, and returns whether a recovery begins.
+fn seek<S: Storage<u8>, const N: usize>(buffer: &mut SendBufferOver<S, N>, is_sought: bool) -> bool {
+    is_sought && buffer.find_overdue()
+}
+
 /// Takes the window that is announced. Returns the greatest one so far.
 fn take_window(peer: &mut PeerWindow, greatest: u64, numbers: SentNumbers, it: Announcement) -> u64 {
     if peer.update(numbers, it) {
@@ -568,58 +540,4 @@ fn take_window(peer: &mut PeerWindow, greatest: u64, numbers: SentNumbers, it: A
     } else {
         greatest
     }
-}
-
-/// Reports blocks. Returns whether one of them reports what wasn't known.
-fn report_blocks<const N: usize>(
-    board: &mut Scoreboard<N>,
-    blocks: &[(u64, u64)],
-    sent: u64,
-) -> bool {
-    let mut reports = false;
-    for block in blocks {
-        if report_block(board, block.0, block.1, sent) {
-            reports = true;
-        }
-    }
-    reports
-}
-
-/// Reports a block, if it begins beyond the first position that wasn't reported. Returns whether that wasn't known: what is
-/// refused is sent again.
-fn report_block<const N: usize>(
-    board: &mut Scoreboard<N>,
-    start: u64,
-    end: u64,
-    sent: u64,
-) -> bool {
-    if start <= board.first_unreported() {
-        return false;
-    }
-    let is_new = board.first_missing(start) < end;
-    board.report(start, end, sent).is_ok() && is_new
-}
-
-/// Returns whether one of the blocks has a position.
-fn has_block(blocks: &[(u64, u64)]) -> bool {
-    let mut is_found = false;
-    for block in blocks {
-        if block.0 < block.1 {
-            is_found = true;
-        }
-    }
-    is_found
-}
-
-/// Returns whether the first block reports what came twice.
-fn is_duplicated(ack: u64, blocks: &[(u64, u64)]) -> bool {
-    if blocks.is_empty() {
-        return false;
-    }
-    let second = if blocks.len() > 1 {
-        Some(blocks[1])
-    } else {
-        None
-    };
-    is_duplicate_block(ack, blocks[0], second)
 }

@@ -16,12 +16,14 @@ pub returns-clause-edge : goal.returns-clause-edge
 returns-clause-edge g c = λ is.
     let arrived : Event = Arrived c.args.pos c.args.bytes.now c.args.is_last c.arrived.new.self.duplicate in
     subst (λ (e : Receiving). c.args.receiver.now.edge ≤ e.edge)
-    (sym (c.acknowledgement.ensures.step ∙ ap (λ (e : Receiving). after_event g.row.N e Acknowledged) c.arrived.ensures.step))
+    (sym (c.acknowledgement.ensures.step
+    ∙ ap (λ (e : Receiving). after_event g.row.N e Acknowledged) c.arrived.ensures.step))
     (c.announcements.ensures.edge g.row.N c.args.receiver.now (arrived ∷ Acknowledged ∷ []) is)
 
 pub returns-clause-sound : goal.returns-clause-sound
 returns-clause-sound g c = λ is.
     let arrived : Event = Arrived c.args.pos c.args.bytes.now c.args.is_last c.arrived.new.self.duplicate in
     subst (λ (e : Receiving). IsSoundReceiving e)
-    (sym (c.acknowledgement.ensures.step ∙ ap (λ (e : Receiving). after_event g.row.N e Acknowledged) c.arrived.ensures.step))
+    (sym (c.acknowledgement.ensures.step
+    ∙ ap (λ (e : Receiving). after_event g.row.N e Acknowledged) c.arrived.ensures.step))
     (c.announcements.ensures.sound g.row.N c.args.receiver.now (arrived ∷ Acknowledged ∷ []) is)

@@ -1,0 +1,43 @@
+-- What the recovery sends next, and that unless it is held back.
+use Rattle.std.proofs.Common.{◌≡◌, ℕ, true, false, refl, ap, sym, ◌∙◌, subst}
+use Rattle.std.specs.Prelude.{Bool, Option, Some, None, min, max, if◌then◌else◌}
+use Rattle.net_receiver.specs.Scoreboards.{IsHole}
+use Rattle.net_recovery.specs.LossRecovery.{next_segment, next_range, in_flight, resumed, gone_on}
+use Rattle.net_ends.specs.Ends.{End, first, AreHoles, found, due_of, is_due}
+
+-- what a call of it ensures, of an end as it is seen, with its numbers
+abbrev pub Finds : End → ℕ → ℕ → ℕ → ℕ → Option (ℕ × ℕ) → Type 0
+Finds e limit window low sent got = (lost others : Option (ℕ × ℕ)) →
+    IsHole e.reported (resumed e.recovery low) (min (min e.recovery.turn e.recovery.lost) limit) lost →
+    IsHole e.reported (gone_on e.recovery low) (min e.recovery.lost limit) others →
+    got ≡ next_segment low (in_flight e.recovery low sent e.reported) window (max 1 e.size)
+    (next_range e.recovery low sent limit lost others)
+
+pub found_is : (e seen : End) (limit window : ℕ) (got : Option (ℕ × ℕ)) → seen ≡ e →
+    Finds seen limit window (first seen) seen.sender.sent got → (lost others : Option (ℕ × ℕ)) →
+    AreHoles e limit lost others → got ≡ found e limit window lost others
+found_is e seen limit window got view finds lost others holes =
+    subst (λ s. Finds s limit window (first s) s.sender.sent got) view finds lost others holes.first_hole
+    holes.other_hole
+
+chosen : (b : Bool) (r : ℕ × ℕ) → b ≡ true → Some r ≡ (if b then Some r else None)
+chosen true r is = refl
+chosen false r is = absurd (cc)
+
+left : (b : Bool) (r : ℕ × ℕ) → b ≡ false → None ≡ (if b then Some r else None)
+left true r is = absurd (cc)
+left false r is = refl
+
+-- what a range that it answers leaves
+pub none_due : (e : End) (got x : Option (ℕ × ℕ)) → got ≡ None → got ≡ x → None ≡ due_of e x
+none_due e got x none is = ap (due_of e) (sym none ∙ is)
+
+pub some_due : (e : End) (from to : ℕ) (due : Bool) (got x : Option (ℕ × ℕ)) → got ≡ Some (from, to) → got ≡ x →
+    due ≡ is_due e from to → due ≡ true → Some (from, to) ≡ due_of e x
+some_due e from to due got x some is was passed =
+    chosen (is_due e from to) (from, to) (sym was ∙ passed) ∙ ap (due_of e) (sym some ∙ is)
+
+pub held_back : (e : End) (from to : ℕ) (due : Bool) (got x : Option (ℕ × ℕ)) → got ≡ Some (from, to) → got ≡ x →
+    due ≡ is_due e from to → due ≡ false → None ≡ due_of e x
+held_back e from to due got x some is was failed =
+    left (is_due e from to) (from, to) (sym was ∙ failed) ∙ ap (due_of e) (sym some ∙ is)

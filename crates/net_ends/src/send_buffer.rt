@@ -1,0 +1,536 @@
+//! What a stream that ends has sent, without a clock.
+ghost use Rattle.std.specs.Prelude.{◌≡◌, ◌-◌, ◌+◌, ◌<◌, ◌≤◌, ◌&&◌, ◌==◌, ℕ, Option, Some, IsTrue, IsFalse, min, max};
+ghost use Rattle.std.specs.Prelude.{IfSome, IfNone, is_some, ◌++◌, not, true, false, if◌then◌else◌, length};
+ghost use Rattle.net_assembler.specs.Positions.{contains};
+ghost use Rattle.net_recovery.specs.LossRecovery.{is_active, in_flight, begun, forgotten, next_segment, next_range, resumed};
+ghost use Rattle.net_recovery.specs.LossRecovery.{gone_on, begins_at};
+ghost use Rattle.net_receiver.specs.FiniteSender.{sender_after_command, Writes, Closes, Marks, Acknowledges, accepts};
+ghost use Rattle.net_receiver.specs.FiniteSender.{finite_room, first_number, numbers_end};
+ghost use Rattle.net_receiver.specs.Finite.{no_end};
+ghost use Rattle.net_receiver.specs.Scoreboards.{IsEnd, IsHole};
+ghost use Rattle.net_ends.specs.Ends.{IsSegment, kept, has_dropped};
+ghost use Rattle.net_ends.specs.Buffers.{new_buffer};
+ghost use Rattle.net_ends.specs.Acknowledgements.{with_block, is_new, after_blocks, reported_by, has_block, is_duplicated};
+ghost use Rattle.net_ends.specs.Acknowledgements.{numbers_of, unsent_of, doubted, IsLeft, Recovers, begins_by};
+ghost use Rattle.net_ends.specs.Acknowledgements.{after_segment, after_wait};
+
+use net_numbers::SentNumbers;
+use net_receiver::{FiniteSenderOver, Scoreboard};
+use net_recovery::{Answer, LossRecovery, is_duplicate_block, is_equal_acknowledgement};
+use net_ring::{ManagedSlice, Storage};
+use std::marker::Model;
+
+/// What a stream that ends has sent, over storage that is lent or owned.
+pub type SendBuffer<'a, const N: usize> = SendBufferOver<ManagedSlice<'a, u8>, N>;
+
+/// A [`SendBuffer`] over any storage: a sender, a scoreboard and a recovery. It knows bytes, what was reported and what is
+/// lost, and no clock, no window of a peer and no size of a segment: what a stream of QUIC sends, too.
+#[derive(Drop)]
+pub struct SendBufferOver<S: Storage<u8>, const N: usize> {
+    sender: FiniteSenderOver<S>,
+    scoreboard: Scoreboard<N>,
+    recovery: LossRecovery,
+}
+
+impl<S: Storage<u8>, const N: usize> Model for SendBufferOver<S, N> {
+    ghost use Rattle.std.specs.Coded.{codes};
+    ghost use Rattle.net_ends.specs.Ends.{positions_code};
+    ghost use Rattle.net_ends.specs.Buffers.{Buffer};
+
+    ghost Value = { Buffer };
+
+    ghost coded = { Prim.hlevel (codes, positions_code) };
+
+    ghost view = { λ b. record {
+      sender = b.sender;
+      reported = b.scoreboard;
+      recovery = b.recovery;
+    } };
+}
+
+impl<S: Storage<u8>, const N: usize> SendBufferOver<S, N> {
+    /// Returns the buffer of a stream that begins at position `first`, to which nothing was written.
+    ///
+    /// A program in which `N` is 0 does not compile.
+    ///
+    /// # Requires
+    ///
+    /// `first` is below `u64::MAX`: an end there would have no number after it.
+    #[must_use]
+    #[track_caller]
+    pub fn over_at(storage: S, first: u64) -> Self
+        requires runs { 1 ≤ N }
+        requires end { first < no_end }
+        ensures { result ≡ new_buffer (length (S.elements storage)) first }
+    {
+        prove!(N >= 1, "N is at least 1");
+        prove!(first < u64::MAX, "no number is left for an end");
+        SendBufferOver {
+            sender: FiniteSenderOver::over_at(storage, first),
+            scoreboard: Scoreboard::empty_at(first),
+            recovery: LossRecovery::new(),
+        }
+    }
+
+    /// Returns the first number that isn't acknowledged, and the one after the last that was sent.
+    #[must_use]
+    pub fn numbers(&self) -> SentNumbers
+        ensures value { result ≡ numbers_of self.now.sender }
+        ensures order { result.first_unacknowledged ≤ result.sent }
+    {
+        self.sender.sent_numbers()
+    }
+
+    /// Returns the number after the last byte's, and after the end's once the stream is closed.
+    #[must_use]
+    pub fn numbers_end(&self) -> u64
+        ensures { result ≡ numbers_end self.now.sender }
+    {
+        self.sender.numbers_end()
+    }
+
+    /// Returns whether the stream ends after what was written.
+    #[must_use]
+    pub fn is_closed(&self) -> bool
+        ensures { result ≡ (self.now.sender.closed == 1) }
+    {
+        self.sender.is_closed()
+    }
+
+    /// Returns how many bytes `write` would take.
+    #[must_use]
+    pub fn window(&self) -> usize
+        ensures { result ≡ finite_room self.now.sender }
+    {
+        self.sender.window()
+    }
+
+    /// Returns whether all that was written is acknowledged, and the end.
+    #[must_use]
+    pub fn is_done(&self) -> bool
+        ensures { result ≡ (self.now.sender.finished == 1) }
+    {
+        self.sender.is_closed_and_acknowledged()
+    }
+
+    /// Returns whether a position was reported.
+    #[must_use]
+    pub fn contains(&self, pos: u64) -> bool
+        ensures { result ≡ contains self.now.reported pos }
+    {
+        self.scoreboard.contains(pos)
+    }
+
+    /// Returns whether a recovery lasts.
+    #[must_use]
+    pub fn is_recovering(&self) -> bool
+        ensures { result ≡ is_active self.now.recovery (first_number self.now.sender) }
+    {
+        self.recovery.is_active(self.sender.sent_numbers())
+    }
+
+    /// Returns whether the peer reports nothing.
+    #[must_use]
+    pub fn is_blind(&self) -> bool
+        ensures { result ≡ self.now.recovery.is_blind }
+    {
+        self.recovery.is_blind()
+    }
+
+    /// Takes notice whether the peer reports what arrives.
+    pub fn expect_reports(&mut self, reports: bool)
+        ensures { self.new ≡ record self.old {
+          recovery = record self.old.recovery { is_blind = not reports; unknown = 0 };
+        } }
+    {
+        self.recovery.expect_reports(reports);
+    }
+
+    /// Enqueues the first of these bytes, as many as there is room for, and returns how many.
+    #[must_use]
+    pub fn write(&mut self, bytes: &[u8]) -> usize
+        ensures count { result ≡ min (length bytes.now) (finite_room self.old.sender) }
+        ensures state { self.new ≡ record self.old {
+          sender = sender_after_command self.old.sender (Writes bytes.now);
+        } }
+    {
+        self.sender.write(bytes)
+    }
+
+    /// Ends the stream after what was written.
+    pub fn close(&mut self)
+        ensures { self.new ≡ record self.old {
+          sender =
+              sender_after_command self.old.sender Closes;
+        } }
+    {
+        self.sender.close();
+    }
+
+    /// Takes an acknowledgement of all below `ack`, and its blocks. Its segment `is_empty` if it has no byte and no FIN, and
+    /// `is_same` if it announces the window that was announced last.
+    ///
+    /// Returns whether a block reports what wasn't known, and whether it begins a recovery. Returns `None`, and changes
+    /// nothing, if `ack` is below the first number that isn't acknowledged, or above what was sent.
+    pub fn acknowledge(
+        &mut self,
+        ack: u64,
+        blocks: &[(u64, u64)],
+        segment_size: usize,
+        is_empty: bool,
+        is_same: bool,
+    ) -> Option<(bool, bool)>
+        ensures refused { is_some result ≡ accepts self.old.sender ack }
+        ensures within { IfSome result (λ _. (first_number self.old.sender ≤ ack)
+            × (ack ≤ self.old.sender.sent)) }
+        ensures unchanged { IfNone result (self.new ≡ self.old) }
+        ensures state { IfSome result (λ r. self.new ≡ record {
+          sender = sender_after_command self.old.sender (Acknowledges ack);
+          reported = kept (reported_by N self.old.sender.sent self.old.reported ack blocks.now).0
+              ack self.old.sender.sent;
+          recovery = self.new.recovery;
+        }) }
+        ensures reports { IfSome result (λ r. r.0
+            ≡ (reported_by N self.old.sender.sent self.old.reported ack blocks.now).1) }
+        ensures recovery { IfSome result (λ r. Recovers N segment_size (numbers_of self.old.sender)
+            (unsent_of self.old.sender self.old.reported self.old.recovery) self.old.reported
+            self.old.recovery ack
+            blocks.now is_empty is_same r.0 self.new.recovery r.1) }
+    {
+        let numbers = self.numbers();
+        let unsent = self.recovery.unsent(numbers, &self.scoreboard);
+        if !accept(&mut self.sender, ack) {
+            return None;
+        }
+        Some(self.take(
+            numbers,
+            unsent,
+            ack,
+            blocks,
+            segment_size,
+            is_empty,
+            is_same,
+        ))
+    }
+
+    /// Takes the blocks of an acknowledgement that the sender has taken, and finds what is lost.
+    fn take(
+        &mut self,
+        numbers: SentNumbers,
+        unsent: u64,
+        ack: u64,
+        blocks: &[(u64, u64)],
+        segment_size: usize,
+        is_empty: bool,
+        is_same: bool,
+    ) -> (bool, bool)
+        ensures state { self.new ≡ record self.old {
+          reported = kept (reported_by N numbers.sent self.old.reported ack blocks.now).0
+              ack numbers.sent;
+          recovery = self.new.recovery;
+        } }
+        ensures reports { result.0
+            ≡ (reported_by N numbers.sent self.old.reported ack blocks.now).1 }
+        ensures recovery { Recovers N segment_size numbers unsent self.old.reported
+            self.old.recovery ack blocks.now
+            is_empty is_same result.0 self.new.recovery result.1 }
+    {
+        let reports = self.report(ack, blocks, numbers.sent);
+        let is_bare = is_empty && !has_block(blocks);
+        let answer = Answer {
+            first: numbers.first_unacknowledged,
+            unsent,
+            reports,
+            is_equal: is_equal_acknowledgement(numbers, ack, is_bare, is_same),
+        };
+        let begins = self.find_losses(numbers, ack, blocks, segment_size, answer);
+        (reports, begins)
+    }
+
+    /// Reports all below `ack`, and the blocks. Returns whether a block reports what wasn't known.
+    fn report(&mut self, ack: u64, blocks: &[(u64, u64)], sent: u64) -> bool
+        ensures state { self.new ≡ record self.old {
+          reported = (reported_by N sent self.old.reported ack blocks.now).0;
+        } }
+        ensures value { result ≡ (reported_by N sent self.old.reported ack blocks.now).1 }
+    {
+        self.scoreboard.acknowledge(ack);
+        report_blocks(&mut self.scoreboard, blocks, sent)
+    }
+
+    /// Finds what is lost by an acknowledgement, and returns whether a recovery begins.
+    fn find_losses(
+        &mut self,
+        numbers: SentNumbers,
+        ack: u64,
+        blocks: &[(u64, u64)],
+        segment_size: usize,
+        answer: Answer,
+    ) -> bool
+        ensures state { self.new ≡ record self.old {
+          reported = kept self.old.reported ack numbers.sent;
+          recovery = self.new.recovery;
+        } }
+        ensures recovery { IsLeft segment_size ack numbers.sent answer self.old.reported
+            (doubted numbers ack blocks.now self.old.recovery) self.new.recovery result }
+    {
+        self.doubt(numbers, ack, blocks);
+        let after = SentNumbers {
+            first_unacknowledged: ack,
+            sent: numbers.sent,
+        };
+        find_losses(
+            &mut self.recovery,
+            &mut self.scoreboard,
+            after,
+            segment_size,
+            answer,
+        )
+    }
+
+    /// Tells the recovery, if the first block reports what came twice.
+    fn doubt(&mut self, numbers: SentNumbers, ack: u64, blocks: &[(u64, u64)])
+        ensures { self.new ≡ record self.old {
+          recovery =
+              doubted numbers ack blocks.now self.old.recovery;
+        } }
+    {
+        if is_duplicated(ack, blocks) {
+            self.recovery.duplicated(numbers);
+        }
+    }
+
+    /// Finds what is overdue, where nothing was reported for two round trips, and returns whether a recovery begins.
+    pub fn find_overdue(&mut self) -> bool
+        ensures state { self.new ≡ record self.old { recovery = self.new.recovery } }
+        ensures recovery { (highest : ℕ) → IsEnd self.old.reported highest →
+            self.new.recovery ≡ after_wait true (numbers_of self.old.sender) highest
+            self.old.recovery }
+        ensures begins { (highest : ℕ) → IsEnd self.old.reported highest →
+            result ≡ begins_by (numbers_of self.old.sender) highest self.old.recovery }
+    {
+        self.recovery
+            .find_overdue(self.sender.sent_numbers(), &self.scoreboard)
+    }
+
+    /// Loses all that was sent and isn't reported.
+    pub fn lose_all(&mut self)
+        ensures { self.new ≡ record self.old {
+          recovery = begun (first_number self.old.sender) self.old.sender.sent self.old.sender.sent
+              (forgotten self.old.recovery);
+        } }
+    {
+        self.recovery.lose_all(self.sender.sent_numbers());
+    }
+
+    /// Returns what to send next below `limit`, as a start and an end, the end not included, at most a segment: what is
+    /// lost, else what was never sent. `None` if there is none, or if with a whole segment more than the congestion window
+    /// would be in flight. The first unacknowledged number is sent whatever is in flight.
+    #[must_use]
+    pub fn next(
+        &self,
+        limit: u64,
+        congestion_window: u64,
+        segment_size: usize,
+    ) -> Option<(u64, u64)>
+        ensures next { (lost others : Option (ℕ × ℕ)) → let low = first_number self.now.sender in
+            IsHole self.now.reported (resumed self.now.recovery low)
+            (min (min self.now.recovery.turn self.now.recovery.lost) limit) lost →
+            IsHole self.now.reported (gone_on self.now.recovery low)
+            (min self.now.recovery.lost limit) others →
+            result ≡ next_segment low
+            (in_flight self.now.recovery low self.now.sender.sent self.now.reported)
+            congestion_window (max 1 segment_size)
+            (next_range self.now.recovery low self.now.sender.sent limit lost others) }
+        ensures within { IfSome result (λ r. (r.0 < r.1) × (r.1 ≤ limit)
+            × (r.1 ≤ r.0 + max 1 segment_size)) }
+        ensures begins { let low = first_number self.now.sender in
+            IsFalse (is_active self.now.recovery low) →
+            low ≡ self.now.sender.sent → low < limit → IsTrue (begins_at low result) }
+        ensures after { IfSome result (λ r. first_number self.now.sender ≤ r.0) }
+    {
+        self.recovery.next_segment(
+            self.numbers(),
+            &self.scoreboard,
+            limit,
+            congestion_window,
+            segment_size,
+        )
+    }
+
+    /// Returns what a probe for an answer sends below `limit`, whatever is in flight: in a recovery the first segment that
+    /// isn't reported, else a new one, and if the limit allows none, the last one.
+    #[must_use]
+    pub fn next_probe(&self, limit: u64, segment_size: usize) -> Option<(u64, u64)>
+        ensures progress { first_number self.now.sender < min self.now.sender.sent limit →
+            IsFalse (contains self.now.reported (first_number self.now.sender)) →
+            IsTrue (is_some result) }
+        ensures unreported { IfSome result (λ r. (p : ℕ) → r.0 ≤ p → p < r.1 →
+            p < self.now.sender.sent →
+            IsFalse (contains self.now.reported p)) }
+        ensures within { IfSome result (λ r. (r.0 < r.1) × (r.1 ≤ limit)
+            × (r.1 ≤ r.0 + max 1 segment_size)) }
+        ensures after { IfSome result (λ r. first_number self.now.sender ≤ r.0) }
+    {
+        self.recovery
+            .next_probe(self.numbers(), &self.scoreboard, limit, segment_size)
+    }
+
+    /// Takes notice that a range is sent: one that the peer `is_dropping`, since its window is shut, so that it is lost; a
+    /// probe for an answer; or neither.
+    pub fn mark(&mut self, from: u64, to: u64, is_dropping: bool, is_probe: bool)
+        ensures { self.new ≡ record self.old {
+          sender = sender_after_command self.old.sender (Marks to);
+          recovery = after_segment (numbers_of self.old.sender) from to is_dropping is_probe
+              self.old.recovery;
+        } }
+    {
+        let numbers = self.numbers();
+        let _is_written = self.sender.mark_sent(to);
+        self.recover(numbers, from, to, is_dropping, is_probe);
+    }
+
+    /// Tells the recovery what is sent.
+    fn recover(
+        &mut self,
+        numbers: SentNumbers,
+        from: u64,
+        to: u64,
+        is_dropping: bool,
+        is_probe: bool,
+    )
+        ensures { self.new ≡ record self.old {
+          recovery = after_segment numbers from to is_dropping is_probe self.old.recovery;
+        } }
+    {
+        if is_dropping {
+            // A peer whose window is shut drops it.
+            self.recovery.lose_all(SentNumbers {
+                first_unacknowledged: numbers.first_unacknowledged,
+                sent: numbers.sent.max(to),
+            });
+        } else if is_probe {
+            self.recovery.probed(numbers, from);
+        } else {
+            self.recovery.sent(numbers, from..to);
+        }
+    }
+
+    /// Lends the bytes of a segment from `pos` on, whose numbers are below `end`, in two parts, and returns whether the
+    /// stream ends after them. Of a position that is acknowledged it lends none.
+    #[must_use]
+    pub fn bytes(&self, pos: u64, end: u64) -> (&[u8], &[u8], bool)
+        ensures { IsSegment self.now.sender pos end (result.0.now ++ result.1.now) result.2 }
+    {
+        lend(&self.sender, pos, end)
+    }
+}
+
+/// Has a sender take an acknowledgement, and returns whether it does.
+fn accept<S: Storage<u8>>(sender: &mut FiniteSenderOver<S>, ack: u64) -> bool
+    ensures value { result ≡ accepts sender.old ack }
+    ensures within { IsTrue result → (first_number sender.old ≤ ack) × (ack ≤ sender.old.sent) }
+    ensures step { sender.new ≡ sender_after_command sender.old (Acknowledges ack) }
+{
+    sender.acknowledge(ack)
+}
+
+/// Lends the bytes of a segment from `pos` on, whose numbers are below `end`, in two parts, and returns whether the stream
+/// ends after them.
+#[tactic(auto, using(crate::proofs::Segments::segments))]
+fn lend<S: Storage<u8>>(sender: &FiniteSenderOver<S>, pos: u64, end: u64) -> (&[u8], &[u8], bool)
+    ensures { IsSegment sender.now pos end (result.0.now ++ result.1.now) result.2 }
+{
+    let (front, _ends) = sender.peek_at(pos, end);
+    let after = pos + front.len() as u64;
+    let (back, is_last) = sender.peek_at(after, end);
+    (front, back, is_last)
+}
+
+/// Finds what is lost by an acknowledgement, and returns whether a recovery begins. If the peer has dropped what it had
+/// reported, that is lost: else it would acknowledge it (RFC 2018, section 8). Nothing counts as reported any more then.
+fn find_losses<const N: usize>(
+    recovery: &mut LossRecovery,
+    board: &mut Scoreboard<N>,
+    after: SentNumbers,
+    segment_size: usize,
+    answer: Answer,
+) -> bool
+    ensures reported { board.new ≡ kept board.old after.first_unacknowledged after.sent }
+    ensures recovery { IsLeft segment_size after.first_unacknowledged after.sent answer
+        board.old recovery.old
+        recovery.new result }
+{
+    if has_dropped(board, after) {
+        let begins = recovery.lose_dropped(after, board);
+        board.reset_at(after.first_unacknowledged);
+        return begins;
+    }
+    recovery.find_losses(after, board, segment_size, answer)
+}
+
+/// Returns whether the peer has dropped what it had reported: it acknowledges up to such a number.
+fn has_dropped<const N: usize>(board: &Scoreboard<N>, after: SentNumbers) -> bool
+    ensures { result ≡ has_dropped board.now after.first_unacknowledged after.sent }
+{
+    after.first_unacknowledged < after.sent && board.contains(after.first_unacknowledged)
+}
+
+/// Reports blocks. Returns whether one of them reports what wasn't known.
+fn report_blocks<const N: usize>(
+    board: &mut Scoreboard<N>,
+    blocks: &[(u64, u64)],
+    sent: u64,
+) -> bool
+    ensures state { board.new ≡ (after_blocks N sent board.old blocks.now).0 }
+    ensures value { result ≡ (after_blocks N sent board.old blocks.now).1 }
+{
+    let mut reports = false;
+    for block in blocks {
+        if report_block(board, block.0, block.1, sent) {
+            reports = true;
+        }
+    }
+    reports
+}
+
+/// Reports a block, if it begins beyond the first position that wasn't reported. Returns whether that wasn't known: what is
+/// refused is sent again.
+fn report_block<const N: usize>(board: &mut Scoreboard<N>, start: u64, end: u64, sent: u64) -> bool
+    ensures state { board.new ≡ with_block N sent board.old (start, end) }
+    ensures value { result ≡ is_new N sent board.old (start, end) }
+{
+    if start <= board.first_unreported() {
+        return false;
+    }
+    let is_new = board.first_missing(start) < end;
+    board.report(start, end, sent).is_ok() && is_new
+}
+
+/// Returns whether one of the blocks has a position.
+fn has_block(blocks: &[(u64, u64)]) -> bool
+    ensures { result ≡ has_block blocks.now }
+{
+    let mut is_found = false;
+    for block in blocks {
+        if block.0 < block.1 {
+            is_found = true;
+        }
+    }
+    is_found
+}
+
+/// Returns whether the first block reports what came twice.
+fn is_duplicated(ack: u64, blocks: &[(u64, u64)]) -> bool
+    ensures { result ≡ is_duplicated ack blocks.now }
+{
+    if blocks.is_empty() {
+        return false;
+    }
+    let second = if blocks.len() > 1 {
+        Some(blocks[1])
+    } else {
+        None
+    };
+    is_duplicate_block(ack, blocks[0], second)
+}

@@ -1,0 +1,18 @@
+use Rattle.std.proofs.Common.{◌∙◌, ◌++◌, ap, sym, subst, All}
+use Rattle.std.proofs.lemmas.List.Elements.{All-push}
+use Rattle.net_receiver.specs.Finite.{MatchesFinite}
+use Rattle.net_examples.specs.AnyPath.{IsOfText}
+use Rattle.net_ends_tests.proofs.PathFacts.{put_on}
+use Rattle.net_ends_tests.proofs.path.put.Goals as goal
+
+pub returns : goal.returns
+returns g c = λ text n is low before.
+    let front = c.bytes-is_last.result.0.now in
+    let back = c.bytes-is_last.result.1.now in
+    let last = c.bytes-is_last.result.2 in
+    let match = put_on c.matches_stream.ensures.longer c.both_ends.ensures.lent text n c.args.pos c.args.end
+    (front ++ back) last c.args.sender.now is c.bytes-is_last.ensures low in
+    let items = c.in_ok-extend_from_slice.ensures.items ∙ ap (λ l. l ++ back) c.in_ok-bytes.ensures.items in
+    subst (All (IsOfText text)) (sym c.push_reserved.ensures.items)
+    (All-push (IsOfText text) _ _ (subst (All (IsOfText text)) (sym c.in_ok-reserve.ensures.items) before)
+    (subst (λ l. MatchesFinite 0 text c.args.pos l last) (sym items) match))
