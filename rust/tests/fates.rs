@@ -144,6 +144,7 @@ impl Schedule {
             reports,
             Instant::ZERO,
         );
+        sending.set_nagle_enabled(seed % 2 == 0);
         Schedule {
             sending,
             receiving,

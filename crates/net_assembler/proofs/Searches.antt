@@ -26,7 +26,8 @@ module _ (rs : List (ℕ × ℕ)) (p n : ℕ) (h : AreRuns rs) (s : SplitsRuns r
   within q some from before =
       in_run_at 0 rs (n - 1) q h (omega (arith, s.few, some))
       (omega (arith, s.before (n - 1) (omega (arith, some)), from))
-      (λ k a b. let r = starts_rise 0 rs n k h (omega (arith, a, some)) b in omega (arith, r, before (omega (arith, a, b))))
+      (λ k a b. let r = starts_rise 0 rs n k h (omega (arith, a, some)) b in
+      omega (arith, r, before (omega (arith, a, b))))
 
   -- and where there is none of them, in no run
   without : (q : ℕ) → n ≡ 0 → (n < length rs → q < start_at rs n) → in_runs rs q ≡ false
@@ -51,7 +52,8 @@ module _ (rs : List (ℕ × ℕ)) (p n : ℕ) (h : AreRuns rs) (s : SplitsRuns r
       without p zero before ∙ sym (le-ltb p e (omega (arith, zeroth zero)))))
 
   -- the first missing position from p on
-  pub missing_from : (e : ℕ) → (n ≡ 0 → e ≡ 0) → (0 < n → e ≡ end_at rs (n - 1)) → max p e ≡ first_missing (set_of_runs rs) p
+  pub missing_from : (e : ℕ) → (n ≡ 0 → e ≡ 0) → (0 < n → e ≡ end_at rs (n - 1)) →
+      max p e ≡ first_missing (set_of_runs rs) p
   missing_from e zeroth is =
       let free : (q : ℕ) → p ≤ q → e ≤ q → q ≤ max p e → contains (set_of_runs rs) q ≡ false =
       λ q a b c. contains-set_of_runs rs q ∙ lacks e q is a b
@@ -61,9 +63,11 @@ module _ (rs : List (ℕ × ℕ)) (p n : ℕ) (h : AreRuns rs) (s : SplitsRuns r
       let after = s.after n (omega arith) l in
       omega (arith, next, after, c, is some))
       (λ none. let after = s.after n (omega arith) l in omega (arith, after, c, zeroth (omega (arith, none))))) in
-      sym (first_missing-is (set_of_runs rs) p (max p e) (omega arith) (free (max p e) (omega arith) (omega arith) (omega arith))
+      sym (first_missing-is (set_of_runs rs) p (max p e) (omega arith)
+      (free (max p e) (omega arith) (omega arith) (omega arith))
       (λ q a b.
-      let some : 0 < n = either (cases_lt 0 n) (λ l. l) (λ l. absurd (omega (arith, zeroth (omega (arith, l)), a, b))) in
+      let some : 0 < n = either (cases_lt 0 n) (λ l. l)
+      (λ l. absurd (omega (arith, zeroth (omega (arith, l)), a, b))) in
       let below : q < end_at rs (n - 1) = omega (arith, is some, a, b) in
       contains-set_of_runs rs q
       ∙ within q some a (λ l. let next = apart 0 rs (n - 1) n h (omega (arith, some)) l in omega (arith, next, below))
@@ -74,7 +78,8 @@ module _ (rs : List (ℕ × ℕ)) (p n : ℕ) (h : AreRuns rs) (s : SplitsRuns r
       EndsHole (set_of_runs rs) (max p e) (Some (start_at rs n))
   hole_some e zeroth is l = (
     either (cases_lt 0 n)
-        (λ some. let next = apart 0 rs (n - 1) n h (omega (arith, some)) l in omega (arith, next, s.after n (omega arith) l, is some))
+        (λ some. let next = apart 0 rs (n - 1) n h (omega (arith, some)) l in
+        omega (arith, next, s.after n (omega arith) l, is some))
         (λ none. omega (arith, s.after n (omega arith) l, zeroth (omega (arith, none)))),
     contains-set_of_runs rs (start_at rs n)
         ∙ in_run_at 0 rs n (start_at rs n) h l (omega arith) (λ k a b.
@@ -85,10 +90,12 @@ module _ (rs : List (ℕ × ℕ)) (p n : ℕ) (h : AreRuns rs) (s : SplitsRuns r
 
   pub hole_none : (e : ℕ) → (0 < n → e ≡ end_at rs (n - 1)) → n ≡ length rs → EndsHole (set_of_runs rs) (max p e) None
   hole_none e is all = λ q a.
-      contains-set_of_runs rs q ∙ lacks e q is (omega (arith, a)) (omega (arith, a)) (λ l. absurd (omega (arith, all, l)))
+      contains-set_of_runs rs q
+      ∙ lacks e q is (omega (arith, a)) (omega (arith, a)) (λ l. absurd (omega (arith, all, l)))
 
 -- the end of the last run
-pub last_end : (rs : List (ℕ × ℕ)) (n e : ℕ) → AreRuns rs → n ≡ length rs → (n ≡ 0 → e ≡ 0) → (0 < n → e ≡ end_at rs (n - 1)) →
+pub last_end : (rs : List (ℕ × ℕ)) (n e : ℕ) → AreRuns rs → n ≡ length rs → (n ≡ 0 → e ≡ 0) →
+    (0 < n → e ≡ end_at rs (n - 1)) →
     IsEnd (set_of_runs rs) e
 last_end rs n e h all zeroth is =
     let at : (q : ℕ) → 0 < n → start_at rs (n - 1) ≤ q → contains (set_of_runs rs) q ≡ nat_lt q e =
@@ -102,9 +109,11 @@ last_end rs n e h all zeroth is =
           let run = at_run 0 rs (n - 1) h (omega (arith, all, some)) in
           false≢true (sym (at q some (omega (arith, run.1, is some, past)) ∙ le-ltb q e past) ∙ has))
           (λ none.
-          false≢true (sym (contains-set_of_runs rs q ∙ not_before 0 rs q h (λ l. absurd (omega (arith, all, none, l)))) ∙ has))));
+          false≢true (sym (contains-set_of_runs rs q
+          ∙ not_before 0 rs q h (λ l. absurd (omega (arith, all, none, l)))) ∙ has))));
       reached = λ positive.
-          let some : 0 < n = either (cases_lt 0 n) (λ l. l) (λ l. absurd (omega (arith, zeroth (omega (arith, l)), positive))) in
+          let some : 0 < n = either (cases_lt 0 n) (λ l. l)
+          (λ l. absurd (omega (arith, zeroth (omega (arith, l)), positive))) in
           let run = at_run 0 rs (n - 1) h (omega (arith, all, some)) in
           at (e - 1) some (omega (arith, run.1, is some)) ∙ lt-ltb (e - 1) e (omega (arith, positive));
     }
@@ -155,7 +164,8 @@ present_of rs (suc n) p h =
     one ∙ (λ i. from_bool (sym (contains-set_of_runs rs p) i) + (ap (overlap rs (p + 1)) next ∙ rest) i)
 
 -- they are the present ones
-pub present_overlap : (rs : List (ℕ × ℕ)) (p e : ℕ) → AreRuns rs → overlap rs p e ≡ present_count (set_of_runs rs) p (e - p)
+pub present_overlap : (rs : List (ℕ × ℕ)) (p e : ℕ) → AreRuns rs →
+    overlap rs p e ≡ present_count (set_of_runs rs) p (e - p)
 present_overlap rs p e h = either (cases_lt p e)
     (λ l. let up : p + (e - p) ≡ e = omega (arith, l) in ap (overlap rs p) (sym up) ∙ present_of rs (e - p) p h)
     (λ l.
@@ -189,7 +199,8 @@ overlap_under : (low top : ℕ) (rs : List (ℕ × ℕ)) (p e : ℕ) → IsRisin
 overlap_under low top [] p e h l ends = omega (arith, l)
 overlap_under low top (r ∷ rs) p e h l ends =
     let last = ends 0 (omega arith) in
-    let rest = overlap_under r.1 top rs p e (rising_from r.1 (r.1 + 1) rs (omega arith) h.2) last (λ k b. ends (suc k) (omega (arith, b))) in
+    let rest = overlap_under r.1 top rs p e (rising_from r.1 (r.1 + 1) rs (omega arith) h.2) last
+    (λ k b. ends (suc k) (omega (arith, b))) in
     omega (arith, rest, h.0, h.1)
 
 -- ---- the first pairs of an array
@@ -216,7 +227,8 @@ module _ (xs : List (ℕ × ℕ)) (used : ℕ) (h : AreRuns (take used xs)) (roo
   -- where the pair k starts at e or after it
   pub no_overlap : (k p e : ℕ) → k ≤ used → (k < used → e ≤ start_at xs k) → overlap (drop k cs) p e ≡ 0
   no_overlap k p e few past = either (cases_lt k used)
-      (λ l. overlap_past (start_at xs k) (drop k cs) p e (rest_rises xs used h room k (start_at xs k) few (λ _. refl)) (past l))
+      (λ l. overlap_past (start_at xs k) (drop k cs) p e
+      (rest_rises xs used h room k (start_at xs k) few (λ _. refl)) (past l))
       (λ l. ap (λ rs. overlap rs p e) (drop_all k cs (omega (arith, long, l))))
 
   -- where n of them start at or before p, those before the last of these end by then
@@ -245,7 +257,8 @@ overlap_usize h xs s p e =
     omega (arith, pair_fits h xs s k used, end_of h xs s k used)) in
     omega (arith, l, fits))
     (λ none.
-    let is = ap (λ rs. overlap rs p e) (nil_from_length (used_runs h xs) (omega (arith, length-used_runs h xs s, none))) in
+    let is = ap (λ rs. overlap rs p e)
+    (nil_from_length (used_runs h xs) (omega (arith, length-used_runs h xs s, none))) in
     omega (arith, is, word))
 
 pub overlap_set : (h : AssemblerHead) (xs : List (ℕ × ℕ)) → HasSoundRuns h xs → (p e : ℕ) →
@@ -295,7 +308,12 @@ module _ (h : AssemblerHead) (xs : List (ℕ × ℕ)) (s : HasSoundRuns h xs) wh
 
     pub some_split : h.first_start ≤ p → 0 < h.used → 0 < n
     some_split from some = either (cases_lt 0 n) (λ l. l) (λ none.
-        absurd (omega (arith, found.after 0 (omega (arith, none)) (omega (arith, count, some)), run_start h xs s some, from)))
+        absurd (omega (
+          arith,
+          found.after 0 (omega (arith, none)) (omega (arith, count, some)),
+          run_start h xs s some,
+          from,
+        )))
 
     pub after_split : n < h.used → p < h.first_start + start_at xs n
     after_split l = omega (arith, found.after n (omega arith) (omega (arith, count, l)), starts n l)
@@ -311,7 +329,8 @@ module _ (h : AssemblerHead) (xs : List (ℕ × ℕ)) (s : HasSoundRuns h xs) wh
     pub missing_is : max p e ≡ first_missing (set_of h xs) p
     missing_is = missing_from rs p n (are_runs h xs s) (found p n is) e zeroth at_last
 
-    pub hole_ends : (end : ℕ) → n < h.used → end ≡ h.first_start + start_at xs n → EndsHole (set_of h xs) (max p e) (Some end)
+    pub hole_ends : (end : ℕ) → n < h.used → end ≡ h.first_start + start_at xs n →
+        EndsHole (set_of h xs) (max p e) (Some end)
     hole_ends end l at =
         subst (λ (q : ℕ). EndsHole (set_of h xs) (max p e) (Some q)) (starts n l ∙ sym at)
         (hole_some rs p n (are_runs h xs s) (found p n is) e zeroth at_last (omega (arith, count, l)))
@@ -319,7 +338,8 @@ module _ (h : AssemblerHead) (xs : List (ℕ × ℕ)) (s : HasSoundRuns h xs) wh
     pub hole_open : n ≡ h.used → EndsHole (set_of h xs) (max p e) None
     hole_open all = hole_none rs p n (are_runs h xs s) (found p n is) e at_last (omega (arith, count, all))
 
-  pub end_is : (e : ℕ) → (h.used ≡ 0 → e ≡ 0) → (0 < h.used → e ≡ h.first_start + end_at xs (h.used - 1)) → IsEnd (set_of h xs) e
+  pub end_is : (e : ℕ) → (h.used ≡ 0 → e ≡ 0) → (0 < h.used → e ≡ h.first_start + end_at xs (h.used - 1)) →
+      IsEnd (set_of h xs) e
   end_is e zeroth last =
       last_end rs h.used e (are_runs h xs s) (sym count) zeroth
       (λ some. omega (arith, last some, ends (h.used - 1) (omega (arith, some))))

@@ -180,7 +180,8 @@ module _ (bytes data' : List ℕ) (o start end first last from : ℕ) (a : first
 abbrev pub PassedTo : List (ℕ × ℕ) → (ℕ → Type 0) → ℕ → Type 0
 PassedTo rs D k = (j p : ℕ) → j < k → IsTrue (lies_in p (get_or rs j (0, 0))) → D p → ⊥
 
-module _ (s : Positions) (rs : List (ℕ × ℕ)) (known : AreMaximalRuns s rs) (bytes : List ℕ) (o : ℕ) (data' : List ℕ) where
+module _ (s : Positions) (rs : List (ℕ × ℕ)) (known : AreMaximalRuns s rs) (bytes : List ℕ) (o : ℕ)
+    (data' : List ℕ) where
   abbrev D : ℕ → Type 0
   D p = HasOther bytes o data' p
 
@@ -192,13 +193,15 @@ module _ (s : Positions) (rs : List (ℕ × ℕ)) (known : AreMaximalRuns s rs) 
       let below : p < (get_or rs j (0, 0)).1 = grind (arith, nat_tests, here) in
       omega (arith, before, apart, below, d.from)
 
-  pub passed_more : (k : ℕ) (r : ℕ × ℕ) → get_or rs k (0, 0) ≡ r → PassedTo rs D k → ((p : ℕ) → r.0 ≤ p → p < r.1 → D p → ⊥) →
+  pub passed_more : (k : ℕ) (r : ℕ × ℕ) → get_or rs k (0, 0) ≡ r → PassedTo rs D k →
+      ((p : ℕ) → r.0 ≤ p → p < r.1 → D p → ⊥) →
       PassedTo rs D (k + 1)
   passed_more k r at passed none j p l here d = ⊎_elim
       (λ (before : j < k). passed j p before here d)
       (λ (from : k ≤ j).
       let same : j ≡ k = omega (arith, from, l) in
-      let there : IsTrue (lies_in p r) = subst (λ (q : ℕ × ℕ). IsTrue (lies_in p q)) (ap (λ (i : ℕ). get_or rs i (0, 0)) same ∙ at) here in
+      let there : IsTrue (lies_in p r) =
+      subst (λ (q : ℕ × ℕ). IsTrue (lies_in p q)) (ap (λ (i : ℕ). get_or rs i (0, 0)) same ∙ at) here in
       none p (grind (arith, nat_tests, there)) (grind (arith, nat_tests, there)) d)
       (cases_lt j k)
 

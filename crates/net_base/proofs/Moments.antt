@@ -26,7 +26,8 @@ no_later-trans None (Some u) (Some v) p q = absurd p
 no_later-trans (Some t) (Some u) (Some v) p q = omega (arith, ints)
 
 -- the earlier of two is at or before each, and one of them
-earlier : (t u : Option ℤ) → IsNoLater (earlier_of t u) t × IsNoLater (earlier_of t u) u × ((earlier_of t u ≡ t) ⊎ (earlier_of t u ≡ u))
+earlier : (t u : Option ℤ) → IsNoLater (earlier_of t u) t × IsNoLater (earlier_of t u) u
+    × ((earlier_of t u ≡ t) ⊎ (earlier_of t u ≡ u))
 earlier None u = (tt, no_later-same u, inr refl)
 earlier (Some t) None = (omega (arith, ints), tt, inl refl)
 earlier (Some t) (Some u) = grind (arith, ints)
@@ -59,12 +60,14 @@ repeat_zeros zero = refl
 repeat_zeros (suc n) = ap (λ (t : List ℕ). 48 ∷ t) (repeat_zeros n)
 
 -- `{:0>3}` of a number that isn't negative
-filled : (numeral : List ℕ) → padded_integral (format_spec 48 3 0 3 (2 ^ 64 - 1)) false [] numeral ≡ three_decimals numeral
+filled : (numeral : List ℕ) → padded_integral (format_spec 48 3 0 3 (2 ^ 64 - 1)) false [] numeral
+    ≡ three_decimals numeral
 unfolding padded_integral char_count lib.Utf8.encode
 filled numeral = simp (sub-zero, sub_self, repeat_zeros, append-nil)
 
 -- and of a negative one
-filled_negative : (numeral : List ℕ) → padded_integral (format_spec 48 3 0 3 (2 ^ 64 - 1)) true [] numeral ≡ three_decimals (45 ∷ numeral)
+filled_negative : (numeral : List ℕ) → padded_integral (format_spec 48 3 0 3 (2 ^ 64 - 1)) true [] numeral
+    ≡ three_decimals (45 ∷ numeral)
 unfolding padded_integral char_count lib.Utf8.encode
 filled_negative numeral =
     let short : 3 - length numeral - 1 ≡ 3 - suc (length numeral) = omega arith in
@@ -73,20 +76,24 @@ filled_negative numeral =
 pub styled_unsigned : (n : ℕ) → styled_decimal (format_spec 48 3 0 3 (2 ^ 64 - 1)) n ≡ three_decimals (decimal n)
 styled_unsigned n = filled (decimal n)
 
-pub styled_signed : (z : ℤ) → styled_signed_decimal (format_spec 48 3 0 3 (2 ^ 64 - 1)) z ≡ three_decimals (signed_decimal z)
+pub styled_signed : (z : ℤ) → styled_signed_decimal (format_spec 48 3 0 3 (2 ^ 64 - 1)) z
+    ≡ three_decimals (signed_decimal z)
 styled_signed (pos n) = rw (le-ltb n 0 (omega arith)) (filled (decimal n))
 styled_signed (negsuc n) = filled_negative (decimal (suc n))
 
 -- ---- several writes to a text of fixed room
 module _ {n : ℕ} where
-  after_calls : (s : InlineText n) (parts : List (List ℕ)) (t : InlineText n) → FoldsTo AppendsIfIntact s parts t → AppendsIfIntact s (concat parts) t
-  after_calls s [] t same intact = (subst IsIntact same intact, ap inline_text (sym same) ∙ sym (append-nil (inline_text s)))
+  after_calls : (s : InlineText n) (parts : List (List ℕ)) (t : InlineText n) → FoldsTo AppendsIfIntact s parts t →
+      AppendsIfIntact s (concat parts) t
+  after_calls s [] t same intact =
+      (subst IsIntact same intact, ap inline_text (sym same) ∙ sym (append-nil (inline_text s)))
   after_calls s (x ∷ parts) t calls intact =
       let first = calls.1 intact in
       let rest = after_calls calls.0 parts t calls.2 first.0 in
       (rest.0, rest.1 ∙ ap (λ l. l ++ concat parts) first.1 ∙ append_assoc (inline_text s) x (concat parts))
 
   -- a text that was empty is what was written
-  pub text_written : (s : InlineText n) (bs : List ℕ) (t : InlineText n) → IsIntact s → inline_text s ≡ [] → WritesInCalls AppendsIfIntact s bs t → inline_text t ≡ bs
+  pub text_written : (s : InlineText n) (bs : List ℕ) (t : InlineText n) → IsIntact s → inline_text s ≡ [] →
+      WritesInCalls AppendsIfIntact s bs t → inline_text t ≡ bs
   text_written s bs t intact empty wrote =
       (after_calls s wrote.parts t wrote.calls intact).1 ∙ ap (λ l. l ++ concat wrote.parts) empty ∙ wrote.whole

@@ -11,9 +11,11 @@ use Rattle.net_bench_lib.proofs.KnownBytes.{AppendsPrefix-all, AppendsPrefix-kep
 
 -- an input without a fault, of which all was written
 abbrev pub Ran : Transcript → Option (List ℕ) → Option (List ℕ) → Option (List ℕ) → Type 0
-Ran all before old new = IfSome before (λ input. (all.fault (lines_of input) ≡ None) × Appends old new (all.text (lines_of input)))
+Ran all before old new = IfSome before (λ input. (all.fault (lines_of input) ≡ None)
+    × Appends old new (all.text (lines_of input)))
 
-abbrev pub Erred : Transcript → Option (List ℕ) → Option (List ℕ) → Option (List ℕ) → Option (List ℕ) → BenchError → Type 0
+abbrev pub Erred : Transcript → Option (List ℕ) → Option (List ℕ) → Option (List ℕ) → Option (List ℕ) →
+    BenchError → Type 0
 Erred all before left old new e = IfSome before (λ input. ErrorOfInput all input left old new e)
 
 error_kept : (all : Transcript) (input : List ℕ) (left old mid new : Option (List ℕ)) (e : BenchError) →
@@ -26,5 +28,6 @@ module _ (all : Transcript) (before old mid new : Option (List ℕ)) (k : Keeps 
   pub Ran-kept : Ran all before old mid → Ran all before old new
   Ran-kept h = IfSome_then before h (λ input h. (h.0, Appends-kept old mid new _ h.1 k))
 
-  pub Erred-kept : (left : Option (List ℕ)) (e : BenchError) → Erred all before left old mid e → Erred all before left old new e
+  pub Erred-kept : (left : Option (List ℕ)) (e : BenchError) → Erred all before left old mid e →
+      Erred all before left old new e
   Erred-kept left e h = IfSome_then before h (λ input h. error_kept all input left old mid new e h k)

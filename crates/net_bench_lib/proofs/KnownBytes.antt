@@ -1,5 +1,6 @@
 -- What writes and reads that follow one another do to known bytes.
-use Rattle.std.proofs.Common.{◌≡◌, ℕ, List, ◌++◌, length, take, Option, Result, Ok, Err, OnOk, IfErr, refl, ◌∙◌, ap, append_assoc, length-append}
+use Rattle.std.proofs.Common.{◌≡◌, ℕ, List, ◌++◌, length, take, Option, Result, Ok, Err, OnOk, IfErr, refl, ◌∙◌, ap}
+use Rattle.std.proofs.Common.{append_assoc, length-append}
 use Rattle.std.specs.Io.{StartsWith}
 use Rattle.std.specs.Io.KnownBytes.{Appends, Keeps}
 use Rattle.std.proofs.KnownBytes.{Appends-trans, Appends-kept, starts_with_rest}
@@ -32,7 +33,8 @@ AppendsPrefix-after a b c xs more h w = record {
 }
 
 -- a prefix of a text is one of a longer text
-pub AppendsPrefix-more : (a b : Option (List ℕ)) (xs more : List ℕ) → AppendsPrefix a b xs → AppendsPrefix a b (xs ++ more)
+pub AppendsPrefix-more : (a b : Option (List ℕ)) (xs more : List ℕ) → AppendsPrefix a b xs →
+    AppendsPrefix a b (xs ++ more)
 AppendsPrefix-more a b xs more w =
     let e = starts_with_rest xs w.written w.prefix in
     record {
@@ -42,11 +44,14 @@ AppendsPrefix-more a b xs more w =
     }
 
 -- no byte more
-pub AppendsPrefix-kept : (a b c : Option (List ℕ)) (xs : List ℕ) → AppendsPrefix a b xs → Keeps b c → AppendsPrefix a c xs
-AppendsPrefix-kept a b c xs w k = record { written = w.written; prefix = w.prefix; appended = Appends-kept a b c w.written w.appended k }
+pub AppendsPrefix-kept : (a b c : Option (List ℕ)) (xs : List ℕ) → AppendsPrefix a b xs → Keeps b c →
+    AppendsPrefix a c xs
+AppendsPrefix-kept a b c xs w k =
+    record { written = w.written; prefix = w.prefix; appended = Appends-kept a b c w.written w.appended k }
 
 -- what `write_text` writes, however it ends
-pub AppendsPrefix-ended : (P : BenchError → Type 0) (a b : Option (List ℕ)) (text : List ℕ) (r : Result (Unit {0}) BenchError) →
+pub AppendsPrefix-ended : (P : BenchError → Type 0) (a b : Option (List ℕ)) (text : List ℕ)
+    (r : Result (Unit {0}) BenchError) →
     OnOk r (Appends a b text) → IfErr r (λ e. P e × AppendsPrefix a b text) → AppendsPrefix a b text
 AppendsPrefix-ended P a b text (Ok done) ok err = AppendsPrefix-all a b text ok
 AppendsPrefix-ended P a b text (Err e) ok err = err.1

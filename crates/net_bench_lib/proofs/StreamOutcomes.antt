@@ -20,7 +20,8 @@ AreOne a b = (((a.read ≡ b.read) × (a.next ≡ b.next)) × (a.queue ≡ b.que
 
 outcome_decides : (a b : Outcome) → Decides (same_outcome a b) (AreOne a b)
 outcome_decides a b =
-    Decides-and _ _ (Decides-and _ _ (Decides-and _ _ (Decides-eqb a.read b.read) (Decides-eqb a.next b.next)) (bytes_eq-Decides a.queue b.queue))
+    Decides-and _ _ (Decides-and _ _ (Decides-and _ _ (Decides-eqb a.read b.read) (Decides-eqb a.next b.next))
+    (bytes_eq-Decides a.queue b.queue))
     (slice_eq-Decides run_decides a.held b.held (pointwise same_run a.held b.held) refl)
 
 -- the same receivers have one outcome
@@ -33,13 +34,15 @@ module _ (v u : ReceiverState) where
       let n = ap length h.0.1 in
       let first : v.first ≡ u.first = omega (arith, n, h.0.0.0, h.0.0.1) in (first, h.0.0.0, h.0.1, h.1)
 
-  same_decides : (same : Bool) → IsTrue same ↔ IsSameState v u → same ≡ same_outcome (receiver_outcome v) (receiver_outcome u)
+  same_decides : (same : Bool) → IsTrue same ↔ IsSameState v u →
+      same ≡ same_outcome (receiver_outcome v) (receiver_outcome u)
   same_decides same exact =
       let d = outcome_decides (receiver_outcome v) (receiver_outcome u) in
       same_from_decides same _ ((λ h. outcomes (exact.0 h)), λ h. exact.1 (states h)) d
 
 -- the closing line, as `same_state` returns
-pub closing_line : (x y : Schedules ReceiverState) → x ≡ y → (ended : ReceiverState) (same t : Bool) → x.ended ≡ Some ended →
+pub closing_line : (x y : Schedules ReceiverState) → x ≡ y → (ended : ReceiverState) (same t : Bool) →
+    x.ended ≡ Some ended →
     IsTrue same ↔ IsSameState ended x.present → same ≡ t → cond t (codes "same\n") (codes "differs\n") ≡ stream_closing receiver_schedule_ops y
 closing_line x y seen ended same t there exact is =
     ap (λ s. cond s (codes "same\n") (codes "differs\n")) (sym is ∙ same_decides ended x.present same exact)

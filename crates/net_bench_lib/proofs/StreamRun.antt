@@ -11,19 +11,24 @@ use Rattle.net_bench_lib.proofs.Flushed.{Ran, Erred}
 use Rattle.net_bench_lib.proofs.StreamStates.{receiver_transcript}
 
 -- a session that begins writes what its mode does
-pub transcript_is : FreshRefines → EverySchedule → (first size capacity runs most : ℕ) (session : Schedules ReceiverState) →
-    session ≡ first_schedule receiver_schedule_ops (record { first = first; capacity = size; most_runs = runs }) → size ≡ capacity → runs ≡ most →
+pub transcript_is : FreshRefines → EverySchedule →
+    (first size capacity runs most : ℕ) (session : Schedules ReceiverState) →
+    session ≡ first_schedule receiver_schedule_ops (record { first = first; capacity = size; most_runs = runs }) →
+    size ≡ capacity → runs ≡ most →
     transcript (stream_rules receiver_schedule_ops) (stream_closing receiver_schedule_ops) 1 session ≡ transcript_of
     (Stream (record { first = first; capacity = capacity; most_runs = most }))
 transcript_is fresh_refines every first size capacity runs most session begins same_size same_runs =
     ap (transcript (stream_rules receiver_schedule_ops) (stream_closing receiver_schedule_ops) 1)
-    (begins ∙ (λ k. first_schedule receiver_schedule_ops (record { first = first; capacity = same_size k; most_runs = same_runs k })))
+    (begins ∙ (λ k. first_schedule receiver_schedule_ops
+    (record { first = first; capacity = same_size k; most_runs = same_runs k })))
     ∙ receiver_transcript fresh_refines every _
 
 -- what a run says of one transcript it says of the other
-module _ (all other : Transcript) (one : all ≡ other) (r : Result (Unit {0}) BenchError) (before old new : Option (List ℕ)) where
+module _ (all other : Transcript) (one : all ≡ other) (r : Result (Unit {0}) BenchError)
+    (before old new : Option (List ℕ)) where
   pub run_ok : OnOk r (Ran all before old new) → OnOk r (Ran other before old new)
   run_ok h = subst (λ t. OnOk r (Ran t before old new)) one h
 
-  pub run_err : (left : Option (List ℕ)) → IfErr r (Erred all before left old new) → IfErr r (Erred other before left old new)
+  pub run_err : (left : Option (List ℕ)) → IfErr r (Erred all before left old new) →
+      IfErr r (Erred other before left old new)
   run_err left h = subst (λ t. IfErr r (Erred t before left old new)) one h

@@ -11,7 +11,8 @@ pub words-first : (line : List ℕ) (at : ℕ) → IsFirstByte (is_byte 32) line
     words_of line ≡ take at line ∷ words_of (take (length line - (at + 1)) (drop (at + 1) line))
 words-first line at h =
     let f = found 32 line at h in
-    rw (take_rest line (at + 1)) (ap words_of f.1 ∙ slice_split_at (λ b. b == 32) (take at line) 32 (drop (at + 1) line) f.2 refl)
+    rw (take_rest line (at + 1)) (ap words_of f.1
+    ∙ slice_split_at (λ b. b == 32) (take at line) 32 (drop (at + 1) line) f.2 refl)
 
 -- a line with no space is a word
 pub words-one : (line : List ℕ) → IsFirstByte (is_byte 32) line None → words_of line ≡ line ∷ []

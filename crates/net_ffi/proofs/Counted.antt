@@ -16,7 +16,8 @@ either : (P : Timer → Type 0) (c : Bool) (x y : Timer) → P x → P y → P (
 either P true x y px py = px
 either P false x y px py = py
 
-after : (b : Bounds) (now : ℤ) (t : Timer) → 1 ≤ b.least → 1 ≤ t.timeout.timeout → 1 ≤ (after_expiry b now t).timeout.timeout
+after : (b : Bounds) (now : ℤ) (t : Timer) → 1 ≤ b.least → 1 ≤ t.timeout.timeout →
+    1 ≤ (after_expiry b now t).timeout.timeout
 after b now t least own =
     let passed : 1 ≤ doubled b t.timeout.timeout = omega arith in
     either (λ it. 1 ≤ it.timeout.timeout) (has_expired t now)

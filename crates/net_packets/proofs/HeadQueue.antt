@@ -73,7 +73,8 @@ module _ (c : ℕ) (h : PacketsHead) (ss : List PacketSlot) (hs : HasSoundSlots 
   module _ (s : PacketSlot) (some : 1 ≤ h.slots.length) (at : slice_get ss h.slots.read_at ≡ Some s) where
     first_kind : (xs : List ℕ) → length xs ≡ c →
         ((s.is_gap ≡ 0) × (nat_eq s.is_gap 0 ≡ true) × IsFirstIn h (map metadata ss) xs (queue_of h ss xs) s.size tt)
-        ⊎ ((s.is_gap ≢ 0) × (nat_eq s.is_gap 0 ≡ false) × (first_gap (queue_of h ss xs).packets ≡ s.size) × (0 < s.size))
+        ⊎ ((s.is_gap ≢ 0) × (nat_eq s.is_gap 0 ≡ false)
+        × (first_gap (queue_of h ss xs).packets ≡ s.size) × (0 < s.size))
     first_kind xs e =
         let k = represented xs e in
         let found = slice_get-map metadata ss h.slots.read_at ∙ ap (option_map metadata) at in
@@ -90,22 +91,26 @@ module _ (c : ℕ) (h : PacketsHead) (ss : List PacketSlot) (hs : HasSoundSlots 
     can = elim (first_kind (replicate c 0) (length-replicate c 0)) [
       | inl f ↦ (some, first_in f.2, omega (arith, first_fits f.2, length-replicate {A = ℕ} c 0), λ n. absurd (n f.0))
       | inr f ↦
-          let at = gap_fits c h.bytes.read_at 0 (queue_of h ss (replicate c 0)).packets hs.3 (omega (arith, f.2, f.3)) in
+          let at = gap_fits c h.bytes.read_at 0 (queue_of h ss (replicate c 0)).packets hs.3
+          (omega (arith, f.2, f.3)) in
           let zero_at = place_zero c h.bytes.read_at hs.0.1.0 in
           (some, omega (arith, hs.2, f.2), omega (arith, f.2), λ n. (f.3, omega (arith, f.2)))
     ]
 
-    module _ (n : ℕ) (en : length ss ≡ n) (h2 : PacketsHead) (is : h2 ≡ with_slot_taken n c s.size h) (xs : List ℕ) (e : length xs ≡ c) where
+    module _ (n : ℕ) (en : length ss ≡ n) (h2 : PacketsHead) (is : h2
+        ≡ with_slot_taken n c s.size h) (xs : List ℕ) (e : length xs ≡ c) where
       slot_taken : IsQueue h2 (map metadata ss) xs (after_slot s (queue_of h ss xs))
       slot_taken =
           let q = queue_of h ss xs in
           let same = is ∙ ap₂ (λ (i j : ℕ). with_slot_taken i j s.size h) (sym (length-map ss metadata ∙ en)) (sym e) in
           elim (first_kind xs e) [
             | inl f ↦
-                subst (IsQueue h2 (map metadata ss) xs) (sym (cond-true (nat_eq s.is_gap 0) (without_first q) (without_gap q) f.1))
+                subst (IsQueue h2 (map metadata ss) xs)
+                (sym (cond-true (nat_eq s.is_gap 0) (without_first q) (without_gap q) f.1))
                 (off_as_it_is f.2 (map metadata ss) refl refl h2 same)
             | inr f ↦
-                subst (IsQueue h2 (map metadata ss) xs) (sym (cond-false (nat_eq s.is_gap 0) (without_first q) (without_gap q) f.1))
+                subst (IsQueue h2 (map metadata ss) xs)
+                (sym (cond-false (nat_eq s.is_gap 0) (without_first q) (without_gap q) f.1))
                 (skipped (represented xs e) s.size f.2 f.3 h2 same)
           ]
 
@@ -115,7 +120,8 @@ pub first_can : (n c : ℕ) (h : PacketsHead) (s : PacketSlot) (ss : List Packet
     → IsFirstSlot h ss s → CanTake c h s
 first_can n c h s ss e sound is = can c h ss sound s is.0 is.1
 
-module _ (n c : ℕ) (h : PacketsHead) (s : PacketSlot) (can : CanTake c h s) (h2 : PacketsHead) (is : h2 ≡ with_slot_taken n c s.size h)
+module _ (n c : ℕ) (h : PacketsHead) (s : PacketSlot) (can : CanTake c h s) (h2 : PacketsHead) (is : h2
+    ≡ with_slot_taken n c s.size h)
     (ss : List PacketSlot) where
   pub first_taken : (xs : List ℕ) → length ss ≡ n → length xs ≡ c → HasSoundSlots c h ss
       → slice_get ss h.slots.read_at ≡ Some s
@@ -130,11 +136,14 @@ pub lower_slot : (k : ℕ) (s : PacketSlot) → s.is_gap ≡ 0 → record { size
 lower_slot k s e = ap (λ (n : ℕ). record { size = k; is_gap = n }) e
 
 -- ---- the last packet becomes shorter
-module _ (h : PacketsHead) (last : PacketSlot) (k : ℕ) (can : CanShorten h last k) (new : PacketSlot) (is : new ≡ packet_slot (last.size - k))
-    (h2 : PacketsHead) (slots : h2.slots ≡ h.slots) (bytes : h2.bytes ≡ place h.bytes.read_at (h.bytes.length - k)) (c : ℕ)
+module _ (h : PacketsHead) (last : PacketSlot) (k : ℕ) (can : CanShorten h last k) (new : PacketSlot) (is : new
+    ≡ packet_slot (last.size - k))
+    (h2 : PacketsHead) (slots : h2.slots ≡ h.slots) (bytes : h2.bytes
+    ≡ place h.bytes.read_at (h.bytes.length - k)) (c : ℕ)
     (ss : List PacketSlot) where
   last_left : HasSoundSlots c h ss → slice_get ss (last_slot_index h ss) ≡ Some last → (xs : List ℕ) → length xs ≡ c
-      → IsQueue h2 (map metadata (set ss (last_slot_index h ss) new)) xs (with_last_size (last.size - k) (queue_of h ss xs))
+      → IsQueue h2 (map metadata (set ss (last_slot_index h ss) new)) xs
+      (with_last_size (last.size - k) (queue_of h ss xs))
   last_left hs at xs e =
       let i = last_slot_index h ss in
       let same : index_after (length (map metadata ss)) h.slots.read_at (h.slots.length - 1) ≡ i =
@@ -158,7 +167,8 @@ module _ (h : PacketsHead) (last : PacketSlot) (k : ℕ) (can : CanShorten h las
 written_as : (p : PacketPlace) (s : ℕ) (ss : List PacketSlot)
     → map metadata (slots_written p s ss) ≡ slots_with p s tt (map metadata ss)
 written_as p s ss =
-    map-set metadata (if nat_eq p.gap 0 then ss else set ss p.gap_slot (record { size = p.gap; is_gap = 1 })) p.slot (packet_slot s)
+    map-set metadata (if nat_eq p.gap 0 then ss else set ss p.gap_slot (record { size = p.gap; is_gap = 1 }))
+    p.slot (packet_slot s)
     ∙ ap (λ l. set l p.slot (slot s (Some tt))) (gap_as (nat_eq p.gap 0))
   where
     gap_as : (b : Bool) → map metadata (if b then ss else set ss p.gap_slot (record { size = p.gap; is_gap = 1 }))
@@ -167,8 +177,10 @@ written_as p s ss =
     gap_as false = map-set metadata ss p.gap_slot (record { size = p.gap; is_gap = 1 })
 
 -- as clauses say it
-module _ (c : ℕ) (h : PacketsHead) (ss : List PacketSlot) (s : ℕ) (p : PacketPlace) (gap : placement_in (length ss) c h s ≡ Some p.gap)
-    (at : p ≡ place_after_gap (length ss) c h p.gap) (h2 : PacketsHead) (is : h2 ≡ with_packet_placed p.gap s h) (ss2 : List PacketSlot)
+module _ (c : ℕ) (h : PacketsHead) (ss : List PacketSlot) (s : ℕ) (p : PacketPlace)
+    (gap : placement_in (length ss) c h s ≡ Some p.gap)
+    (at : p ≡ place_after_gap (length ss) c h p.gap) (h2 : PacketsHead) (is : h2
+    ≡ with_packet_placed p.gap s h) (ss2 : List PacketSlot)
     (wrote : ss2 ≡ slots_written p s ss) where
   packet_left : HasSoundSlots c h ss → (xs : List ℕ) → length xs ≡ c
       → IsQueue h2 (map metadata ss2) xs (with_packet_if_room (queue_of h ss xs) s tt)
@@ -182,7 +194,8 @@ module _ (c : ℕ) (h : PacketsHead) (ss : List PacketSlot) (s : ℕ) (p : Packe
         from = ap (λ o. o.from) at;
       } in
       subst (IsQueue h2 (map metadata ss2) xs) (placed_is there tt)
-      (placed there s (omega arith) tt h2 (ap (λ (o : PacketsHead). o.slots) is) (ap (λ (o : PacketsHead). o.bytes) is) (map metadata ss2)
+      (placed there s (omega arith) tt h2 (ap (λ (o : PacketsHead). o.slots) is)
+      (ap (λ (o : PacketsHead). o.bytes) is) (map metadata ss2)
       (ap (map metadata) wrote ∙ written_as p s ss))
 
   pub packet_enqueued : (xs : List ℕ) → length xs ≡ c → HasSoundSlots c h ss
@@ -208,7 +221,9 @@ pub both_steps : (c : ℕ) (h : PacketsHead) (ss : List PacketSlot) (k : Packets
     → (((1 ≤ h.slots.length) × ((first_slot h ss).is_gap ≢ 0 → CanTake c h (first_slot h ss)) → ⊥) → P) → (P → ⊥)
     → ((((first_slot k ss).is_gap ≡ 0) × CanTake c k (first_slot k ss) → ⊥) → Q) → (HasFirst c h ss → ⊥) → Q
 both_steps c h ss k is one not two none =
-    two (λ b. not (one (λ a. let d = subst (λ (o : PacketsHead). ((first_slot o ss).is_gap ≡ 0) × CanTake c o (first_slot o ss)) is b in none (a.1, d.0, d.1))))
+    two (λ b. not (one (λ a. let d =
+    subst (λ (o : PacketsHead). ((first_slot o ss).is_gap ≡ 0) × CanTake c o (first_slot o ss)) is b in
+    none (a.1, d.0, d.1))))
 
 -- packets are left without the first gap
 used_skip : (ps : List (Packet ⊤)) → 1 ≤ slots_used ps → 1 ≤ slots_used (without_first_gap ps)
@@ -240,12 +255,14 @@ module _ (c : ℕ) (h : PacketsHead) (ss : List PacketSlot) (hs : HasSoundSlots 
         let is : k ≡ h = cond-true (nat_eq s.is_gap 0) h (with_slot_taken (length ss) c s.size h) f.1 in
         let q = queue_of h ss xs in
         let same = ap₂ (λ (r : ℕ) (ps : List (Packet ⊤)). mk q.slot_count xs r ps)
-        (ap (index_after (length xs) h.bytes.read_at) f.2.no_gap ∙ place_zero (length xs) h.bytes.read_at f.2.queue.sound.1.0)
+        (ap (index_after (length xs) h.bytes.read_at) f.2.no_gap
+        ∙ place_zero (length xs) h.bytes.read_at f.2.queue.sound.1.0)
         (no_gap q.packets f.2.no_gap) in
         subst (λ (o : PacketsHead). IsQueue o (map metadata ss) xs (without_gap q)) (sym is)
         (subst (IsQueue h (map metadata ss) xs) (sym same) (represented c h ss hs xs e))
     | inr f ↦
-        let is : k ≡ with_slot_taken (length ss) c s.size h = cond-false (nat_eq s.is_gap 0) h (with_slot_taken (length ss) c s.size h) f.1 in
+        let is : k ≡ with_slot_taken (length ss) c s.size h =
+        cond-false (nat_eq s.is_gap 0) h (with_slot_taken (length ss) c s.size h) f.1 in
         subst (IsQueue k (map metadata ss) xs)
         (cond-false (nat_eq s.is_gap 0) (without_first (queue_of h ss xs)) (without_gap (queue_of h ss xs)) f.1)
         (slot_taken c h ss hs s some slot_at_index (length ss) refl k is xs e)
@@ -290,7 +307,8 @@ module _ (c : ℕ) (h : PacketsHead) (ss : List PacketSlot) (hs : HasSoundSlots 
       → IsQueue (head_after_first c h ss) (map metadata ss) xs (without_first_and_gap (queue_of h ss xs))
   first_left xs e =
       subst (IsQueue (head_after_first c h ss) (map metadata ss) xs)
-      (cond-true (nat_eq s2.is_gap 0) (without_first (queue_of k ss xs)) (without_gap (queue_of k ss xs)) (second_is xs e).1
+      (cond-true (nat_eq s2.is_gap 0) (without_first (queue_of k ss xs)) (without_gap (queue_of k ss xs))
+      (second_is xs e).1
       ∙ ap without_first (gap_skipped xs e).seen)
       (slot_taken c k ss sound_skipped s2 some_left second_at (length ss) refl (head_after_first c h ss) refl xs e)
 
@@ -298,7 +316,8 @@ module _ (c : ℕ) (h : PacketsHead) (ss : List PacketSlot) (hs : HasSoundSlots 
   first_parts xs e =
       let q = queue_of h ss xs in
       let left = (gap_skipped xs e).seen in
-      let gap : (first_packet c h ss).gap ≡ first_gap q.packets = elim (first_kind c h ss hs s some slot_at_index xs e) [
+      let gap : (first_packet c h ss).gap ≡ first_gap q.packets =
+      elim (first_kind c h ss hs s some slot_at_index xs e) [
         | inl f ↦ cond-true (nat_eq s.is_gap 0) 0 s.size f.1 ∙ sym f.2.no_gap
         | inr f ↦ cond-false (nat_eq s.is_gap 0) 0 s.size f.1 ∙ sym f.2
       ] in
@@ -306,7 +325,8 @@ module _ (c : ℕ) (h : PacketsHead) (ss : List PacketSlot) (hs : HasSoundSlots 
       (gap, ap (λ o. o.read_at) left, size ∙ ap (λ o. first_size o.packets) left ∙ skip_size q.packets)
 
 -- as clauses say it
-module _ (c : ℕ) (h : PacketsHead) (ss : List PacketSlot) (some : 1 ≤ h.slots.length) (new : PacketsHead) (is : new ≡ head_after_first c h ss) where
+module _ (c : ℕ) (h : PacketsHead) (ss : List PacketSlot) (some : 1 ≤ h.slots.length) (new : PacketsHead) (is : new
+    ≡ head_after_first c h ss) where
   pub packet_dequeued : (xs : List ℕ) → length xs ≡ c → HasSoundSlots c h ss
       → queue_of new ss xs ≡ without_first_and_gap (queue_of h ss xs)
   packet_dequeued xs e hs = ap (λ o. queue_of o ss xs) is ∙ (first_left c h ss hs some xs e).seen
@@ -371,7 +391,8 @@ module _ (c : ℕ) (b : RingHead) (o : ℕ) where
     | inr k ↦
         let seen : AreSlotsAfter c b o g (slot s.size None ∷ ms) = subst (λ x. AreSlotsAfter c b o g (x ∷ ms)) k.1 a in
         let none = one_gap g s.size ms seen in
-        let first : AreSlotsAfter c b o 0 (slot s.size None ∷ ms) = subst (λ (n : ℕ). AreSlotsAfter c b o n (slot s.size None ∷ ms)) none seen in
+        let first : AreSlotsAfter c b o 0 (slot s.size None ∷ ms) =
+        subst (λ (n : ℕ). AreSlotsAfter c b o n (slot s.size None ∷ ms)) none seen in
         let gap = gap_of (packets_in (0 + s.size) ms) s.size ms first.0 in
         let at = gap_fits c b.read_at o (packets_in (0 + s.size) ms) first.2 (omega arith) in
         let same : o + g ≡ o = omega arith in
@@ -387,7 +408,8 @@ pub next_slot : (n c : ℕ) (h : PacketsHead) (ss : List PacketSlot) → IsSound
 next_slot n c h ss sound en k i lt at d =
     let m = slot_ring h ss in
     let long = length-map ss metadata in
-    let wf = subst (λ (j : ℕ). ((h.slots.read_at ≡ 0) ⊎ (h.slots.read_at < j)) × (h.slots.length ≤ j)) (en ∙ sym long) sound.0 in
+    let wf = subst (λ (j : ℕ). ((h.slots.read_at ≡ 0) ⊎ (h.slots.read_at < j)) × (h.slots.length ≤ j)) (en
+    ∙ sym long) sound.0 in
     let is : i ≡ storage_index m k = at ∙ ap (λ (j : ℕ). index_after j h.slots.read_at k) (en ∙ sym long) in
     let within : i < length ss = omega (arith, place_cases n h.slots.read_at k, sound.0) in
     let found = slice_get-map metadata ss i ∙ ap (option_map metadata) (slice_get-get_or ss i d within) in
@@ -396,7 +418,8 @@ next_slot n c h ss sound en k i lt at d =
     let step : suc k ≡ k + 1 = omega arith in
     drop-cons (queue m) k (metadata d) (omega arith)
     ∙ ap (λ (j : ℕ). get_or (queue m) k (metadata d) ∷ drop j (queue m)) step
-    ∙ ap (λ x. x ∷ drop (k + 1) (queue m)) (get_or_from_slice_get (queue m) k (metadata (get_or ss i d)) (metadata d) got)
+    ∙ ap (λ x. x ∷ drop (k + 1) (queue m))
+    (get_or_from_slice_get (queue m) k (metadata (get_or ss i d)) (metadata d) got)
 
 pub from_start : (c : ℕ) (h : PacketsHead) (ss : List PacketSlot) → HasSoundSlots c h ss
     → AreSlotsAfter c h.bytes 0 0 (queue (slot_ring h ss))

@@ -97,7 +97,9 @@ module _ {M : Type 1} {𝓤 : Ura M} (𝓛 : Logic 𝓤) (κ : Lft) where
       let Both : SProp 𝓤 = sep 𝓤 (A.lft (a ∷ []) full_share) (A.lft κ q) in
       let Back : SProp 𝓤 = wand 𝓤 (A.lft (a ∷ κ) s) Both in
       use2 𝓛 (‵ (flft (a ∷ κ) s) ⊛ raw Back) (lft-common 𝓛 (a ∷ []) κ full_share q) $ split ! $ move ! (1 ∷ []) $
-      use1 𝓛 (raw (Ends q (a, s))) (wand_i 𝓤 Back (A.lft (a ∷ κ) s) _ (qed 𝓛 (raw Back ∷ ‵ (flft (a ∷ κ) s) ∷ []) ∵ updating ! $ move ! (1 ∷ 0 ∷ []) $
+      use1 𝓛 (raw (Ends q (a, s)))
+      (wand_i 𝓤 Back (A.lft (a ∷ κ) s) _ (qed 𝓛 (raw Back ∷ ‵ (flft (a ∷ κ) s) ∷ []) ∵ updating ! $
+      move ! (1 ∷ 0 ∷ []) $
       use2 𝓛 (‵ (flft (a ∷ []) full_share) ⊛ ‵ (flft κ q)) (apply∗ 𝓤 (A.lft (a ∷ κ) s) Both) $ split ! $ lft_end ! tt $
       use1 𝓛 (‵ (fdead (a ∷ κ))) (𝓛.lfts.dead-incl (a ∷ κ) (a ∷ []) (meet_⊑_left (a ∷ []) κ)) $ at_once ! $ done !)) $
       at_once ! $ show ! (Begun q) (a, s) $ move ! (1 ∷ 0 ∷ []) $ done !)
@@ -108,7 +110,8 @@ module _ {M : Type 1} {𝓤 : Ura M} (𝓛 : Logic 𝓤) (κ : Lft) where
     lent κ' δ x = (MutRef (named 0) κ' R).own_val (record s { ghost_name = δ; now = x }) (mut_vals s)
 
     abbrev BackAt : ℕ × Share × GName → R.Denot → SProp 𝓤
-    BackAt p y = wand 𝓤 (sep 𝓤 (A.lft (p.0 ∷ κ) p.1) (A.res p.2 (R.coded.code y))) (H.⇛ (sep 𝓤 (sem 𝓛 (lent κ s.ghost_name y)) (A.lft κ q)))
+    BackAt p y = wand 𝓤 (sep 𝓤 (A.lft (p.0 ∷ κ) p.1) (A.res p.2 (R.coded.code y)))
+        (H.⇛ (sep 𝓤 (sem 𝓛 (lent κ s.ghost_name y)) (A.lft κ q)))
 
     -- what the holder keeps meanwhile
     abbrev pub Back : ℕ × Share × GName → SProp 𝓤
@@ -120,35 +123,47 @@ module _ {M : Type 1} {𝓤 : Ura M} (𝓛 : Logic 𝓤) (κ : Lft) where
     abbrev Kept : ℕ → GName → R.Denot → Fml
     Kept a δ x = LentAgain R κ (a ∷ κ) (right q) s.ghost_name s.ref_ptr.0 s.ref_ptr.1 δ x
 
-    back : (x : R.Denot) (p : ℕ × Share) (δ : GName) → ent 𝓤 (sep 𝓤 (sem 𝓛 (Kept p.0 δ x)) (Ends (left q) p)) (Back (p.0, p.1, δ))
+    back : (x : R.Denot) (p : ℕ × Share) (δ : GName) →
+        ent 𝓤 (sep 𝓤 (sem 𝓛 (Kept p.0 δ x)) (Ends (left q) p)) (Back (p.0, p.1, δ))
     back x p δ =
         qed 𝓛 (‵ (Kept p.0 δ x) ∷ raw (Ends (left q) p) ∷ []) ∵ each ! (BackAt (p.0, p.1, δ)) (λ y.
         assume ! (‵ (flft (p.0 ∷ κ) p.1) ⊛ ‵ (fres δ (R.coded.code y))) $ updating ! $ split ! $
         -- [the token; the last value; what was kept; the way to end]
-        move ! (0 ∷ 3 ∷ []) $ use2 𝓛 (later (‵ (fdead (p.0 ∷ κ)) ⊛ ‵ (flft κ (left q)))) (apply∗ 𝓤 (A.lft (p.0 ∷ κ) p.1) _) $ await ! tt $ split ! $
+        move ! (0 ∷ 3 ∷ []) $ use2 𝓛 (later (‵ (fdead (p.0 ∷ κ)) ⊛ ‵ (flft κ (left q))))
+        (apply∗ 𝓤 (A.lft (p.0 ∷ κ) p.1) _) $ await ! tt $ split ! $
         move ! (0 ∷ 3 ∷ 2 ∷ []) $
         use3 𝓛 (later (‵ (lent κ s.ghost_name y) ⊛ ‵ (flft κ (right q))))
-        (comes_back 𝓛 R (named 0) κ (p.0 ∷ κ) (right q) s.ghost_name s.ref_ptr.0 s.ref_ptr.1 δ x y) $ await ! tt $ split ! $
-        move ! (2 ∷ 1 ∷ []) $ use2 𝓛 (‵ (flft κ q)) (𝓛.lfts.lft_glue κ q (left q) (right q) (halves q)) $ at_once ! $ move ! (1 ∷ 0 ∷ []) $ done !)
+        (comes_back 𝓛 R (named 0) κ (p.0 ∷ κ) (right q) s.ghost_name s.ref_ptr.0 s.ref_ptr.1 δ x y) $
+        await ! tt $ split ! $
+        move ! (2 ∷ 1 ∷ []) $ use2 𝓛 (‵ (flft κ q)) (𝓛.lfts.lft_glue κ q (left q) (right q) (halves q)) $ at_once ! $
+        move ! (1 ∷ 0 ∷ []) $ done !)
 
-    pub lends_inside : (x : R.Denot) → ent 𝓤 (sep 𝓤 (sem 𝓛 (lent κ s.ghost_name x)) (A.lft κ q)) (H.⇛ (ex 𝓤 (LentInside x)))
+    pub lends_inside : (x : R.Denot) →
+        ent 𝓤 (sep 𝓤 (sem 𝓛 (lent κ s.ghost_name x)) (A.lft κ q)) (H.⇛ (ex 𝓤 (LentInside x)))
     lends_inside x =
         qed 𝓛 (‵ (lent κ s.ghost_name x) ∷ ‵ (flft κ q) ∷ []) ∵ updating ! $ move ! (1 ∷ []) $
-        use1 𝓛 (‵ (flft κ (left q)) ⊛ ‵ (flft κ (right q))) (𝓛.lfts.lft_cut κ q (left q) (right q) (halves q)) $ split ! $
-        use1 𝓛 (later (some (λ (p : ℕ × Share). ‵ (flft (p.0 ∷ κ) p.1) ⊛ raw (Ends (left q) p)))) (begins (left q)) $ await ! tt $
+        use1 𝓛 (‵ (flft κ (left q)) ⊛ ‵ (flft κ (right q)))
+        (𝓛.lfts.lft_cut κ q (left q) (right q) (halves q)) $ split ! $
+        use1 𝓛 (later (some (λ (p : ℕ × Share). ‵ (flft (p.0 ∷ κ) p.1) ⊛ raw (Ends (left q) p))))
+        (begins (left q)) $ await ! tt $
         pick ! (λ p. split ! $ move ! (3 ∷ 2 ∷ []) $
         use2 𝓛 (later (some (λ (δ : GName). ‵ (lent (p.0 ∷ κ) δ x) ⊛ ‵ (Kept p.0 δ x))))
-        (lends_again 𝓛 R (named 0) κ (p.0 ∷ κ) (right q) s.ghost_name s.ref_ptr.0 s.ref_ptr.1 (named 0) x) $ await ! tt $ pick ! (λ δ. split ! $
+        (lends_again 𝓛 R (named 0) κ (p.0 ∷ κ) (right q) s.ghost_name s.ref_ptr.0 s.ref_ptr.1 (named 0) x) $
+        await ! tt $ pick ! (λ δ. split ! $
         -- [the loan; what is kept; the token; the way to end]
-        move ! (1 ∷ 3 ∷ []) $ use2 𝓛 (raw (Back (p.0, p.1, δ))) (back x p δ) $ at_once ! $ show ! (LentInside x) (p.0, p.1, δ) $ move ! (1 ∷ 2 ∷ 0 ∷ []) $
+        move ! (1 ∷ 3 ∷ []) $ use2 𝓛 (raw (Back (p.0, p.1, δ))) (back x p δ) $ at_once ! $
+        show ! (LentInside x) (p.0, p.1, δ) $ move ! (1 ∷ 2 ∷ 0 ∷ []) $
         done !))
 
     pub comes_inside : (p : ℕ × Share × GName) (y : R.Denot)
-        → ent 𝓤 (sep 𝓤 (A.lft (p.0 ∷ κ) p.1) (sep 𝓤 (A.res p.2 (R.coded.code y)) (Back p))) (H.⇛ (sep 𝓤 (sem 𝓛 (lent κ s.ghost_name y)) (A.lft κ q)))
+        → ent 𝓤 (sep 𝓤 (A.lft (p.0 ∷ κ) p.1) (sep 𝓤 (A.res p.2 (R.coded.code y)) (Back p)))
+        (H.⇛ (sep 𝓤 (sem 𝓛 (lent κ s.ghost_name y)) (A.lft κ q)))
     comes_inside p y =
-        qed 𝓛 (‵ (flft (p.0 ∷ κ) p.1) ∷ ‵ (fres p.2 (R.coded.code y)) ∷ raw (Back p) ∷ []) ∵ updating ! $ move ! (2 ∷ []) $
+        qed 𝓛 (‵ (flft (p.0 ∷ κ) p.1) ∷ ‵ (fres p.2 (R.coded.code y)) ∷ raw (Back p) ∷ []) ∵ updating ! $
+        move ! (2 ∷ []) $
         use1 𝓛 (raw (BackAt p y)) (all_e 𝓤 (BackAt p) y) $ move ! (1 ∷ 2 ∷ []) $ join ! $
-        use2 𝓛 (later (‵ (lent κ s.ghost_name y) ⊛ ‵ (flft κ q))) (apply∗ 𝓤 (sep 𝓤 (A.lft (p.0 ∷ κ) p.1) (A.res p.2 (R.coded.code y))) _) $ await ! tt $
+        use2 𝓛 (later (‵ (lent κ s.ghost_name y) ⊛ ‵ (flft κ q)))
+        (apply∗ 𝓤 (sep 𝓤 (A.lft (p.0 ∷ κ) p.1) (A.res p.2 (R.coded.code y))) _) $ await ! tt $
         split ! $ at_once ! $ done !
 
 -- ---- what is owned of a `Result` that a call returned is taken apart, and an error or a pair is made
@@ -174,41 +189,58 @@ pub pair_typed : (σ τ : Ty) (u v : Val) → T (has_ty σ u) × WT u → T (has
 pair_typed σ τ u v s t = as_fields (σ ∷ τ ∷ []) (u ∷ v ∷ []) (s, (t, tt))
 
 pub pair_of : {M : Type 1} {𝓤 : Ura M} (𝓛 : Logic 𝓤) (R S : RattleType) (x : R.Denot) (y : S.Denot) (u v : Val)
-    → ent 𝓤 (sep 𝓤 (sem 𝓛 (R.own_val x (u ∷ []))) (sem 𝓛 (S.own_val y (v ∷ [])))) (sem 𝓛 ((Tuple (R ∷ S ∷ [])).own_val (x, y) (pair_val u v ∷ [])))
+    → ent 𝓤 (sep 𝓤 (sem 𝓛 (R.own_val x (u ∷ []))) (sem 𝓛 (S.own_val y (v ∷ []))))
+    (sem 𝓛 ((Tuple (R ∷ S ∷ [])).own_val (x, y) (pair_val u v ∷ [])))
 pair_of 𝓛 R S x y u v =
-    qed 𝓛 (‵ (R.own_val x (u ∷ [])) ∷ ‵ (S.own_val y (v ∷ [])) ∷ []) ∵ nothing ! $ move ! (2 ∷ 0 ∷ []) $ fjoin ! $ move ! (1 ∷ 0 ∷ []) $ fjoin ! $
+    qed 𝓛 (‵ (R.own_val x (u ∷ [])) ∷ ‵ (S.own_val y (v ∷ [])) ∷ []) ∵ nothing ! $ move ! (2 ∷ 0 ∷ []) $ fjoin ! $
+    move ! (1 ∷ 0 ∷ []) $ fjoin ! $
     feq_i ! (List Val) (pair_val u v ∷ []) (pair_val u v ∷ []) refl $ fjoin ! $
-    fpack ! (Valss (R ∷ S ∷ [])) (within (shape (tuple_type (R ∷ S ∷ []))) (x, (y, tt)) (pair_val u v ∷ [])) (u ∷ [], (v ∷ [], tt)) $ done !
+    fpack ! (Valss (R ∷ S ∷ [])) (within (shape (tuple_type (R ∷ S ∷ []))) (x, (y, tt)) (pair_val u v ∷ [])) (
+      u ∷ [],
+      (v ∷ [], tt),
+    ) $ done !
 
 -- a goal P ∗ F, where F is several facts: they are shown, and P is left
-pub and_fact : {M : Type 1} (𝓤 : Ura M) (φ : Type 0) (F : SProp 𝓤) → φ → ent 𝓤 (emp 𝓤) F → ent 𝓤 (emp 𝓤) (sep 𝓤 (fact 𝓤 φ) F)
+pub and_fact : {M : Type 1} (𝓤 : Ura M) (φ : Type 0) (F : SProp 𝓤) → φ → ent 𝓤 (emp 𝓤) F →
+    ent 𝓤 (emp 𝓤) (sep 𝓤 (fact 𝓤 φ) F)
 and_fact 𝓤 φ F x f = via 𝓤 (sep 𝓤 (emp 𝓤) F) (via 𝓤 F f (emp∗ 𝓤 F)) (mono_l 𝓤 F (fact_i 𝓤 φ (emp 𝓤) x))
 
-pub says_all : {M : Type 1} {𝓤 : Ura M} {𝓛 : Logic 𝓤} {K : Type 0} {Γ : List (Item 𝓤)} → K → {P F : SProp 𝓤} → ent 𝓤 (emp 𝓤) F
+pub says_all : {M : Type 1} {𝓤 : Ura M} {𝓛 : Logic 𝓤} {K : Type 0} {Γ : List (Item 𝓤)} → K →
+    {P F : SProp 𝓤} → ent 𝓤 (emp 𝓤) F
     → Step K 𝓛 Γ (prop P) Γ (prop (sep 𝓤 P F))
-says_all {𝓤 = 𝓤} t {P} {F} f = step (λ s. record { prf = via 𝓤 P s.prf (via 𝓤 (sep 𝓤 (emp 𝓤) P) (emp∗ 𝓤 P) (via 𝓤 (sep 𝓤 F P) (mono_l 𝓤 P f) (comm∗ 𝓤 F P))) })
+says_all {𝓤 = 𝓤} t {P} {F} f =
+    step (λ s. record {
+      prf =
+          via 𝓤 P s.prf (via 𝓤 (sep 𝓤 (emp 𝓤) P) (emp∗ 𝓤 P) (via 𝓤 (sep 𝓤 F P) (mono_l 𝓤 P f) (comm∗ 𝓤 F P)));
+    })
 
 module _ {M : Type 1} {𝓤 : Ura M} {𝓛 : Logic 𝓤} {K : Type 0} {Γ : List (Item 𝓤)} {G : Goal 𝓤 𝓛.H} where
   -- what is owned at `Ok` and at `Err`
   pub ok_had : K → (R E : RattleType) (x : R.Denot) (v : Val)
-      → ((us : List Val) → v ≡ live 0 (of_list (us ++ [])) → Seq K 𝓛 (‵ (R.own_val x us) ∷ Γ) G) → Seq K 𝓛 (‵ ((RS.the_row R E).own_val (Ok x) (v ∷ [])) ∷ Γ) G
+      → ((us : List Val) → v ≡ live 0 (of_list (us ++ [])) → Seq K 𝓛 (‵ (R.own_val x us) ∷ Γ) G) →
+      Seq K 𝓛 (‵ ((RS.the_row R E).own_val (Ok x) (v ∷ [])) ∷ Γ) G
   ok_had t R E x v k =
       fpick t (λ ps. fsplit t $ feq_l t
       (λ e. fpick t (λ vss. fsplit t $
-      feq_l t (λ f. fsplit t $ move t (1 ∷ []) $ drop t $ k vss.0 (ap only e ∙ ap (λ (l : List Val). live 0 (of_list l)) f)))))
+      feq_l t (λ f. fsplit t $ move t (1 ∷ []) $ drop t $
+      k vss.0 (ap only e ∙ ap (λ (l : List Val). live 0 (of_list l)) f)))))
 
   pub err_had : K → (R E : RattleType) (x : E.Denot) (v : Val)
-      → ((us : List Val) → v ≡ live 1 (of_list (us ++ [])) → Seq K 𝓛 (‵ (E.own_val x us) ∷ Γ) G) → Seq K 𝓛 (‵ ((RS.the_row R E).own_val (Err x) (v ∷ [])) ∷ Γ) G
+      → ((us : List Val) → v ≡ live 1 (of_list (us ++ [])) → Seq K 𝓛 (‵ (E.own_val x us) ∷ Γ) G) →
+      Seq K 𝓛 (‵ ((RS.the_row R E).own_val (Err x) (v ∷ [])) ∷ Γ) G
   err_had t R E x v k =
       fpick t (λ ps. fsplit t $ feq_l t
       (λ e. fpick t (λ vss. fsplit t $
-      feq_l t (λ f. fsplit t $ move t (1 ∷ []) $ drop t $ k vss.0 (ap only e ∙ ap (λ (l : List Val). live 1 (of_list l)) f)))))
+      feq_l t (λ f. fsplit t $ move t (1 ∷ []) $ drop t $
+      k vss.0 (ap only e ∙ ap (λ (l : List Val). live 1 (of_list l)) f)))))
 
   -- the two parts of a pair
   pub pair_had : K → (R S : RattleType) (x : R.Denot) (y : S.Denot) (ws : List Val)
-      → ((us vs : List Val) → ws ≡ vstruct (of_list (us ++ (vs ++ []))) ∷ [] → Seq K 𝓛 (‵ (R.own_val x us) ∷ ‵ (S.own_val y vs) ∷ Γ) G) →
+      → ((us vs : List Val) → ws ≡ vstruct (of_list (us ++ (vs ++ []))) ∷ [] →
+      Seq K 𝓛 (‵ (R.own_val x us) ∷ ‵ (S.own_val y vs) ∷ Γ) G) →
       Seq K 𝓛 (‵ ((Tuple (R ∷ S ∷ [])).own_val (x, y) ws) ∷ Γ) G
-  pair_had t R S x y ws k = fpick t (λ vss. fsplit t $ feq_l t (λ e. fsplit3 t $ move t (2 ∷ []) $ drop t $ k vss.0 vss.1.0 e))
+  pair_had t R S x y ws k =
+      fpick t (λ vss. fsplit t $ feq_l t (λ e. fsplit3 t $ move t (2 ∷ []) $ drop t $ k vss.0 vss.1.0 e))
 
 -- ---- a queue of packets in a walk: its type parameters, and what a call on it asks of their lifetimes
 -- the headers, the storage of the slots and that of the bytes, and how their traits are passed
@@ -225,7 +257,8 @@ pub record Given : Type 2 where
 
 module _ (G : Given) where
   abbrev pub args : Args
-  args = bounded (a_type ∷ a_type ∷ a_type ∷ []) (G.H, (G.N, (G.B, tt))) (dcons G.slots_by (dcons G.bytes_by (dcons G.drops_by dnil)))
+  args = bounded (a_type ∷ a_type ∷ a_type ∷ []) (G.H, (G.N, (G.B, tt)))
+      (dcons G.slots_by (dcons G.bytes_by (dcons G.drops_by dnil)))
 
   abbrev pub Header : RattleType
   Header = param 0 G.H
@@ -247,7 +280,8 @@ module _ (G : Given) where
 
     -- what a call requires that requires P
     abbrev pub Asked : SProp 𝓤 → SProp 𝓤
-    Asked P = sep 𝓤 (fact 𝓤 (κs.1.0 ⊑ G.H.lives)) (sep 𝓤 (fact 𝓤 (κs.1.1.0 ⊑ G.N.lives)) (sep 𝓤 (fact 𝓤 (κs.1.1.1.0 ⊑ G.B.lives)) P))
+    Asked P = sep 𝓤 (fact 𝓤 (κs.1.0 ⊑ G.H.lives))
+        (sep 𝓤 (fact 𝓤 (κs.1.1.0 ⊑ G.N.lives)) (sep 𝓤 (fact 𝓤 (κs.1.1.1.0 ⊑ G.B.lives)) P))
 
   pub asked : {M : Type 1} {𝓤 : Ura M} (𝓛 : Logic 𝓤) (κs : Lfts 4) → Live κs → (P : SProp 𝓤) → ent 𝓤 P (Asked 𝓤 κs P)
   asked {𝓤 = 𝓤} 𝓛 κs live P =
@@ -256,8 +290,11 @@ module _ (G : Given) where
       use0 𝓛 (raw (fact 𝓤 (κs.1.0 ⊑ G.H.lives))) (fact_i 𝓤 _ (emp 𝓤) live.0) $ join ! $ done !
 
   -- what a call of such a queue is given says the lifetimes
-  pub lives : {M : Type 1} {𝓤 : Ura M} (𝓛 : Logic 𝓤) (κs : Lfts 4) (P R : SProp 𝓤) → (Live κs → ent 𝓤 P R) → ent 𝓤 (sep 𝓤 P (Asked 𝓤 κs (emp 𝓤))) R
+  pub lives : {M : Type 1} {𝓤 : Ura M} (𝓛 : Logic 𝓤) (κs : Lfts 4) (P R : SProp 𝓤) → (Live κs → ent 𝓤 P R) →
+      ent 𝓤 (sep 𝓤 P (Asked 𝓤 κs (emp 𝓤))) R
   lives {𝓤 = 𝓤} 𝓛 κs P R k =
-      qed 𝓛 (raw P ∷ raw (fact 𝓤 (κs.1.0 ⊑ G.H.lives)) ∷ raw (fact 𝓤 (κs.1.1.0 ⊑ G.N.lives)) ∷ raw (fact 𝓤 (κs.1.1.1.0 ⊑ G.B.lives)) ∷ ‵ ftrue ∷ []) ∵
-      move ! (1 ∷ []) $ heard ! _ (λ lH. move ! (1 ∷ []) $ heard ! _ (λ lN. move ! (1 ∷ []) $ heard ! _ (λ lB. move ! (1 ∷ []) $ drop ! $
+      qed 𝓛 (raw P ∷ raw (fact 𝓤 (κs.1.0 ⊑ G.H.lives)) ∷ raw (fact 𝓤 (κs.1.1.0 ⊑ G.N.lives)) ∷ raw
+      (fact 𝓤 (κs.1.1.1.0 ⊑ G.B.lives)) ∷ ‵ ftrue ∷ []) ∵
+      move ! (1 ∷ []) $ heard ! _ (λ lH. move ! (1 ∷ []) $
+      heard ! _ (λ lN. move ! (1 ∷ []) $ heard ! _ (λ lB. move ! (1 ∷ []) $ drop ! $
       by ! (k (lH, lN, lB)))))

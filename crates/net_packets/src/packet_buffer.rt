@@ -537,7 +537,8 @@ impl<H: Drop, M: Storage<PacketMetadata<H>>, B: Storage<u8>> PacketsOver<H, M, B
     /// `Empty` if the queue has no packets. Then nothing changes.
     pub fn dequeue(&mut self) -> Result<(H, &mut [u8]), Empty>
         ensures* writes_back { sem 𝓛 (lends_packet_if H.row M.row B.row M.Storage B.Storage
-            self.entry result (with_bytes (without_first_and_gap self.old) (without_gap self.old).read_at)) }
+            self.entry result (with_bytes (without_first_and_gap self.old)
+            (without_gap self.old).read_at)) }
         ensures empty { IsErr result ↔ (contents self.old ≡ []) }
         // Guarantee.
         ensures shown { IfOk result

@@ -29,8 +29,10 @@ missing_split s from at to low high =
 -- of positions in this order, those of the ranges beside two others
 others : (s : Positions) (first from turn resume lost sent unknown : ℕ) →
     first ≤ from → from ≤ turn → turn ≤ resume → resume ≤ lost → lost ≤ sent →
-    missing_count s first (from - first) + missing_count s turn (resume - turn) + missing_count s lost (sent - lost) - unknown
-    ≡ missing_count s first (sent - first) - unknown - missing_count s from (turn - from) - missing_count s resume (lost - resume)
+    missing_count s first (from - first) + missing_count s turn (resume - turn)
+    + missing_count s lost (sent - lost) - unknown
+    ≡ missing_count s first (sent - first) - unknown - missing_count s from (turn - from) - missing_count s
+    resume (lost - resume)
 others s first from turn resume lost sent unknown one two three four five =
     let a = missing_split s first from sent one (omega (arith, two, three, four, five)) in
     let b = missing_split s from turn sent two (omega (arith, three, four, five)) in
@@ -40,12 +42,15 @@ others s first from turn resume lost sent unknown one two three four five =
 
 -- what is in flight in a recovery, by such ranges
 pub flight : (s : Positions) (r : LossRecovery) (first sent from turn resume lost : ℕ) → is_active r first ≡ true →
-    from ≡ max r.again first → turn ≡ max (min r.turn r.lost) from → resume ≡ max r.resume from → lost ≡ max r.lost resume →
+    from ≡ max r.again first → turn ≡ max (min r.turn r.lost) from → resume ≡ max r.resume from →
+    lost ≡ max r.lost resume →
     turn ≤ resume → lost ≤ sent →
-    missing_count s first (from - first) + missing_count s turn (resume - turn) + missing_count s lost (sent - lost) - r.unknown
+    missing_count s first (from - first) + missing_count s turn (resume - turn)
+    + missing_count s lost (sent - lost) - r.unknown
     ≡ in_flight r first sent s
 flight s r first sent from turn resume lost active f t u l three five =
-    let is = others s first from turn resume lost sent r.unknown (omega (arith, f)) (omega (arith, t)) three (omega (arith, l)) five in
+    let is = others s first from turn resume lost sent r.unknown (omega (arith, f)) (omega (arith, t)) three
+    (omega (arith, l)) five in
     let at : resumed r first ≡ from = sym f in
     let to : min r.turn r.lost - resumed r first ≡ turn - from = omega (arith, at, t) in
     let on : gone_on r first ≡ resume = omega (arith, at, u) in

@@ -47,7 +47,8 @@ pub not_again-is : (again first turn resume p : ℕ) →
     IsFalse (nat_lt p (max again first) || (nat_le turn p && nat_lt p resume)) →
     (max again first ≤ p) × ((p < turn) ⊎ (resume ≤ p))
 not_again-is again first turn resume p is = elim (cases_lt p (max again first)) [
-  | inl below ↦ absurd (let no : nat_lt p (max again first) ≡ true = grind (arith, nat_tests) in grind (arith, nat_tests))
+  | inl below ↦ absurd (let no : nat_lt p (max again first) ≡ true = grind (arith, nat_tests) in
+      grind (arith, nat_tests))
   | inr low ↦ (
     low,
     elim (cases_lt p turn) [
@@ -61,7 +62,8 @@ not_again-is again first turn resume p is = elim (cases_lt p (max again first)) 
 ]
 
 -- a hole that is looked for from a missing position on begins there
-pub hole_at : (s : Positions) (p limit start end : ℕ) → IsNextHole s p limit start end → start < end → contains s p ≡ false →
+pub hole_at : (s : Positions) (p limit start end : ℕ) → IsNextHole s p limit start end → start < end →
+    contains s p ≡ false →
     start ≡ p
 hole_at s p limit start end h some misses =
     let begins = h.begins in
@@ -86,7 +88,8 @@ at_first s first p limit start end h some misses here =
     grind (arith, nat_tests)
 
 -- where none is below where the pass ends, it ends at the first position or below, and what it leaves out too
-pub at_rest : (s : Positions) (first p until turn lost limit resume : ℕ) → p ≡ first → IsNextHole s p until until until →
+pub at_rest : (s : Positions) (first p until turn lost limit resume : ℕ) → p ≡ first →
+    IsNextHole s p until until until →
     contains s first ≡ false → until ≡ min (min turn lost) limit → first < min lost limit →
     (first < turn) ⊎ (resume ≤ first) → resume ≤ first
 at_rest s first p until turn lost limit resume here none misses is below (inr above) = above

@@ -41,7 +41,8 @@ withdrawn_keeps r first p again = grind (arith, nat_tests)
 duplicate_keeps : (r : LossRecovery) (first sent p : ℕ) → IsTrue (was_sent_again r first p) →
     IsTrue (was_sent_again (after_duplicate first sent r) first p)
 duplicate_keeps r first sent p again =
-    if_keeps (nat_lt first r.round) r (record r { duplicates = min (2 * r.duplicates) 1024; round = sent }) first p again again
+    if_keeps (nat_lt first r.round) r (record r { duplicates = min (2 * r.duplicates) 1024; round = sent })
+    first p again again
 
 pub answer_keeps : (size before first sent : ℕ) (reports equal : Bool) (unsent : ℕ) (s : Positions) (r : LossRecovery)
     (p : ℕ) → IsTrue (was_sent_again r first p) →
@@ -51,7 +52,8 @@ answer_keeps size before first sent reports equal unsent s r p again =
     let kept = if_keeps (equal && (not reports && nat_eq first r.until)) (after_duplicate first sent r) r first p
     (duplicate_keeps r first sent p again) again in
     let h = after_hearing size before first sent reports equal c in
-    if_keeps (not h.is_blind && nat_lt (unsent_lost h first s) unsent) (after_duplicate first sent (withdrawn h)) h first p
+    if_keeps (not h.is_blind && nat_lt (unsent_lost h first s) unsent)
+    (after_duplicate first sent (withdrawn h)) h first p
     (duplicate_keeps (withdrawn h) first sent p (withdrawn_keeps h first p kept)) kept
 
 pub silence_leaves : (r : LossRecovery) (first sent highest p : ℕ) → IsTrue (is_active r first) →

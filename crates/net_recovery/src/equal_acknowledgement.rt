@@ -22,7 +22,8 @@ pub fn is_equal_acknowledgement(
     is_bare: bool,
     is_same: bool,
 ) -> bool
-    ensures { result ≡ is_equal_acknowledgement numbers.first_unacknowledged numbers.sent next is_bare is_same }
+    ensures { result ≡ is_equal_acknowledgement numbers.first_unacknowledged numbers.sent next
+        is_bare is_same }
 {
     next == numbers.first_unacknowledged
         && numbers.first_unacknowledged < numbers.sent

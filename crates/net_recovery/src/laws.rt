@@ -14,14 +14,18 @@ ghost use Rattle.net_recovery.specs.declared.loss_recovery.LossRecovery.{LossRec
 #[tactic(auto, using(crate::proofs::Passes::passes))]
 pub fn passes()
     ensures sent { (r : LossRecovery) (first sent start end p : ℕ) → IsTrue (is_active r first) →
-        start < min sent end → p < end → IsTrue (was_sent_again (after_sending first sent start end r) first p) }
-    ensures stays { (size first sent : ℕ) (s : Positions) (lost highest : ℕ) (r : LossRecovery) (p : ℕ) →
+        start < min sent end → p < end →
+        IsTrue (was_sent_again (after_sending first sent start end r) first p) }
+    ensures stays { (size first sent : ℕ) (s : Positions) (lost highest : ℕ)
+        (r : LossRecovery) (p : ℕ) →
         IsTrue (is_active r first) → IsTrue (was_sent_again r first p) →
         IsFalse (was_sent_again (after_report size first sent s lost highest r) first p) →
         IsTrue (is_answered s r.probe) ⊎ (IsTrue (overtaken size s sent r) × (p < r.resume)) }
-    ensures answer { (size before first sent : ℕ) (reports equal : Bool) (unsent : ℕ) (s : Positions) (r : LossRecovery)
+    ensures answer { (size before first sent : ℕ) (reports equal : Bool) (unsent : ℕ)
+        (s : Positions) (r : LossRecovery)
         (p : ℕ) → IsTrue (was_sent_again r first p) →
-        IsTrue (was_sent_again (after_answer size before first sent reports equal unsent s r) first p) }
+        IsTrue (was_sent_again (after_answer size before first sent reports equal
+        unsent s r) first p) }
     ensures silence { (r : LossRecovery) (first sent highest p : ℕ) → IsTrue (is_active r first) →
         was_sent_again (after_silence first sent highest r) first p ≡ was_sent_again r first p }
     ensures expiry { (r : LossRecovery) (first sent : ℕ) → first < sent →
@@ -38,13 +42,18 @@ pub fn arrivals()
     ensures probe { (size first sent : ℕ) (s : Positions) (lost highest : ℕ) (r : LossRecovery) →
         IsTrue (is_active r first) → IsFalse r.is_blind → IsTrue (is_answered s r.probe) →
         r.asked ≤ (after_report size first sent s lost highest r).lost }
-    ensures wrong { (first : ℕ) (s : Positions) (r : LossRecovery) → unsent_lost (withdrawn r) first s ≡ 0 }
-    ensures third { (size first sent : ℕ) (r : LossRecovery) → r.until < first → r.duplicates ≡ 3 → r.unknown ≡ 0 →
+    ensures wrong { (first : ℕ) (s : Positions) (r : LossRecovery) →
+        unsent_lost (withdrawn r) first s ≡ 0 }
+    ensures third { (size first sent : ℕ) (r : LossRecovery) → r.until < first →
+        r.duplicates ≡ 3 → r.unknown ≡ 0 →
         0 < size → first + 4 * size ≤ sent → sent < 2 ^ 64 →
         let one = after_hearing size first first sent false true r in
         let two = after_hearing size first first sent false true one in
         let three = after_hearing size first first sent false true two in
-        (blind_lost size first first sent two ≡ 0) × (blind_lost size first first sent three ≡ first + size) }
-    ensures partial { (size before first sent : ℕ) (r : LossRecovery) → IsTrue (is_active r first) → IsTrue r.is_blind →
-        before < first → first < sent → sent < 2 ^ 64 → 0 < size → first < blind_lost size before first sent r }
+        (blind_lost size first first sent two ≡ 0)
+        × (blind_lost size first first sent three ≡ first + size) }
+    ensures partial { (size before first sent : ℕ) (r : LossRecovery) →
+        IsTrue (is_active r first) → IsTrue r.is_blind →
+        before < first → first < sent → sent < 2 ^ 64 → 0 < size →
+        first < blind_lost size before first sent r }
 {}

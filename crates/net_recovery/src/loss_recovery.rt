@@ -215,17 +215,21 @@ impl LossRecovery {
         answer: Answer,
     ) -> bool
         ensures state { (lost highest : ℕ) → let r = after_answer segment_size answer.first
-            numbers.first_unacknowledged numbers.sent answer.reports answer.is_equal answer.unsent scoreboard.now self.old in
+            numbers.first_unacknowledged numbers.sent answer.reports answer.is_equal answer.unsent
+            scoreboard.now self.old in
             IsLossBound r.duplicates segment_size scoreboard.now lost →
             IsEnd scoreboard.now highest → self.new ≡ after_report segment_size
             numbers.first_unacknowledged numbers.sent scoreboard.now
-            (max lost (blind_lost segment_size answer.first numbers.first_unacknowledged numbers.sent r)) highest r }
+            (max lost (blind_lost segment_size answer.first numbers.first_unacknowledged
+            numbers.sent r)) highest r }
         ensures begins { (lost highest : ℕ) → let r = after_answer segment_size answer.first
-            numbers.first_unacknowledged numbers.sent answer.reports answer.is_equal answer.unsent scoreboard.now self.old in
+            numbers.first_unacknowledged numbers.sent answer.reports answer.is_equal answer.unsent
+            scoreboard.now self.old in
             IsLossBound r.duplicates segment_size scoreboard.now lost →
             IsEnd scoreboard.now highest → result ≡ (not (is_active r numbers.first_unacknowledged)
             && nat_lt numbers.first_unacknowledged (found scoreboard.now
-            (max lost (blind_lost segment_size answer.first numbers.first_unacknowledged numbers.sent r)) highest r)) }
+            (max lost (blind_lost segment_size answer.first numbers.first_unacknowledged
+            numbers.sent r)) highest r)) }
     {
         self.take(numbers, scoreboard, segment_size, answer);
         self.find(numbers, scoreboard, segment_size, answer.first)
@@ -239,7 +243,8 @@ impl LossRecovery {
         segment_size: usize,
         answer: Answer,
     )
-        ensures { self.new ≡ after_answer segment_size answer.first numbers.first_unacknowledged numbers.sent
+        ensures { self.new ≡ after_answer segment_size answer.first
+            numbers.first_unacknowledged numbers.sent
             answer.reports answer.is_equal answer.unsent scoreboard.now self.old }
     {
         self.take_copy(numbers, answer);
@@ -249,7 +254,8 @@ impl LossRecovery {
 
     /// Takes an equal acknowledgement of all that was sent before a recovery as a report of what came twice: it answers a copy.
     fn take_copy(&mut self, numbers: SentNumbers, answer: Answer)
-        ensures { self.new ≡ after_copy numbers.first_unacknowledged numbers.sent answer.reports answer.is_equal self.old }
+        ensures { self.new ≡ after_copy numbers.first_unacknowledged numbers.sent answer.reports
+            answer.is_equal self.old }
     {
         if answer.is_equal && !answer.reports && numbers.first_unacknowledged == self.until {
             self.duplicated(numbers);
@@ -258,7 +264,8 @@ impl LossRecovery {
 
     /// Takes notice whether the peer reports, and of what has arrived that it doesn't.
     fn hear(&mut self, numbers: SentNumbers, segment_size: usize, answer: Answer)
-        ensures { self.new ≡ after_hearing segment_size answer.first numbers.first_unacknowledged numbers.sent
+        ensures { self.new ≡ after_hearing segment_size answer.first
+            numbers.first_unacknowledged numbers.sent
             answer.reports answer.is_equal self.old }
     {
         let size = segment_size as u64;
@@ -294,7 +301,8 @@ impl LossRecovery {
         scoreboard: &Scoreboard<N>,
         unsent: u64,
     )
-        ensures { self.new ≡ after_arrival unsent numbers.first_unacknowledged numbers.sent scoreboard.now self.old }
+        ensures { self.new ≡ after_arrival unsent numbers.first_unacknowledged numbers.sent
+            scoreboard.now self.old }
     {
         if !self.is_blind && self.unsent_lost(numbers, scoreboard) < unsent {
             self.withdraw();
@@ -318,14 +326,19 @@ impl LossRecovery {
         segment_size: usize,
         before: u64,
     ) -> bool
-        ensures state { (lost highest : ℕ) → IsLossBound self.old.duplicates segment_size scoreboard.now lost →
+        ensures state { (lost highest : ℕ) →
+            IsLossBound self.old.duplicates segment_size scoreboard.now lost →
             IsEnd scoreboard.now highest → self.new ≡ after_report segment_size
             numbers.first_unacknowledged numbers.sent scoreboard.now
-            (max lost (blind_lost segment_size before numbers.first_unacknowledged numbers.sent self.old)) highest self.old }
-        ensures begins { (lost highest : ℕ) → IsLossBound self.old.duplicates segment_size scoreboard.now lost →
-            IsEnd scoreboard.now highest → result ≡ (not (is_active self.old numbers.first_unacknowledged)
+            (max lost (blind_lost segment_size before numbers.first_unacknowledged numbers.sent
+            self.old)) highest self.old }
+        ensures begins { (lost highest : ℕ) →
+            IsLossBound self.old.duplicates segment_size scoreboard.now lost →
+            IsEnd scoreboard.now highest → result
+            ≡ (not (is_active self.old numbers.first_unacknowledged)
             && nat_lt numbers.first_unacknowledged (found scoreboard.now
-            (max lost (blind_lost segment_size before numbers.first_unacknowledged numbers.sent self.old)) highest self.old)) }
+            (max lost (blind_lost segment_size before numbers.first_unacknowledged numbers.sent
+            self.old)) highest self.old)) }
     {
         let highest = scoreboard.highest_reported();
         let lost = scoreboard.lost_below(self.duplicates, segment_size);
@@ -335,7 +348,8 @@ impl LossRecovery {
 
     /// Returns below which position all is lost, if the peer reports nothing.
     fn blind_lost(&self, numbers: SentNumbers, segment_size: usize, before: u64) -> u64
-        ensures { result ≡ blind_lost segment_size before numbers.first_unacknowledged numbers.sent self.now }
+        ensures { result ≡ blind_lost segment_size before numbers.first_unacknowledged
+            numbers.sent self.now }
     {
         let first = numbers.first_unacknowledged;
         let is_lost = if self.is_active(numbers) {
@@ -536,8 +550,10 @@ impl LossRecovery {
         segment_size: usize,
     ) -> Option<(u64, u64)>
         ensures progress { numbers.first_unacknowledged < min numbers.sent limit →
-            IsFalse (contains scoreboard.now numbers.first_unacknowledged) → IsTrue (is_some result) }
-        ensures within { IfSome result (λ g. (g.0 < g.1) × (g.1 ≤ limit) × (g.1 ≤ g.0 + max 1 segment_size)) }
+            IsFalse (contains scoreboard.now numbers.first_unacknowledged) →
+            IsTrue (is_some result) }
+        ensures within { IfSome result (λ g. (g.0 < g.1) × (g.1 ≤ limit)
+            × (g.1 ≤ g.0 + max 1 segment_size)) }
         ensures unreported { IfSome result (λ g. (p : ℕ) → g.0 ≤ p → p < g.1 → p < numbers.sent →
             IsFalse (contains scoreboard.now p)) }
         ensures after { numbers.first_unacknowledged ≤ numbers.sent →
@@ -580,7 +596,8 @@ impl LossRecovery {
         numbers: SentNumbers,
         scoreboard: &Scoreboard<N>,
     ) -> bool
-        ensures state { (highest : ℕ) → IsEnd scoreboard.now highest → self.new ≡ begun numbers.first_unacknowledged
+        ensures state { (highest : ℕ) → IsEnd scoreboard.now highest →
+            self.new ≡ begun numbers.first_unacknowledged
             numbers.sent (max self.old.lost highest) self.old }
         ensures begins { result ≡ not (is_active self.old numbers.first_unacknowledged) }
     {
@@ -593,7 +610,8 @@ impl LossRecovery {
     /// Begins a recovery in which all that was sent and isn't reported is lost, as when the timer has expired. Three
     /// segments above a position tell again that it is lost.
     pub fn lose_all(&mut self, numbers: SentNumbers)
-        ensures { self.new ≡ begun numbers.first_unacknowledged numbers.sent numbers.sent (forgotten self.old) }
+        ensures { self.new ≡ begun numbers.first_unacknowledged numbers.sent numbers.sent
+            (forgotten self.old) }
     {
         self.duplicates = DUPLICATES;
         self.unknown = 0;
@@ -624,7 +642,8 @@ impl LossRecovery {
     /// aren't lost or were sent again, less those that have arrived and the peer doesn't report.
     #[must_use]
     pub fn in_flight<const N: usize>(&self, numbers: SentNumbers, scoreboard: &Scoreboard<N>) -> u64
-        ensures { result ≡ in_flight self.now numbers.first_unacknowledged numbers.sent scoreboard.now }
+        ensures { result ≡ in_flight self.now numbers.first_unacknowledged numbers.sent
+            scoreboard.now }
     {
         let first = numbers.first_unacknowledged;
         if !self.is_active(numbers) {
@@ -666,9 +685,11 @@ impl LossRecovery {
         segment_size: usize,
     ) -> Option<(u64, u64)>
         ensures next { (lost others : Option (ℕ × ℕ)) → let first = numbers.first_unacknowledged in
-            IsHole scoreboard.now (resumed self.now first) (min (min self.now.turn self.now.lost) limit) lost →
+            IsHole scoreboard.now (resumed self.now first)
+            (min (min self.now.turn self.now.lost) limit) lost →
             IsHole scoreboard.now (gone_on self.now first) (min self.now.lost limit) others →
-            result ≡ next_segment first (in_flight self.now first numbers.sent scoreboard.now) window
+            result ≡ next_segment first
+            (in_flight self.now first numbers.sent scoreboard.now) window
             (max 1 segment_size) (next_range self.now first numbers.sent limit lost others) }
         // Guarantee.
         ensures within { IfSome result (λ segment. (segment.0 < segment.1) × (segment.1 ≤ limit)
@@ -676,12 +697,16 @@ impl LossRecovery {
         ensures room { IfSome result (λ segment. numbers.first_unacknowledged < segment.0 →
             in_flight self.now numbers.first_unacknowledged numbers.sent scoreboard.now
             + (segment.1 - segment.0) ≤ window) }
-        ensures once { IfSome result (λ segment. (p : ℕ) → segment.0 ≤ p → p < segment.1 → p < numbers.sent →
-            IsFalse (contains scoreboard.now p) × IsFalse (was_sent_again self.now numbers.first_unacknowledged p)) }
-        ensures progress { let first = numbers.first_unacknowledged in IsTrue (is_active self.now first) →
+        ensures once { IfSome result (λ segment. (p : ℕ) → segment.0 ≤ p → p < segment.1 →
+            p < numbers.sent →
+            IsFalse (contains scoreboard.now p)
+            × IsFalse (was_sent_again self.now numbers.first_unacknowledged p)) }
+        ensures progress { let first = numbers.first_unacknowledged in
+            IsTrue (is_active self.now first) →
             IsFalse (was_sent_again self.now first first) → first < min self.now.lost limit →
             IsFalse (contains scoreboard.now first) → IsTrue (begins_at first result) }
-        ensures begins { let first = numbers.first_unacknowledged in IsFalse (is_active self.now first) →
+        ensures begins { let first = numbers.first_unacknowledged in
+            IsFalse (is_active self.now first) →
             first ≡ numbers.sent → first < limit → IsTrue (begins_at first result) }
         ensures after { numbers.first_unacknowledged ≤ numbers.sent →
             IfSome result (λ segment. numbers.first_unacknowledged ≤ segment.0) }
@@ -707,16 +732,21 @@ impl LossRecovery {
         limit: u64,
     ) -> Option<(u64, u64)>
         ensures next { (lost others : Option (ℕ × ℕ)) → let first = numbers.first_unacknowledged in
-            IsHole scoreboard.now (resumed self.now first) (min (min self.now.turn self.now.lost) limit) lost →
+            IsHole scoreboard.now (resumed self.now first)
+            (min (min self.now.turn self.now.lost) limit) lost →
             IsHole scoreboard.now (gone_on self.now first) (min self.now.lost limit) others →
             result ≡ next_range self.now first numbers.sent limit lost others }
         ensures within { IfSome result (λ range. (range.0 < range.1) × (range.1 ≤ limit)) }
-        ensures once { IfSome result (λ range. (p : ℕ) → range.0 ≤ p → p < range.1 → p < numbers.sent →
-            IsFalse (contains scoreboard.now p) × IsFalse (was_sent_again self.now numbers.first_unacknowledged p)) }
-        ensures progress { let first = numbers.first_unacknowledged in IsTrue (is_active self.now first) →
+        ensures once { IfSome result (λ range. (p : ℕ) → range.0 ≤ p → p < range.1 →
+            p < numbers.sent →
+            IsFalse (contains scoreboard.now p)
+            × IsFalse (was_sent_again self.now numbers.first_unacknowledged p)) }
+        ensures progress { let first = numbers.first_unacknowledged in
+            IsTrue (is_active self.now first) →
             IsFalse (was_sent_again self.now first first) → first < min self.now.lost limit →
             IsFalse (contains scoreboard.now first) → IsTrue (begins_at first result) }
-        ensures begins { let first = numbers.first_unacknowledged in IsFalse (is_active self.now first) →
+        ensures begins { let first = numbers.first_unacknowledged in
+            IsFalse (is_active self.now first) →
             first ≡ numbers.sent → first < limit → IsTrue (begins_at first result) }
         ensures after { numbers.first_unacknowledged ≤ numbers.sent →
             IfSome result (λ range. numbers.first_unacknowledged ≤ range.0) }

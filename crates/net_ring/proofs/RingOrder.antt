@@ -26,7 +26,8 @@ module _ {X : Type 0} where
   off gone q came next xs n turn head_is rest = same_lists _ _ (grind (arith, places)) (λ m d h. grind (arith, places))
 
   -- those that have not left were written over
-  over : (gone q came next ws : List X) (i : ℕ) → gone ++ q ≡ came → i + length ws ≤ length q → next ≡ overwrite q i ws →
+  over : (gone q came next ws : List X) (i : ℕ) → gone ++ q ≡ came → i + length ws ≤ length q →
+      next ≡ overwrite q i ws →
       gone ++ next ≡ overwrite came (length gone + i) ws
   over gone q came next ws i turn le is =
       ap (λ (l : List X). gone ++ l) is
@@ -49,10 +50,12 @@ module _ {T : Type 0} where
   in_ok : (g : RingState T) (k : ℕ) → IsWellFormed g → k ≤ window g → IsWellFormed (with_enqueued k g)
   in_ok g k ok le = (ok.0, omega (arith, ok.1))
 
-  off_ok : (g : RingState T) (k : ℕ) (storage ws : List T) → IsWellFormed g → k ≤ g.count → storage ≡ overwrite g.storage g.read_at ws →
+  off_ok : (g : RingState T) (k : ℕ) (storage ws : List T) → IsWellFormed g → k ≤ g.count →
+      storage ≡ overwrite g.storage g.read_at ws →
       IsWellFormed (ring storage (storage_index g k) (g.count - k))
   off_ok g k storage ws ok le is =
-      facts.off_wf g g refl ok k (storage_index g k) (g.count - k) ws storage refl (omega (arith, ok.1)) (omega arith) is
+      facts.off_wf g g refl ok k (storage_index g k) (g.count - k) ws storage refl (omega (arith, ok.1))
+      (omega arith) is
 
   wrapping_ok : (g : RingState T) (p : ℕ) (ws : List T) → IsWellFormed g → IsWellFormed (with_elements_wrapping g p ws)
   wrapping_ok g p ws ok =
@@ -82,7 +85,8 @@ module _ {T : Type 0} where
       )
 
   -- ws was written over the spare part and its first k elements were enqueued
-  in_written : (g : RingState T) (k : ℕ) (ws : List T) → IsWellFormed g → k ≤ length ws → length ws ≤ contiguous_window g →
+  in_written : (g : RingState T) (k : ℕ) (ws : List T) → IsWellFormed g → k ≤ length ws →
+      length ws ≤ contiguous_window g →
       IsWellFormed (with_elements (with_enqueued k g) (write_at g) ws)
       × (queue (with_elements (with_enqueued k g) (write_at g) ws) ≡ queue g ++ take k ws)
   in_written g k ws ok le fits = (
@@ -93,7 +97,8 @@ module _ {T : Type 0} where
   -- the log and the ring after a call that made o of g
   module _ (log : Log T) (g o h : RingState T) (before : InTurn log g) (is : h ≡ o) (ok : IsWellFormed o) where
     same_as : queue o ≡ queue g → InTurn log h
-    same_as q = subst (InTurn log) (sym is) (record { ok = ok; turn = ap (λ (l : List T). log.left ++ l) q ∙ before.turn })
+    same_as q = subst (InTurn log) (sym is)
+        (record { ok = ok; turn = ap (λ (l : List T). log.left ++ l) q ∙ before.turn })
 
     none_after : queue o ≡ [] → InTurn (log_dropped log) h
     none_after q =
@@ -110,30 +115,38 @@ module _ {T : Type 0} where
         let turn = off log.left (queue g) log.accepted (queue o) xs n before.turn head_is q in
         subst (InTurn (log_left xs log)) (sym is) (record { ok = ok; turn = turn })
 
-    over_after : (i : ℕ) (ws : List T) → i + length ws ≤ length (queue g) → queue o ≡ overwrite (queue g) i ws → InTurn (log_written i ws log) h
+    over_after : (i : ℕ) (ws : List T) → i + length ws ≤ length (queue g) → queue o ≡ overwrite (queue g) i ws →
+        InTurn (log_written i ws log) h
     over_after i ws le q =
         let turn = over log.left (queue g) log.accepted (queue o) ws i before.turn le q in
         subst (InTurn (log_written i ws log)) (sym is) (record { ok = ok; turn = turn })
 
     -- nothing was written, wherever that was
-    nothing_after : (i : ℕ) (ws : List T) → ws ≡ [] → queue o ≡ overwrite (queue g) i ws → InTurn (log_written i ws log) h
+    nothing_after : (i : ℕ) (ws : List T) → ws ≡ [] → queue o ≡ overwrite (queue g) i ws →
+        InTurn (log_written i ws log) h
     nothing_after i ws none q =
         let still : queue o ≡ queue g = q ∙ ap (overwrite (queue g) i) none ∙ facts.overwrite_none (queue g) i in
         let came : log.accepted ≡ overwrite log.accepted (length log.left + i) ws =
-        sym (ap (overwrite log.accepted (length log.left + i)) none ∙ facts.overwrite_none log.accepted (length log.left + i)) in
+        sym (ap (overwrite log.accepted (length log.left + i)) none
+        ∙ facts.overwrite_none log.accepted (length log.left + i)) in
         let turn = ap (λ (l : List T). log.left ++ l) still ∙ before.turn ∙ came in
         subst (InTurn (log_written i ws log)) (sym is) (record { ok = ok; turn = turn })
 
     -- of the elements over which ws was written the first n left, as they were before
-    less_and_over_after : (n : ℕ) (xs ws : List T) → xs ≡ contiguous_queue g → length ws ≡ contiguous_queued g → n ≤ length ws →
+    less_and_over_after : (n : ℕ) (xs ws : List T) → xs ≡ contiguous_queue g →
+        length ws ≡ contiguous_queued g → n ≤ length ws →
         contiguous_queued g ≤ length (queue g) → queue o ≡ drop n (overwrite (queue g) 0 ws) →
         InTurn (log_written 0 (drop n ws) (log_left (take n xs) log)) h
     less_and_over_after n xs ws shown long le fits q =
-        let rest : queue o ≡ overwrite (drop n (queue g)) 0 (drop n ws) = q ∙ drop-overwrite (queue g) ws n le (omega arith) in
-        let head_is : take n xs ≡ take n (queue g) = ap (take n) shown ∙ take-take n (contiguous_queued g) (queue g) (omega arith) in
+        let rest : queue o ≡ overwrite (drop n (queue g)) 0 (drop n ws) = q
+        ∙ drop-overwrite (queue g) ws n le (omega arith) in
+        let head_is : take n xs ≡ take n (queue g) = ap (take n) shown
+        ∙ take-take n (contiguous_queued g) (queue g) (omega arith) in
         let half = off log.left (queue g) log.accepted (drop n (queue g)) (take n xs) n before.turn head_is refl in
-        let room : 0 + length (drop n ws) ≤ length (drop n (queue g)) = omega (arith, length-drop n ws, length-drop n (queue g), long, fits) in
-        let turn = over (log.left ++ take n xs) (drop n (queue g)) log.accepted (queue o) (drop n ws) 0 half room rest in
+        let room : 0 + length (drop n ws) ≤ length (drop n (queue g)) =
+        omega (arith, length-drop n ws, length-drop n (queue g), long, fits) in
+        let turn = over (log.left ++ take n xs) (drop n (queue g)) log.accepted (queue o) (drop n ws) 0
+        half room rest in
         subst (InTurn (log_written 0 (drop n ws) (log_left (take n xs) log))) (sym is) (record { ok = ok; turn = turn })
 
   -- the last element was taken off
@@ -144,9 +157,14 @@ module _ {T : Type 0} where
       let all : log.accepted ≡ rest ++ (x ∷ []) =
       sym before.turn ∙ ap (λ (l : List T). log.left ++ l) is ∙ sym (append_assoc log.left (queue h) (x ∷ [])) in
       let long : length rest ≡ length log.accepted - 1 = omega (arith, ap length all, length-append rest (x ∷ [])) in
-      record { ok = ok; turn = sym (ap (take (length log.accepted - 1)) all ∙ take_at rest (x ∷ []) (length log.accepted - 1) long) }
+      record {
+        ok = ok;
+        turn = sym (ap (take (length log.accepted - 1)) all
+            ∙ take_at rest (x ∷ []) (length log.accepted - 1) long);
+      }
 
-  step : (call : RingCall T) (log : Log T) (g h : RingState T) → InTurn log g → Makes call g h → InTurn (log_after call log) h
+  step : (call : RingCall T) (log : Log T) (g h : RingState T) → InTurn log g → Makes call g h →
+      InTurn (log_after call log) h
   unfolding Makes
   step Clear log g h before does = none_after log g _ h before does (inl refl, omega arith) refl
   step (Reset storage) log g h before does = none_after log g _ h before does.1 (inl refl, omega arith) refl
@@ -159,7 +177,8 @@ module _ {T : Type 0} where
       more_after log g _ h before does.1 w.0 xs (w.1 ∙ ap (λ (l : List T). l ++ xs) m.1)
   step (EnqueueUnallocated xs) log g h before does =
       let law = facts.with_enqueued_law g before.ok (length xs) does.0 in
-      more_after log g _ h before does.2 (in_ok g (length xs) before.ok does.0) xs (law.0 ∙ ap (λ (l : List T). queue g ++ l) (sym does.1))
+      more_after log g _ h before does.2 (in_ok g (length xs) before.ok does.0) xs (law.0
+      ∙ ap (λ (l : List T). queue g ++ l) (sym does.1))
   step (EnqueueMany xs) log g h before does =
       let m = moved g before.ok in
       let w = in_written (rewind_if_empty g) (length xs) xs m.0 (omega arith) does.0 in
@@ -169,27 +188,35 @@ module _ {T : Type 0} where
       let w = in_written (rewind_if_empty g) n ws m.0 does.1 (omega (arith, does.0)) in
       more_after log g _ h before does.2 w.0 (take n ws) (w.1 ∙ ap (λ (l : List T). l ++ take n ws) m.1)
   step (EnqueueOne x) log g h before does =
-      let ok = facts.written_wf (with_enqueued 1 g) (in_ok g 1 before.ok (omega (arith, does.0))) (write_at g) (x ∷ []) in
+      let ok = facts.written_wf (with_enqueued 1 g) (in_ok g 1 before.ok (omega (arith, does.0)))
+      (write_at g) (x ∷ []) in
       more_after log g _ h before does.1 ok (x ∷ []) (facts.enqueued_one g before.ok x does.0).0
   step (EnqueueErr x) log g h before does =
-      same_as log g _ h before does.1 (facts.written_wf g before.ok (write_at g) (x ∷ [])) (facts.next_written g before.ok x does.0).0
+      same_as log g _ h before does.1 (facts.written_wf g before.ok (write_at g) (x ∷ []))
+      (facts.next_written g before.ok x does.0).0
   step (GetUnallocated i ws) log g h before does =
-      same_as log g _ h before does.1 (facts.written_wf g before.ok (spare_index g i) ws) (facts.spare_part_law g before.ok i (length ws) ws does.0).0
+      same_as log g _ h before does.1 (facts.written_wf g before.ok (spare_index g i) ws)
+      (facts.spare_part_law g before.ok i (length ws) ws does.0).0
   step (WriteUnallocated i ws) log g h before does =
-      same_as log g _ h before does.1 (wrapping_ok g (spare_index g i) ws before.ok) (facts.wrapping_at g before.ok i ws does.0).0
+      same_as log g _ h before does.1 (wrapping_ok g (spare_index g i) ws before.ok)
+      (facts.wrapping_at g before.ok i ws does.0).0
   step (Dequeue xs) log g h before does =
       let ok = off_ok g (length xs) g.storage [] before.ok does.0 (sym (facts.overwrite_none g.storage g.read_at)) in
-      less_after log g _ h before does.2 ok (length xs) xs does.1 (facts.with_dequeued_law g before.ok (length xs) does.0).0
+      less_after log g _ h before does.2 ok (length xs) xs does.1
+      (facts.with_dequeued_law g before.ok (length xs) does.0).0
   step (DequeueMany xs ws) log g h before does =
       let ok = off_ok g (length xs) (overwrite g.storage g.read_at ws) ws before.ok (omega (arith, does.0)) refl in
-      less_after log g _ h before does.3 ok (length xs) xs does.1 (facts.dequeued_law g before.ok (length xs) does.0 ws does.2).0
+      less_after log g _ h before does.3 ok (length xs) xs does.1
+      (facts.dequeued_law g before.ok (length xs) does.0 ws does.2).0
   step (DequeueManyWith xs ws n) log g h before does =
       let ok = off_ok g n (overwrite g.storage g.read_at ws) ws before.ok (omega (arith, does.1, does.2)) refl in
       let law = facts.dequeued_from g before.ok n ws does.2 (omega (arith, does.1)) in
-      less_and_over_after log g _ h before does.3 ok n xs ws does.0 does.1 does.2 (omega (arith, length-queue g before.ok)) law.0
+      less_and_over_after log g _ h before does.3 ok n xs ws does.0 does.1 does.2
+      (omega (arith, length-queue g before.ok)) law.0
   step (DequeueOne x y) log g h before does =
       let ok = off_ok g 1 (overwrite g.storage g.read_at (y ∷ [])) (y ∷ []) before.ok (omega (arith, does.0)) refl in
-      less_after log g _ h before does.2 ok 1 (x ∷ []) (sym (ap (take 1) does.1)) (facts.dequeued_one g before.ok y does.0).0
+      less_after log g _ h before does.2 ok 1 (x ∷ []) (sym (ap (take 1) does.1))
+      (facts.dequeued_one g before.ok y does.0).0
   step (DequeueErr y) log g h before does =
       let ok = facts.written_wf g before.ok g.read_at (y ∷ []) in
       let room : 0 + 1 ≤ length (queue g) = omega (arith, does.0, length-queue g before.ok) in
@@ -199,12 +226,15 @@ module _ {T : Type 0} where
       let law = facts.queue_part_law g before.ok i (length ws) ws does.0 in
       elim (cases_lt g.count i) [
         | inl past ↦ nothing_after log g _ h before does.1 ok i ws (nil_from_length ws (omega (arith, does.0))) law.0
-        | inr within ↦ over_after log g _ h before does.1 ok i ws (omega (arith, does.0, length-queue g before.ok)) law.0
+        | inr within ↦ over_after log g _ h before does.1 ok i ws
+            (omega (arith, does.0, length-queue g before.ok)) law.0
       ]
 
-  steps : (calls : List (RingCall T)) (log : Log T) (g h : RingState T) → InTurn log g → MakesAll calls g h → InTurn (log_after_all calls log) h
+  steps : (calls : List (RingCall T)) (log : Log T) (g h : RingState T) → InTurn log g → MakesAll calls g h →
+      InTurn (log_after_all calls log) h
   steps [] log g h before run = subst (InTurn log) (sym run) before
-  steps (call ∷ calls) log g h before run = steps calls (log_after call log) run.0 h (step call log g run.0 before run.1) run.2
+  steps (call ∷ calls) log g h before run =
+      steps calls (log_after call log) run.0 h (step call log g run.0 before run.1) run.2
 
   pub in_turn : (storage : List T) (calls : List (RingCall T)) (h : RingState T) → MakesAll calls (ring storage 0 0) h →
       (history calls).left ++ queue h ≡ (history calls).accepted

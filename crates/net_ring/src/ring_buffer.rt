@@ -643,7 +643,8 @@ impl<T, S: Storage<T>> RingOver<T, S> {
     #[must_use]
     pub fn enqueue_many(&mut self, size: usize) -> &mut [T]
         ensures* writes_back { sem 𝓛 (lends_many T.row S.row S.Storage self.entry
-            (with_enqueued (min size (contiguous_window (rewind_if_empty self.old))) (rewind_if_empty self.old))
+            (with_enqueued (min size (contiguous_window (rewind_if_empty self.old)))
+            (rewind_if_empty self.old))
             (write_at (rewind_if_empty self.old)) result) }
         ensures count { length result.now
             ≡ min size (contiguous_window (rewind_if_empty self.old)) }

@@ -10,10 +10,13 @@ use Rattle.net_ring.specs.Ring.{IsWellFormed, with_enqueued, with_dequeued}
 use Rattle.net_ring.proofs.Rotations.{length-overwrite, length-queue, with_enqueued_parts, with_dequeued_parts}
 use Rattle.net_ring.specs.Overwrite.{overwrite}
 use Rattle.net_ring.proofs.RingFacts as facts
-use Rattle.net_split_ring.specs.SplitRing.{IsCount, AreCounts, counts, count_after, ahead, index_of, SplitState, Step, LooksForRoom}
-use Rattle.net_split_ring.specs.SplitRing.{Writes, Counts, LooksForElements, Takes, writer, reader, whole, fresh, after_step}
+use Rattle.net_split_ring.specs.SplitRing.{IsCount, AreCounts, counts, count_after, ahead, index_of, SplitState, Step}
+use Rattle.net_split_ring.specs.SplitRing.{LooksForRoom}
+use Rattle.net_split_ring.specs.SplitRing.{Writes, Counts, LooksForElements, Takes, writer, reader, whole, fresh}
+use Rattle.net_split_ring.specs.SplitRing.{after_step}
 use Rattle.net_split_ring.specs.SplitRing.{after_steps, written_over, IsOfWriter, IsOfReader}
-use Rattle.net_split_ring.proofs.Counts.{index_within, after_is, nearer, farther, ahead_twice, index_there, index_of_after}
+use Rattle.net_split_ring.proofs.Counts.{index_within, after_is, nearer, farther, ahead_twice, index_there}
+use Rattle.net_split_ring.proofs.Counts.{index_of_after}
 use Rattle.net_split_ring.proofs.Counts.{chain_is, index_twice, index_apart}
 
 module _ {T : Type 0} where
@@ -77,8 +80,10 @@ module _ {T : Type 0} where
 
     whole_of_writer : queue (whole s) ≡ drop (ahead c s.taken_seen s.taken) (queue (writer s))
     whole_of_writer =
-        let same = later s.storage c s.taken_seen s.taken s.written is.size is.a is.b is.e (omega (arith, sums.1, sums.2)) in
-        ap queue same ∙ (with_dequeued_parts (writer s) writer_ok (ahead c s.taken_seen s.taken) (omega (arith, sums.1))).0
+        let same = later s.storage c s.taken_seen s.taken s.written is.size is.a is.b is.e
+        (omega (arith, sums.1, sums.2)) in
+        ap queue same ∙ (with_dequeued_parts (writer s) writer_ok (ahead c s.taken_seen s.taken)
+        (omega (arith, sums.1))).0
 
     whole_of_reader : queue (whole s) ≡ queue (reader s) ++ take (ahead c s.written_seen s.written) (spare (reader s))
     whole_of_reader =
@@ -87,12 +92,14 @@ module _ {T : Type 0} where
         (omega (arith, is.chain, is.size))).0
 
     -- ---- a write
-    written_law : (i : ℕ) (xs : List T) → (queue (ring (written_over (writer s) i xs) (writer s).read_at (writer s).count)
+    written_law : (i : ℕ) (xs : List T) →
+        (queue (ring (written_over (writer s) i xs) (writer s).read_at (writer s).count)
         ≡ queue (writer s)) × (length (written_over (writer s) i xs) ≡ c)
     written_law i xs =
         let ys : List T = take (window (writer s) - i) xs in
         let p : ℕ = spare_index (writer s) i in
-        let law = facts.wrapping_at (writer s) writer_ok i ys (omega (arith, length-take (window (writer s) - i) xs)) in (
+        let law = facts.wrapping_at (writer s) writer_ok i ys
+        (omega (arith, length-take (window (writer s) - i) xs)) in (
           law.0,
           length-overwrite (overwrite s.storage p ys) 0 (drop (length s.storage - p) ys)
               ∙ length-overwrite s.storage p ys ∙ is.size,
@@ -111,7 +118,8 @@ module _ {T : Type 0} where
         let same = later st c s.taken_seen s.taken s.written law.1 is.a is.b is.e (omega (arith, sums.1, sums.2)) in
         let ok = ring_ok st c s.taken_seen (ahead c s.taken_seen s.written) law.1 is.a sums.2 in
         ap queue same
-        ∙ (with_dequeued_parts (ring st (writer s).read_at (writer s).count) ok (ahead c s.taken_seen s.taken) (omega (arith, sums.1))).0
+        ∙ (with_dequeued_parts (ring st (writer s).read_at (writer s).count) ok (ahead c s.taken_seen s.taken)
+        (omega (arith, sums.1))).0
         ∙ ap (drop (ahead c s.taken_seen s.taken)) law.0 ∙ sym whole_of_writer
 
     -- ---- the clauses
@@ -137,7 +145,8 @@ module _ {T : Type 0} where
         (omega (arith, ri, sums.2, is.size))
         (same ∙ ap (λ (m : ℕ). index_after n m j) there ∙ turned)
 
-    sound_law : IsUsize (c + c) → AreCounts c (counts s.written s.taken_seen) × AreCounts c (counts s.written_seen s.taken)
+    sound_law : IsUsize (c + c) → AreCounts c (counts s.written s.taken_seen)
+        × AreCounts c (counts s.written_seen s.taken)
     sound_law fits = (
       (fits, is.e, is.a, sums.2),
       (fits, is.d, is.b, omega (arith, is.chain)),
@@ -186,7 +195,8 @@ module _ {T : Type 0} where
       let ok = ring_ok s.storage c s.taken_seen (ahead c s.taken_seen (count_after c s.written k)) is.size is.a
       (omega (arith, all, t.2, is.size)) in
       let d : ℕ = ahead c s.taken_seen s.taken in
-      let parts = with_dequeued_parts (ring s.storage (index_of c s.taken_seen) (ahead c s.taken_seen (count_after c s.written k)))
+      let parts = with_dequeued_parts
+      (ring s.storage (index_of c s.taken_seen) (ahead c s.taken_seen (count_after c s.written k)))
       ok d (omega (arith, all, t.1)) in
       let now : queue (whole (after_step s (Counts n))) ≡ queue (whole s) ++ take k (spare (writer s)) =
       ap queue same ∙ parts.0 ∙ ap (drop d) (ap queue longer_is ∙ w.0)
@@ -200,7 +210,8 @@ module _ {T : Type 0} where
         d = is.d;
         e = e;
         chain = chain;
-        turn = more s.left (queue (whole s)) s.accepted (queue (whole (after_step s (Counts n)))) (take k (spare (writer s))) is.turn now;
+        turn = more s.left (queue (whole s)) s.accepted (queue (whole (after_step s (Counts n))))
+            (take k (spare (writer s))) is.turn now;
       }
   keeps s (LooksForElements k) is =
       let c : ℕ = s.capacity in
@@ -240,7 +251,8 @@ module _ {T : Type 0} where
         d = is.d;
         e = is.e;
         chain = omega (arith, near, far, is.chain);
-        turn = off s.left (queue (whole s)) s.accepted (queue (whole (after_step s (Takes n)))) (take k (queue (reader s))) k is.turn first now;
+        turn = off s.left (queue (whole s)) s.accepted (queue (whole (after_step s (Takes n))))
+            (take k (queue (reader s))) k is.turn first now;
       }
 
   keep : (s : SplitState T) (vs : List (Step T)) → Holds s → Holds (after_steps s vs)

@@ -22,27 +22,35 @@ ghost use Rattle.net_split_ring.specs.SplitRing.{AreCounts, counts, IsOfWriter, 
 /// - `sound`: what each end knows meets what its calls require.
 #[tactic(auto, using(crate::proofs::Steps::steps))]
 pub fn ends_run_apart<T>()
-    ensures order { (storage : List T) (steps : List (Step T)) → let s = after_steps (fresh storage) steps in
+    ensures order { (storage : List T) (steps : List (Step T)) →
+        let s = after_steps (fresh storage) steps in
         s.left ++ queue (whole s) ≡ s.accepted }
-    ensures shown { (storage : List T) (steps : List (Step T)) → let s = after_steps (fresh storage) steps in
+    ensures shown { (storage : List T) (steps : List (Step T)) →
+        let s = after_steps (fresh storage) steps in
         queue (reader s) ≡ take (reader s).count (queue (whole s)) }
-    ensures room { (storage : List T) (steps : List (Step T)) → let s = after_steps (fresh storage) steps in
+    ensures room { (storage : List T) (steps : List (Step T)) →
+        let s = after_steps (fresh storage) steps in
         window (writer s) ≤ window (whole s) }
-    ensures elements { (storage : List T) (steps : List (Step T)) → let s = after_steps (fresh storage) steps in
+    ensures elements { (storage : List T) (steps : List (Step T)) →
+        let s = after_steps (fresh storage) steps in
         (reader s).count ≤ (whole s).count }
     ensures kept { (storage : List T) (steps : List (Step T)) (i : ℕ) (xs : List T) →
-        let s = after_steps (fresh storage) steps in queue (whole (after_step s (Writes i xs))) ≡ queue (whole s) }
+        let s = after_steps (fresh storage) steps in
+        queue (whole (after_step s (Writes i xs))) ≡ queue (whole s) }
     ensures written { (storage : List T) (steps : List (Step T)) (i : ℕ) (xs : List T) →
         let s = after_steps (fresh storage) steps in spare (writer (after_step s (Writes i xs)))
         ≡ overwrite (spare (writer s)) i (take (window (writer s) - i) xs) }
-    ensures apart { (storage : List T) (steps : List (Step T)) (i j : ℕ) → let s = after_steps (fresh storage) steps in
+    ensures apart { (storage : List T) (steps : List (Step T)) (i j : ℕ) →
+        let s = after_steps (fresh storage) steps in
         i < window (writer s) → j < (reader s).count →
         storage_index (writer s) ((writer s).count + i) ≢ storage_index (reader s) j }
     ensures lent_to_read { (storage : List T) (steps vs : List (Step T)) → All IsOfWriter vs →
-        let s = after_steps (fresh storage) steps in queue (reader (after_steps s vs)) ≡ queue (reader s) }
+        let s = after_steps (fresh storage) steps in
+        queue (reader (after_steps s vs)) ≡ queue (reader s) }
     ensures lent_to_write { (storage : List T) (steps vs : List (Step T)) → All IsOfReader vs →
         let s = after_steps (fresh storage) steps in writer (after_steps s vs) ≡ writer s }
-    ensures sound { (storage : List T) (steps : List (Step T)) → IsUsize (length storage + length storage) →
+    ensures sound { (storage : List T) (steps : List (Step T)) →
+        IsUsize (length storage + length storage) →
         let s = after_steps (fresh storage) steps in
         AreCounts (length storage) (counts s.written s.taken_seen)
         × AreCounts (length storage) (counts s.written_seen s.taken) }

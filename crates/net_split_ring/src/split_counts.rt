@@ -111,10 +111,12 @@ impl SplitCounts {
     #[must_use]
     pub fn free(self, capacity: usize, size: usize) -> SplitSpan
         requires sound { AreCounts capacity self }
-        ensures from { result.span.from ≡ free_index capacity (seen capacity self.taken self.written) 0 }
+        ensures from { result.span.from
+            ≡ free_index capacity (seen capacity self.taken self.written) 0 }
         ensures count { result.span.count
             ≡ min size (capacity - (seen capacity self.taken self.written).length) }
-        ensures contiguous { result.span.contiguous ≡ min result.span.count (capacity - result.span.from) }
+        ensures contiguous { result.span.contiguous
+            ≡ min result.span.count (capacity - result.span.from) }
         ensures within { (result.span.from ≤ capacity) × IsWithin capacity result.span }
         ensures next { result.next ≡ count_after capacity self.written result.span.count }
         ensures sound { AreCounts capacity (counts result.next self.taken) }
@@ -137,9 +139,12 @@ impl SplitCounts {
     #[must_use]
     pub fn queued(self, capacity: usize, size: usize) -> SplitSpan
         requires sound { AreCounts capacity self }
-        ensures from { result.span.from ≡ queued_index capacity (seen capacity self.taken self.written) 0 }
-        ensures count { result.span.count ≡ min size (seen capacity self.taken self.written).length }
-        ensures contiguous { result.span.contiguous ≡ min result.span.count (capacity - result.span.from) }
+        ensures from { result.span.from
+            ≡ queued_index capacity (seen capacity self.taken self.written) 0 }
+        ensures count { result.span.count
+            ≡ min size (seen capacity self.taken self.written).length }
+        ensures contiguous { result.span.contiguous
+            ≡ min result.span.count (capacity - result.span.from) }
         ensures within { (result.span.from ≤ capacity) × IsWithin capacity result.span }
         ensures next { result.next ≡ count_after capacity self.taken result.span.count }
         ensures sound { AreCounts capacity (counts self.written result.next) }
@@ -163,10 +168,13 @@ impl SplitCounts {
     #[must_use]
     pub fn write<T: Copy>(self, storage: &mut [T], data: &[T]) -> usize
         requires sound { AreCounts (length storage.old) self }
-        ensures storage { let g = ring_at storage.old (seen (length storage.old) self.taken self.written) in
+        ensures storage { let g =
+            ring_at storage.old (seen (length storage.old) self.taken self.written) in
             storage.new ≡ written_over g 0 «data».now }
-        ensures next { let g = ring_at storage.old (seen (length storage.old) self.taken self.written) in
-            result ≡ count_after (length storage.old) self.written (min (length «data».now) (window g)) }
+        ensures next { let g = ring_at storage.old
+            (seen (length storage.old) self.taken self.written) in
+            result ≡ count_after (length storage.old) self.written
+            (min (length «data».now) (window g)) }
     {
         prove!(
             self.is_sound(storage.len()),
@@ -187,9 +195,12 @@ impl SplitCounts {
     #[must_use]
     pub fn read<T: Copy>(self, storage: &[T], into: &mut [T]) -> usize
         requires sound { AreCounts (length storage.now) self }
-        ensures given { let g = ring_at storage.now (seen (length storage.now) self.taken self.written) in
-            «into».new ≡ take (min (length «into».old) g.count) (queue g) ++ drop (min (length «into».old) g.count) «into».old }
-        ensures next { let g = ring_at storage.now (seen (length storage.now) self.taken self.written) in
+        ensures given { let g = ring_at storage.now
+            (seen (length storage.now) self.taken self.written) in
+            «into».new ≡ take (min (length «into».old) g.count) (queue g)
+            ++ drop (min (length «into».old) g.count) «into».old }
+        ensures next { let g = ring_at storage.now
+            (seen (length storage.now) self.taken self.written) in
             result ≡ count_after (length storage.now) self.taken (min (length «into».old) g.count) }
     {
         prove!(

@@ -9,10 +9,12 @@ use Rattle.std.proofs.lemmas.Nat.{pow_pos, mul-le}
 use Rattle.std.proofs.lemmas.Bool.{cases_lt}
 use Rattle.std.proofs.lemmas.List.Elements.{All-head, All-tail}
 use Rattle.net_tcp.specs.Estimate.{Estimate}
-use Rattle.net_tcp.specs.Retransmission.{next_estimate, doubled, IsSettled, Event, Sends, Acknowledges, Reports, Samples}
+use Rattle.net_tcp.specs.Retransmission.{next_estimate, doubled, IsSettled, Event, Sends, Acknowledges, Reports}
+use Rattle.net_tcp.specs.Retransmission.{Samples}
 use Rattle.net_tcp.specs.Retransmission.{Looks, Starts, Stops, Connection, opened, after_event, after_events}
 use Rattle.net_tcp.specs.Retransmission.{sends_over, runs, IsNoStart, IsNoStop, IsUnacknowledged, IsEnd, IsMove}
-use Rattle.net_tcp.specs.Retransmission.{IsUntil, expires_at, expiry, lasting, running, timed_after, after_sending, arms, due_after}
+use Rattle.net_tcp.specs.Retransmission.{IsUntil, expires_at, expiry, lasting, running, timed_after, after_sending}
+use Rattle.net_tcp.specs.Retransmission.{arms, due_after}
 use Rattle.net_tcp.specs.declared.retransmission.TimeoutBounds.{TimeoutBounds}
 use Rattle.net_tcp.specs.declared.retransmission_timer.TimedSegment.{TimedSegment}
 use Rattle.net_tcp.specs.declared.retransmission_timer.RetransmissionTimer.{RetransmissionTimer}
@@ -124,7 +126,8 @@ once_sent b c pos end now is = once_by (nat_le c.first pos && nat_lt pos end) c
       due = due_after (arms c (Sends pos end now)) now c.timer c.due;
     })
     (λ g. once_at c
-    (lasting (nat_lt c.sent end) pos (running b.ack_delay (nat_le c.sent c.first) (nat_lt c.sent end) now c.timer)) pos end now is
+    (lasting (nat_lt c.sent end) pos
+    (running b.ack_delay (nat_le c.sent c.first) (nat_lt c.sent end) now c.timer)) pos end now is
     (sent_timed b.ack_delay (nat_le c.sent c.first) (nat_lt c.sent end) pos now c.timer)
     (right_of (nat_le c.first pos) (nat_lt pos end) g))
     is.once
@@ -165,7 +168,8 @@ all_run b c [] free is = is
 all_run b c (e ∷ es) free is = all_run b (after_event b c e) es (All-tail IsNoStop e es free)
     (runs_on b c e (All-head IsNoStop e es free) is)
 
-pub runs_while_unacknowledged : (b : TimeoutBounds) (t : ℕ) (says : Bool) (first : ℕ) (es : List Event) → All IsNoStop es →
+pub runs_while_unacknowledged : (b : TimeoutBounds) (t : ℕ) (says : Bool) (first : ℕ) (es : List Event) →
+    All IsNoStop es →
     Runs (after_events b (opened t says first) es)
 runs_while_unacknowledged b t says first es free = all_run b (opened t says first) es free (search rules)
 
@@ -251,7 +255,8 @@ reports_on b c (Looks now) = search rules
 reports_on b c (Starts now) = search rules
 reports_on b c Stops = refl
 
-all_report : (b : TimeoutBounds) (c : Connection) (es : List Event) → (after_events b c es).timer.reports ≡ c.timer.reports
+all_report : (b : TimeoutBounds) (c : Connection) (es : List Event) →
+    (after_events b c es).timer.reports ≡ c.timer.reports
 all_report b c [] = refl
 all_report b c (e ∷ es) = all_report b (after_event b c e) es ∙ reports_on b c e
 

@@ -166,7 +166,8 @@ both_parts : (n : ℕ) (rest part after : List ℕ) →
     (part ≡ take n rest) × (after ≡ drop n rest) × (length after + n ≡ length rest) →
     (part ++ after ≡ rest) × (length part ≡ n)
 both_parts n rest part after parts =
-    let whole : part ++ after ≡ rest = ap (λ l. l ++ after) parts.0 ∙ ap (λ l. take n rest ++ l) parts.1 ∙ take-append-drop n rest
+    let whole : part ++ after ≡ rest = ap (λ l. l ++ after) parts.0 ∙ ap (λ l. take n rest ++ l) parts.1
+    ∙ take-append-drop n rest
     in (whole, omega (arith, length-append part after, ap length whole, parts.2))
 
 -- ---- halves of a number
@@ -179,7 +180,8 @@ pub eight_more : (low high word : ℕ) (rest part after : List ℕ) → word ≡
     ≡ folded (256 * (low + high) + word_sum rest)
 eight_more low high word rest part after is parts =
     let at = both_parts 8 rest part after parts in
-    let e : low + word % 2 ^ 32 + (high + word / 2 ^ 32) ≡ (low + high) + (word / 2 ^ 32 + word % 2 ^ 32) = omega arith in
+    let e : low + word % 2 ^ 32 + (high + word / 2 ^ 32) ≡ (low + high)
+    + (word / 2 ^ 32 + word % 2 ^ 32) = omega arith in
     ap (λ n. folded (256 * n + word_sum after)) e
     ∙ part_more (low + high) (word / 2 ^ 32 + word % 2 ^ 32) part after (omega (arith, at.1))
     (halves_32 word ∙ ap folded (is ∙ le_8 part at.1))
@@ -208,7 +210,8 @@ pub block_more : (s r t : ℕ) (rest part after : List ℕ) → folded (256 * r)
     folded (256 * t + word_sum after) ≡ folded (256 * s + word_sum rest)
 block_more s r t rest part after sum is cut even =
     let all = groups_add part after even in
-    let e : (256 * s + word_sum part) + word_sum after ≡ 256 * s + word_sum rest = omega (arith, all, ap word_sum cut) in
+    let e : (256 * s + word_sum part) + word_sum after ≡ 256 * s + word_sum rest =
+    omega (arith, all, ap word_sum cut) in
     folded_more (256 * t) (256 * s + word_sum part) (word_sum after)
     (ap (λ n. folded (256 * n)) is ∙ times r ∙ sum) ∙ ap folded e
 

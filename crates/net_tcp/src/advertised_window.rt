@@ -69,7 +69,8 @@ impl AdvertisedWindow {
     /// number, is acknowledged.
     pub fn announce(&mut self, scale: u8, next: u64, window_end: u64) -> u16
         ensures field { result ≡ field_for (shift_count scale) (window_end - next) }
-        ensures edge { self.new.edge ≡ max self.old.edge (announced next (shift_count scale) result) }
+        ensures edge { self.new.edge
+            ≡ max self.old.edge (announced next (shift_count scale) result) }
         // Guarantee.
         ensures never_back { self.old.edge ≤ self.new.edge }
         // Guarantee.
@@ -105,7 +106,8 @@ impl AdvertisedWindow {
             result ≡ field_for (shift_count scale) (window_end - next) }
         ensures held { gain self.old.edge (shift_count scale) next window_end < worth capacity mss →
             result ≡ field_for (shift_count scale) (min self.old.edge window_end - next) }
-        ensures edge { self.new.edge ≡ max self.old.edge (announced next (shift_count scale) result) }
+        ensures edge { self.new.edge
+            ≡ max self.old.edge (announced next (shift_count scale) result) }
         // Guarantee.
         ensures within { announced next (shift_count scale) result ≤ max next window_end }
         // Guarantee.

@@ -112,7 +112,8 @@ impl PartsSum {
     /// ```
     #[must_use]
     pub fn udp_checksum(&self) -> u16
-        ensures value { result ≡ (if nat_eq self.now.sum 65535 then 65535 else 65535 - self.now.sum) }
+        ensures value { result ≡ (if nat_eq self.now.sum 65535 then 65535
+            else 65535 - self.now.sum) }
         // Guarantee.
         ensures some { 0 < result }
         ensures bytes { (xs : List ℕ) → Sums self.now xs → (result ≡ internet_checksum xs)

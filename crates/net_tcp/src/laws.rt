@@ -24,8 +24,10 @@ use crate::retransmission_timer::RetransmissionTimer;
 /// neither cuts at even offsets nor where a part is folded changes it.
 #[tactic(auto, using(crate::proofs::WordSums::sums))]
 pub fn sums()
-    ensures carried { (xs : List ℕ) → All (λ x. x < 256) xs → carried_sum 0 xs ≡ folded (word_sum xs) }
-    ensures groups { (xs ys : List ℕ) → IsEven xs → word_sum (xs ++ ys) ≡ word_sum xs + word_sum ys }
+    ensures carried { (xs : List ℕ) → All (λ x. x < 256) xs →
+        carried_sum 0 xs ≡ folded (word_sum xs) }
+    ensures groups { (xs ys : List ℕ) → IsEven xs →
+        word_sum (xs ++ ys) ≡ word_sum xs + word_sum ys }
     ensures folds { (a b : ℕ) → folded (a + folded b) ≡ folded (a + b) }
 {}
 
@@ -34,7 +36,8 @@ pub fn sums()
 #[tactic(auto, using(crate::proofs::WordSums::checksum_verifies))]
 pub fn verification()
     ensures verifies { (xs ys : List ℕ) → IsEven xs →
-        folded (word_sum (xs ++ word_bytes (internet_checksum (xs ++ word_bytes 0 ++ ys)) ++ ys)) ≡ 65535 }
+        folded (word_sum (xs ++ word_bytes (internet_checksum (xs ++ word_bytes 0 ++ ys))
+        ++ ys)) ≡ 65535 }
     ensures only { (xs ys : List ℕ) (c : ℕ) → IsEven xs → c ≤ 65535 →
         folded (word_sum (xs ++ word_bytes c ++ ys)) ≡ 65535 →
         (c ≡ internet_checksum (xs ++ word_bytes 0 ++ ys))
@@ -49,10 +52,12 @@ pub fn updates()
         0 < word_sum (xs ++ word_bytes n ++ ys) →
         updated_word (internet_checksum (xs ++ word_bytes m ++ ys)) m n
         ≡ internet_checksum (xs ++ word_bytes n ++ ys) }
-    ensures valid { (xs ys zs : List ℕ) (c m n : ℕ) → IsEven xs → IsEven ys → c ≤ 65535 → m ≤ 65535 →
+    ensures valid { (xs ys zs : List ℕ) (c m n : ℕ) → IsEven xs → IsEven ys →
+        c ≤ 65535 → m ≤ 65535 →
         n ≤ 65535 → 0 < word_sum (xs ++ ys ++ word_bytes n ++ zs) →
         folded (word_sum (xs ++ word_bytes c ++ ys ++ word_bytes m ++ zs)) ≡ 65535 →
-        folded (word_sum (xs ++ word_bytes (updated_word c m n) ++ ys ++ word_bytes n ++ zs)) ≡ 65535 }
+        folded (word_sum (xs ++ word_bytes (updated_word c m n) ++ ys ++ word_bytes n
+        ++ zs)) ≡ 65535 }
 {}
 
 /// States how acceptable segments and the table of RFC 9293 are related: what the table accepts is
@@ -74,7 +79,8 @@ pub fn acceptable_segments()
 pub fn announced_windows()
     ensures opens { (capacity scale : ℕ) → IsScaleFor capacity scale → 0 < capacity →
         0 < field_for scale capacity }
-    ensures reopens { (capacity scale edge next mss : ℕ) → IsScaleFor capacity scale → 0 < capacity →
+    ensures reopens { (capacity scale edge next mss : ℕ) →
+        IsScaleFor capacity scale → 0 < capacity →
         edge < next + 2 ^ scale → mss ≤ 65535 →
         worth capacity mss ≤ gain edge scale next (next + capacity) }
     ensures whole { (edge scale next window_end k : ℕ) → edge ≡ next + k * 2 ^ scale →
@@ -94,14 +100,16 @@ pub fn announced_windows()
 pub fn peer_windows()
     ensures calls { (h : Heard) (s : Announcement) →
         updated (acknowledged h s) s ≡ acknowledged (updated h s) s }
-    ensures order { (h : Heard) (s t : Announcement) → IsNoLater s t → s.ack ≤ s.sent → t.ack ≤ t.sent →
+    ensures order { (h : Heard) (s t : Announcement) → IsNoLater s t → s.ack ≤ s.sent →
+        t.ack ≤ t.sent →
         heard (heard h s) t ≡ heard (heard h t) s }
     ensures same_numbers { (h : Heard) (s t : Announcement) →
         h.peer ≡ window_from s.seq s.ack s.window → t.seq ≡ s.seq → t.ack ≡ s.ack →
         h.first ≤ t.ack → t.ack ≤ t.sent → (heard h t).peer ≡ window_from t.seq t.ack t.window }
     ensures older { (h : Heard) (t : Announcement) → t.seq < h.peer.seq → t.ack ≤ h.peer.ack →
         (heard h t).peer ≡ h.peer }
-    ensures taken { (h : Heard) (before : List Announcement) (s : Announcement) → h.peer.ack ≤ h.first →
+    ensures taken { (h : Heard) (before : List Announcement) (s : Announcement) →
+        h.peer.ack ≤ h.first →
         (heard_all h before).first < s.ack → s.ack ≤ s.sent →
         (heard (heard_all h before) s).peer ≡ window_from s.seq s.ack s.window }
     ensures zeros { (seq ack window : ℕ) →
@@ -172,10 +180,13 @@ pub fn timeouts()
 pub fn timers()
     ensures once { (b : TimeoutBounds) (t : ℕ) (says : Bool) (first : ℕ) (es : List Event) →
         let c = after_events b (opened t says first) es in
-        (s : TimedSegment) → c.timer.timed ≡ Some s → sends_over s.pos c.log ≡ (s.pos, s.since) ∷ [] }
-    ensures runs { (b : TimeoutBounds) (t : ℕ) (says : Bool) (first : ℕ) (es : List Event) → All IsNoStop es →
+        (s : TimedSegment) → c.timer.timed ≡ Some s →
+        sends_over s.pos c.log ≡ (s.pos, s.since) ∷ [] }
+    ensures runs { (b : TimeoutBounds) (t : ℕ) (says : Bool) (first : ℕ) (es : List Event) →
+        All IsNoStop es →
         let c = after_events b (opened t says first) es in IsUnacknowledged c → IsTrue (runs c) }
-    ensures rests { (b : TimeoutBounds) (t : ℕ) (says : Bool) (first : ℕ) (es : List Event) → All IsNoStart es →
+    ensures rests { (b : TimeoutBounds) (t : ℕ) (says : Bool) (first : ℕ) (es : List Event) →
+        All IsNoStart es →
         let c = after_events b (opened t says first) es in IsTrue (runs c) → IsUnacknowledged c }
     ensures ends { (b : TimeoutBounds) (c : Connection) (e : Event) → IsTrue (runs c) →
         IsFalse (runs (after_event b c e)) → IsEnd c e }

@@ -158,13 +158,15 @@ impl PeerWindow {
     /// such a segment acknowledges.
     #[must_use]
     pub fn acknowledgement_number(&self, numbers: SentNumbers) -> u64
-        ensures value { result ≡ acknowledgement_number self.now numbers.first_unacknowledged numbers.sent }
+        ensures value { result ≡ acknowledgement_number self.now
+            numbers.first_unacknowledged numbers.sent }
         // Guarantee.
         ensures sent { result ≤ numbers.sent }
         // Guarantee.
         ensures promised { result ≤ max self.now.edge numbers.first_unacknowledged }
         // Guarantee.
-        ensures first { numbers.first_unacknowledged ≤ numbers.sent → numbers.first_unacknowledged ≤ result }
+        ensures first { numbers.first_unacknowledged ≤ numbers.sent →
+            numbers.first_unacknowledged ≤ result }
     {
         let first = numbers.first_unacknowledged;
         numbers.sent.min(self.edge.max(first))

@@ -587,7 +587,8 @@ impl AssemblerHead {
         requires sound { HasSoundRuns self.old runs.old }
         requires range { RangeFits offset size }
         requires last { StartsLast self.old runs.old offset size }
-        ensures { AddsInPlace self.old runs.old offset size result self.new runs.new turns.old turns.new }
+        ensures { AddsInPlace self.old runs.old offset size result self.new runs.new
+            turns.old turns.new }
     {
         if size == 0 {
             return Ok(());
@@ -639,7 +640,8 @@ impl AssemblerHead {
         requires sound { HasSoundRuns self.old runs.old }
         requires range { RangeFits offset size }
         requires last { StartsInRuns self.old runs.old offset size }
-        ensures { AddsInPlace self.old runs.old offset size result self.new runs.new turns.old turns.new }
+        ensures { AddsInPlace self.old runs.old offset size result self.new runs.new
+            turns.old turns.new }
     {
         self.join(runs, offset, size, turns)
     }
@@ -656,7 +658,8 @@ impl AssemblerHead {
         requires sound { HasSoundRuns self.old runs.old }
         requires range { RangeFits offset size }
         requires last { StartsInRuns self.old runs.old offset size }
-        ensures { AddsInPlace self.old runs.old offset size result self.new runs.new turns.old turns.new }
+        ensures { AddsInPlace self.old runs.old offset size result self.new runs.new
+            turns.old turns.new }
     {
         let by = self.first_start.saturating_sub(offset);
         let start = offset.saturating_sub(self.first_start);
@@ -750,7 +753,8 @@ impl AssemblerHead {
         requires reached { offset ≡ 0 → self.old.first_start ≤ size }
         ensures front { MatchResult result
             (λ end. FrontEnds self.old runs.old offset size self.new runs.new end)
-            (λ _. (0 < offset) × MakesTooManyRuns (length runs.old) (set_of self.old runs.old) offset size) }
+            (λ _. (0 < offset) × MakesTooManyRuns (length runs.old)
+            (set_of self.old runs.old) offset size) }
         ensures unchanged { OnErr result ((self.new ≡ self.old) × (runs.new ≡ runs.old)) }
         ensures canonical { IsCanonical self.old → IsCanonical self.new }
     {

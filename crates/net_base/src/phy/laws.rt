@@ -68,9 +68,12 @@ pub fn hashes()
 /// bursts, all checksums, verified and computed, and no segmentation.
 pub fn defaults()
     ensures packet_meta { (x : _) → ⟦<PacketMeta as Default>⟧.is_default x → x ≡ no_metadata }
-    ensures capabilities { (x : _) → ⟦<DeviceCapabilities as Default>⟧.is_default x → x ≡ default_capabilities }
+    ensures capabilities { (x : _) → ⟦<DeviceCapabilities as Default>⟧.is_default x →
+        x ≡ default_capabilities }
     ensures checksum { (x : _) → ⟦<Checksum as Default>⟧.is_default x → x ≡ Both }
-    ensures checksums { (x : _) → ⟦<ChecksumCapabilities as Default>⟧.is_default x → x ≡ all_checksums }
-    ensures segmentation { (x : _) → ⟦<SegmentationCapabilities as Default>⟧.is_default x → x ≡ no_segmentation }
+    ensures checksums { (x : _) → ⟦<ChecksumCapabilities as Default>⟧.is_default x →
+        x ≡ all_checksums }
+    ensures segmentation { (x : _) → ⟦<SegmentationCapabilities as Default>⟧.is_default x →
+        x ≡ no_segmentation }
     ensures medium { (x : _) → ⟦<Medium as Default>⟧.is_default x → x ≡ Ethernet }
 {}

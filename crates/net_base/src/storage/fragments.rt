@@ -270,7 +270,8 @@ impl<B: Storage<u8>, const N: usize> FragmentsOver<B, N> {
         is_last: bool,
         expires_at: Instant,
     ) -> Result<(), FragmentError>
-        ensures adds { Adds N (begun self.old expires_at) offset «data».now is_last result self.new }
+        ensures adds { Adds N (begun self.old expires_at) offset «data».now is_last
+            result self.new }
         ensures unchanged { OnErr result (self.new ≡ self.old) }
     {
         let until = expires_at.total_micros();
@@ -304,7 +305,8 @@ impl<B: Storage<u8>, const N: usize> FragmentsOver<B, N> {
     pub fn set_total_size(&mut self, size: usize) -> Result<(), FragmentError>
         ensures ok { OnOk result (self.new ≡ record self.old { total = Some size }) }
         ensures unchanged { OnErr result (self.new ≡ self.old) }
-        ensures takes { TakesSize (length self.old.bytes) self.old.present self.old.total size result }
+        ensures takes { TakesSize (length self.old.bytes) self.old.present
+            self.old.total size result }
     {
         self.head
             .set_total_size(self.bytes.count(), &self.runs, size)
@@ -401,7 +403,8 @@ impl<B: Storage<u8>, const N: usize> FragmentsOver<B, N> {
     pub fn get(&self, offset: usize, len: usize) -> Option<&[u8]>
         ensures arrived { IsSome result ↔ ((offset + len ≤ length self.now.bytes)
             × HasRange self.now.present offset len) }
-        ensures bytes { IfSome result (λ r. r.now ≡ slice_range self.now.bytes offset (offset + len)) }
+        ensures bytes { IfSome result (λ r. r.now
+            ≡ slice_range self.now.bytes offset (offset + len)) }
     {
         let count = self.bytes.count();
         if offset > count || len > count - offset || !self.head.has(&self.runs, offset, len) {

@@ -20,7 +20,8 @@ pub fn constants() -> (Instant, Duration, Duration)
 /// States that the order of moments is that of their microseconds, and two moments are equal
 /// exactly if they are the same.
 pub fn instant_order()
-    ensures order { (x y : _) → MatchOrdering (⟦<Instant as Ord>⟧.cmp x y) (x <ℤ y) (x ≡ y) (y <ℤ x) }
+    ensures order { (x y : _) →
+        MatchOrdering (⟦<Instant as Ord>⟧.cmp x y) (x <ℤ y) (x ≡ y) (y <ℤ x) }
     ensures partial { (x y : _) → ⟦<Instant as PartialOrd>⟧.partial_cmp x y
         ≡ Some (⟦<Instant as Ord>⟧.cmp x y) }
     ensures equality { ComparesValues ⟦<Instant as PartialEq>⟧.eq }
@@ -29,7 +30,8 @@ pub fn instant_order()
 /// States that the order of lengths is that of their microseconds, and two lengths are equal
 /// exactly if they are the same.
 pub fn duration_order()
-    ensures order { (x y : _) → MatchOrdering (⟦<Duration as Ord>⟧.cmp x y) (x < y) (x ≡ y) (y < x) }
+    ensures order { (x y : _) →
+        MatchOrdering (⟦<Duration as Ord>⟧.cmp x y) (x < y) (x ≡ y) (y < x) }
     ensures partial { (x y : _) → ⟦<Duration as PartialOrd>⟧.partial_cmp x y
         ≡ Some (⟦<Duration as Ord>⟧.cmp x y) }
     ensures equality { ComparesValues ⟦<Duration as PartialEq>⟧.eq }

@@ -33,7 +33,8 @@ impl Instant {
     /// What gives them has to end: if it doesn't, neither does the call.
     #[must_use]
     pub fn earliest<I: IntoIterator<Item = Option<Instant>>>(moments: I) -> Option<Instant>
-        requires ends { IsFiniteIterable I.into_iter_gives I.IntoIter.can_next I.IntoIter.remaining moments }
+        requires ends { IsFiniteIterable I.into_iter_gives I.IntoIter.can_next
+            I.IntoIter.remaining moments }
         ensures { (it : I.IntoIter) × I.into_iter_gives moments it
             × WholeRun I.IntoIter.next_gives it (λ p. IsEarliest (λ t. t) p.items result) }
     {

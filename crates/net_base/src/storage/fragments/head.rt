@@ -142,7 +142,8 @@ impl FragmentsHead {
     ) -> Result<(), FragmentError>
         requires sound { HasSoundParts self.old bytes.old runs.old }
         ensures sound { HasSoundParts self.new bytes.new runs.new }
-        ensures adds { Adds (length runs.old) (fragments_of self.old bytes.old runs.old) offset «data».now
+        ensures adds { Adds (length runs.old) (fragments_of self.old bytes.old runs.old)
+            offset «data».now
             false result (fragments_of self.new bytes.new runs.new) }
         ensures unchanged { OnErr result
             ((self.new ≡ self.old) × (bytes.new ≡ bytes.old) × (runs.new ≡ runs.old)) }
@@ -182,7 +183,8 @@ impl FragmentsHead {
     ) -> Result<(), FragmentError>
         requires { HasSoundParts self.old bytes.old runs.old }
         ensures sound { HasSoundParts self.new bytes.new runs.new }
-        ensures adds { Adds (length runs.old) (fragments_of self.old bytes.old runs.old) offset «data».now
+        ensures adds { Adds (length runs.old) (fragments_of self.old bytes.old runs.old)
+            offset «data».now
             is_last result (fragments_of self.new bytes.new runs.new) }
         ensures unchanged { OnErr result
             ((self.new ≡ self.old) × (bytes.new ≡ bytes.old) × (runs.new ≡ runs.old)) }
@@ -224,7 +226,8 @@ impl FragmentsHead {
     ) -> Result<(), FragmentError>
         requires { HasSoundParts self.old bytes.old runs.old }
         ensures sound { HasSoundParts self.new bytes.new runs.new }
-        ensures adds { Adds (length runs.old) (begun (fragments_of self.old bytes.old runs.old) expires_at) offset
+        ensures adds { Adds (length runs.old)
+            (begun (fragments_of self.old bytes.old runs.old) expires_at) offset
             «data».now is_last result (fragments_of self.new bytes.new runs.new) }
         ensures unchanged { OnErr result
             ((self.new ≡ self.old) × (bytes.new ≡ bytes.old) × (runs.new ≡ runs.old)) }
@@ -256,7 +259,8 @@ impl FragmentsHead {
         ensures sound { OnOk result ((bytes : List ℕ) → length bytes ≡ capacity →
             HasSoundParts self.old bytes runs.now → HasSoundParts self.new bytes runs.now) }
         ensures unchanged { OnErr result (self.new ≡ self.old) }
-        ensures takes { TakesSize capacity (set_of self.old.present runs.now) (total_of self.old) size result }
+        ensures takes { TakesSize capacity (set_of self.old.present runs.now)
+            (total_of self.old) size result }
         ensures exact { IsExact self.old → IsExact self.new }
     {
         if size > capacity {

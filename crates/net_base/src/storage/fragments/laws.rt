@@ -21,7 +21,8 @@ use net_ring::ring_buffer;
 /// before.
 pub fn latest_arrival_wins()
     ensures each { (b : FragmentsState) (fs : List (ℕ × List ℕ)) (p d : ℕ) → p < length b.bytes
-        → slice_index_or (after_fragments b fs).bytes p d ≡ last_byte p (slice_index_or b.bytes p d) fs }
+        → slice_index_or (after_fragments b fs).bytes p d
+        ≡ last_byte p (slice_index_or b.bytes p d) fs }
     ensures old_bytes { (b : FragmentsState) (fs : List (ℕ × List ℕ)) (p d : ℕ)
         → b.present ≡ nothing → p < length b.bytes
         → IsTrue (contains (after_fragments b fs).present p)
@@ -47,9 +48,11 @@ pub fn head_of_zeros()
 /// States that `add` refuses a fragment exactly if it ends past a known size or the buffer's end, or would leave too
 /// many runs.
 pub fn refused_fragments()
-    ensures { (n : ℕ) (b c : FragmentsState) (offset : ℕ) (xs : List ℕ) (r : Result (Unit {0}) FragmentError) →
+    ensures { (n : ℕ) (b c : FragmentsState) (offset : ℕ) (xs : List ℕ)
+        (r : Result (Unit {0}) FragmentError) →
         limit_of b ≤ length b.bytes → Adds n b offset xs false r c →
-        (IsErr r ↔ ((limit_of b < offset + length xs) ⊎ MakesTooManyRuns n b.present offset (length xs))) }
+        (IsErr r ↔ ((limit_of b < offset + length xs)
+        ⊎ MakesTooManyRuns n b.present offset (length xs))) }
 {}
 
 /// States that two refusals are equal exactly if they are the same, and that a clone of one is the same, and is never

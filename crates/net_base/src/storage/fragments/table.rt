@@ -127,7 +127,8 @@ impl<K: Copy + Eq, B: Storage<u8>, const N: usize> FragmentSlot<K, B, N> {
     ) -> Result<usize, AcceptError>
         ensures key { OnOk result (self.new.key ≡ key_for K.PartialEq.eq key self.old.key) }
         ensures at { OnOk result (result ≡ Ok at) }
-        ensures buffer { Accepts N (buffer_for K.PartialEq.eq key expires_at self.old.key self.old.buffer)
+        ensures buffer { Accepts N
+            (buffer_for K.PartialEq.eq key expires_at self.old.key self.old.buffer)
             offset «data».now is_last at result self.new.buffer }
         ensures unchanged { OnErr result (self.new ≡ self.old) }
         ensures no_bytes { result ≢ Err AcceptError.NoBytes }
@@ -212,7 +213,8 @@ pub fn claim<K: Copy + Eq, B: Storage<u8>, const N: usize>(
     key: K,
     expires_at: Instant,
 ) -> Result<usize, Full>
-    ensures full { IsErr result ↔ ((position (λ s. is_for K.PartialEq.eq key s.key) slots.old ≡ None)
+    ensures full { IsErr result
+        ↔ ((position (λ s. is_for K.PartialEq.eq key s.key) slots.old ≡ None)
         × (position (λ s. is_none s.key) slots.old ≡ None)) }
     ensures unchanged { OnErr result (slots.new ≡ slots.old) }
     ensures found { IfOk result (λ at. (k : ℕ) →
@@ -380,7 +382,8 @@ pub fn take_expired<K: Copy + Eq, B: Storage<u8>, const N: usize>(
         (position (λ s. is_overdue now s.key s.buffer.expires_at) slots.old ≡ None) }
     ensures found { IfSome result (λ r.
         position (λ s. is_overdue now s.key s.buffer.expires_at) slots.old ≡ Some r.0) }
-    ensures key { IfSome result (λ r. (s : _) → slice_get slots.old r.0 ≡ Some s → s.key ≡ Some r.1) }
+    ensures key { IfSome result (λ r. (s : _) → slice_get slots.old r.0 ≡ Some s →
+        s.key ≡ Some r.1) }
     ensures freed { IfSome result (λ r. (s : _) → slice_get slots.old r.0 ≡ Some s →
         slots.new ≡ set slots.old r.0 (record { key = None; buffer = s.buffer })) }
     ensures unchanged { IsNone result → slots.new ≡ slots.old }

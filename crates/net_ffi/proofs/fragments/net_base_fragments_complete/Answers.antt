@@ -9,4 +9,5 @@ pub returns-in-Some-clause-missing : goal.returns-in-Some-clause-missing
 returns-in-Some-clause-missing c = λ _ bytes none. absurd (none (c.in-Some.length, c.in-Some.ensures.size bytes))
 
 pub returns-in-None-clause-done : goal.returns-in-None-clause-done
-returns-in-None-clause-done c = λ _ bytes size is. let e = (c.in-None.ensures.complete bytes).1 (size, is) in grind (arith, e)
+returns-in-None-clause-done c = λ _ bytes size is. let e = (c.in-None.ensures.complete bytes).1 (size, is) in
+    grind (arith, e)

@@ -11,4 +11,5 @@ returns-clause-run c = λ _.
     let item = nth_from_yields_List c.nth.result c.nth.new.self c.args.index c.nth.ensures.ran
     (YieldsList-from_first (λ x. x) (λ s. s) c.held.result refl) in
     c.unwrap_or-start.ensures
-    ∙ ap (λ o. unwrap_or o (0, 0)) (as_it_is c.nth.result ∙ item ∙ ap (λ l. slice_get l c.args.index) c.held.ensures.runs)
+    ∙ ap (λ o. unwrap_or o (0, 0)) (as_it_is c.nth.result ∙ item
+    ∙ ap (λ l. slice_get l c.args.index) c.held.ensures.runs)

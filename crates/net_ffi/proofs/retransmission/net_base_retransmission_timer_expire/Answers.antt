@@ -7,4 +7,5 @@ returns-clause-state c = search rules
 
 pub returns-clause-counted : goal.returns-clause-counted
 returns-clause-counted c = λ is.
-    subst (λ it. 1 ≤ it.timeout.timeout) (sym (returns-clause-state c is)) (counted c.args.bounds.now c.args.now c.args.timer.now)
+    subst (λ it. 1 ≤ it.timeout.timeout) (sym (returns-clause-state c is))
+    (counted c.args.bounds.now c.args.now c.args.timer.now)

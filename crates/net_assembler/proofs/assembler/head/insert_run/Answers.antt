@@ -8,7 +8,8 @@ use Rattle.net_assembler.proofs.assembler.head.insert_run.Goals as goal
 pub wrapped-requires-clause-fits : goal.wrapped-requires-clause-fits
 wrapped-requires-clause-fits c =
     let k = c.loop-k.k in
-    moved_usize c.args.by c.args.at c.args.used (k - 1) c.loop-k.runs c.args.runs.now (omega arith) (omega arith) (omega arith)
+    moved_usize c.args.by c.args.at c.args.used (k - 1) c.loop-k.runs c.args.runs.now (omega arith)
+    (omega arith) (omega arith)
     c.requires.fits (below_at c.loop-k.runs c.args.runs.now k (k - 1) (0, 0) (omega arith) c.loop-k.invariant.below)
 
 pub loop-k-preserved : goal.loop-k-preserved
@@ -25,8 +26,12 @@ loop-k-preserved c =
       most = omega arith;
       below = below_less xs ys k v inv.below;
       above = ap (λ n. drop n (take (c.args.used + 1) (set xs k v))) next
-          ∙ raise_more (wrapped_run c.args.by) xs ys k c.args.used v (0, 0) (omega arith) (omega arith) (omega (arith, inv.len)) (omega arith)
-          (c.wrapped.ensures ∙ ap (wrapped_run c.args.by) (below_at xs ys k (k - 1) (0, 0) (omega arith) inv.below)) inv.above;
+          ∙ raise_more (wrapped_run c.args.by) xs ys k c.args.used v (
+            0,
+            0,
+          ) (omega arith) (omega arith) (omega (arith, inv.len)) (omega arith)
+          (c.wrapped.ensures ∙ ap (wrapped_run c.args.by)
+          (below_at xs ys k (k - 1) (0, 0) (omega arith) inv.below)) inv.above;
       looks = omega arith;
       moves = omega arith;
     }
@@ -38,6 +43,8 @@ returns-clause-runs c =
     let at = c.args.at in
     let inv = c.loop-k.invariant in
     let at_end : c.loop-k.k ≡ at = omega arith in
-    written_below xs ys (runs_wrapped c.args.by (drop at (take c.args.used ys))) at c.args.used c.args.entry c.requires.at
+    written_below xs ys (runs_wrapped c.args.by (drop at (take c.args.used ys))) at c.args.used
+    c.args.entry c.requires.at
     (omega (arith, inv.len)) ((λ i. take (sym at_end i) xs) ∙ inv.below ∙ (λ i. take (at_end i) ys))
-    ((λ i. drop (sym at_end i + 1) (take (c.args.used + 1) xs)) ∙ inv.above ∙ (λ i. runs_wrapped c.args.by (drop (at_end i) (take c.args.used ys))))
+    ((λ i. drop (sym at_end i + 1) (take (c.args.used + 1) xs)) ∙ inv.above
+    ∙ (λ i. runs_wrapped c.args.by (drop (at_end i) (take c.args.used ys))))

@@ -33,7 +33,8 @@ loop-low-preserved c =
         | else-ends_before w ↦
             (let r = used_ends_rise xs n c.requires.runs c.requires.used m j (omega arith) b in
             either (cases_lt (end_at xs m) c.args.offset)
-            (λ by. absurd (not_from_Decides c.ends_before-in-loop-low.result c.ends_before-in-loop-low.ensures w.if-ends_before.false by))
+            (λ by. absurd (not_from_Decides c.ends_before-in-loop-low.result c.ends_before-in-loop-low.ensures
+            w.if-ends_before.false by))
             (λ reached. omega (arith, r, reached)))
       ];
       width = λ b l.

@@ -8,7 +8,8 @@ use Rattle.net_assembler.proofs.assembler.head.take_out.Goals as goal
 pub wrapped-requires-clause-fits : goal.wrapped-requires-clause-fits
 wrapped-requires-clause-fits c =
     let k = c.loop-k.k in
-    moved_usize c.args.by c.args.from c.args.used k c.loop-k.runs c.args.runs.now (omega arith) (omega arith) (omega arith)
+    moved_usize c.args.by c.args.from c.args.used k c.loop-k.runs c.args.runs.now (omega arith)
+    (omega arith) (omega arith)
     c.requires.fits (rest_at c.loop-k.runs c.args.runs.now k (0, 0) c.loop-k.invariant.rest)
 
 pub loop-k-preserved : goal.loop-k-preserved
@@ -32,5 +33,6 @@ pub returns-clause-runs : goal.returns-clause-runs
 returns-clause-runs c =
     let ys = c.args.runs.now in
     let at_end : c.loop-k.k ≡ c.args.used = omega (arith, c.requires.from) in
-    subst (λ (n : ℕ). take c.loop-k.to c.loop-k.runs ≡ take c.args.at ys ++ runs_wrapped c.args.by (drop c.args.from (take n ys)))
+    subst (λ (n : ℕ). take c.loop-k.to c.loop-k.runs ≡ take c.args.at ys
+    ++ runs_wrapped c.args.by (drop c.args.from (take n ys)))
     at_end c.loop-k.invariant.taken

@@ -7,4 +7,6 @@ returns-in_err-write_text-clause-err g c =
     let p = err_from_is_err_and c.from_residual.result c.from_residual.ensures.1 in
     let failed = c.in_err-write_text.ensures.err in
     rw (p.1, p.2, failed.0) (last-unwritten g.S.Session.rules g.S.Session.closing c.args.line.now _ _ _ _
-    c.run_last_line-outcome.new.self.replies.items c.run_last_line-outcome.result (rw c.deref.ensures.value at failed.1) (rw c.requires.emptied at c.run_last_line-outcome.ensures.ok) (rw c.requires.emptied at c.run_last_line-outcome.ensures.err))
+    c.run_last_line-outcome.new.self.replies.items c.run_last_line-outcome.result
+    (rw c.deref.ensures.value at failed.1) (rw c.requires.emptied at c.run_last_line-outcome.ensures.ok)
+    (rw c.requires.emptied at c.run_last_line-outcome.ensures.err))

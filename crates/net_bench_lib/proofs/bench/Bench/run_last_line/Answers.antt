@@ -7,12 +7,14 @@ use Rattle.net_bench_lib.proofs.bench.Bench.run_last_line.Goals as goal
 
 pub returns-then-is_empty-clause-ok : goal.returns-then-is_empty-clause-ok
 returns-then-is_empty-clause-ok g c =
-    rw (empty c.args.line.now _ c.is_empty.ensures c.if-is_empty.true) (on_ok_weaker c.close.result (λ w. (refl, w)) c.close.ensures.ok)
+    rw (empty c.args.line.now _ c.is_empty.ensures c.if-is_empty.true)
+    (on_ok_weaker c.close.result (λ w. (refl, w)) c.close.ensures.ok)
 
 pub returns-then-is_empty-clause-err : goal.returns-then-is_empty-clause-err
 returns-then-is_empty-clause-err g c =
     rw (empty c.args.line.now _ c.is_empty.ensures c.if-is_empty.true)
-    (IfErr-weaker c.close.result _ _ (λ e w. rw (w.0, w.1) (0, Appends-nil (Some c.args.self.now.replies.items))) c.close.ensures.err)
+    (IfErr-weaker c.close.result _ _ (λ e w. rw (w.0, w.1) (0, Appends-nil (Some c.args.self.now.replies.items)))
+    c.close.ensures.err)
 
 pub returns-in_err-run_line-clause-err : goal.returns-in_err-run_line-clause-err
 returns-in_err-run_line-clause-err g c =
@@ -24,10 +26,13 @@ pub returns-clause-ok : goal.returns-clause-ok
 returns-clause-ok g c =
     let some = nonempty c.args.line.now _ c.is_empty.ensures c.if-is_empty.false in
     on_ok_weaker c.close-2.result (last-ok g.S.Session.rules g.S.Session.closing c.args.line.now _ _ _ _
-    (Some c.args.self.now.replies.items) (Some c.run_line.new.self.replies.items) (Some c.close-2.new.self.replies.items) some c.requires c.in_ok-run_line.ensures.ok) c.close-2.ensures.ok
+    (Some c.args.self.now.replies.items) (Some c.run_line.new.self.replies.items)
+    (Some c.close-2.new.self.replies.items) some c.requires c.in_ok-run_line.ensures.ok) c.close-2.ensures.ok
 
 pub returns-clause-err : goal.returns-clause-err
 returns-clause-err g c =
     let some = nonempty c.args.line.now _ c.is_empty.ensures c.if-is_empty.false in
-    IfErr-weaker c.close-2.result _ _ (λ e w. rw (w.0, w.1) (last-err g.S.Session.rules g.S.Session.closing c.args.line.now _ _ _ _
-    (Some c.args.self.now.replies.items) (Some c.run_line.new.self.replies.items) some c.requires c.in_ok-run_line.ensures.ok)) c.close-2.ensures.err
+    IfErr-weaker c.close-2.result _ _
+    (λ e w. rw (w.0, w.1) (last-err g.S.Session.rules g.S.Session.closing c.args.line.now _ _ _ _
+    (Some c.args.self.now.replies.items) (Some c.run_line.new.self.replies.items) some c.requires
+    c.in_ok-run_line.ensures.ok)) c.close-2.ensures.err

@@ -8,7 +8,8 @@ returns-clause-has_first c = has_first c.args.capacity c.args.self.now c.args.sl
 
 pub returns-clause-sound_slots : goal.returns-clause-sound_slots
 returns-clause-sound_slots c hs =
-    either c.take_first.result (λ n. subst (λ h. HasSoundSlots c.args.capacity h c.args.slots.now) (sym (c.take_first.ensures.unchanged n)) hs)
+    either c.take_first.result
+    (λ n. subst (λ h. HasSoundSlots c.args.capacity h c.args.slots.now) (sym (c.take_first.ensures.unchanged n)) hs)
     c.take_first.ensures.some c.take_first.ensures.taken
     (λ p some is. sound_dequeued c.args.capacity c.args.self.now c.args.slots.now some c.take_first.new.self is hs)
 

@@ -11,7 +11,8 @@ returns-in_default c = (
   λ hs. (
       let q = queue (slot_ring c.args.self c.args.slots.now) in
       let here = c.loop-k.invariant.on (from_start c.args.capacity c.args.self c.args.slots.now hs) in
-      let next = next_slot (length c.args.slots.now) c.args.capacity c.args.self c.args.slots.now (c.if-not-is_sound.ensures.0 refl) refl c.loop-k.k c.index.result
+      let next = next_slot (length c.args.slots.now) c.args.capacity c.args.self c.args.slots.now
+      (c.if-not-is_sound.ensures.0 refl) refl c.loop-k.k c.index.result
       c.loop-k-test.true c.index.ensures.index _ in
       absurd (c.in_default.ensures.none refl (drop (c.loop-k.k + 1) q)
       (subst (AreSlotsAfter c.args.capacity c.args.self.bytes c.loop-k.done.offset c.loop-k.done.gap) next here))),
@@ -20,7 +21,8 @@ returns-in_default c = (
 pub loop-k-preserved : goal.loop-k-preserved
 loop-k-preserved c =
     let q = queue (slot_ring c.args.self c.args.slots.now) in
-    let next = next_slot (length c.args.slots.now) c.args.capacity c.args.self c.args.slots.now (c.if-not-is_sound.ensures.0 refl) refl c.loop-k.k c.index.result
+    let next = next_slot (length c.args.slots.now) c.args.capacity c.args.self c.args.slots.now
+    (c.if-not-is_sound.ensures.0 refl) refl c.loop-k.k c.index.result
     c.loop-k-test.true c.index.ensures.index _ in
     let step = c.in-Some.ensures.next (drop (c.loop-k.k + 1) q) in
     let F = AreSlotsAfter c.args.capacity c.args.self.bytes c.loop-k.done.offset c.loop-k.done.gap in

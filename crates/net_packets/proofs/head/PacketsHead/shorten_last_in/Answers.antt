@@ -11,7 +11,8 @@ returns-clause-sound_slots c hs =
     let can : CanShorten h (last_slot h ss) c.args.count = search rules in
     let is : new ≡ packet_slot ((last_slot h ss).size - c.args.count) = search rules in
     subst (λ i. HasSoundSlots c.args.capacity c.shorten_slot.new.self (set ss i new)) (sym c.index-last.ensures.index)
-    (sound_shortened h (last_slot h ss) c.args.count can new is c.shorten_slot.new.self c.shorten_slot.ensures.slots c.shorten_slot.ensures.bytes
+    (sound_shortened h (last_slot h ss) c.args.count can new is c.shorten_slot.new.self c.shorten_slot.ensures.slots
+    c.shorten_slot.ensures.bytes
     c.args.capacity ss hs (last_at c.args.capacity h ss c.requires.sound can.0))
 
 pub returns-clause-state : goal.returns-clause-state
@@ -22,5 +23,6 @@ returns-clause-state c done xs e hs =
     let can : CanShorten h (last_slot h ss) c.args.count = search rules in
     let is : new ≡ packet_slot ((last_slot h ss).size - c.args.count) = search rules in
     ap (λ i. queue_of c.shorten_slot.new.self (set ss i new) xs) c.index-last.ensures.index
-    ∙ last_shortened h (last_slot h ss) c.args.count can new is c.shorten_slot.new.self c.shorten_slot.ensures.slots c.shorten_slot.ensures.bytes
+    ∙ last_shortened h (last_slot h ss) c.args.count can new is c.shorten_slot.new.self c.shorten_slot.ensures.slots
+    c.shorten_slot.ensures.bytes
     c.args.capacity ss xs e hs (last_at c.args.capacity h ss c.requires.sound can.0)

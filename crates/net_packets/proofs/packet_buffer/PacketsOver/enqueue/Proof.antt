@@ -57,9 +57,11 @@ module _ (G : Given) where
   )
 
 module _ (G : Given) {M : Type 1} {𝓤 : Ura M} (𝓛 : Logic 𝓤) (𝓜 : Model 𝓤 𝓛.H) (𝓡 : Running 𝓤 𝓛.H 𝓜)
-    (place-met : Meets 𝓛 (place.signature G.H G.N G.B G.slots G.slots_by G.bytes G.bytes_by G.drops_by) (𝓡.run (𝓡.env (#place (args G))))
+    (place-met : Meets 𝓛 (place.signature G.H G.N G.B G.slots G.slots_by G.bytes G.bytes_by G.drops_by)
+    (𝓡.run (𝓡.env (#place (args G))))
     (place.spec G.H G.N G.B G.slots G.slots_by G.bytes G.bytes_by G.drops_by 𝓛 𝓜.mem 𝓡.returns))
-    (last-met : Meets 𝓛 (last.signature G.H G.N G.B G.slots G.slots_by G.bytes G.bytes_by G.drops_by) (𝓡.run (𝓡.env (#last (args G))))
+    (last-met : Meets 𝓛 (last.signature G.H G.N G.B G.slots G.slots_by G.bytes G.bytes_by G.drops_by)
+    (𝓡.run (𝓡.env (#last (args G))))
     (last.spec G.H G.N G.B G.slots G.slots_by G.bytes G.bytes_by G.drops_by 𝓛 𝓜.mem 𝓡.returns)) where
   open 𝓛 use {H}
 
@@ -77,7 +79,8 @@ module _ (G : Given) {M : Type 1} {𝓤 : Ura M} (𝓛 : Logic 𝓤) (𝓜 : Mod
   Last = triple_of 𝓛 (last.signature G.H G.N G.B G.slots G.slots_by G.bytes G.bytes_by G.drops_by)
       (last.spec G.H G.N G.B G.slots G.slots_by G.bytes G.bytes_by G.drops_by 𝓛 𝓜.mem 𝓡.returns)
 
-  module _ (κs : Lfts 4) (qs : Shares 4) (bounds : AllOutlive 4 (ended G).signature.outlives κs) (live-in : Live G κs) (self : MutBor (Q G)) (n : ℕ)
+  module _ (κs : Lfts 4) (qs : Shares 4) (bounds : AllOutlive 4 (ended G).signature.outlives κs) (live-in : Live G κs)
+      (self : MutBor (Q G)) (n : ℕ)
       (h : G.H.Denot) (hv : Val) where
     abbrev x : Q G
     x = self.now
@@ -119,7 +122,10 @@ module _ (G : Given) {M : Type 1} {𝓤 : Ura M} (𝓛 : Logic 𝓤) (𝓜 : Mod
         (
           (κ', κs.1),
           (p.1, qs.1),
-          (⊑_trans κ' κs.0 κs.1.0 in_κ bounds.0, (⊑_trans κ' κs.0 κs.1.1.0 in_κ bounds.1.0, (⊑_trans κ' κs.0 κs.1.1.1.0 in_κ bounds.1.1.0, tt))),
+          (
+            ⊑_trans κ' κs.0 κs.1.0 in_κ bounds.0,
+            (⊑_trans κ' κs.0 κs.1.1.0 in_κ bounds.1.0, (⊑_trans κ' κs.0 κs.1.1.1.0 in_κ bounds.1.1.0, tt)),
+          ),
           (record self { ghost_name = p.2 }, (n, (h, tt))),
           (mut_vals self, (vint w64 n ∷ [], (hv ∷ [], tt))),
         ),
@@ -134,7 +140,8 @@ module _ (G : Given) {M : Type 1} {𝓤 : Ura M} (𝓛 : Logic 𝓤) (𝓜 : Mod
     Sized = n ≡ first_size (last-of y.packets)
 
     -- the end at `Err`, where self ends as it was
-    refuses : placement x n ≡ None → ent 𝓤 (sep 𝓤 (sem 𝓛 (ends_as x)) (sep 𝓤 (𝓛.A.lft κs.0 qs.0) (mean 𝓛 (others G 𝓤 κs qs))))
+    refuses : placement x n ≡ None →
+        ent 𝓤 (sep 𝓤 (sem 𝓛 (ends_as x)) (sep 𝓤 (𝓛.A.lft κs.0 qs.0) (mean 𝓛 (others G 𝓤 κs qs))))
         (Post (live 1 (of_list (no_fields ∷ []))))
     unfolding follows_by
     refuses none =
@@ -143,10 +150,16 @@ module _ (G : Given) {M : Type 1} {𝓤 : Ura M} (𝓛 : Logic 𝓤) (𝓜 : Mod
         fpack ! (Valss []) (within (Declared.shape FU.the_type) tt (no_fields ∷ [])) tt $
         use1 𝓛 (‵ ((RS.the_row Part FU.the_row).own_val (Err (record {})) (live 1 (of_list (no_fields ∷ [])) ∷ [])))
         (err_of 𝓛 Part FU.the_row (record {}) no_fields) $
-        suffices ! _ (ends_at 𝓛 (ended G) (stayed G) all_clauses bound (live 1 (of_list (no_fields ∷ []))) (Err (record {})) (tt, (tt, (tt, tt)))
+        suffices ! _ (ends_at 𝓛 (ended G) (stayed G) all_clauses bound (live 1 (of_list (no_fields ∷ [])))
+        (Err (record {})) (tt, (tt, (tt, tt)))
         (tt, (tt, (tt, tt)))) $
-        nothing ! $ nothing ! $ fjoin ! $ nothing ! $ fjoin ! $ nothing ! $ fjoin ! $ join ! $ move ! (2 ∷ 3 ∷ []) $ join ! $ join ! $ frame ! $
-        says_all ! (and_fact 𝓤 _ _ tt (and_fact 𝓤 _ _ ((λ _. none), (λ _. refl)) (and_fact 𝓤 _ _ tt (and_fact 𝓤 _ _ tt (fact_i 𝓤 _ (emp 𝓤) tt))))) $ done !
+        nothing ! $ nothing ! $ fjoin ! $ nothing ! $ fjoin ! $ nothing ! $ fjoin ! $ join ! $ move ! (2 ∷ 3 ∷ []) $
+        join ! $ join ! $ frame ! $
+        says_all ! (and_fact 𝓤 _ _ tt
+        (and_fact 𝓤 _ _ (
+          (λ _. none),
+          (λ _. refl),
+        ) (and_fact 𝓤 _ _ tt (and_fact 𝓤 _ _ tt (fact_i 𝓤 _ (emp 𝓤) tt))))) $ done !
 
     -- what the contents are, once the packet of q that came last is written
     abbrev Accepts : Q G → Type 0
@@ -154,15 +167,22 @@ module _ (G : Given) {M : Type 1} {𝓤 : Ura M} (𝓛 : Logic 𝓤) (𝓜 : Mod
 
     -- the end at `Ok`, where self follows the part
     lends : (r : MutBor (List ℕ)) (w : Val) → placement x n ≢ None → Accepts y → r.now ≡ last_bytes y → length r.now ≡ n
-        → ent 𝓤 (sep 𝓤 (sem 𝓛 (Part.own_val r (w ∷ []))) (sep 𝓤 (sem 𝓛 (follow y r)) (sep 𝓤 (𝓛.A.lft κs.0 qs.0) (mean 𝓛 (others G 𝓤 κs qs)))))
+        → ent 𝓤 (sep 𝓤 (sem 𝓛 (Part.own_val r (w ∷ [])))
+        (sep 𝓤 (sem 𝓛 (follow y r)) (sep 𝓤 (𝓛.A.lft κs.0 qs.0) (mean 𝓛 (others G 𝓤 κs qs)))))
         (Post (live 0 (of_list (w ∷ []))))
     unfolding follows_by
     lends r w is_placed accepted value size =
         qed 𝓛 (‵ (Part.own_val r (w ∷ [])) ∷ ‵ (follow y r) ∷ ‵ (flft κs.0 qs.0) ∷ others G 𝓤 κs qs ∷ []) ∵
-        use1 𝓛 (‵ ((RS.the_row Part FU.the_row).own_val (Ok r) (live 0 (of_list (w ∷ [])) ∷ []))) (ok_of 𝓛 Part FU.the_row r w) $
-        suffices ! _ (ends_at 𝓛 (ended G) (stayed G) all_clauses bound (live 0 (of_list (w ∷ []))) (Ok r) (tt, (tt, (tt, tt))) (tt, (tt, (tt, tt)))) $
-        nothing ! $ nothing ! $ fjoin ! $ nothing ! $ fjoin ! $ nothing ! $ fjoin ! $ join ! $ move ! (2 ∷ 3 ∷ []) $ join ! $ join ! $ frame ! $
-        says_all ! (and_fact 𝓤 _ _ accepted (and_fact 𝓤 _ _ ((λ f. absurd (subst T (sym f) tt)), (λ e. absurd (is_placed e))) (and_fact 𝓤 _ _ value
+        use1 𝓛 (‵ ((RS.the_row Part FU.the_row).own_val (Ok r) (live 0 (of_list (w ∷ [])) ∷ [])))
+        (ok_of 𝓛 Part FU.the_row r w) $
+        suffices ! _ (ends_at 𝓛 (ended G) (stayed G) all_clauses bound (live 0 (of_list (w ∷ []))) (Ok r) (
+          tt,
+          (tt, (tt, tt)),
+        ) (tt, (tt, (tt, tt)))) $
+        nothing ! $ nothing ! $ fjoin ! $ nothing ! $ fjoin ! $ nothing ! $ fjoin ! $ join ! $ move ! (2 ∷ 3 ∷ []) $
+        join ! $ join ! $ frame ! $
+        says_all ! (and_fact 𝓤 _ _ accepted
+        (and_fact 𝓤 _ _ ((λ f. absurd (subst T (sym f) tt)), (λ e. absurd (is_placed e))) (and_fact 𝓤 _ _ value
         (and_fact 𝓤 _ _ size (fact_i 𝓤 _ (emp 𝓤) (λ ws long. enqueue_call x n h ws is_placed long)))))) $ done !
 
     walk : n < 2 ^ 64 → T (has_ty (layout G.H) hv) × WT hv
@@ -170,37 +190,54 @@ module _ (G : Given) {M : Type 1} {𝓤 : Ura M} (𝓛 : Logic 𝓤) (𝓜 : Mod
         (WpFn 𝓤 H 𝓣.C 𝓣.Λ (function G) (vptr self.ref_ptr.0 self.ref_ptr.1 ∷ vint w64 n ∷ hv ∷ []) Post)
     unfolding follows_by
     walk fits-n good =
-        qed 𝓛 ((‵ (flft κs.0 qs.0) ⊛ others G 𝓤 κs qs) ∷ ‵ (owns (MutRef (named 0) κs.0 (Self G) ∷ usize ∷ Header G ∷ []) bound.0.3 bound.0.4) ∷ []) ∵
-        split ! $ move ! (2 ∷ []) $ fsplit ! $ move ! (1 ∷ []) $ fsplit ! $ drop ! $ fsplit ! $ move ! (1 ∷ []) $ drop ! $
+        qed 𝓛 ((‵ (flft κs.0 qs.0) ⊛ others G 𝓤 κs qs) ∷ ‵
+        (owns (MutRef (named 0) κs.0 (Self G) ∷ usize ∷ Header G ∷ []) bound.0.3 bound.0.4) ∷ []) ∵
+        split ! $ move ! (2 ∷ []) $ fsplit ! $ move ! (1 ∷ []) $ fsplit ! $ drop ! $ fsplit ! $
+        move ! (1 ∷ []) $ drop ! $
         -- [the header; self; the token; the other tokens]
         enter ! 𝓣.C 𝓣.Λ (function G) (vptr self.ref_ptr.0 self.ref_ptr.1 ∷ vint w64 n ∷ hv ∷ []) _ $
-        alloc_all ! (λ l. pass_all ! refl ((tt, tt), ((tt, record { fits = fits-n }), (good, tt))) $ let En : Env 𝓤 H = env (function G).locals l in
-        let Then : After 𝓤 H = any_q (after_seq 𝓤 H (Wp 𝓤 H 𝓣.C 𝓣.Λ En (after 4 (function G).body) (at_return 𝓤 H En Post)) (at_return 𝓤 H En Post)) in
-        sets ! (addr ! (through ! refl (stop !))) refl (tt, tt) $ sets ! (of_opd ! (get ! refl)) refl good $ move ! (1 ∷ 2 ∷ []) $
-        use2 𝓛 (later (some (λ (p : ℕ × Share × GName). ‵ (lent 𝓛 κs.0 (Self G) qs.0 self (κ' p) p.2 x) ⊛ ‵ (flft (κ' p) p.1) ⊛
+        alloc_all ! (λ l. pass_all ! refl ((tt, tt), ((tt, record { fits = fits-n }), (good, tt))) $
+        let En : Env 𝓤 H = env (function G).locals l in
+        let Then : After 𝓤 H = any_q
+        (after_seq 𝓤 H (Wp 𝓤 H 𝓣.C 𝓣.Λ En (after 4 (function G).body) (at_return 𝓤 H En Post))
+        (at_return 𝓤 H En Post)) in
+        sets ! (addr ! (through ! refl (stop !))) refl (tt, tt) $ sets ! (of_opd ! (get ! refl)) refl good $
+        move ! (1 ∷ 2 ∷ []) $
+        use2 𝓛 (later (some (λ (p : ℕ × Share × GName). ‵ (lent 𝓛 κs.0 (Self G) qs.0 self (κ' p) p.2 x) ⊛ ‵
+        (flft (κ' p) p.1) ⊛
         raw (Back 𝓛 κs.0 (Self G) qs.0 self p))))
         (lends_inside 𝓛 κs.0 (Self G) qs.0 self x) $ await ! tt $ pick ! (λ p. split3 ! $
         -- [self, lent; its token; the way back; the header; the other tokens]
         move ! (3 ∷ []) $ nothing ! $ move ! (1 ∷ 0 ∷ []) $ fjoin ! $
         owned ! usize (Is usize) (uint_Makes 𝓛 w64) n _ (refl, fits-n) $ fjoin ! $ move ! (1 ∷ 0 ∷ []) $ fjoin ! $
-        move ! (1 ∷ 3 ∷ []) $ join ! $ join ! $ nothing ! $ use1 𝓛 (raw (Asked G 𝓤 κs (emp 𝓤))) (asked G 𝓛 κs live-in (emp 𝓤)) $ move ! (1 ∷ 0 ∷ []) $
+        move ! (1 ∷ 3 ∷ []) $ join ! $ join ! $ nothing ! $
+        use1 𝓛 (raw (Asked G 𝓤 κs (emp 𝓤))) (asked G 𝓛 κs live-in (emp 𝓤)) $ move ! (1 ∷ 0 ∷ []) $
         join ! $ use1 𝓛 (raw (Place.pre (to_place p))) (id⊢ 𝓤 _) $
         calls_at ! (framed 𝓤 H 𝓜 𝓣) Place place-met (to_place p)
         (and_then ! (get ! refl) (and_then ! (get ! refl) (and_then ! (get ! refl) (no_more !)))) (λ v.
-        use1 𝓛 (later (some (λ (r : Answer.Denot). ((‵ (flft (κ' p) p.1) ⊛ others G 𝓤 κs qs) ⊛ ‵ (Answer.own_val r (v ∷ []))) ⊛
+        use1 𝓛 (later (some (λ (r : Answer.Denot).
+        ((‵ (flft (κ' p) p.1) ⊛ others G 𝓤 κs qs) ⊛ ‵ (Answer.own_val r (v ∷ []))) ⊛
         some (λ (ws : Q G × (Unit {0} × (Unit {0} × Unit {0}))).
-        ‵ (lasts (place.ended G.H G.N G.B G.slots G.slots_by G.bytes G.bytes_by G.drops_by) (to_place p).0.0 (to_place p).0.3 ws)
-        ⊛ raw (fact 𝓤 (OnOk r (Accepts ws.0))) ⊛ raw (fact 𝓤 (OnOk r (contents ws.0 ≡ contents x ++ ((h, last_bytes ws.0) ∷ [])))) ⊛
+        ‵ (lasts (place.ended G.H G.N G.B G.slots G.slots_by G.bytes G.bytes_by G.drops_by) (to_place p).0.0
+        (to_place p).0.3 ws)
+        ⊛ raw (fact 𝓤 (OnOk r (Accepts ws.0))) ⊛ raw
+        (fact 𝓤 (OnOk r (contents ws.0 ≡ contents x ++ ((h, last_bytes ws.0) ∷ [])))) ⊛
         raw (fact 𝓤 (OnErr r (ws.0 ≡ x)))
-        ⊛ raw (fact 𝓤 (IsErr r ↔ (placement x n ≡ None))) ⊛ raw (fact 𝓤 (ws.0 ≡ y)) ⊛ raw (fact 𝓤 (OnOk r (first_size (last-of ws.0.packets) ≡ n)))
+        ⊛ raw (fact 𝓤 (IsErr r ↔ (placement x n ≡ None))) ⊛ raw (fact 𝓤 (ws.0 ≡ y)) ⊛ raw
+        (fact 𝓤 (OnOk r (first_size (last-of ws.0.packets) ≡ n)))
         ⊛ raw (fact 𝓤 ((ws.0.slot_count ≡ x.slot_count) × (length ws.0.storage ≡ length x.storage)))
         ⊛ raw (fact 𝓤 (OnOk r (Makes (Placed h (last_bytes ws.0)) x ws.0)))))))
         (id⊢ 𝓤 (Place.post (to_place p) v)) $
-        await ! tt $ pick ! (λ r. split ! $ split ! $ move ! (2 ∷ []) $ pick ! (λ ws. split3 ! $ move ! (1 ∷ []) $ heard ! _ (λ accepts. move ! (1 ∷ []) $
-        split3 ! $ heard ! _ (λ stands. heard ! _ (λ unchanged. split3 ! $ heard ! _ (λ full. heard ! _ (λ is_y. split3 ! $ heard ! _ (λ is_sized. heard ! _ (λ _. heard ! _ (λ _. fsplit ! $ fsplit ! $
+        await ! tt $ pick ! (λ r. split ! $ split ! $ move ! (2 ∷ []) $
+        pick ! (λ ws. split3 ! $ move ! (1 ∷ []) $ heard ! _ (λ accepts. move ! (1 ∷ []) $
+        split3 ! $ heard ! _ (λ stands. heard ! _ (λ unchanged. split3 ! $
+        heard ! _ (λ full. heard ! _ (λ is_y. split3 ! $
+        heard ! _ (λ is_sized. heard ! _ (λ _. heard ! _ (λ _. fsplit ! $ fsplit ! $
         rewrite ! 0 (λ (m : Q G). ‵ (fres p.2 ((Self G).coded.code m))) is_y refl $ move ! (3 ∷ []) $ split ! $
         -- [the token; the other tokens; the loan's last value; its borrow; nothing; the answer; the way back]
-        move ! (0 ∷ 2 ∷ 6 ∷ []) $ use3 𝓛 (later (‵ (mine y) ⊛ ‵ (flft κs.0 qs.0))) (comes_inside 𝓛 κs.0 (Self G) qs.0 self p y) $ await ! tt $ split ! $
+        move ! (0 ∷ 2 ∷ 6 ∷ []) $
+        use3 𝓛 (later (‵ (mine y) ⊛ ‵ (flft κs.0 qs.0))) (comes_inside 𝓛 κs.0 (Self G) qs.0 self p y) $
+        await ! tt $ split ! $
         move ! (3 ∷ []) $ drop ! $ move ! (3 ∷ []) $ drop ! $
         -- [self; the token; the other tokens; the answer]
         elim (ok_or_err r) [
@@ -210,22 +247,31 @@ module _ (G : Given) {M : Type 1} {𝓤 : Ura M} (𝓛 : Logic 𝓤) (𝓜 : Mod
               (subst (λ t. OnOk t (first_size (last-of ws.0.packets) ≡ n)) c.1 is_sized) in
               let accepted : Accepts y = subst Accepts is_y (subst (λ t. OnOk t (Accepts ws.0)) c.1 accepts) in
               rewrite ! 3 (λ (t : Answer.Denot). ‵ (Answer.own_val t (v ∷ []))) c.1 refl $ move ! (3 ∷ []) $
-              ok_had ! unit FU.the_row c.0 v (λ us is_v. peeks ! unit (Is unit) (shows 𝓛 unit) c.0 us (λ is_unit. drop ! $
-              lands_as ! (is_v ∙ ap (λ (l : List Val). live 0 (of_list (l ++ []))) is_unit) refl (tt, (record { fits = lit< tt }, (tt, tt))) $
+              ok_had ! unit FU.the_row c.0 v
+              (λ us is_v. peeks ! unit (Is unit) (shows 𝓛 unit) c.0 us (λ is_unit. drop ! $
+              lands_as ! (is_v ∙ ap (λ (l : List Val). live 0 (of_list (l ++ []))) is_unit) refl (
+                tt,
+                (record { fits = lit< tt }, (tt, tt)),
+              ) $
               first ! $ switches_on ! (get_tag ! (vrt ! refl (fld ! refl (stop !))) (whole !)) $
               exec ! 𝓣.C 𝓣.Λ En (arm_body 0 (front (after 3 (function G).body))) Then $
               skips ! $ exec ! 𝓣.C 𝓣.Λ En (after 4 (function G).body) (at_ret En Post) $
               sets ! (addr ! (through ! refl (stop !))) refl (tt, tt) $
-              nothing ! $ owned ! usize (Is usize) (uint_Makes 𝓛 w64) n _ (refl, fits-n) $ fjoin ! $ move ! (1 ∷ 0 ∷ []) $
+              nothing ! $ owned ! usize (Is usize) (uint_Makes 𝓛 w64) n _ (refl, fits-n) $ fjoin ! $
+              move ! (1 ∷ 0 ∷ []) $
               fjoin ! $ move ! (1 ∷ 2 ∷ []) $ join ! $ join ! $
-              use0 𝓛 (raw (fact 𝓤 Sized)) (fact_i 𝓤 _ (emp 𝓤) (sym sizes)) $ use1 𝓛 (raw (Asked G 𝓤 κs (fact 𝓤 Sized))) (asked G 𝓛 κs live-in (fact 𝓤 Sized)) $
+              use0 𝓛 (raw (fact 𝓤 Sized)) (fact_i 𝓤 _ (emp 𝓤) (sym sizes)) $
+              use1 𝓛 (raw (Asked G 𝓤 κs (fact 𝓤 Sized))) (asked G 𝓛 κs live-in (fact 𝓤 Sized)) $
               move ! (1 ∷ 0 ∷ []) $ join ! $ use1 𝓛 (raw (Last.pre to_last)) (id⊢ 𝓤 _) $
               calls_at ! (framed 𝓤 H 𝓜 𝓣) Last last-met to_last
               (and_then ! (get ! refl) (and_then ! (get ! refl) (no_more !))) (λ u.
-              use1 𝓛 (later (some (λ (m : MutBor (List ℕ)). ((‵ (flft κs.0 qs.0) ⊛ others G 𝓤 κs qs) ⊛ ‵ (Part.own_val m (u ∷ []))) ⊛
+              use1 𝓛 (later (some (λ (m : MutBor (List ℕ)).
+              ((‵ (flft κs.0 qs.0) ⊛ others G 𝓤 κs qs) ⊛ ‵ (Part.own_val m (u ∷ []))) ⊛
               some (λ (ws : Unit {0} × (Unit {0} × Unit {0})).
-              ‵ (lasts (last.ended G.H G.N G.B G.slots G.slots_by G.bytes G.bytes_by G.drops_by) to_last.0.0 to_last.0.3 ws)
-              ⊛ ‵ (follow y m) ⊛ raw (fact 𝓤 (m.now ≡ last_bytes y)) ⊛ raw (fact 𝓤 (length m.now ≡ first_size (last-of y.packets)))))))
+              ‵ (lasts (last.ended G.H G.N G.B G.slots G.slots_by G.bytes G.bytes_by G.drops_by)
+              to_last.0.0 to_last.0.3 ws)
+              ⊛ ‵ (follow y m) ⊛ raw (fact 𝓤 (m.now ≡ last_bytes y)) ⊛ raw
+              (fact 𝓤 (length m.now ≡ first_size (last-of y.packets)))))))
               (id⊢ 𝓤 (Last.post to_last u)) $
               await ! tt $ pick ! (λ m. split ! $ split ! $ move ! (2 ∷ []) $
               pick ! (λ _. split3 ! $ drop ! $ move ! (1 ∷ []) $ split ! $ heard ! _ (λ value. heard ! _ (λ size.
@@ -236,21 +282,30 @@ module _ (G : Given) {M : Type 1} {𝓤 : Ura M} (𝓛 : Logic 𝓤) (𝓜 : Mod
               lands_as ! (ap only ok.0.0) refl (tt, (tt, (record { fits = fits }, tt))) $
               sets ! (agg ! (and_then ! (lit ! tt) (and_then ! (get ! refl) (no_more !)))) refl
               (tt, (record { fits = lit< tt }, ((tt, (record { fits = fits }, tt)), tt))) $
-              rewrite ! 0 (λ (l : List Val). ‵ (Part.own_val m l)) ok.0.0 refl $ returns ! (look_at ! 0 refl) $ free_all ! refl $ keep ! (0 ∷ 1 ∷ 2 ∷ []) $
+              rewrite ! 0 (λ (l : List Val). ‵ (Part.own_val m l)) ok.0.0 refl $ returns ! (look_at ! 0 refl) $
+              free_all ! refl $ keep ! (0 ∷ 1 ∷ 2 ∷ []) $
               by ! (lends m w is_placed accepted value (size ∙ sizes))))))))))
           | inr c ↦
               let none : placement x n ≡ None = full.0 (subst (λ t. IsErr t) (sym c.1) refl) in
               rewrite ! 0 (λ (m : Q G). ‵ (mine m)) (ap (λ m. with_packet_if x m n h) none) refl $
               rewrite ! 3 (λ (t : Answer.Denot). ‵ (Answer.own_val t (v ∷ []))) c.1 refl $ move ! (3 ∷ []) $
-              err_had ! unit FU.the_row c.0 v (λ us is_v. peeks ! FU.the_row (Is FU.the_row) (shows 𝓛 FU.the_row) c.0 us (λ is_error. drop ! $
-              lands_as ! (is_v ∙ ap (λ (l : List Val). live 1 (of_list (l ++ []))) is_error.1.0) refl (tt, (record { fits = lit< tt }, (tt, tt))) $
+              err_had ! unit FU.the_row c.0 v
+              (λ us is_v. peeks ! FU.the_row (Is FU.the_row) (shows 𝓛 FU.the_row) c.0 us (λ is_error. drop ! $
+              lands_as ! (is_v ∙ ap (λ (l : List Val). live 1 (of_list (l ++ []))) is_error.1.0) refl (
+                tt,
+                (record { fits = lit< tt }, (tt, tt)),
+              ) $
               first ! $ switches_on ! (get_tag ! (vrt ! refl (fld ! refl (stop !))) (whole !)) $
               exec ! 𝓣.C 𝓣.Λ En (arm_body 1 (front (after 3 (function G).body))) Then $
               fsplit3 ! $ drop ! $ use1 𝓛 (‵ (ends_as x)) (𝓛.names.obs-res self.ghost_name ((Self G).coded.code x)) $
               -- [what self ends as; its borrow; the token; the other tokens]
               sets ! (agg ! (no_more !)) refl (tt, tt) $
-              sets ! (agg ! (and_then ! (lit ! tt) (and_then ! (get ! refl) (no_more !)))) refl (tt, (record { fits = lit< tt }, (tt, tt))) $
-              returns_within ! Post refl (look_at ! 0 refl) $ free_all ! refl $ keep ! (0 ∷ 2 ∷ 3 ∷ []) $ by ! (refuses none)))
+              sets ! (agg ! (and_then ! (lit ! tt) (and_then ! (get ! refl) (no_more !)))) refl (
+                tt,
+                (record { fits = lit< tt }, (tt, tt)),
+              ) $
+              returns_within ! Post refl (look_at ! 0 refl) $ free_all ! refl $ keep ! (0 ∷ 2 ∷ 3 ∷ []) $
+              by ! (refuses none)))
         ])))))))))))))
 
   module _ (z : (walk_of 𝓛 (ended G) (stayed G) all_clauses).Ghost) where
@@ -261,22 +316,46 @@ module _ (G : Given) {M : Type 1} {𝓤 : Ura M} (𝓛 : Logic 𝓤) (𝓜 : Mod
     Goes vss =
         let at : (walk_of 𝓛 (ended G) (stayed G) all_clauses).Ghost = ((z.0.0, z.0.1, z.0.2, z.0.3, vss), z.1) in
         ent 𝓤 (on_entry 𝓛 (ended G).signature z.0.0 z.0.1 z.0.3 vss)
-        (WpFn 𝓤 H 𝓣.C 𝓣.Λ (function G) ((walk_of 𝓛 (ended G) (stayed G) all_clauses).args at) ((walk_of 𝓛 (ended G) (stayed G) all_clauses).post at))
+        (WpFn 𝓤 H 𝓣.C 𝓣.Λ (function G) ((walk_of 𝓛 (ended G) (stayed G) all_clauses).args at)
+        ((walk_of 𝓛 (ended G) (stayed G) all_clauses).post at))
 
     entry : Are Rs (Ises Rs) z.0.3 z.0.4 → ent 𝓤 ((walk_of 𝓛 (ended G) (stayed G) all_clauses).pre z)
-        (WpFn 𝓤 H 𝓣.C 𝓣.Λ (function G) ((walk_of 𝓛 (ended G) (stayed G) all_clauses).args z) ((walk_of 𝓛 (ended G) (stayed G) all_clauses).post z))
+        (WpFn 𝓤 H 𝓣.C 𝓣.Λ (function G) ((walk_of 𝓛 (ended G) (stayed G) all_clauses).args z)
+        ((walk_of 𝓛 (ended G) (stayed G) all_clauses).post z))
     entry are =
-        let h = alone (layout G.H) z.0.4.1.1.0 (((param_laws 0 G.H G.laws).lawful 𝓛).typed z.0.3.1.1.0 z.0.4.1.1.0 are.1.1.0) in
-        lives G 𝓛 z.0.0 _ _ (λ live-in. subst Goes (λ i. (sym (mut_Tells (named 0) z.0.0.0 (Self G) z.0.3.0 z.0.4.0 are.0) i, (sym are.1.0.0 i, (sym h.1 i, tt))))
+        let h = alone (layout G.H) z.0.4.1.1.0
+        (((param_laws 0 G.H G.laws).lawful 𝓛).typed z.0.3.1.1.0 z.0.4.1.1.0 are.1.1.0) in
+        lives G 𝓛 z.0.0 _ _ (λ live-in. subst Goes
+        (λ i. (
+          sym (mut_Tells (named 0) z.0.0.0 (Self G) z.0.3.0 z.0.4.0 are.0) i,
+          (sym are.1.0.0 i, (sym h.1 i, tt)),
+        ))
         (walk z.0.0 z.0.1 z.0.2 live-in z.0.3.0 z.0.3.1.0 z.0.3.1.1.0 h.0 are.1.0.1 h.2))
 
 pub enqueue_spec : {M : Type 1} → stated.statement M
 enqueue_spec 𝓤 𝓛 𝓜 𝓡 wired X Y Z LX LY LZ g gd b bd hd gm bm hm =
-    let G : Given = record { H = X; N = Y; B = Z; laws = LX; slots = g; slots_by = gd; bytes = b; bytes_by = bd; drops_by = hd } in
-    let first = place_met.met 𝓤 𝓛 𝓜 𝓡 (code.calls-net_packets::packet_buffer::PacketsOver::place 𝓡.env wired) X Y Z LX LY LZ g gd b bd hd gm bm hm in
-    let second = last_met.met 𝓤 𝓛 𝓜 𝓡 (code.calls-net_packets::packet_buffer::PacketsOver::last_part_mut 𝓡.env wired) X Y Z LX LY LZ g gd b bd hd gm bm hm in
+    let G : Given = record {
+      H = X;
+      N = Y;
+      B = Z;
+      laws = LX;
+      slots = g;
+      slots_by = gd;
+      bytes = b;
+      bytes_by =
+          bd;
+      drops_by = hd;
+    } in
+    let first = place_met.met 𝓤 𝓛 𝓜 𝓡 (code.calls-net_packets::packet_buffer::PacketsOver::place 𝓡.env wired) X Y Z LX
+    LY LZ g gd b bd hd gm bm hm in
+    let second = last_met.met 𝓤 𝓛 𝓜 𝓡 (code.calls-net_packets::packet_buffer::PacketsOver::last_part_mut 𝓡.env wired)
+    X Y Z LX LY LZ g gd b bd hd gm bm hm in
     proved_at 𝓛 (ended G) (stayed G) (all_clauses G 𝓛 𝓜 𝓡 first second) 𝓜 𝓡 (
       Goes-spent_ref 𝓛 4 (0 ∷ []) tt (plain (λ _. Self G)),
-      (Goes-dropped 𝓛 4 (plain (λ _. usize)) yes (λ κs x f. refl), (Goes-dropped 𝓛 4 (plain (λ _. Header G)) no (λ κs x f. refl), tt)),
+      (
+        Goes-dropped 𝓛 4 (plain (λ _. usize)) yes (λ κs x f. refl),
+        (Goes-dropped 𝓛 4 (plain (λ _. Header G)) no (λ κs x f. refl), tt),
+      ),
     )
-    (#self (args G)) (function G) (code.unfolded 𝓤 𝓛.H 𝓜 𝓡 wired (X, (Y, (Z, tt))) gd bd hd) (entry G 𝓛 𝓜 𝓡 first second)
+    (#self (args G)) (function G) (code.unfolded 𝓤 𝓛.H 𝓜 𝓡 wired (X, (Y, (Z, tt))) gd bd hd)
+    (entry G 𝓛 𝓜 𝓡 first second)

@@ -28,7 +28,11 @@ returns g c =
     let k = queue_at _ _ _ c.self.invariant c.self.view_is in
     let at = c.index-from.ensures.index ∙ last_at k _ c.count.ensures s c.requires in
     let fits = last_fits k _ c.count.ensures s c.requires in (
-      (refl, λ w. (written k from w _ (g.met.B.Storage.part_written c.self.inside.bytes from w)).seen ∙ ap (λ p. with_bytes q p w) at),
+      (
+        refl,
+        λ w. (written k from w _ (g.met.B.Storage.part_written c.self.inside.bytes from w)).seen
+            ∙ ap (λ p. with_bytes q p w) at,
+      ),
       record {
         writes_back = tt;
         value =

@@ -5,11 +5,13 @@ use Rattle.net_packets.proofs.packet_buffer.PacketsOver.skip.Given as given
 use Rattle.net_packets.proofs.packet_buffer.PacketsOver.skip.Goals as goal
 
 left : (g : given.Over) (c : goal.After-take g)
-    → IsQueue c.take.new.self (g.M.Storage.elements c.self.inside.slots) (g.B.Storage.elements c.self.inside.bytes) (without_gap c.args.self.now)
+    → IsQueue c.take.new.self (g.M.Storage.elements c.self.inside.slots) (g.B.Storage.elements c.self.inside.bytes)
+    (without_gap c.args.self.now)
 left g c =
     skipped (queue_at _ _ _ c.self.invariant c.self.view_is) c.first_gap-gap.result (sym c.first_gap-gap.ensures.gap)
     (omega (arith, c.if-gap-gt0.true)) _ (c.take.ensures.taken
-    ∙ ap₂ (λ (n k : ℕ). with_slot_taken n k c.first_gap-gap.result c.self.inside.head) c.count.ensures c.count-then-gap-gt0.ensures)
+    ∙ ap₂ (λ (n k : ℕ). with_slot_taken n k c.first_gap-gap.result c.self.inside.head) c.count.ensures
+    c.count-then-gap-gt0.ensures)
 
 pub invariant_of-self : goal.invariant_of-self
 invariant_of-self g c = (left g c).sound

@@ -12,11 +12,13 @@ returns-clause-state g c = λ lost highest bound end.
     let first = c.args.numbers.first_unacknowledged in
     let sent = c.args.numbers.sent in
     let blind = blind_lost c.args.segment_size c.args.before first sent r in
-    let same = one_bound r.duplicates c.args.segment_size s c.lost_below-lost.result lost c.lost_below-lost.ensures bound in
+    let same = one_bound r.duplicates c.args.segment_size s c.lost_below-lost.result lost
+    c.lost_below-lost.ensures bound in
     let top = one_end s c.highest_reported-highest.result highest c.highest_reported-highest.ensures end in
     c.take_losses.ensures.state
     ∙ ap (λ l. after_report c.args.segment_size first sent s l c.highest_reported-highest.result r) c.max.ensures
-    ∙ ap (λ b. after_report c.args.segment_size first sent s (max c.lost_below-lost.result b) c.highest_reported-highest.result r) c.blind_lost-blind.ensures
+    ∙ ap (λ b. after_report c.args.segment_size first sent s (max c.lost_below-lost.result b)
+    c.highest_reported-highest.result r) c.blind_lost-blind.ensures
     ∙ ap (λ l. after_report c.args.segment_size first sent s (max l blind) c.highest_reported-highest.result r) same
     ∙ ap (λ h. after_report c.args.segment_size first sent s (max lost blind) h r) top
 
@@ -27,10 +29,13 @@ returns-clause-begins g c = λ lost highest bound end.
     let first = c.args.numbers.first_unacknowledged in
     let sent = c.args.numbers.sent in
     let blind = blind_lost c.args.segment_size c.args.before first sent r in
-    let same = one_bound r.duplicates c.args.segment_size s c.lost_below-lost.result lost c.lost_below-lost.ensures bound in
+    let same = one_bound r.duplicates c.args.segment_size s c.lost_below-lost.result lost
+    c.lost_below-lost.ensures bound in
     let top = one_end s c.highest_reported-highest.result highest c.highest_reported-highest.ensures end in
     c.take_losses.ensures.begins
     ∙ ap (λ l. not (is_active r first) && nat_lt first (found s l c.highest_reported-highest.result r)) c.max.ensures
-    ∙ ap (λ b. not (is_active r first) && nat_lt first (found s (max c.lost_below-lost.result b) c.highest_reported-highest.result r)) c.blind_lost-blind.ensures
+    ∙ ap (λ b. not (is_active r first)
+    && nat_lt first (found s (max c.lost_below-lost.result b) c.highest_reported-highest.result r))
+    c.blind_lost-blind.ensures
     ∙ ap (λ l. not (is_active r first) && nat_lt first (found s (max l blind) c.highest_reported-highest.result r)) same
     ∙ ap (λ h. not (is_active r first) && nat_lt first (found s (max lost blind) h r)) top

@@ -9,9 +9,11 @@ returns-then-lost-numbers g c =
     let r = c.args.self.now in
     let first = c.args.numbers.first_unacknowledged in
     let active : is_active r first ≡ true = grind (arith, nat_tests, c.is_active.ensures, c.if-not-is_active.false) in
-    let is = flight c.args.scoreboard.now r first c.args.numbers.sent c.max-from.result c.max-turn.result c.max-resume.result
+    let is = flight c.args.scoreboard.now r first c.args.numbers.sent c.max-from.result c.max-turn.result
+    c.max-resume.result
     c.max-lost.result active c.max-from.ensures (c.max-turn.ensures ∙ omega (arith, c.min.ensures)) c.max-resume.ensures
-    c.max-lost.ensures (grind (arith, nat_tests, c.if-turn-resume.true)) (grind (arith, nat_tests, c.if-lost-numbers.true)) in
+    c.max-lost.ensures (grind (arith, nat_tests, c.if-turn-resume.true))
+    (grind (arith, nat_tests, c.if-lost-numbers.true)) in
     omega (
       arith,
       is,

@@ -53,9 +53,11 @@ returns-in-Some-next_hole-clause-progress g c = λ active fresh below misses.
     let rest = c.max.ensures in
     let hole = c.in-Some-next_hole.hole in
     let here : c.max-from.result ≡ first = omega (arith, from, is.0) in
-    let past = at_rest s first c.max-from.result c.min-2.result r.turn r.lost c.args.limit r.resume here c.in_default.ensures misses
+    let past = at_rest s first c.max-from.result c.min-2.result r.turn r.lost c.args.limit r.resume here
+    c.in_default.ensures misses
     (omega (arith, one, two)) below is.1 in
-    at_first s first c.max.result c.min-3.result hole.0 hole.1 c.in-Some-next_hole.ensures.0 c.in-Some-next_hole.ensures.1 misses
+    at_first s first c.max.result c.min-3.result hole.0 hole.1 c.in-Some-next_hole.ensures.0
+    c.in-Some-next_hole.ensures.1 misses
     (omega (arith, from, rest, is.0, past))
 
 pub returns-clause-progress : goal.returns-clause-progress
@@ -70,7 +72,8 @@ returns-clause-progress g c = λ active fresh below misses.
     let rest = c.max.ensures in
     let limit = c.min-3.ensures in
     let here : c.max-from.result ≡ first = omega (arith, from, is.0) in
-    let past = at_rest s first c.max-from.result c.min-2.result r.turn r.lost c.args.limit r.resume here c.in_default.ensures misses
+    let past = at_rest s first c.max-from.result c.min-2.result r.turn r.lost c.args.limit r.resume here
+    c.in_default.ensures misses
     (omega (arith, one, two)) below is.1 in
     let there : c.max.result ≡ first = omega (arith, from, rest, is.0, past) in
     let le = none_at s c.max.result c.min-3.result c.in_default-next_hole.ensures (ap (contains s) there ∙ misses) in

@@ -37,7 +37,8 @@ part_mut_spec 𝓤 𝓛 𝓜 𝓡 wired X L =
     let κ = κs.0 in let q = qs.0 in let b = a.0.ref_ptr.0 in let o = a.0.ref_ptr.1 in let γ = a.0.ghost_name in
     let m = a.1.0 in let e = a.1.1.0 in let G = Whole X κs in
     let tokens = ‵ (flft κ q) ⊛ ‵ (flft κs.1.0 qs.1.0) ⊛ ‵ (flft κs.1.1.0 qs.1.1.0) ⊛ ‵ ftrue in
-    let vss : List Val × (List Val × (List Val × Unit {0})) = (mut_vals a.0, (vint w64 m ∷ [], (vint w64 e ∷ [], tt))) in
+    let vss : List Val × (List Val × (List Val × Unit {0})) =
+    (mut_vals a.0, (vint w64 m ∷ [], (vint w64 e ∷ [], tt))) in
     let At : G.Denot → W.Ghost = λ h. ((κs, qs, bounds, (record a.0 { now = h }, a.1), vss), g) in
     let Goes : G.Denot → Type 1 = λ h. ent 𝓤 (W.pre (At h))
     (WpFn 𝓤 𝓛.H 𝓣.C 𝓣.Λ fn (vptr b o ∷ vint w64 m ∷ vint w64 e ∷ []) (W.post (At h))) in
@@ -49,15 +50,29 @@ part_mut_spec 𝓤 𝓛 𝓜 𝓡 wired X L =
           raw ((c κs (At (Borrowed s)).0.3).requires g) ∷ []) ∵
           split ! $ split ! $ move ! (2 ∷ []) $ fsplit ! $ fsplit3 ! $ keep ! (1 ∷ 2 ∷ 4 ∷ 3 ∷ 5 ∷ 6 ∷ []) $
           enter ! _ _ _ _ _ $
-          alloc_all ! (λ l. pass_all ! refl ((tt, tt), ((tt, record { fits = are.1.0.1 }), ((tt, record { fits = are.1.1.0.1 }), tt))) $
+          alloc_all ! (λ l. pass_all ! refl (
+            (tt, tt),
+            ((tt, record { fits = are.1.0.1 }), ((tt, record { fits = are.1.1.0.1 }), tt)),
+          ) $
           opens_field (lent X κs) 𝓛 b o κ q γ s ! tt (λ v.
-          first ! $ by_variants ! 0 (whole !) (load ! (through ! refl (vrt ! refl (fld ! refl (stop !)))) (look_tag ! 0 (whole !))) tt (
+          first ! $ by_variants ! 0 (whole !)
+          (load ! (through ! refl (vrt ! refl (fld ! refl (stop !)))) (look_tag ! 0 (whole !))) tt (
             (λ _. sets ! (addr ! (through ! refl (vrt ! refl (fld ! refl (stop !))))) refl (tt, tt) $
                 sets ! (addr ! (through ! refl (stop !))) refl (tt, tt) $
                 lends_field (lent X κs) 𝓛 b o κ q γ s ! tt v (λ δ.
-                let z : Lent.Ghost = ((κs, qs, (bounds.0, (bounds.1.1.0, (bounds.1.0, tt))), (at δ, a.1), (vptr b p ∷ [], vss.1)), tt) in
+                let z : Lent.Ghost = (
+                  (
+                    κs,
+                    qs,
+                    (bounds.0, (bounds.1.1.0, (bounds.1.0, tt))),
+                    (at δ, a.1),
+                    (vptr b p ∷ [], vss.1),
+                  ),
+                  tt,
+                ) in
                 -- [the field's loan; its token; the enum follows; the indices; the other tokens; what is asked]
-                move ! (0 ∷ 3 ∷ []) $ fjoin ! $ move ! (1 ∷ 3 ∷ []) $ join ! $ join ! $ move ! (0 ∷ 2 ∷ []) $ use2 𝓛 (raw (Lent.pre z)) (id⊢ 𝓤 _) $
+                move ! (0 ∷ 3 ∷ []) $ fjoin ! $ move ! (1 ∷ 3 ∷ []) $ join ! $ join ! $ move ! (0 ∷ 2 ∷ []) $
+                use2 𝓛 (raw (Lent.pre z)) (id⊢ 𝓤 _) $
                 calls_at_last ! (framed 𝓤 𝓛.H 𝓜 𝓣) Lent
                 (lent_met.met 𝓤 𝓛 𝓜 𝓡 (code.calls-net_ring::managed::RefMutSliceStorage::part_mut 𝓡.env wired) X L) z
                 (and_then ! (get ! refl) (and_then ! (get ! refl) (and_then ! (get ! refl) (no_more !)))) (λ u.
@@ -67,10 +82,13 @@ part_mut_spec 𝓤 𝓛 𝓜 𝓡 wired X L =
                 -- [the result; the enum follows it; the tokens]
                 peeks ! (MutSlice (named 0) κ R) _ (shows 𝓛 (MutSlice (named 0) κ R)) r (u ∷ []) (λ ok.
                 let stored = λ (ℓ : Lifetime). slice_typed ℓ r.ref_ptr (length r.now) u (ap only ok.0.0) ok.0.1.0 in
-                lands_last ! refl (stored erased) $ exec ! 𝓣.C 𝓣.Λ (env fn.locals l) (after 1 fn.body) (at_ret _ (W.post (At (Borrowed s)))) $
-                sets ! (of_opd ! (get ! refl)) refl (stored (named 0)) $ returns ! (look_at ! 0 refl) $ free_all ! refl $ keep ! (0 ∷ 1 ∷ 2 ∷ []) $
+                lands_last ! refl (stored erased) $
+                exec ! 𝓣.C 𝓣.Λ (env fn.locals l) (after 1 fn.body) (at_ret _ (W.post (At (Borrowed s)))) $
+                sets ! (of_opd ! (get ! refl)) refl (stored (named 0)) $ returns ! (look_at ! 0 refl) $
+                free_all ! refl $ keep ! (0 ∷ 1 ∷ 2 ∷ []) $
                 suffices ! _ (ends_at 𝓛 E hs c (At (Borrowed s)) u r (tt, (tt, (tt, tt))) (tt, (tt, (tt, tt)))) $
-                nothing ! $ nothing ! $ fjoin ! $ nothing ! $ fjoin ! $ nothing ! $ fjoin ! $ join ! $ move ! (2 ∷ 0 ∷ []) $ join ! $ frame ! $
+                nothing ! $ nothing ! $ fjoin ! $ nothing ! $ fjoin ! $ nothing ! $ fjoin ! $ join ! $
+                move ! (2 ∷ 0 ∷ []) $ join ! $ frame ! $
                 says ! value $ done !))))),
             ((λ t. absurd (suc-ne-zero 0 (sym t))), tt),
           )))
@@ -81,30 +99,48 @@ part_mut_spec 𝓤 𝓛 𝓜 𝓡 wired X L =
           raw ((c κs (At (Owned y)).0.3).requires g) ∷ []) ∵
           split ! $ split3 ! $ move ! (3 ∷ []) $ fsplit ! $ fsplit3 ! $ keep ! (1 ∷ 2 ∷ 4 ∷ 3 ∷ 6 ∷ 7 ∷ 5 ∷ []) $
           enter ! _ _ _ _ _ $
-          alloc_all ! (λ l. pass_all ! refl ((tt, tt), ((tt, record { fits = are.1.0.1 }), ((tt, record { fits = are.1.1.0.1 }), tt))) $
+          alloc_all ! (λ l. pass_all ! refl (
+            (tt, tt),
+            ((tt, record { fits = are.1.0.1 }), ((tt, record { fits = are.1.1.0.1 }), tt)),
+          ) $
           opens_field (owned X κs) 𝓛 b o κ q γ y ! tt (λ v.
-          first ! $ by_variants ! 0 (whole !) (load ! (through ! refl (vrt ! refl (fld ! refl (stop !)))) (look_tag ! 0 (whole !))) tt (
+          first ! $ by_variants ! 0 (whole !)
+          (load ! (through ! refl (vrt ! refl (fld ! refl (stop !)))) (look_tag ! 0 (whole !))) tt (
             (λ t. absurd (suc-ne-zero 0 t)),
             (
               (λ _. sets ! (addr ! (through ! refl (vrt ! refl (fld ! refl (stop !))))) refl (tt, tt) $
                   sets ! (addr ! (through ! refl (stop !))) refl (tt, tt) $
                   lends_field (owned X κs) 𝓛 b o κ q γ y ! tt v (λ δ.
-                  let z : Owns.Ghost = (((κ, (κs.1.1.0, tt)), (q, (qs.1.1.0, tt)), (bounds.1.0, tt), (at δ, a.1), (vptr b p ∷ [], vss.1)), tt) in
+                  let z : Owns.Ghost = (
+                    (
+                      (κ, (κs.1.1.0, tt)),
+                      (q, (qs.1.1.0, tt)),
+                      (bounds.1.0, tt),
+                      (at δ, a.1),
+                      (vptr b p ∷ [], vss.1),
+                    ),
+                    tt,
+                  ) in
                   -- [the field's loan; its token; the enum follows; the indices; the token of T; what is asked; the token of 'a]
-                  move ! (0 ∷ 3 ∷ []) $ fjoin ! $ move ! (1 ∷ 3 ∷ []) $ join ! $ join ! $ move ! (0 ∷ 2 ∷ []) $ use2 𝓛 (raw (Owns.pre z)) (id⊢ 𝓤 _) $
+                  move ! (0 ∷ 3 ∷ []) $ fjoin ! $ move ! (1 ∷ 3 ∷ []) $ join ! $ join ! $ move ! (0 ∷ 2 ∷ []) $
+                  use2 𝓛 (raw (Owns.pre z)) (id⊢ 𝓤 _) $
                   calls_at_last ! (framed 𝓤 𝓛.H 𝓜 𝓣) Owns
                   (owned_met.met 𝓤 𝓛 𝓜 𝓡 (code.calls-net_ring::managed::VecStorage::part_mut 𝓡.env wired) X L) z
                   (and_then ! (get ! refl) (and_then ! (get ! refl) (and_then ! (get ! refl) (no_more !)))) (λ u.
                   comes_back ! tt G (Buffer X κs) (Array R 0) Owned (with_items_from y m)
-                  (λ r. (MutSlice (named 0) κ R).own_val r (u ∷ [])) (‵ (flft κ q) ⊛ ‵ (flft κs.1.1.0 qs.1.1.0) ⊛ ‵ ftrue) (lasts (V.ended X) z.0.0 z.0.3)
+                  (λ r. (MutSlice (named 0) κ R).own_val r (u ∷ []))
+                  (‵ (flft κ q) ⊛ ‵ (flft κs.1.1.0 qs.1.1.0) ⊛ ‵ ftrue) (lasts (V.ended X) z.0.0 z.0.3)
                   (λ r. r.now ≡ take (e - m) (drop_list m y.items)) (id⊢ 𝓤 _) (λ r value.
                   -- [the result; the enum follows it; the tokens; the token of 'a]
                   peeks ! (MutSlice (named 0) κ R) _ (shows 𝓛 (MutSlice (named 0) κ R)) r (u ∷ []) (λ ok.
                   let stored = λ (ℓ : Lifetime). slice_typed ℓ r.ref_ptr (length r.now) u (ap only ok.0.0) ok.0.1.0 in
-                  lands_last ! refl (stored erased) $ exec ! 𝓣.C 𝓣.Λ (env fn.locals l) (after 1 fn.body) (at_ret _ (W.post (At (Owned y)))) $
-                  sets ! (of_opd ! (get ! refl)) refl (stored (named 0)) $ returns ! (look_at ! 0 refl) $ free_all ! refl $ keep ! (0 ∷ 1 ∷ 2 ∷ 3 ∷ []) $
+                  lands_last ! refl (stored erased) $
+                  exec ! 𝓣.C 𝓣.Λ (env fn.locals l) (after 1 fn.body) (at_ret _ (W.post (At (Owned y)))) $
+                  sets ! (of_opd ! (get ! refl)) refl (stored (named 0)) $ returns ! (look_at ! 0 refl) $
+                  free_all ! refl $ keep ! (0 ∷ 1 ∷ 2 ∷ 3 ∷ []) $
                   suffices ! _ (ends_at 𝓛 E hs c (At (Owned y)) u r (tt, (tt, (tt, tt))) (tt, (tt, (tt, tt)))) $
-                  nothing ! $ nothing ! $ fjoin ! $ nothing ! $ fjoin ! $ nothing ! $ fjoin ! $ join ! $ move ! (2 ∷ []) $ split ! $ move ! (4 ∷ 1 ∷ []) $
+                  nothing ! $ nothing ! $ fjoin ! $ nothing ! $ fjoin ! $ nothing ! $ fjoin ! $ join ! $
+                  move ! (2 ∷ []) $ split ! $ move ! (4 ∷ 1 ∷ []) $
                   join ! $ move ! (1 ∷ 0 ∷ []) $ join ! $ join ! $ frame ! $ says ! value $ done !))))),
               tt,
             ),

@@ -10,12 +10,14 @@ returns g c =
     let old = c.args.self.now in
     let is = c.self.view_is in
     let next = found _ _ is c.self.invariant c.count.result 1 _ (c.count.ensures ∙ ap capacity is) refl in
-    let st : _ → List _ = λ w. g.S.Storage.elements (g.S.Storage.with_element c.self.inside.storage c.self.inside.head.read_at w) in
+    let st : _ → List _ = λ w. g.S.Storage.elements
+    (g.S.Storage.with_element c.self.inside.storage c.self.inside.head.read_at w) in
     let x = c.element_mut.result.now in
     let here = c.element_mut.ensures.value ∙ ap (λ o. slice_index_or o.storage o.read_at x) is in (
       (
         refl,
-        λ w. ap (ring_at (st w)) c.dequeue_contiguous.ensures.place ∙ left_off _ _ is c.self.invariant 1 1 _ refl next (st w) (w ∷ [])
+        λ w. ap (ring_at (st w)) c.dequeue_contiguous.ensures.place
+            ∙ left_off _ _ is c.self.invariant 1 1 _ refl next (st w) (w ∷ [])
             (g.met.S.Storage.element_written c.self.inside.storage c.self.inside.head.read_at w),
       ),
       record {
@@ -23,7 +25,12 @@ returns g c =
         value = queue_head _ (well _ _ is c.self.invariant) x here c.requires;
         dequeued = λ w. dequeued_one _ (well _ _ is c.self.invariant) w c.requires;
         call = λ w. (c.requires, queue_head _ (well _ _ is c.self.invariant) x here c.requires, refl);
-        room = λ w. omega (arith, length-overwrite old.storage old.read_at (w ∷ []), c.requires, (well _ _ is c.self.invariant).1);
+        room = λ w. omega (
+          arith,
+          length-overwrite old.storage old.read_at (w ∷ []),
+          c.requires,
+          (well _ _ is c.self.invariant).1,
+        );
         capacity = λ w. length-overwrite old.storage old.read_at (w ∷ []);
       },
     )

@@ -18,8 +18,12 @@ returns g c =
     let count : k ≡ min c.args.size (contiguous_queued old) = omega (arith, span.count) in
     let next = found _ _ is c.self.invariant c.count.result k _ size refl in
     let st : List _ → List _ = λ w. g.S.Storage.elements (g.S.Storage.with_part c.self.inside.storage p w) in
-    let left : (w : List _) → st w ≡ overwrite (g.S.Storage.elements c.self.inside.storage) c.self.inside.head.read_at w = λ w. g.met.S.Storage.part_written c.self.inside.storage p w ∙ ap (λ i. overwrite (g.S.Storage.elements c.self.inside.storage) i w) span.from in
-    let lent = shown_head _ _ is c.self.invariant _ _ k (span.from ∙ read) (omega arith) (omega arith) _ c.part_mut.ensures.value in (
+    let left : (w : List _) →
+    st w ≡ overwrite (g.S.Storage.elements c.self.inside.storage) c.self.inside.head.read_at w =
+    λ w. g.met.S.Storage.part_written c.self.inside.storage p w
+    ∙ ap (λ i. overwrite (g.S.Storage.elements c.self.inside.storage) i w) span.from in
+    let lent = shown_head _ _ is c.self.invariant _ _ k (span.from
+    ∙ read) (omega arith) (omega arith) _ c.part_mut.ensures.value in (
       (refl, λ w. ap (ring_at (st w)) span.place ∙ left_off _ _ is c.self.invariant k _ _ count next (st w) w (left w)),
       record {
         writes_back = tt;
@@ -28,8 +32,14 @@ returns g c =
         value = lent.1;
         stored = lent.2;
         dequeued = dequeued_law _ (well _ _ is c.self.invariant) _ (omega arith);
-        call = λ w long. (omega (arith, lent.0), lent.1, omega (arith, lent.0), ap (λ j. with_elements (with_dequeued j old) old.read_at w) (sym (lent.0 ∙ count)));
-        room = λ w. (let long = length-overwrite old.storage old.read_at w in omega (arith, long, (well _ _ is c.self.invariant).1));
+        call = λ w long. (
+          omega (arith, lent.0),
+          lent.1,
+          omega (arith, lent.0),
+          ap (λ j. with_elements (with_dequeued j old) old.read_at w) (sym (lent.0 ∙ count)),
+        );
+        room = λ w. (let long = length-overwrite old.storage old.read_at w in
+            omega (arith, long, (well _ _ is c.self.invariant).1));
         capacity = λ w. length-overwrite old.storage old.read_at w;
       },
     )

@@ -25,7 +25,11 @@ returns g c =
     let count : k ≡ min c.args.size (contiguous_window old) = omega (arith, span.count, same.1) in
     let st : List _ → List _ = λ w. g.S.Storage.elements (g.S.Storage.with_part c.self.inside.storage p w) in
     let lent = shown_next _ _ is wf _ _ k at (omega arith) (omega arith) _ c.part_mut.ensures.value in (
-      (refl, λ w. ap (ring_at (st w)) span.place ∙ left_in _ _ is wf k _ _ count at (st w) w (g.met.S.Storage.part_written c.self.inside.storage p w)),
+      (
+        refl,
+        λ w. ap (ring_at (st w)) span.place
+            ∙ left_in _ _ is wf k _ _ count at (st w) w (g.met.S.Storage.part_written c.self.inside.storage p w),
+      ),
       record {
         writes_back = tt;
         count = lent.0 ∙ count;
@@ -34,7 +38,8 @@ returns g c =
         stored = lent.2;
         enqueued = enqueued_law _ (well _ _ is wf) _ (omega arith);
         call = λ w long. (omega arith, ap (λ k. with_elements (with_enqueued k old) (write_at old) w) (sym long));
-        room = λ w. (let long = length-overwrite old.storage (write_at old) w in let counts = same.1 in let size = ap length same.2 in omega arith);
+        room = λ w. (let long = length-overwrite old.storage (write_at old) w in let counts = same.1 in
+            let size = ap length same.2 in omega arith);
         capacity = λ w. length-overwrite old.storage (write_at old) w ∙ ap length same.2;
       },
     )

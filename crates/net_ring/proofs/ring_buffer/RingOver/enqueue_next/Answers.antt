@@ -9,10 +9,13 @@ unfolding Makes
 returns g c =
     let old = c.args.self.now in
     let is = c.self.view_is in
-    let at = found_next _ _ is c.self.invariant c.capacity-capacity.result _ (c.capacity-capacity.ensures.capacity ∙ ap capacity is) c.index-at.ensures.index in
-    let st : _ → List _ = λ w. g.S.Storage.elements (g.S.Storage.with_element c.self.inside.storage c.index-at.result w) in
+    let at = found_next _ _ is c.self.invariant c.capacity-capacity.result _ (c.capacity-capacity.ensures.capacity
+    ∙ ap capacity is) c.index-at.ensures.index in
+    let st : _ → List _ = λ w. g.S.Storage.elements
+    (g.S.Storage.with_element c.self.inside.storage c.index-at.result w) in
     let x = c.element_mut.result.now in
-    let here = c.element_mut.ensures.value ∙ ap (λ o. slice_index_or o.storage c.index-at.result x) is ∙ ap (λ i. slice_index_or old.storage i x) at in (
+    let here = c.element_mut.ensures.value ∙ ap (λ o. slice_index_or o.storage c.index-at.result x) is
+    ∙ ap (λ i. slice_index_or old.storage i x) at in (
       (
         refl,
         λ w. ap (ring_at (st w)) c.enqueue.ensures.place ∙ left_in _ _ is c.self.invariant 1 1 _ refl at (st w) (w ∷ [])

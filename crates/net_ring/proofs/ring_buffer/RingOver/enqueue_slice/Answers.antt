@@ -8,9 +8,11 @@ pub invariant_of-self : goal.invariant_of-self
 invariant_of-self g c =
     let s = c.self.inside.storage in
     let ws = c.enqueue_slice.new.storage in
-    let all = lent_whole c.count-capacity.result (g.S.Storage.elements s) c.part_mut.result.now ws c.count-capacity.ensures c.part_mut.ensures.value
+    let all = lent_whole c.count-capacity.result (g.S.Storage.elements s) c.part_mut.result.now ws
+    c.count-capacity.ensures c.part_mut.ensures.value
     c.enqueue_slice.ensures.same.1 in
-    subst (λ l. IsWellFormed (ring_at l c.enqueue_slice.new.self)) (sym (g.met.S.Storage.part_written s 0 ws ∙ all.1)) c.enqueue_slice.ensures.sound
+    subst (λ l. IsWellFormed (ring_at l c.enqueue_slice.new.self)) (sym (g.met.S.Storage.part_written s 0 ws ∙ all.1))
+    c.enqueue_slice.ensures.sound
 
 pub returns : goal.returns
 unfolding Makes
@@ -22,7 +24,8 @@ returns g c =
     let met = c.enqueue_slice.ensures in
     let n = c.enqueue_slice.result in
     let d = take n c.args.«data».now in
-    let all = lent_whole c.count-capacity.result (g.S.Storage.elements s) c.part_mut.result.now ws c.count-capacity.ensures c.part_mut.ensures.value met.same.1 in
+    let all = lent_whole c.count-capacity.result (g.S.Storage.elements s) c.part_mut.result.now ws
+    c.count-capacity.ensures c.part_mut.ensures.value met.same.1 in
     let before : ring_at c.part_mut.result.now p ≡ c.args.self.now = ap (λ l. ring_at l p) all.0 ∙ c.self.view_is in
     let new = ring_at (g.S.Storage.elements (g.S.Storage.with_part s 0 ws)) q in
     let after : new ≡ ring_at ws q = ap (λ l. ring_at l q) (g.met.S.Storage.part_written s 0 ws ∙ all.1) in
@@ -33,8 +36,12 @@ returns g c =
     record {
       count = count;
       ring = ring;
-      call =
-          (omega arith, subst (λ k. new ≡ with_enqueued k (with_elements_wrapping (rewind_if_empty c.args.self.now) (write_at (rewind_if_empty c.args.self.now)) d)) (sym long) ring);
+      call = (
+        omega arith,
+        subst (λ k. new
+            ≡ with_enqueued k (with_elements_wrapping (rewind_if_empty c.args.self.now)
+            (write_at (rewind_if_empty c.args.self.now)) d)) (sym long) ring,
+      );
       enqueued =
           subst (λ o. Enqueues (rewind_if_empty o) d new) before
           (subst (Enqueues (rewind_if_empty (ring_at c.part_mut.result.now p)) d) (sym after) met.enqueued);

@@ -11,13 +11,20 @@ returns g c =
     let is = c.self.view_is in
     let span = c.allocated-span.ensures in
     let counts = ap (λ o. o.count) is in
-    let at : c.allocated-span.result.from ≡ queue_index old c.args.offset = found_queued _ _ is c.self.invariant c.capacity.result c.args.offset _ (c.capacity.ensures.capacity ∙ ap capacity is) span.from in
+    let at : c.allocated-span.result.from ≡ queue_index old c.args.offset =
+    found_queued _ _ is c.self.invariant c.capacity.result c.args.offset _ (c.capacity.ensures.capacity
+    ∙ ap capacity is) span.from in
     let count : c.allocated-span.result.contiguous ≡ contiguous_allocated old c.args.offset c.args.size =
     omega (arith, span.count, span.contiguous, c.capacity.ensures.capacity, ap capacity is) in
-    let lent = shown_in_queue _ _ is c.self.invariant c.args.offset c.args.size _ _ at (omega arith) _ c.part_mut.ensures.value in
+    let lent = shown_in_queue _ _ is c.self.invariant c.args.offset c.args.size _ _ at (omega arith) _
+    c.part_mut.ensures.value in
     let wf = well _ _ is c.self.invariant in
     let head_is = first_in_queue old wf c.args.offset c.args.size _ lent.0 lent.1 in (
-      (refl, λ w. left_at _ _ is c.self.invariant _ _ at _ w (g.met.S.Storage.part_written c.self.inside.storage c.allocated-span.result.from w)),
+      (
+        refl,
+        λ w. left_at _ _ is c.self.invariant _ _ at _ w
+            (g.met.S.Storage.part_written c.self.inside.storage c.allocated-span.result.from w),
+      ),
       record {
         writes_back = tt;
         count = lent.0;

@@ -31,7 +31,8 @@ returns-then-is_empty c =
     let no_run : h.used ≡ 0 = c.in_default.ensures in
     let empty : (length xs == 0) ≡ true = sym c.is_empty.ensures ∙ c.if-is_empty.true in
     let none : length xs ≡ 0 = grind (arith, nat_tests) in
-    refused_in_place h xs c.requires.sound o k o o 0 0 k (omega arith) (omega arith) (omega arith) refl (λ b. absurd (omega arith))
+    refused_in_place h xs c.requires.sound o k o o 0 0 k (omega arith) (omega arith) (omega arith) refl
+    (λ b. absurd (omega arith))
     (λ b. absurd (omega arith)) (λ _. refl) _ _ (omega arith)
     (omega (arith, some-runs_with_range (runs_shifted_up 0 (used_runs h xs)) 0 k)) (no_turn _ _ _) _
 
@@ -51,7 +52,8 @@ returns-in_default c =
     ∙ plain h xs s o k o o 0 0 k (omega arith) (omega arith) (omega arith) refl (λ b. absurd (omega arith))
     (λ b. absurd (omega arith)) (λ _. refl) refl in
     joined_in_place h xs s o k o o 0 0 k (omega arith) (omega arith) (omega arith) refl (λ b. absurd (omega arith))
-    (λ b. absurd (omega arith)) (λ _. refl) 1 (set xs 0 (0, k)) _ _ (length-set xs 0 _) (omega (arith, room, length-set xs 0 (0, k)))
+    (λ b. absurd (omega arith)) (λ _. refl) 1 (set xs 0 (0, k)) _ _ (length-set xs 0 _)
+    (omega (arith, room, length-set xs 0 (0, k)))
     (omega arith) (omega arith) c.requires.range joined (no_turn _ _ _)
 
 pub returns-then-start-last : goal.returns-then-start-last
@@ -67,15 +69,18 @@ returns-then-start-last c =
     let low : c.last.inside.start ≡ start_at xs (h.used - 1) = ap (λ (r : ℕ × ℕ). r.0) run in
     let end : c.last.inside.end ≡ end_at xs (h.used - 1) = ap (λ (r : ℕ × ℕ). r.1) run in
     let from : f + start_at xs (h.used - 1) ≤ o = c.requires.last (omega arith) some in
-    let high : c.max.result ≡ max (end_at xs (h.used - 1)) (o - f + k) = c.max.ensures ∙ ap (λ n. max n (o - f + k)) end in
+    let high : c.max.result ≡ max (end_at xs (h.used - 1)) (o - f + k) = c.max.ensures
+    ∙ ap (λ n. max n (o - f + k)) end in
     let ys = set xs (h.used - 1) (c.last.inside.start, c.max.result) in
     let joined = (λ i. take h.used (set xs (h.used - 1) (low i, c.max.result)))
-    ∙ extended_run xs h.used s.runs s.room (o - f) (o - f + k) c.max.result some (omega arith) (omega arith) (omega (arith, end)) high
+    ∙ extended_run xs h.used s.runs s.room (o - f) (o - f + k) c.max.result some (omega arith) (omega arith)
+    (omega (arith, end)) high
     ∙ plain h xs s o k f f 0 (o - f) (o - f + k) (omega arith) (omega arith) (omega arith) (omega arith)
     (λ b. absurd (omega arith)) (λ _. refl) (λ z. absurd (omega arith)) refl in
     joined_in_place h xs s o k f f 0 (o - f) (o - f + k) (omega arith) (omega arith) (omega arith) (omega arith)
     (λ b. absurd (omega arith)) (λ _. refl) (λ z. absurd (omega arith)) h.used ys _ _ (length-set xs (h.used - 1) _)
-    (omega (arith, s.room, length-set xs (h.used - 1) (c.last.inside.start, c.max.result))) some (omega arith) c.requires.range joined
+    (omega (arith, s.room, length-set xs (h.used - 1) (c.last.inside.start, c.max.result))) some (omega arith)
+    c.requires.range joined
     (no_turn _ _ _)
 
 pub returns-then-used-runs : goal.returns-then-used-runs
@@ -87,13 +92,16 @@ returns-then-used-runs c =
     let k = c.args.size in
     let f = h.first_start in
     let some : 0 < h.used = c.in-Some.ensures.0 in
-    let end : c.last.inside.end ≡ end_at xs (h.used - 1) = ap (λ (r : ℕ × ℕ). r.1) (c.last.view_is ∙ c.in-Some.ensures.1) in
+    let end : c.last.inside.end ≡ end_at xs (h.used - 1) =
+    ap (λ (r : ℕ × ℕ). r.1) (c.last.view_is ∙ c.in-Some.ensures.1) in
     let from : f + start_at xs (h.used - 1) ≤ o = c.requires.last (omega arith) some in
     let more = not_pushed xs h.used s.runs s.room (o - f) (o - f + k) (omega arith) (λ _. omega (arith, end)) in
-    let same = ap length (plain h xs s o k f f 0 (o - f) (o - f + k) (omega arith) (omega arith) (omega arith) (omega arith)
+    let same = ap length (plain h xs s o k f f 0 (o - f) (o - f
+    + k) (omega arith) (omega arith) (omega arith) (omega arith)
     (λ b. absurd (omega arith)) (λ _. refl) (λ z. absurd (omega arith)) refl) in
     refused_in_place h xs s o k f f 0 (o - f) (o - f + k) (omega arith) (omega arith) (omega arith) (omega arith)
-    (λ b. absurd (omega arith)) (λ _. refl) (λ z. absurd (omega arith)) _ _ (omega arith) (omega arith) (no_turn _ _ _) _
+    (λ b. absurd (omega arith)) (λ _. refl) (λ z. absurd (omega arith)) _ _ (omega arith) (omega arith)
+    (no_turn _ _ _) _
 
 pub returns : goal.returns
 returns c =
@@ -104,7 +112,8 @@ returns c =
     let k = c.args.size in
     let f = h.first_start in
     let some : 0 < h.used = c.in-Some.ensures.0 in
-    let end : c.last.inside.end ≡ end_at xs (h.used - 1) = ap (λ (r : ℕ × ℕ). r.1) (c.last.view_is ∙ c.in-Some.ensures.1) in
+    let end : c.last.inside.end ≡ end_at xs (h.used - 1) =
+    ap (λ (r : ℕ × ℕ). r.1) (c.last.view_is ∙ c.in-Some.ensures.1) in
     let from : f + start_at xs (h.used - 1) ≤ o = c.requires.last (omega arith) some in
     let ys = set xs h.used (o - f, o - f + k) in
     let room : h.used < length xs = omega (arith, c.if-used-runs.false) in
@@ -113,4 +122,5 @@ returns c =
     (λ b. absurd (omega arith)) (λ _. refl) (λ z. absurd (omega arith)) refl in
     joined_in_place h xs s o k f f 0 (o - f) (o - f + k) (omega arith) (omega arith) (omega arith) (omega arith)
     (λ b. absurd (omega arith)) (λ _. refl) (λ z. absurd (omega arith)) (h.used + 1) ys _ _ (length-set xs h.used _)
-    (omega (arith, room, length-set xs h.used (o - f, o - f + k))) (omega arith) (omega arith) c.requires.range joined (no_turn _ _ _)
+    (omega (arith, room, length-set xs h.used (o - f, o - f + k))) (omega arith) (omega arith) c.requires.range
+    joined (no_turn _ _ _)

@@ -1,7 +1,8 @@
 use Rattle.std.proofs.Common.{◌≡◌, ◌∙◌, ◌-◌, ◌≤◌, arith, drop, refl}
 use Rattle.net_assembler.specs.Positions.{present_count}
 use Rattle.net_assembler.specs.RunLists.{set_of, used_runs}
-use Rattle.net_assembler.proofs.Searches.{before_split, few_split, next_overlap, no_overlap, overlap, overlap_set, overlap_usize}
+use Rattle.net_assembler.proofs.Searches.{before_split, few_split, next_overlap, no_overlap, overlap, overlap_set}
+use Rattle.net_assembler.proofs.Searches.{overlap_usize}
 use Rattle.net_assembler.proofs.Searches.{skipped_overlap}
 use Rattle.net_assembler.proofs.assembler.head.AssemblerHead.count_between.Goals as goal
 
@@ -11,7 +12,8 @@ loop-k-init c =
     let few = few_split _ _ c.requires _ _ by in
     let before = before_split _ _ c.requires _ _ by in
     let skipped = skipped_overlap c.args.runs.now c.args.self.now.used c.requires.runs c.requires.room c.runs_by.result
-    c.saturating_sub-first.result c.saturating_sub-from.result c.saturating_sub-to.result few c.saturating_sub-first.ensures
+    c.saturating_sub-first.result c.saturating_sub-from.result c.saturating_sub-to.result few
+    c.saturating_sub-first.ensures
     (λ k l. omega (arith, before k l, c.saturating_sub-from.ensures)) in
     record { counted = omega (arith, skipped); looks = refl; moves = refl }
 
@@ -19,7 +21,8 @@ pub overflow_add-count : goal.overflow_add-count
 overflow_add-count c =
     let h = c.args.self.now in
     let xs = c.args.runs.now in
-    let next = next_overlap xs h.used c.requires.runs c.requires.room c.loop-k.k c.saturating_sub-from.result c.saturating_sub-to.result c.loop-k-test.true in
+    let next = next_overlap xs h.used c.requires.runs c.requires.room c.loop-k.k c.saturating_sub-from.result
+    c.saturating_sub-to.result c.loop-k-test.true in
     omega (
       arith,
       next,
@@ -36,7 +39,8 @@ pub prove-unreachable-requires : goal.prove-unreachable-requires
 prove-unreachable-requires c =
     let h = c.args.self.now in
     let xs = c.args.runs.now in
-    let next = next_overlap xs h.used c.requires.runs c.requires.room c.loop-k.k c.saturating_sub-from.result c.saturating_sub-to.result c.loop-k-test.true in
+    let next = next_overlap xs h.used c.requires.runs c.requires.room c.loop-k.k c.saturating_sub-from.result
+    c.saturating_sub-to.result c.loop-k-test.true in
     omega (
       arith,
       next,
@@ -55,8 +59,10 @@ pub returns-then-start-to : goal.returns-then-start-to
 returns-then-start-to c =
     let h = c.args.self.now in
     let xs = c.args.runs.now in
-    let all = (λ i. overlap (used_runs h xs) (c.saturating_sub-from.ensures i) (c.saturating_sub-to.ensures i)) ∙ overlap_set h xs c.requires c.args.start c.args.end in
-    let none = no_overlap xs h.used c.requires.runs c.requires.room c.loop-k.k c.saturating_sub-from.result c.saturating_sub-to.result (omega (arith, c.loop-k-test.true))
+    let all = (λ i. overlap (used_runs h xs) (c.saturating_sub-from.ensures i) (c.saturating_sub-to.ensures i))
+    ∙ overlap_set h xs c.requires c.args.start c.args.end in
+    let none = no_overlap xs h.used c.requires.runs c.requires.room c.loop-k.k c.saturating_sub-from.result
+    c.saturating_sub-to.result (omega (arith, c.loop-k-test.true))
     (λ _. omega (arith, c.if-start-to.true, c.start_of-start.ensures)) in
     omega (arith, none, c.loop-k.invariant.counted) ∙ all
 
@@ -64,8 +70,11 @@ pub returns : goal.returns
 returns c =
     let h = c.args.self.now in
     let xs = c.args.runs.now in
-    let all = (λ i. overlap (used_runs h xs) (c.saturating_sub-from.ensures i) (c.saturating_sub-to.ensures i)) ∙ overlap_set h xs c.requires c.args.start c.args.end in
-    let none = no_overlap xs h.used c.requires.runs c.requires.room c.loop-k.k c.saturating_sub-from.result c.saturating_sub-to.result (omega (arith, c.loop-k.auto, few_split _ _ c.requires _ _ c.runs_by.ensures, c.saturating_sub-first.ensures))
+    let all = (λ i. overlap (used_runs h xs) (c.saturating_sub-from.ensures i) (c.saturating_sub-to.ensures i))
+    ∙ overlap_set h xs c.requires c.args.start c.args.end in
+    let none = no_overlap xs h.used c.requires.runs c.requires.room c.loop-k.k c.saturating_sub-from.result
+    c.saturating_sub-to.result
+    (omega (arith, c.loop-k.auto, few_split _ _ c.requires _ _ c.runs_by.ensures, c.saturating_sub-first.ensures))
     (λ l. absurd (omega (arith, c.loop-k-test.false, l))) in
     omega (arith, none, c.loop-k.invariant.counted) ∙ all
 
@@ -73,9 +82,19 @@ pub loop-k-preserved : goal.loop-k-preserved
 loop-k-preserved c =
     let h = c.args.self.now in
     let xs = c.args.runs.now in
-    let next = next_overlap xs h.used c.requires.runs c.requires.room c.loop-k.k c.saturating_sub-from.result c.saturating_sub-to.result c.loop-k-test.true in
+    let next = next_overlap xs h.used c.requires.runs c.requires.room c.loop-k.k c.saturating_sub-from.result
+    c.saturating_sub-to.result c.loop-k-test.true in
     record {
-      counted = omega (arith, next, c.loop-k.invariant.counted, c.saturating_sub-count.ensures, c.min.ensures, c.max.ensures, c.end_of.ensures, c.start_of-start.ensures);
+      counted = omega (
+        arith,
+        next,
+        c.loop-k.invariant.counted,
+        c.saturating_sub-count.ensures,
+        c.min.ensures,
+        c.max.ensures,
+        c.end_of.ensures,
+        c.start_of-start.ensures,
+      );
       looks = omega (arith, c.loop-k.invariant.looks, c.step.ensures.looks);
       moves = omega (arith, c.loop-k.invariant.moves, c.step.ensures.moves);
     }

@@ -30,9 +30,20 @@ pub join_here-requires-clause-begin : goal.join_here-requires-clause-begin
 join_here-requires-clause-begin c =
     let xs = c.args.runs.now in
     elim c.if-by-eq0.branch [
-      | then-by-eq0 w ↦ omega (arith, w.begin-is, w.if-by-eq0.true, w.start_of-begin.ensures, ap (start_at xs) w.first-is)
+      | then-by-eq0 w ↦ omega (
+        arith,
+        w.begin-is,
+        w.if-by-eq0.true,
+        w.start_of-begin.ensures,
+        ap (start_at xs) w.first-is,
+      )
       | else-by-eq0 w ↦
-          omega (arith, w.begin-is, ap (start_at xs) w.first-is, first_pair c.args.self.now xs c.requires.sound c.requires.last.1)
+          omega (
+            arith,
+            w.begin-is,
+            ap (start_at xs) w.first-is,
+            first_pair c.args.self.now xs c.requires.sound c.requires.last.1,
+          )
     ]
 
 pub returns : goal.returns
@@ -45,7 +56,11 @@ returns c =
     let left = c.join_here in
     let at : h.first_start - c.saturating_sub-by.result + c.saturating_sub-start.result ≡ c.args.offset = omega arith in
     let some : c.args.turns.now.0 ≤ met.turns.0 = elim met.branch [
-      | then-by-eq0 w ↦ omega (arith, ap (λ (t : ℕ × ℕ). t.0) w.turns-is, w.runs_ending_before-first.ensures.no_look_lost)
+      | then-by-eq0 w ↦ omega (
+        arith,
+        ap (λ (t : ℕ × ℕ). t.0) w.turns-is,
+        w.runs_ending_before-first.ensures.no_look_lost,
+      )
       | else-by-eq0 w ↦ omega (arith, ap (λ (t : ℕ × ℕ). t.0) w.turns-is)
     ] in
     let few : met.turns.0 ≤ c.args.turns.now.0 + binary_digits n = elim met.branch [
@@ -61,5 +76,6 @@ returns c =
       | then-by-eq0 w ↦ omega (arith, ap (λ (t : ℕ × ℕ). t.1) w.turns-is, w.runs_ending_before-first.ensures.moves)
       | else-by-eq0 w ↦ ap (λ (t : ℕ × ℕ). t.1) w.turns-is
     ] in
-    subst (λ o. AddsInPlace h xs o c.args.size left.result left.new.self left.new.runs c.args.turns.now left.new.turns) at
+    subst (λ o. AddsInPlace h xs o c.args.size left.result left.new.self left.new.runs c.args.turns.now
+    left.new.turns) at
     (searched h xs _ _ _ _ _ _ _ _ left.ensures.added some few moves left.ensures.looks)

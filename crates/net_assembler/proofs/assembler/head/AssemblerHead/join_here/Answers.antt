@@ -17,12 +17,20 @@ use Rattle.net_assembler.proofs.assembler.head.AssemblerHead.join_here.Goals.{th
 pub overflow_add-last_end : goal.overflow_add-last_end
 overflow_add-last_end c =
     let next = c.runs_met-next.ensures in
-    omega (arith, pair_fits c.args.self.now c.args.runs.now c.requires.sound (c.runs_met-next.result - 1) (omega (arith, next.from, next.within)))
+    omega (
+      arith,
+      pair_fits c.args.self.now c.args.runs.now c.requires.sound (c.runs_met-next.result - 1)
+          (omega (arith, next.from, next.within)),
+    )
 
 pub prove-unreachable-requires-3 : goal.prove-unreachable-requires-3
 prove-unreachable-requires-3 c =
     let next = c.runs_met-next.ensures in
-    omega (arith, pair_fits c.args.self.now c.args.runs.now c.requires.sound (c.runs_met-next.result - 1) (omega (arith, next.from, next.within)))
+    omega (
+      arith,
+      pair_fits c.args.self.now c.args.runs.now c.requires.sound (c.runs_met-next.result - 1)
+          (omega (arith, next.from, next.within)),
+    )
 
 pub returns-then-used-runs-clause-added : goal.returns-then-used-runs-clause-added
 returns-then-used-runs-clause-added c =
@@ -33,10 +41,17 @@ returns-then-used-runs-clause-added c =
     let first = c.args.first in
     let start = c.args.start in
     let end = start + c.args.size in
-    let n = refused_run xs h.used by start end first first s.runs s.room (fits-less by h.first_start (used_runs h xs) c.requires.by s.fits)
+    let n = refused_run xs h.used by start end first first s.runs s.room
+    (fits-less by h.first_start (used_runs h xs) c.requires.by s.fits)
     (omega arith) c.requires.one_way (omega arith) c.requires.before
-    (λ k a b. omega (arith, used_starts_rise xs h.used s.runs s.room first k a b, c.requires.begin, c.if-end-begin.true)) refl in
-    refused_in_place h xs s _ c.args.size h.first_start (h.first_start - by) by start end (omega arith) (omega arith) refl (omega arith) c.requires.one_way
+    (λ k a b. omega (
+      arith,
+      used_starts_rise xs h.used s.runs s.room first k a b,
+      c.requires.begin,
+      c.if-end-begin.true,
+    )) refl in
+    refused_in_place h xs s _ c.args.size h.first_start (h.first_start - by) by start end (omega arith) (omega arith)
+    refl (omega arith) c.requires.one_way
     (λ _. refl) (λ z. absurd (omega arith)) _ _ c.requires.size (omega arith) (no_turn _ _ _) _
 
 pub insert_run-requires-clause-fits : goal.insert_run-requires-clause-fits
@@ -44,7 +59,8 @@ insert_run-requires-clause-fits c =
     let h = c.args.self.now in
     let xs = c.args.runs.now in
     let s = c.requires.sound in
-    tail_usize c.args.by c.args.first (used_runs h xs) s.runs (fits-less c.args.by h.first_start (used_runs h xs) c.requires.by s.fits)
+    tail_usize c.args.by c.args.first (used_runs h xs) s.runs
+    (fits-less c.args.by h.first_start (used_runs h xs) c.requires.by s.fits)
 
 pub returns-then-end-begin-clause-added : goal.returns-then-end-begin-clause-added
 returns-then-end-begin-clause-added c =
@@ -58,13 +74,21 @@ returns-then-end-begin-clause-added c =
     let moved = c.insert_run.ensures in
     let ys = c.insert_run.new.runs in
     let room : h.used < length xs = omega (arith, c.if-used-runs.false) in
-    joined_in_place h xs s _ c.args.size h.first_start (h.first_start - by) by start end (omega arith) (omega arith) refl (omega arith) c.requires.one_way
-    (λ _. refl) (λ z. absurd (omega arith)) (h.used + 1) ys _ _ c.insert_run.auto.runs (omega (arith, room, c.insert_run.auto.runs))
+    joined_in_place h xs s _ c.args.size h.first_start (h.first_start - by) by start end (omega arith) (omega arith)
+    refl (omega arith) c.requires.one_way
+    (λ _. refl) (λ z. absurd (omega arith)) (h.used + 1) ys _ _ c.insert_run.auto.runs
+    (omega (arith, room, c.insert_run.auto.runs))
     (omega arith) c.requires.size (omega (arith, c.requires.fits))
     (moved.runs
-    ∙ inserted_run xs h.used by start end first first s.runs s.room (fits-less by h.first_start (used_runs h xs) c.requires.by s.fits)
+    ∙ inserted_run xs h.used by start end first first s.runs s.room
+    (fits-less by h.first_start (used_runs h xs) c.requires.by s.fits)
     (omega arith) c.requires.one_way (omega arith) c.requires.before
-    (λ k a b. omega (arith, used_starts_rise xs h.used s.runs s.room first k a b, c.requires.begin, c.if-end-begin.true)) refl)
+    (λ k a b. omega (
+      arith,
+      used_starts_rise xs h.used s.runs s.room first k a b,
+      c.requires.begin,
+      c.if-end-begin.true,
+    )) refl)
     (record {
       looks_few = omega (arith, moved.looks);
       moves_few = omega (arith, s.room, moved.moves);
@@ -79,8 +103,12 @@ take_out-self-requires-clause-fits c =
     let s = c.requires.sound in
     let next = c.runs_met-next in
     subst (λ rs. AreUsize (runs_wrapped c.args.by rs))
-    (sym (rest_written xs c.args.first next.result h.used (c.min.result, c.max.result) (omega (arith, next.ensures.from)) next.ensures.within))
-    (tail_usize c.args.by next.result (used_runs h xs) s.runs (fits-less c.args.by h.first_start (used_runs h xs) c.requires.by s.fits))
+    (sym (rest_written xs c.args.first next.result h.used (
+      c.min.result,
+      c.max.result,
+    ) (omega (arith, next.ensures.from)) next.ensures.within))
+    (tail_usize c.args.by next.result (used_runs h xs) s.runs
+    (fits-less c.args.by h.first_start (used_runs h xs) c.requires.by s.fits))
 
 pub returns-then-next-first-clause-looks : goal.returns-then-next-first-clause-looks
 returns-then-next-first-clause-looks c =
@@ -108,8 +136,10 @@ returns-then-next-first-clause-added c =
     c.requires.before c.requires.reached (omega (arith, c.requires.begin, c.if-end-begin.false, none))
     (λ k a b. omega (arith, next.after k (omega (arith, one)) b, none))
     (omega (arith, c.min.ensures, c.requires.begin, none)) (omega (arith, c.max.ensures, last, none)) in
-    joined_in_place h xs s _ c.args.size h.first_start h.first_start by start end (omega arith) (omega (arith, none)) (omega (arith, none)) (omega (arith, none)) c.requires.one_way
-    (λ _. refl) (λ z. absurd (omega arith)) h.used ys _ _ (length-set xs first _) (omega (arith, s.room, length-set xs first (c.min.result, c.max.result)))
+    joined_in_place h xs s _ c.args.size h.first_start h.first_start by start end (omega arith) (omega (arith, none))
+    (omega (arith, none)) (omega (arith, none)) c.requires.one_way
+    (λ _. refl) (λ z. absurd (omega arith)) h.used ys _ _ (length-set xs first _)
+    (omega (arith, s.room, length-set xs first (c.min.result, c.max.result)))
     (omega arith) c.requires.size (omega (arith, c.requires.fits))
     (grown ∙ ap (λ rs. runs_with_range rs start end) (sym (up-none by (used_runs h xs) none)))
     (record {
@@ -154,7 +184,8 @@ returns-clause-added c =
       | then-next-used w ↦ ap (λ (t : ℕ × ℕ). t.0) w.turns-is
       | else-next-used w ↦ omega (arith, ap (λ (t : ℕ × ℕ). t.0) w.turns-is, w.take_out-self.ensures.looks)
     ] in
-    let rest : take left.self left.runs ≡ take (first + 1) zs ++ runs_wrapped by (drop met.result (take h.used zs)) = elim left.branch [
+    let rest : take left.self left.runs ≡ take (first + 1) zs ++ runs_wrapped by (drop met.result (take h.used zs)) =
+    elim left.branch [
       | then-next-used w ↦
           (λ i. take (w.self-is i) (w.runs-is i)) ∙ sym (append-nil (take (first + 1) zs))
           ∙ ap (λ rs. take (first + 1) zs ++ runs_wrapped by rs)
@@ -163,7 +194,10 @@ returns-clause-added c =
     ] in
     let meets : by + start_at xs first ≤ end = omega (arith, c.requires.begin, c.if-end-begin.false) in
     let written = rest
-    ∙ written_above (wrapped_run by) xs first met.result h.used (c.min.result, c.max.result) (omega (arith, next.from)) next.within s.room
+    ∙ written_above (wrapped_run by) xs first met.result h.used (
+      c.min.result,
+      c.max.result,
+    ) (omega (arith, next.from)) next.within s.room
     ∙ joined_run xs h.used by start end first met.result s.runs s.room fits (omega arith) c.requires.one_way next.within
     c.requires.before (λ k a b. omega (arith, next.after k a b, meets)) (omega (arith, next.from)) c.requires.reached
     (λ k a b. either (cases_lt first k) (λ l. omega (arith, next.before k (omega arith) b, meets))
@@ -171,7 +205,8 @@ returns-clause-added c =
     c.min.result c.max.result
     (omega (arith, c.min.ensures, c.requires.begin)) (omega (arith, c.max.ensures, c.end_of.ensures)) in
     let long : length left.runs ≡ length xs = left.auto.runs ∙ length-set xs first (c.min.result, c.max.result) in
-    joined_in_place h xs s _ c.args.size h.first_start (h.first_start - by) by start end (omega arith) (omega arith) refl (omega arith) c.requires.one_way
+    joined_in_place h xs s _ c.args.size h.first_start (h.first_start - by) by start end (omega arith) (omega arith)
+    refl (omega arith) c.requires.one_way
     (λ _. refl) (λ z. absurd (omega arith)) left.self left.runs _ _ long (omega (arith, s.room, count, next.from, long))
     (omega (arith, count, next.within)) c.requires.size (omega (arith, c.requires.fits)) written
     (record {

@@ -17,7 +17,8 @@ returns-then-end-gt0-clause-front c =
     let zeroth : c.args.offset ≡ 0 = c.if-offset-eq0.true in
     let end = c.end_with_first-end in
     subst (λ o. FrontEnds h xs o c.args.size h xs end.result) (sym zeroth)
-    (first_reached h xs c.requires.sound c.args.size end.result (c.requires.some zeroth) (c.requires.reached zeroth) (omega (arith, c.requires.range))
+    (first_reached h xs c.requires.sound c.args.size end.result (c.requires.some zeroth) (c.requires.reached zeroth)
+    (omega (arith, c.requires.range))
     (end.ensures.end c.if-end-gt0.true) (end.ensures.second c.if-end-gt0.true))
 
 on_error : (A : ℕ → Type 0) (P : Type 0) (r : Result ℕ TooManyHolesError) → IsErr r → P → MatchResult r A (λ _. P)
@@ -50,4 +51,5 @@ returns-clause-front c =
     let t = c.add.ensures.sound in
     let more = added_more (length xs) (set_of h xs) c.args.offset c.args.size _ _ c.add.ensures.added in
     front_ends h xs c.args.offset c.args.size g ys c.peek_front.result t c.in_ok-add.ensures.added.ok
-    (omega (arith, more, runs-set_of h xs c.requires.sound, runs-set_of g ys t)) (λ _. omega (arith, c.add.auto.runs)) c.peek_front.ensures
+    (omega (arith, more, runs-set_of h xs c.requires.sound, runs-set_of g ys t)) (λ _. omega (arith, c.add.auto.runs))
+    c.peek_front.ensures

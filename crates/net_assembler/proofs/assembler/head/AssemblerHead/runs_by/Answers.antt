@@ -18,4 +18,10 @@ pub were_a_search-requires : goal.were_a_search-requires
 were_a_search-requires c =
     let n = length c.args.runs.now in
     let by = c.runs_starting_by-count.ensures in
-    omega (arith, by.looks (binary_digits n) (omega (arith, below_binary_digits n, c.requires.room)), by.moves, c.new-turns.ensures.looks, c.new-turns.ensures.moves)
+    omega (
+      arith,
+      by.looks (binary_digits n) (omega (arith, below_binary_digits n, c.requires.room)),
+      by.moves,
+      c.new-turns.ensures.looks,
+      c.new-turns.ensures.moves,
+    )

@@ -10,7 +10,12 @@ overflow_add-start c =
     let met = c.in-Some.ensures in
     let at : c.last.inside.start ≡ start_at xs (h.used - 1) = ap (λ (r : ℕ × ℕ). r.0) (c.last.view_is ∙ met.1) in
     let last = h.used - 1 in
-    omega (arith, at, pair_fits h xs c.requires last (omega (arith, met.0)), pair_rises h xs c.requires last (omega (arith, met.0)))
+    omega (
+      arith,
+      at,
+      pair_fits h xs c.requires last (omega (arith, met.0)),
+      pair_rises h xs c.requires last (omega (arith, met.0)),
+    )
 
 pub prove-unreachable-requires : goal.prove-unreachable-requires
 prove-unreachable-requires c =
@@ -19,4 +24,9 @@ prove-unreachable-requires c =
     let met = c.in-Some.ensures in
     let at : c.last.inside.start ≡ start_at xs (h.used - 1) = ap (λ (r : ℕ × ℕ). r.0) (c.last.view_is ∙ met.1) in
     let last = h.used - 1 in
-    omega (arith, at, pair_fits h xs c.requires last (omega (arith, met.0)), pair_rises h xs c.requires last (omega (arith, met.0)))
+    omega (
+      arith,
+      at,
+      pair_fits h xs c.requires last (omega (arith, met.0)),
+      pair_rises h xs c.requires last (omega (arith, met.0)),
+    )

@@ -6,7 +6,8 @@ use Rattle.net_base.proofs.storage.fragments.FragmentsOver.assemble.Goals as goa
 
 pub returns-in-None-clause-complete : goal.returns-in-None-clause-complete
 returns-in-None-clause-complete g c =
-    subst (λ (v : FragmentsState). (false ≡ true → (size : ℕ) × IsComplete v size) × (((size : ℕ) × IsComplete v size) → false ≡ true))
+    subst (λ (v : FragmentsState). (false ≡ true → (size : ℕ) × IsComplete v size)
+    × (((size : ℕ) × IsComplete v size) → false ≡ true))
     c.self.view_is (c.in-None.ensures.complete (g.B.Storage.elements c.self.inside.bytes))
 
 -- the size of a whole packet
@@ -16,11 +17,18 @@ whole g c =
     (c.in-Some.ensures.size (g.B.Storage.elements c.self.inside.bytes))
 
 pub part-requires : goal.part-requires
-part-requires g c = record { count = (omega arith, c.in-Some.ensures.fits (g.B.Storage.elements c.self.inside.bytes) c.self.invariant.0) }
+part-requires g c = record {
+  count =
+      (omega arith, c.in-Some.ensures.fits (g.B.Storage.elements c.self.inside.bytes) c.self.invariant.0);
+}
 
 pub returns-in-Some-clause-complete : goal.returns-in-Some-clause-complete
 returns-in-Some-clause-complete g c = ((λ _. (c.in-Some.size, whole g c)), λ _. refl)
 
 pub returns-in-Some-clause-bytes : goal.returns-in-Some-clause-bytes
-returns-in-Some-clause-bytes g c =
-    (c.in-Some.size, whole g c, first_part _ _ _ c.part.ensures ∙ ap (λ (v : FragmentsState). take c.in-Some.size v.bytes) c.self.view_is)
+returns-in-Some-clause-bytes g c = (
+  c.in-Some.size,
+  whole g c,
+  first_part _ _ _ c.part.ensures
+      ∙ ap (λ (v : FragmentsState). take c.in-Some.size v.bytes) c.self.view_is,
+)

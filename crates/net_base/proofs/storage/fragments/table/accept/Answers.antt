@@ -16,17 +16,23 @@ not_empty x [] p q e = absurd (cc)
 not_empty x (y ∷ ys) p q e = absurd (cc)
 
 pub returns-in-Some-clause-no_bytes : goal.returns-in-Some-clause-no_bytes
-returns-in-Some-clause-no_bytes g c =
-    (λ q. absurd (c.accept.ensures.no_bytes q), λ e. absurd (not_empty c.is_empty.result c.args.data.now c.is_empty.ensures c.if-is_empty.false e))
+returns-in-Some-clause-no_bytes g c = (
+  λ q. absurd (c.accept.ensures.no_bytes q),
+  λ e. absurd (not_empty c.is_empty.result c.args.data.now c.is_empty.ensures c.if-is_empty.false e),
+)
 
 pub returns-in-Some-clause-no_slot : goal.returns-in-Some-clause-no_slot
-returns-in-Some-clause-no_slot g c =
-    (λ q. absurd (c.accept.ensures.no_slot q), λ h. let none = c.slot_for.ensures.none.1 h.1 in let some = c.in-Some.is in absurd (cc))
+returns-in-Some-clause-no_slot g c = (
+  λ q. absurd (c.accept.ensures.no_slot q),
+  λ h. let none = c.slot_for.ensures.none.1 h.1 in
+      let some = c.in-Some.is in absurd (cc),
+)
 
 pub returns-in-Some-clause-unchanged : goal.returns-in-Some-clause-unchanged
 returns-in-Some-clause-unchanged g c =
     on_err_weaker c.accept.result
-    (λ same. ap (set c.args.slots.now c.in-Some.at) same ∙ set-get_or c.args.slots.now c.in-Some.at c.index-slots-at.result)
+    (λ same. ap (set c.args.slots.now c.in-Some.at) same
+    ∙ set-get_or c.args.slots.now c.in-Some.at c.index-slots-at.result)
     c.accept.ensures.unchanged
 
 pub returns-in-Some-clause-slot : goal.returns-in-Some-clause-slot

@@ -32,7 +32,8 @@ returns-then-saturating_sub-data c =
     let past : length c.args.data.now ≤ c.in-Some.start - c.args.offset =
     omega (arith, c.if-saturating_sub-data.true, c.saturating_sub.ensures) in (
       λ t. absurd (false≢true t),
-      λ d. absurd (passed_all (s e) (maximal_runs (s e)) (known e) c.args.bytes.now c.args.offset c.args.data.now c.loop-k.k (r e) (at e)
+      λ d. absurd (passed_all (s e) (maximal_runs (s e)) (known e) c.args.bytes.now c.args.offset c.args.data.now
+          c.loop-k.k (r e) (at e)
           c.loop-k.invariant.passed past d.0 d.1 d.2),
     )
 
@@ -52,7 +53,8 @@ loop-k-preserved c =
     let e = (goal.at.loop-k-preserved c).In-Some in
     let before = c.loop-k.invariant in
     record {
-      passed = passed_more (s e) (maximal_runs (s e)) (known e) c.args.bytes.now c.args.offset c.args.data.now c.loop-k.k (r e) (at e)
+      passed = passed_more (s e) (maximal_runs (s e)) (known e) c.args.bytes.now c.args.offset c.args.data.now
+          c.loop-k.k (r e) (at e)
           before.passed
           (λ p low high other.
           both_ways c.run_differs.result c.if-run_differs.false (c.run_differs.ensures.1 (p, low, high, other)));
@@ -65,7 +67,12 @@ returns c =
     let s = set_of c.args.self.now.present c.args.runs.now in
     let known = c.maximal_runs.ensures s in
     let all : length (maximal_runs s) ≤ c.loop-k.k =
-    omega (arith, known.number, c.run_count-k-end.ensures.count c.args.runs.now c.requires.sound.runs_sound, c.loop-k-test.false) in (
+    omega (
+      arith,
+      known.number,
+      c.run_count-k-end.ensures.count c.args.runs.now c.requires.sound.runs_sound,
+      c.loop-k-test.false,
+    ) in (
       λ t. absurd (false≢true t),
       λ d. absurd (passed_last s (maximal_runs s) known c.args.bytes.now c.args.offset c.args.data.now c.loop-k.k all
           c.loop-k.invariant.passed d.0 d.1 d.2),

@@ -11,8 +11,11 @@ pub returns-then-offset-missing : goal.returns-then-offset-missing
 returns-then-offset-missing c =
     let s = set_of c.args.self.now.present c.args.runs.now in
     let begins = c.next_hole-missing.ensures.begins in
-    let here : contains s c.args.offset ≡ true = first_missing-has s c.args.offset c.args.offset (omega arith) (omega (arith, begins, c.if-offset-missing.true)) in (
-      λ t. (let some : 0 < c.args.len = grind (arith, nat_tests) in (c.args.offset, omega arith, omega (arith, some), here)),
+    let here : contains s c.args.offset ≡ true =
+    first_missing-has s c.args.offset c.args.offset (omega arith)
+    (omega (arith, begins, c.if-offset-missing.true)) in (
+      λ t. (let some : 0 < c.args.len = grind (arith, nat_tests) in
+          (c.args.offset, omega arith, omega (arith, some), here)),
       λ m. (let some : 0 < c.args.len = omega (arith, m.1, m.2) in grind (arith, nat_tests)),
     )
 
@@ -24,7 +27,8 @@ pub returns-in-Some : goal.returns-in-Some
 returns-in-Some c =
     let s = set_of c.args.self.now.present c.args.runs.now in
     let found = c.next_hole-missing.ensures in
-    let same = at_place s c.args.offset c.next_hole-missing.result.0 found.begins (omega (arith, c.if-offset-missing.false)) in
+    let same = at_place s c.args.offset c.next_hole-missing.result.0 found.begins
+    (omega (arith, c.if-offset-missing.false)) in
     let ends : EndsHole s c.next_hole-missing.result.0 (Some c.in-Some.end) =
     subst (λ r. EndsHole s c.next_hole-missing.result.0 r) c.in-Some.is found.ends in (
       λ t. (let some : c.in-Some.end - c.args.offset < c.args.len = grind (arith, nat_tests) in
@@ -48,7 +52,8 @@ pub returns-in-None : goal.returns-in-None
 returns-in-None c =
     let s = set_of c.args.self.now.present c.args.runs.now in
     let found = c.next_hole-missing.ensures in
-    let same = at_place s c.args.offset c.next_hole-missing.result.0 found.begins (omega (arith, c.if-offset-missing.false)) in
+    let same = at_place s c.args.offset c.next_hole-missing.result.0 found.begins
+    (omega (arith, c.if-offset-missing.false)) in
     let open' : EndsHole s c.next_hole-missing.result.0 None =
     subst (λ r. EndsHole s c.next_hole-missing.result.0 r) c.in-None.is found.ends in (
       λ t. absurd (false≢true t),
