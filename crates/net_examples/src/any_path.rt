@@ -1,5 +1,6 @@
-//! Both ends of a stream: a text goes from a sender to a receiver over a path that loses, doubles, reorders, delays and
-//! cuts segments, as a list of events says. What is read is a prefix of the text, and all of it once the receiver says so.
+//! Both ends of a stream: a text goes from a sender to a receiver over a path that loses, doubles, reorders, delays
+//! and cuts segments, as a list of events says. What is read is a prefix of the text, and all of it once the receiver
+//! says so.
 //!
 //! `carry` says so, in three clauses about the text and what was read. They hold for any list of events, in any order,
 //! and for storages of any lengths. By `first_missing` what the receiver lacks can always be sent again. Nothing says

@@ -17,8 +17,8 @@ pub fn send_again(recovery: &mut LossRecovery, numbers: SentNumbers, start: u64,
     recovery.sent(numbers, start..end);
 }
 
-/// Finds what is lost. If a probe is answered in a recovery, where the peer reports, that is all that was sent before the
-/// probe.
+/// Finds what is lost. If a probe is answered in a recovery, where the peer reports, that is all that was sent before
+/// the probe.
 pub fn find_losses(
     recovery: &mut LossRecovery,
     numbers: SentNumbers,

@@ -19,8 +19,8 @@ pub fn accepts(next: u64, window: u64, seq: u64, len: u64) -> bool
     is_acceptable(next, window, seq, len)
 }
 
-/// Returns whether a segment is acceptable where all up to `edge` was promised: if it ends by then, it is, unless all of it
-/// came before.
+/// Returns whether a segment is acceptable where all up to `edge` was promised: if it ends by then, it is, unless all
+/// of it came before.
 pub fn accepts_promised(next: u64, edge: u64, seq: u64, len: u64) -> bool
     ensures { 0 < len → seq + len ≤ edge → next < seq + len → IsTrue result }
 {
@@ -47,8 +47,8 @@ pub fn take_older(window: &mut PeerWindow, numbers: SentNumbers, it: Announcemen
     let _is_taken = window.update(numbers, it);
 }
 
-/// Returns the number of a segment without bytes. At a shut window it is in the peer's table, unless the peer has kept a
-/// probe.
+/// Returns the number of a segment without bytes. At a shut window it is in the peer's table, unless the peer has
+/// kept a probe.
 pub fn number_without_bytes(window: &PeerWindow, numbers: SentNumbers) -> u64
     ensures { (next edge : ℕ) → BothEnds window.now numbers.first_unacknowledged numbers.sent next edge →
         window.now.edge ≤ numbers.first_unacknowledged → numbers.first_unacknowledged ≡ next →

@@ -1,5 +1,6 @@
-//! The tests of `net_bench_lib` and `net_testing`: worked rows of the program, and what wants the kit's memory, which is
-//! words, requests that are refused, and how many bytes a run has. All others are of the erased text, rust/tests/net_bench.
+//! The tests of `net_bench_lib` and `net_testing`: worked rows of the program, and what wants the kit's memory, which
+//! is words, requests that are refused, and how many bytes a run has. All others are of the erased text,
+//! rust/tests/net_bench.
 //!
 //! They are in a crate of their own, so that crates that use these libraries don't wait for them and link nothing that
 //! only tests need.

@@ -82,8 +82,8 @@ fn are_replies(bytes: &[u8], replies: &[&[u8]]) -> bool {
     rest.is_empty()
 }
 
-/// Runs lines by reads of `most` bytes in this memory. Returns whether it ended with Ok and all replies were written, or
-/// not, with the error of memory and the first replies; or `None` if neither is so.
+/// Runs lines by reads of `most` bytes in this memory. Returns whether it ended with Ok and all replies were written,
+/// or not, with the error of memory and the first replies; or `None` if neither is so.
 fn runs(
     alloc: Global,
     memory: &Refusing,

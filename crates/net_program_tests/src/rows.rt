@@ -1,4 +1,5 @@
-//! Lines of each mode, by a reader and a writer that move few bytes a call. The erased text has the same rows, and drawn ones.
+//! Lines of each mode, by a reader and a writer that move few bytes a call. The erased text has the same rows, and
+//! drawn ones.
 use crate::assertions::{assert_bytes, assert_count};
 use crate::memory::words_of;
 use crate::program_rows::{ASSEMBLERS, NO_LINES, RINGS, SCHEDULES, STREAMS};
@@ -13,8 +14,8 @@ use std::test::Fail;
 /// there is no error.
 pub type Row<'a> = (&'a str, &'a str, &'a [u8], &'a [u8], &'a str);
 
-/// Calls `serve` for a row by streams that move at most `most` bytes a call: the output and the error are the row's, and
-/// the status is 1 if there is an error.
+/// Calls `serve` for a row by streams that move at most `most` bytes a call: the output and the error are the row's,
+/// and the status is 1 if there is an error.
 fn check_row(rt: &impl Abort, alloc: Global, row: Row<'_>, most: usize) -> Result<(), Fail> {
     let (name, words, input, output, error) = row;
     let words = words_of(alloc, words)?;

@@ -8,9 +8,9 @@ ghost use Rattle.net_recovery.specs.declared.loss_recovery.LossRecovery.{LossRec
 
 /// States what passes do: each position that is sent counts as sent again, so that by clause `once` of
 /// `next_segment` it isn't sent any more; it counts so after each acknowledgement and each silence, unless a probe
-/// was answered, or enough is reported of what was sent after it; what an acknowledgement answers leaves it so too, also where
-/// finding something lost was wrong; and after the timeout the first position is to be
-/// sent, so that by clause `progress` it is.
+/// was answered, or enough is reported of what was sent after it; what an acknowledgement answers leaves it so too,
+/// also where finding something lost was wrong; and after the timeout the first position is to be sent, so that by
+/// clause `progress` it is.
 #[tactic(auto, using(crate::proofs::Passes::passes))]
 pub fn passes()
     ensures sent { (r : LossRecovery) (first sent start end p : ℕ) → IsTrue (is_active r first) →
@@ -33,9 +33,9 @@ pub fn passes()
         × IsFalse (was_sent_again (begun first sent sent r) first first) }
 {}
 
-/// States what arrives tells: where the peer reports, all is lost that was sent before a probe which is answered; and where
-/// finding something lost was wrong, nothing is lost any more that wasn't sent again. Where it doesn't, outside of a
-/// recovery the third equal acknowledgement loses the first segment, and the second doesn't; and in a recovery an
+/// States what arrives tells: where the peer reports, all is lost that was sent before a probe which is answered; and
+/// where finding something lost was wrong, nothing is lost any more that wasn't sent again. Where it doesn't, outside
+/// of a recovery the third equal acknowledgement loses the first segment, and the second doesn't; and in a recovery an
 /// acknowledgement of something new loses what follows.
 #[tactic(auto, using(crate::proofs::Arrivals::arrivals))]
 pub fn arrivals()

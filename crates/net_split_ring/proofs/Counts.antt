@@ -24,7 +24,7 @@ pub ahead_twice : (c i j k : ℕ) → IsCount c i → IsCount c j → IsCount c 
     ahead c i k ≡ ahead c i j + ahead c j k
 ahead_twice c i j k is js ks le = grind (arith, nat_tests)
 
--- the one behind comes nearer, and the one in front goes away
+-- where the count i moves on by k, the distance to j falls by k; where j does, it grows by k
 pub nearer : (c i j k : ℕ) → IsCount c i → IsCount c j → k ≤ ahead c i j → ahead c i j ≤ c →
     ahead c (count_after c i k) j ≡ ahead c i j - k
 nearer c i j k is js low le = grind (arith, nat_tests)
@@ -33,7 +33,7 @@ pub farther : (c i j k : ℕ) → IsCount c i → IsCount c j → ahead c i j + 
     ahead c i (count_after c j k) ≡ ahead c i j + k
 farther c i j k is js le = grind (arith, nat_tests)
 
--- a count in front is found from the one behind
+-- the index of the count j is that of the count i, moved on by their distance
 pub index_there : (c i j : ℕ) → IsCount c i → IsCount c j → ahead c i j ≤ c →
     index_of c j ≡ index_after c (index_of c i) (ahead c i j)
 index_there c i j is js le = grind (arith, nat_tests)

@@ -42,7 +42,8 @@ abbrev pub AreCounts : ℕ → SplitCounts → Type 0
 AreCounts c s = IsUsize (c + c) × IsCount c s.written × IsCount c s.taken × (ahead c s.taken s.written ≤ c)
 
 -- ---- the machine
--- the storage, the two counts, and what each end last read of the other's; what was written and counted, and what was taken
+-- the storage, the two counts, and what each end last read of the other's; what was written and counted, and what
+-- was taken
 pub record SplitState (T : Type 0) : Type 0 where
   pub capacity : ℕ
   pub storage : List T
@@ -53,9 +54,9 @@ pub record SplitState (T : Type 0) : Type 0 where
   pub accepted : List T
   pub left : List T
 
--- a step of one end. A look gives any value that the other's count had since the last one, which was k elements on: all
--- that it wrote, or less. Elements are written to the free ones from the element i on, in any parts and order, and counted
--- later
+-- a step of one end. A look gives any value that the other's count had since the last one, which was k elements on:
+-- all that it wrote, or less. Elements are written to the free ones from the element i on, in any parts and order,
+-- and counted later
 pub data Step (T : Type 0) : Type 0 where
   LooksForRoom : ℕ → Step T
   Writes : ℕ → List T → Step T

@@ -3,22 +3,23 @@ ghost use Rattle.std.specs.Prelude.{◌≡◌, ◌≢◌, ◌<◌, ◌≤◌, �
 ghost use Rattle.net_assembler.specs.Width.{IsUsize};
 ghost use Rattle.net_ring.specs.Overwrite.{overwrite};
 ghost use Rattle.net_ring.specs.Ring.{queue, spare, window, storage_index};
-ghost use Rattle.net_split_ring.specs.SplitRing.{SplitState, Step, Writes, fresh, after_step, after_steps, whole, writer, reader};
+ghost use Rattle.net_split_ring.specs.SplitRing.{SplitState, Step, Writes, fresh, after_step, after_steps, whole};
+ghost use Rattle.net_split_ring.specs.SplitRing.{writer, reader};
 ghost use Rattle.net_split_ring.specs.SplitRing.{AreCounts, counts, IsOfWriter, IsOfReader};
 
-/// States of each list of steps of the two ends, in any order, in which an end may read an older value of the other's count,
-/// but none older than it read before:
+/// States of each list of steps of the two ends, in any order, in which an end may read an older value of the other's
+/// count, but none older than it read before:
 ///
-/// - `order`: what was taken, followed by what the ring holds, is what was written, in order. So what is taken is a prefix
-///   of what was written.
+/// - `order`: what was taken, followed by what the ring holds, is what was written, in order. So what is taken is a
+///   prefix of what was written.
 /// - `shown`: what the reading end knows of is the first elements of what the ring holds.
 /// - `room`, `elements`: the writing end knows of no room, and the reading end of no elements, that aren't there.
-/// - `kept`: a write, before it is counted, changes nothing of what the ring holds: nothing is written over before it was
-///   taken.
+/// - `kept`: a write, before it is counted, changes nothing of what the ring holds: nothing is written over before it
+///   was taken.
 /// - `written`: it is then in the free elements, from which counting takes the first.
 /// - `apart`: no element that may be written is one that may be read, so that neither end waits for the other.
-/// - `lent_to_read`, `lent_to_write`: what one end was lent stays as it is, and where it is, whatever the other does: so a
-///   device may hold it over any calls of the other end.
+/// - `lent_to_read`, `lent_to_write`: what one end was lent stays as it is, and where it is, whatever the other does:
+///   so a device may hold it over any calls of the other end.
 /// - `sound`: what each end knows meets what its calls require.
 #[tactic(auto, using(crate::proofs::Steps::steps))]
 pub fn ends_run_apart<T>()

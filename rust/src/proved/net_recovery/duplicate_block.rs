@@ -1,9 +1,9 @@
 // Written by tools/erase.py from crates/net_recovery/src/duplicate_block.rt: a change here would be lost.
 //! Reports of what came twice.
 
-/// Returns whether the first block of an acknowledgement reports what came twice (RFC 2883, section 4): it has a position, and
-/// it ends at `next` or below, which is what is acknowledged, or it is in the second block. A block that only says
-/// again what was reported doesn't: an acknowledgement repeats blocks.
+/// Returns whether the first block of an acknowledgement reports what came twice (RFC 2883, section 4): it has a
+/// position, and it ends at `next` or below, which is what is acknowledged, or it is in the second block. A block that
+/// only says again what was reported doesn't: an acknowledgement repeats blocks.
 ///
 /// ```
 /// use net_base::tcp::is_duplicate_block;

@@ -4,8 +4,9 @@
 use crate::proved::net_numbers::SentNumbers;
 
 /// Returns whether an acknowledgement of all below `next` is an equal one (RFC 5681, section 2): it says again what was
-/// acknowledged, while something isn't; its segment `is_bare`, that is, it has no byte, no SYN, no FIN and no block; and it
-/// announces `is_same` the window that was announced last. Something has arrived then, and the peer doesn't say where.
+/// acknowledged, while something isn't; its segment `is_bare`, that is, it has no byte, no SYN, no FIN and no block;
+/// and it announces `is_same` the window that was announced last. Something has arrived then, and the peer doesn't say
+/// where.
 ///
 /// ```
 /// use net_base::tcp::{is_equal_acknowledgement, SentNumbers};

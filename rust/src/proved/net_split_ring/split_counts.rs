@@ -8,11 +8,11 @@ use crate::proved::net_ring::{RingHead, Span};
 /// The two counts of a ring, as one of its ends knows them: its own, and the other's as it last loaded it.
 ///
 /// Each end alone stores its own count: the end that writes elements stores `written`, and the end that reads them
-/// `taken`. Both are 0 at first. A count stays below twice the capacity and begins at 0 again there, so that a full ring
-/// isn't taken for an empty one, and the capacity is any number up to half of the greatest `usize`.
+/// `taken`. Both are 0 at first. A count stays below twice the capacity and begins at 0 again there, so that a full
+/// ring isn't taken for an empty one, and the capacity is any number up to half of the greatest `usize`.
 ///
-/// What an end loaded of the other's count may be old: then the end knows of less room, or of fewer elements, than there
-/// are, and of none that isn't there. It may not be older than what it loaded before.
+/// What an end loaded of the other's count may be old: then the end knows of less room, or of fewer elements, than
+/// there are, and of none that isn't there. It may not be older than what it loaded before.
 ///
 /// The order of memory is the caller's: an end loads the other's count by `Ordering::Acquire`, and stores its own by
 /// `Ordering::Release` once it has written or read the elements. Between an interrupt and what it interrupts on one
@@ -45,8 +45,8 @@ pub struct SplitCounts {
     pub taken: usize,
 }
 
-/// The elements that one end may write or read, and its count after them. An end that wrote or read fewer of them stores
-/// the count that it gets for so many, by the same counts.
+/// The elements that one end may write or read, and its count after them. An end that wrote or read fewer of them
+/// stores the count that it gets for so many, by the same counts.
 ///
 /// Contracts: `crates/net_split_ring/src/split_counts.rt`.
 #[repr(C)]
@@ -69,8 +69,8 @@ impl SplitCounts {
         }
     }
 
-    /// Returns whether the counts are those of a ring of `capacity` elements: twice the capacity is a `usize`, each count
-    /// is below it, or 0, and at most `capacity` elements were written and not taken.
+    /// Returns whether the counts are those of a ring of `capacity` elements: twice the capacity is a `usize`, each
+    /// count is below it, or 0, and at most `capacity` elements were written and not taken.
     #[inline(always)]
     #[must_use]
     pub fn is_sound(self, capacity: usize) -> bool {
@@ -125,8 +125,8 @@ impl SplitCounts {
         span(capacity, self.taken, length.min(size))
     }
 
-    /// Writes as many elements of `data` as there is room for, and returns the count to store: the steps of the end that
-    /// writes, where nothing else uses the storage meanwhile.
+    /// Writes as many elements of `data` as there is room for, and returns the count to store: the steps of the end
+    /// that writes, where nothing else uses the storage meanwhile.
     ///
     /// # Panics
     ///
@@ -144,8 +144,8 @@ impl SplitCounts {
         after(storage.len(), self.written, count)
     }
 
-    /// Copies as many elements as there are and `into` has room for to its beginning, and returns the count to store: the
-    /// step of the end that reads. The rest of `into` stays as it is.
+    /// Copies as many elements as there are and `into` has room for to its beginning, and returns the count to store:
+    /// the step of the end that reads. The rest of `into` stays as it is.
     ///
     /// # Panics
     ///

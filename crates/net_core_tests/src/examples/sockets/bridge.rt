@@ -300,8 +300,8 @@ fn without_frames(alloc: Global, tokens: &Cell<usize>) -> Noting<'_> {
     }
 }
 
-/// Returns whether a device was last asked for a frame, and the other one for room, so often in all, at that moment; the
-/// first one never for room; and no token is left.
+/// Returns whether a device was last asked for a frame, and the other one for room, so often in all, at that moment;
+/// the first one never for room; and no token is left.
 fn are_asked(from: &Noting<'_>, to: &Noting<'_>, now: Instant, rooms: usize) -> bool {
     from.asked_for_a_frame == now
         && to.asked_for_room == now
@@ -310,8 +310,8 @@ fn are_asked(from: &Noting<'_>, to: &Noting<'_>, now: Instant, rooms: usize) -> 
         && from.tokens.get() == 0
 }
 
-/// Forwards one frame, and then none by each bridge, at `micros` microseconds. Returns whether each call asks both devices
-/// at that moment, and the one that it sends on for room once, even if no frame waits.
+/// Forwards one frame, and then none by each bridge, at `micros` microseconds. Returns whether each call asks both
+/// devices at that moment, and the one that it sends on for room once, even if no frame waits.
 fn asks_once(from: &mut Noting<'_>, to: &mut Noting<'_>, micros: i64) -> Result<bool, AllocError> {
     let now = Instant::from_micros(micros);
     let rooms = to.rooms;
@@ -360,9 +360,9 @@ fn pass(
     }
 }
 
-/// Sends a frame more than may pass, each of `length` bytes, and forwards them at `micros` microseconds. Returns whether as
-/// many pass as may, the devices are asked for each of these at that moment, and for no other one, they are sent as their
-/// tokens were, and one stays.
+/// Sends a frame more than may pass, each of `length` bytes, and forwards them at `micros` microseconds. Returns
+/// whether as many pass as may, the devices are asked for each of these at that moment, and for no other one, they are
+/// sent as their tokens were, and one stays.
 fn all_but_one_pass(
     from: &mut Noting<'_>,
     to: &mut Noting<'_>,

@@ -201,7 +201,8 @@ fn rings_are_made_and_dropped(rt: HostRuntime) -> Result<(), Fail> {
     Ok(())
 }
 
-/// Moves elements through a ring of four: how many are enqueued, taken off, and then enqueued; and the storage after it.
+/// Moves elements through a ring of four: how many are enqueued, taken off, and then enqueued; and the storage after
+/// it.
 struct Passage {
     first: &'static [u8],
     taken: usize,
