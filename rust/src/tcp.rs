@@ -52,7 +52,7 @@
 //! ```
 pub use crate::proved::net_numbers::SentNumbers;
 pub use crate::proved::net_recovery::{
-    is_duplicate_block, is_equal_acknowledgement, Answer, LossRecovery,
+    is_duplicate_block, is_equal_acknowledgement, Answer, LossRecovery, RecoveryParts,
 };
 pub use crate::proved::net_tcp::{
     checksum, classify, is_acceptable, is_acknowledgement, is_valid, scale_for, scaled,

@@ -16,8 +16,8 @@ use net_base::storage::{
     RingOver, Storage, TooManyHolesError,
 };
 use net_base::tcp::{
-    AdvertisedWindow, Announcement, PartsSum, PeerWindow, RetransmissionTimeout,
-    RetransmissionTimer, RttEstimate, TimeoutBounds, Transmission,
+    AdvertisedWindow, Announcement, LossRecovery, PartsSum, PeerWindow, RecoveryParts,
+    RetransmissionTimeout, RetransmissionTimer, RttEstimate, TimeoutBounds, Transmission,
 };
 use net_base::time::{Duration, Instant};
 
@@ -164,7 +164,7 @@ fn machines() {
     );
 }
 
-/// None is after the last one; and what a timer is made of makes the same.
+/// None is after the last one; and what a timer or a recovery is made of makes the same.
 #[test]
 fn moments_of_timers() {
     let mut timer = RetransmissionTimer::new(Duration::from_micros(7), true);
@@ -177,6 +177,9 @@ fn moments_of_timers() {
     let timeout = RetransmissionTimeout::from_parts(timer.rtt(), timer.timeout());
     assert_eq!((timer.parts().timeout, timer.parts().ends_at), (timeout, timer.expires_at()));
     assert_eq!(RetransmissionTimer::from_parts(timer.parts()), timer);
+    let recovery =
+        LossRecovery::from_parts(RecoveryParts { lost: 7, ..LossRecovery::new().parts() });
+    assert_eq!((recovery.parts().lost, recovery.parts().duplicates), (7, 3));
     let estimate = RttEstimate::from_scaled(u64::MAX, u64::MAX);
     assert_eq!(estimate.scaled(), (1 << 63, 1 << 62));
 }

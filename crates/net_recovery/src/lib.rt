@@ -9,4 +9,4 @@ pub mod loss_recovery;
 
 pub use duplicate_block::is_duplicate_block;
 pub use equal_acknowledgement::is_equal_acknowledgement;
-pub use loss_recovery::{Answer, LossRecovery};
+pub use loss_recovery::{Answer, LossRecovery, RecoveryParts};

@@ -26,6 +26,39 @@ pub struct Answer {
     pub is_equal: bool,
 }
 
+/// All that a recovery knows.
+///
+/// Contracts: `crates/net_recovery/src/loss_recovery.rt`.
+#[derive(Copy, Clone, Debug, PartialEq, Eq, Hash)]
+pub struct RecoveryParts {
+    /// The recovery lasts until all positions below this one are acknowledged.
+    pub until: u64,
+    /// What is below this position and isn't reported is lost.
+    pub lost: u64,
+    /// What is lost below this position was sent again in this pass.
+    pub again: u64,
+    /// What is lost from this position on and below `resume` was sent again before this pass, which leaves it out.
+    pub turn: u64,
+    /// All that was sent again below this position was sent before what was sent again from there on.
+    pub resume: u64,
+    /// The number after the last one that was sent when `resume` was set.
+    pub sent: u64,
+    /// How many positions were sent again from `resume` on since then.
+    pub later: u64,
+    /// Where the probe begins that wasn't answered.
+    pub probe: Option<u64>,
+    /// The number after the last one that was sent when the probe was.
+    pub asked: u64,
+    /// Whether the peer doesn't report what has arrived.
+    pub is_blind: bool,
+    /// How many positions have arrived that it doesn't report.
+    pub unknown: u64,
+    /// How many segments above a position tell that it is lost.
+    pub duplicates: usize,
+    /// Until all positions below this one are acknowledged, `duplicates` stays.
+    pub round: u64,
+}
+
 /// What a sender of TCP sends next where segments are lost: first what is lost, then what was never sent.
 ///
 /// It knows no bytes and no time: it reads the sender's numbers, the scoreboard, and a limit, which the peer's window
@@ -37,12 +70,13 @@ pub struct Answer {
 /// What was sent for the first time is lost by RFC 6675's rule, whose threshold rises where reordering made a sender
 /// send for nothing. What was sent again is lost by the order of sending, as RFC 8985 has it, without a time for each
 /// segment: it is sent again in passes, each from the lowest position on, and if enough of what was sent after a pass
-/// has been reported, all is lost that was sent before and is missing. Where no answer comes, a probe asks for one; an answer to it
-/// tells the same. Where what was lost arrives without having been sent again, finding it lost was wrong: what wasn't sent
-/// again isn't lost then, and the threshold rises (after a timeout that is RFC 5682's F-RTO).
+/// has been reported, all is lost that was sent before and is missing. Where no answer comes, a probe asks for one; an
+/// answer to it tells the same. Where what was lost arrives without having been sent again, finding it lost was wrong:
+/// what wasn't sent again isn't lost then, and the threshold rises (after a timeout that is RFC 5682's F-RTO).
 ///
 /// Of a peer that reports nothing, the third equal acknowledgement loses the first segment, and in a recovery each one
-/// of something new the next (RFC 5681, RFC 6582). An equal one tells that a segment has arrived, so one less is in flight.
+/// of something new the next (RFC 5681, RFC 6582). An equal one tells that a segment has arrived, so one less is in
+/// flight.
 ///
 /// ```
 /// use net_base::scoreboard::Scoreboard;
@@ -118,6 +152,46 @@ impl LossRecovery {
         }
     }
 
+    /// Returns the recovery of these parts.
+    #[must_use]
+    pub const fn from_parts(parts: RecoveryParts) -> Self {
+        LossRecovery {
+            until: parts.until,
+            lost: parts.lost,
+            again: parts.again,
+            turn: parts.turn,
+            resume: parts.resume,
+            sent: parts.sent,
+            later: parts.later,
+            probe: parts.probe,
+            asked: parts.asked,
+            is_blind: parts.is_blind,
+            unknown: parts.unknown,
+            duplicates: parts.duplicates,
+            round: parts.round,
+        }
+    }
+
+    /// Returns its parts.
+    #[must_use]
+    pub const fn parts(&self) -> RecoveryParts {
+        RecoveryParts {
+            until: self.until,
+            lost: self.lost,
+            again: self.again,
+            turn: self.turn,
+            resume: self.resume,
+            sent: self.sent,
+            later: self.later,
+            probe: self.probe,
+            asked: self.asked,
+            is_blind: self.is_blind,
+            unknown: self.unknown,
+            duplicates: self.duplicates,
+            round: self.round,
+        }
+    }
+
     /// Returns whether a recovery lasts: not all is acknowledged that was sent when it began.
     #[must_use]
     pub fn is_active(&self, numbers: SentNumbers) -> bool {
@@ -131,8 +205,8 @@ impl LossRecovery {
     }
 
     /// Takes notice that the peer reports what it has already (RFC 2883): something was sent again for nothing. From
-    /// now on twice as many segments above a position tell that it is lost, up to 1024. Once that has happened, nothing changes until
-    /// all is acknowledged that was sent by then: a round trip makes it twice as many once.
+    /// now on twice as many segments above a position tell that it is lost, up to 1024. Once that has happened, nothing
+    /// changes until all is acknowledged that was sent by then: a round trip makes it twice as many once.
     pub fn duplicated(&mut self, numbers: SentNumbers) {
         if numbers.first_unacknowledged < self.round {
             return;
@@ -176,12 +250,12 @@ impl LossRecovery {
     /// has it, and with what it answers.
     ///
     /// What was sent once is lost as `Scoreboard::lost_below` says for as many segments as `duplicates` has. What was
-    /// sent before a pass is lost, and what was sent again in it again, once more than `duplicates() - 1` segments are reported of
-    /// what was sent after it. Once a probe is answered, all that was sent before it, and isn't reported, is lost. If what was lost
-    /// and wasn't sent again has arrived, it wasn't: nothing that wasn't sent again is lost, and it is as if something came
-    /// twice, as `duplicated` says. If the peer reports nothing, the first segment is lost after `duplicates` equal
-    /// acknowledgements, and in a recovery where something new is acknowledged. An equal one of what a recovery lasted for
-    /// answers a copy: it counts as a report of what came twice.
+    /// sent before a pass is lost, and what was sent again in it again, once more than `duplicates() - 1` segments are
+    /// reported of what was sent after it. Once a probe is answered, all that was sent before it, and isn't reported,
+    /// is lost. If what was lost and wasn't sent again has arrived, it wasn't: nothing that wasn't sent again is lost,
+    /// and it is as if something came twice, as `duplicated` says. If the peer reports nothing, the first segment is
+    /// lost after `duplicates` equal acknowledgements, and in a recovery where something new is acknowledged. An equal
+    /// one of what a recovery lasted for answers a copy: it counts as a report of what came twice.
     ///
     /// Returns whether this call begins a recovery: then halve the congestion window.
     pub fn find_losses<const N: usize>(
@@ -208,7 +282,8 @@ impl LossRecovery {
         self.take_arrival(numbers, scoreboard, answer.unsent);
     }
 
-    /// Takes an equal acknowledgement of all that was sent before a recovery as a report of what came twice: it answers a copy.
+    /// Takes an equal acknowledgement of all that was sent before a recovery as a report of what came twice: it answers
+    /// a copy.
     fn take_copy(&mut self, numbers: SentNumbers, answer: Answer) {
         if answer.is_equal && !answer.reports && numbers.first_unacknowledged == self.until {
             self.duplicated(numbers);
@@ -430,9 +505,10 @@ impl LossRecovery {
         begins
     }
 
-    /// Returns what a probe sends below `limit`, whatever is in flight: in a recovery the first segment that isn't
-    /// reported, else a new one, and if the limit allows none, the last one. A `segment_size` of 0 counts as 1. Call
-    /// `probed` once it is sent.
+    /// Returns what a probe sends below `limit`, whatever is in flight. Outside of a recovery that is a new segment,
+    /// or, if the limit allows none, the last one that was sent above all that was reported. If there is neither, in a
+    /// recovery, or if the last position that was sent is reported, it is the first segment that isn't reported. A
+    /// `segment_size` of 0 counts as 1. Call `probed` once it is sent.
     #[must_use]
     pub fn next_probe<const N: usize>(
         &self,
@@ -466,8 +542,8 @@ impl LossRecovery {
         self.asked = numbers.sent;
     }
 
-    /// Begins a recovery where the peer has dropped what it had reported: it acknowledges up to a number that was reported
-    /// (RFC 2018, section 8). All below the highest position that was reported is lost. Call it before the
+    /// Begins a recovery where the peer has dropped what it had reported: it acknowledges up to a number that was
+    /// reported (RFC 2018, section 8). All below the highest position that was reported is lost. Call it before the
     /// scoreboard begins again.
     ///
     /// Returns whether none lasted: then halve the congestion window.
@@ -537,8 +613,8 @@ impl LossRecovery {
     }
 
     /// Returns what to send next, as a start and an end, the end not included, at most a segment. In a
-    /// recovery that is what is lost and wasn't sent again; else what was never sent. Outside of one it is what was never sent.
-    /// It is below `limit`, as `PeerWindow::send_limit` returns it. A `segment_size` of 0 counts as 1.
+    /// recovery that is what is lost and wasn't sent again; else what was never sent. Outside of one it is what was
+    /// never sent. It is below `limit`, as `PeerWindow::send_limit` returns it. A `segment_size` of 0 counts as 1.
     ///
     /// `None` if there is nothing to send, or if with a whole segment more than `window` positions, the
     /// congestion window, would be in flight. The first unacknowledged number is sent whatever is in flight.
