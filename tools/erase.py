@@ -152,7 +152,7 @@ class Eraser(Text):
         owner = OWNER.match(impl[-1])[1] if impl and self.margin(head) else ''
         pub = next((j for j in range(head, k) if self.tokens[j][1] == 'pub' and self.tokens[j + 1][1] != '('), None)
         if pub is not None and self.crate != given.EXPORTS and not owner.endswith('Head'):
-            if re.search(r'Head\b', self.source(k, begin)):
+            if re.search(r'Head\b|Parts<', self.source(k, begin)):
                 self.put(pub, pub + 1, 'pub(crate)')
         is_law = self.laws is not None and self.name(k) not in self.laws
         if (is_law or self.name(k) in self.uncalled) and not (owner and OF_TRAIT.search(impl[-1])):

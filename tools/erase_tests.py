@@ -83,6 +83,8 @@ GIVEN = [
     # A head stays inside, but for its own calls.
     ('impl A {\n    pub fn place(&self) -> AHead {\n        self.a\n    }\n}\n',
      'impl A {\n    pub(crate) fn place(&self) -> AHead {\n        self.a\n    }\n}\n'),
+    ('impl A {\n    pub fn place(&self) -> AParts<N> {\n        self.a\n    }\n}\n',
+     'impl A {\n    pub(crate) fn place(&self) -> AParts<N> {\n        self.a\n    }\n}\n'),
     ('impl AHead {\n    pub fn new() -> AHead {\n        A\n    }\n}\n', 'impl AHead {\n    pub fn new() -> AHead {\n        A\n    }\n}\n'),
 ]
 
@@ -110,41 +112,32 @@ UNLIKE = [
     ('all names', 'use a::*;', 'use a::{b, c};'),
 ]
 
-# A text, and a part of what is said of it.
-REFUSED = [
-    ('ghost fn f() {}', 'unknown ghost form'),
-    ('fn f() { ghost let x = 1; }', 'unknown ghost form'),
-    ('fn f() { let x = ghost; }', 'unknown ghost form'),
-    ('ghost { x }', 'unknown ghost form'),
-    ('ghost x = 3;', 'without braces'),
-    ('ghost x: y = { z };', 'without braces'),
-    ('ghost x = { y }', 'does not end'),
-    ('ghost x = { y } fn f() {}', 'does not end'),
-    ('ghost x = { y', 'not closed'),
-    ('fn f() requires x', 'not a clause'),
-    ('let requires = 3;', 'not a clause'),
-    ('fn f() { x.ensures() }', 'not a clause'),
-    ('fn f() ensures { ( \n', 'not closed'),
-    ('struct A { requires { x } }', 'no function'),
-    ('requires { x }', 'no function'),
-    ('fn f() ensures { x } where T: Copy { 1 }', 'no body'),
-    ('fn f() ensures { x } = 3;', 'no body'),
-    ('#[decreases(x)] fn f() {}', 'unknown attribute'),
-    ('#[derive_where(Debug)] struct A;', 'unknown attribute'),
-    ('#![feature(x)]', 'unknown attribute'),
-    ('#[unsafe(no_mangle)] fn f() {}', 'unknown attribute'),
-    ('fn f() {\n  /* a */ }', 'does not read'),
-    ('fn f() { r"a"; }', 'does not read'),
-    ('fn f() { br#"a"#; }', 'does not read'),
-    ('fn f() { c"a"; }', 'does not read'),
-    ('fn f() { let x = requires { a: 1 }; }', 'no function'),
-    ('fn f() { move || requires { x } { 1 } }', 'no function'),
-    ('fn f() { g(); ghost x = { y }; h() requires { z }; }', 'no function'),
-    ('#[error("a {1}")] struct A;', 'not a text'),
-    ('/// # Requires\n///\n/// - A.\n#[track_caller]\npub fn f() {}\n', 'no sentence'),
-    ('/// # Requires\n/// A.\n#[track_caller]\npub fn f() {}\n', 'no sentence'),
-    ('use crate::a::{b as c, d};\nfn f() { d() }', 'by another name'),
-]
+# A part of what is said of texts that are refused, and these.
+REFUSED = {
+    'unknown ghost form': [
+        'ghost fn f() {}', 'fn f() { ghost let x = 1; }', 'fn f() { let x = ghost; }', 'ghost { x }',
+    ],
+    'without braces': ['ghost x = 3;', 'ghost x: y = { z };'],
+    'does not end': ['ghost x = { y }', 'ghost x = { y } fn f() {}'],
+    'not closed': ['ghost x = { y', 'fn f() ensures { ( \n'],
+    'not a clause': ['fn f() requires x', 'let requires = 3;', 'fn f() { x.ensures() }'],
+    'no function': [
+        'struct A { requires { x } }', 'requires { x }', 'fn f() { let x = requires { a: 1 }; }',
+        'fn f() { move || requires { x } { 1 } }', 'fn f() { g(); ghost x = { y }; h() requires { z }; }',
+    ],
+    'no body': ['fn f() ensures { x } where T: Copy { 1 }', 'fn f() ensures { x } = 3;'],
+    'unknown attribute': [
+        '#[decreases(x)] fn f() {}', '#[derive_where(Debug)] struct A;', '#![feature(x)]',
+        '#[unsafe(no_mangle)] fn f() {}',
+    ],
+    'does not read': ['fn f() {\n  /* a */ }', 'fn f() { r"a"; }', 'fn f() { br#"a"#; }', 'fn f() { c"a"; }'],
+    'not a text': ['#[error("a {1}")] struct A;'],
+    'no sentence': [
+        '/// # Requires\n///\n/// - A.\n#[track_caller]\npub fn f() {}\n',
+        '/// # Requires\n/// A.\n#[track_caller]\npub fn f() {}\n',
+    ],
+    'by another name': ['use crate::a::{b as c, d};\nfn f() { d() }'],
+}
 
 # Calls of a type, and what each returns; `more`, `of`, `take_one`, `asked`, `at`, `lends` and `kept` are not said as calls.
 RETURNS = ''.join(f'    /// D.\n    pub fn {head} ensures {{ result ≡ {value} }}\n    {{\n        g()\n    }}\n' for head, value in (
@@ -336,7 +329,8 @@ def main():
         assert of(text) == wanted, (text, of(text), wanted)
     for text in STAYS:
         assert of(text) == text, (text, of(text))
-    for text, part in REFUSED:
+    refused = [(part, text) for part, texts in REFUSED.items() for text in texts]
+    for part, text in refused:
         assert part in said(text), (text, part, said(text))
     assert all(said(f'fn f() {{\n    g();\n    {word}\n}}\n').startswith('3: ') for word in ('/* a */', 'ghost { a }'))
     for part, text, right in UNLIKE:
@@ -366,7 +360,7 @@ def main():
     told = (erase.REPOSITORY / 'docs/TRUST.md').read_text()
     listed = re.findall(r'`([^`]*)`', told[told.index('Not erased:'):told.index('### What isn')])
     assert {*listed} >= {name for names in erase.given.UNERASED.values() for name in names}, 'docs/TRUST.md has other modules that are not erased'
-    print(f'{len(GIVEN)} texts erased, {len(STAYS)} stay, {len(REFUSED)} refused, {len(UNLIKE)} pairs, {len(SAID)} clauses said, {len(UNSAID)} not; '
+    print(f'{len(GIVEN)} texts erased, {len(STAYS)} stay, {len(refused)} refused, {len(UNLIKE)} pairs, {len(SAID)} clauses said, {len(UNSAID)} not; '
           f'{bodies()} functions of the sources keep each token of their bodies')
 
 

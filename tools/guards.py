@@ -2,7 +2,7 @@
 """Proves that each guard tests enough, by checked calls:
 
     python3 tools/guards.py                proves the checked calls; status 1 if one isn't proved
-    python3 tools/guards.py --faults [K]   tries those in which one guard is weaker, or each Kth; status 1 if one is proved
+    python3 tools/guards.py --faults       tries those in which one guard is weaker; status 1 if one is proved
     python3 tools/guards.py --print        prints the checked calls
 
 A function that can be called from outside and requires something begins with guards, `prove!(..)`, and is marked
@@ -96,8 +96,8 @@ def guarded():
             signature, name = eraser.source(k, begin), f'{owner}::{eraser.tokens[eraser.next(k + 1)][1]}'.removeprefix('::')
             is_operator = 'ghost can_' in text[text.rfind(header, 0, eraser.tokens[k][2]):eraser.tokens[body][2]] if owner else False
             is_called = pub is not None or is_operator or header.startswith(('trait', 'pub trait'))
-            # Of heads callers test what is required; of `Turns` it is of counts that contracts alone see.
-            is_left = owner.endswith('Head') or owner == 'Turns' or pub and re.search(r'Head\b', signature)
+            # Of heads, and of parts that have heads, callers test what is required; of `Turns` it is of counts that contracts alone see.
+            is_left = owner.endswith('Head') or owner == 'Turns' or pub and re.search(r'Head\b|Parts<', signature)
             if not is_called or crate == given.EXPORTS or is_left:
                 continue
             asked = any(word[:1] == 'r' for kind, word, _ in eraser.tokens[begin:body] if kind == 'clause')
@@ -177,8 +177,8 @@ def check(text):
 
 
 def main(arguments):
-    is_faulty = arguments[:1] == ['--faults']
-    functions = [*faulty()][::int((*arguments, '1')[1])] if is_faulty else [*guarded()]
+    is_faulty = arguments == ['--faults']
+    functions = [*(faulty() if is_faulty else guarded())]
     names = [f'call_{k}_{re.sub("[^a-z]+", "_", function[0].lower())}' for k, function in enumerate(functions)]
     text = TOP + '\n'.join(checked(name, *function[1:]) for name, function in zip(names, functions))
     if arguments == ['--print']:

@@ -8,6 +8,7 @@
 //! By hand: storage that is converted, and what is printed.
 use core::fmt;
 
+use crate::finite::FiniteSenderOver;
 use crate::managed::ManagedSlice;
 use crate::storage::Storage;
 use crate::tcp::TimeoutBounds;
@@ -15,7 +16,7 @@ use crate::time::Duration;
 
 pub use crate::proved::net_ends::{Acknowledged, Expired, Outgoing, SendingEnd, SendingEndOver};
 pub use crate::proved::net_ends::{Acknowledgement, ReceivingEnd, ReceivingEndOver};
-pub use crate::proved::net_ends::{SendBuffer, SendBufferOver};
+pub use crate::proved::net_ends::{SendBuffer, SendBufferOver, StreamSender};
 
 impl<'a, const N: usize> SendBuffer<'a, N> {
     /// Returns what `over_at` does.
@@ -65,7 +66,7 @@ impl<'a, const N: usize> ReceivingEnd<'a, N> {
     }
 }
 
-impl<S: Storage<u8>, const N: usize> fmt::Debug for SendBufferOver<S, N> {
+impl<S: Storage<u8>, const N: usize> fmt::Debug for SendBufferOver<FiniteSenderOver<S>, N> {
     fn fmt(&self, f: &mut fmt::Formatter) -> fmt::Result {
         f.debug_struct("SendBuffer")
             .field("numbers", &self.numbers())
@@ -74,7 +75,7 @@ impl<S: Storage<u8>, const N: usize> fmt::Debug for SendBufferOver<S, N> {
     }
 }
 
-impl<S: Storage<u8>, const N: usize> fmt::Debug for SendingEndOver<S, N> {
+impl<S: Storage<u8>, const N: usize> fmt::Debug for SendingEndOver<FiniteSenderOver<S>, N> {
     fn fmt(&self, f: &mut fmt::Formatter) -> fmt::Result {
         f.debug_struct("SendingEnd")
             .field("numbers", &self.numbers())

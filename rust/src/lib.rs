@@ -88,6 +88,7 @@ pub mod exports {
 
     pub use proved::net_assembler::{AssemblerHead, Run};
     pub use proved::net_base::storage::FragmentsHead;
+    pub use proved::net_ends::{BufferParts, SendingParts};
     pub use proved::net_ffi::*;
     pub use proved::net_numbers::SentNumbers;
     pub use proved::net_packets::{FirstPacket, PacketPlace, PacketSlot, PacketsHead};

@@ -1,7 +1,10 @@
 //! The two ends of a connection: whatever arrives, forged acknowledgements too, what is sent is what was written, nothing is
 //! sent beyond the peer's edge but a probe, and a timer runs while anything waits.
 #![cfg(feature = "alloc")]
-use net_base::ends::{Acknowledged, Expired, ReceivingEnd, SendBuffer, SendBufferOver, SendingEnd};
+use net_base::ends::{
+    Acknowledged, Expired, ReceivingEnd, SendBuffer, SendBufferOver, SendingEnd, StreamSender,
+};
+use net_base::finite::FiniteSender;
 use net_base::rand::Rand;
 use net_base::tcp::{Announcement, SentNumbers, TimeoutBounds};
 use net_base::time::{Duration, Instant};
@@ -517,4 +520,35 @@ fn a_send_buffer() {
     assert_eq!(buffer.acknowledge(12, &[], 2, true, true), Some((false, false)));
     assert!(buffer.is_done());
     assert!(format!("{buffer:?}").starts_with("SendBuffer { numbers: SentNumbers {"));
+    buffer.reset_at(5);
+    assert_eq!((buffer.numbers_end(), buffer.window(), buffer.is_recovering()), (5, 8, false));
+}
+
+/// What an end that begins again knows of the stream before: nothing but whether Nagle's rule is enabled.
+#[test]
+fn an_end_begins_again() {
+    let mut end = six_segments(true);
+    end.set_nagle_enabled(false);
+    assert!(end.flight_size() > 0 && end.expires_at().is_some());
+    end.reset_at(1_000);
+    assert_eq!((end.numbers().first_unacknowledged, end.numbers().sent), (1_000, 1_000));
+    assert_eq!((end.flight_size(), end.expires_at(), end.segment_size()), (0, None, 1));
+    assert!(!end.nagle_enabled() && end.write(b"abc") == 3);
+    let it = Announcement { seq: 0, ack: 1_000, window: 50 };
+    end.open(it, 10, true, Instant::ZERO);
+    assert_eq!(ranges(&mut end, Instant::ZERO), [(1_000, 1_003)]);
+}
+
+/// The rules of a sending end know its sender by these numbers.
+#[test]
+fn a_sender_by_its_numbers() {
+    let mut sender = FiniteSender::new_at(vec![0; 8], 7);
+    assert_eq!(sender.write(b"abc"), 3);
+    assert!(!sender.has_end() && StreamSender::end(&sender) == 10);
+    sender.close();
+    sender.mark(11);
+    assert!(sender.has_end() && StreamSender::end(&sender) == 11);
+    assert!(!sender.accept(12) && sender.accept(9));
+    let numbers = StreamSender::numbers(&sender);
+    assert_eq!(numbers, SentNumbers { first_unacknowledged: 9, sent: 11 });
 }

@@ -27,7 +27,8 @@ UNCALLED = {
     'net_receiver/receiver': ['from_parts', 'is_sound'],
     'net_receiver/schedule': ['replay', 'replay_core'],
     **{f'net_receiver/{name}': ['from_parts', 'into_parts', 'is_sound']
-       for name in ('finite_receiver', 'scoreboard', 'sender')},
+       for name in ('finite_receiver', 'sender')},
+    'net_receiver/scoreboard': ['is_sound'],
     'net_receiver/finite_sender': ['from_parts', 'into_parts'],
     'net_base/storage/fragments': ['from_parts', 'into_parts'],
     'net_base/storage/fragments/head': ['exact'],

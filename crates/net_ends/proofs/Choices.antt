@@ -1,11 +1,13 @@
 -- Why the range that an end chooses is within its limit, and isn't held back.
-use Rattle.std.proofs.Common.{◌≡◌, ℕ, ◌+◌, ◌<◌, ◌≤◌, arith, true, false, refl, ap, ◌∙◌}
-use Rattle.std.specs.Prelude.{Bool, IsTrue, IsFalse, IfSome, Option, Some, None, is_some, min, ◌&&◌, ◌||◌, nat_lt}
+use Rattle.std.proofs.Common.{◌≡◌, ℕ, ◌+◌, ◌<◌, ◌≤◌, arith, true, false, refl, ap, sym, subst, ◌∙◌}
+use Rattle.std.specs.Prelude.{Bool, IsTrue, IsFalse, IfSome, Option, Some, None, is_some, is_none, min, ◌&&◌, ◌||◌, not, nat_lt}
 use Rattle.std.specs.Prelude.{nat_le}
 use Rattle.std.specs.Prelude.{if◌then◌else◌}
+use Rattle.std.specs.Option.{option_or}
 use Rattle.std.proofs.lemmas.Bool.Decides.{nat_tests}
 use Rattle.net_recovery.specs.LossRecovery.{is_active}
 use Rattle.net_ends.specs.Ends.{End, asks, end, first, hurries, is_due, is_shut, is_worth, limit, open_to}
+use Rattle.net_ends.specs.Ends.{AreHoles, IsProbed, due_of, found, is_probe, probe_of}
 
 -- ---- the limit
 -- of an end as it is seen
@@ -52,7 +54,7 @@ open_by : (b : Bool) (edge low top : ℕ) → b ≡ true → (b && (nat_le edge 
 open_by true edge low top is none some = grind (arith, nat_tests, none, some)
 open_by false edge low top is none some = cc
 
-hurries_by : (a b : Bool) → a ≡ true → (a || b) ≡ true
+pub hurries_by : (a b : Bool) → a ≡ true → (a || b) ≡ true
 hurries_by true b is = refl
 hurries_by false b is = cc
 
@@ -63,3 +65,88 @@ pub late_is : (e : End) (at : ℕ) (o : Option (ℕ × ℕ)) → IsFalse (asks e
 late_is e at o none is goes probes calm all some =
     let room = open_by e.probes e.peer.edge (first e) (end e) probes none some in
     goes (hurries_by e.probes e.overdue probes) calm all (omega (arith, room, is))
+
+-- ---- a probe for an answer
+some_or : (o p : Option (ℕ × ℕ)) → is_some o ≡ true → option_or o p ≡ o
+some_or None p is = cc
+some_or (Some r) p is = refl
+
+none_or : (o p : Option (ℕ × ℕ)) → is_some o ≡ false → option_or o p ≡ p
+none_or None p is = refl
+none_or (Some r) p is = cc
+
+some_by : (a b : Bool) → (a || not b) ≡ true → b ≡ true → a ≡ true
+some_by true b is over = refl
+some_by false true is over = cc
+some_by false false is over = cc
+
+no_probe : (a b c : Bool) → (c || not b) ≡ true → (not a && (b && not c)) ≡ false
+no_probe true b c is = refl
+no_probe false true true is = refl
+no_probe false true false is = cc
+no_probe false false c is = refl
+
+a_probe : (a b c : Bool) → a ≡ false → b ≡ true → c ≡ false → (not a && (b && not c)) ≡ true
+a_probe true b c none over is = cc
+a_probe false false c none over is = cc
+a_probe false true true none over is = cc
+a_probe false true false none over is = refl
+
+none_is : (o : Option (ℕ × ℕ)) → is_none o ≡ not (is_some o)
+none_is None = refl
+none_is (Some r) = refl
+
+pub or_not : (a b : Bool) → b ≡ false → (a || not b) ≡ true
+or_not true b is = refl
+or_not false true is = cc
+or_not false false is = refl
+
+-- the range that is due below a limit, and what a probe sends below it
+abbrev pub Due : End → ℕ → Option (ℕ × ℕ) → ℕ → Type 0
+Due e window o at = (lost others : Option (ℕ × ℕ)) → AreHoles e at lost others →
+    o ≡ due_of e (found e at window lost others)
+
+abbrev pub Probes : End → Option (ℕ × ℕ) → ℕ → Type 0
+Probes e p at = (highest : ℕ) (hole : Option (ℕ × ℕ)) → IsProbed e at highest hole → p ≡ probe_of e at highest hole
+
+is_probe_by : (e : End) (window : ℕ) (o lost others : Option (ℕ × ℕ)) →
+    o ≡ due_of e (found e (open_to e) window lost others) →
+    is_probe e window lost others ≡ (not (asks e) && (e.overdue && not (is_some o)))
+is_probe_by e window o lost others same = ap (λ (d : Option (ℕ × ℕ)). not (asks e) && (e.overdue && is_none d)) (sym same)
+    ∙ ap (λ (b : Bool). not (asks e) && (e.overdue && b)) (none_is o)
+
+pub answer_due : (e : End) (at window : ℕ) (o : Option (ℕ × ℕ)) → at ≡ open_to e → Due e window o at →
+    (is_some o || not e.overdue) ≡ true → (lost others : Option (ℕ × ℕ)) (highest : ℕ) (hole : Option (ℕ × ℕ)) →
+    IsFalse (asks e) → IsTrue e.overdue → AreHoles e (open_to e) lost others → IsProbed e (open_to e) highest hole →
+    o ≡ option_or (due_of e (found e (open_to e) window lost others)) (probe_of e (open_to e) highest hole)
+answer_due e at window o is due some lost others highest hole none over holes probed =
+    let same : o ≡ due_of e (found e (open_to e) window lost others) =
+    subst (Due e window o) is due lost others holes in
+    let p : Option (ℕ × ℕ) = probe_of e (open_to e) highest hole in
+    sym (ap (λ (d : Option (ℕ × ℕ)). option_or d p) (sym same)
+    ∙ some_or o p (some_by (is_some o) e.overdue some over))
+
+pub counts_due : (e : End) (at window : ℕ) (o : Option (ℕ × ℕ)) → at ≡ open_to e → Due e window o at →
+    (is_some o || not e.overdue) ≡ true → (lost others : Option (ℕ × ℕ)) → AreHoles e (open_to e) lost others →
+    false ≡ is_probe e window lost others
+counts_due e at window o is due some lost others holes =
+    sym (is_probe_by e window o lost others (subst (Due e window o) is due lost others holes)
+    ∙ no_probe (asks e) e.overdue (is_some o) some)
+
+pub answer_probe : (e : End) (at window : ℕ) (o p : Option (ℕ × ℕ)) → at ≡ open_to e → Due e window o at → Probes e p at →
+    is_some o ≡ false → (lost others : Option (ℕ × ℕ)) (highest : ℕ) (hole : Option (ℕ × ℕ)) →
+    IsFalse (asks e) → IsTrue e.overdue → AreHoles e (open_to e) lost others → IsProbed e (open_to e) highest hole →
+    p ≡ option_or (due_of e (found e (open_to e) window lost others)) (probe_of e (open_to e) highest hole)
+answer_probe e at window o p is due probes none lost others highest hole asked over holes probed =
+    let same : o ≡ due_of e (found e (open_to e) window lost others) =
+    subst (Due e window o) is due lost others holes in
+    let q : Option (ℕ × ℕ) = probe_of e (open_to e) highest hole in
+    let given : p ≡ q = subst (Probes e p) is probes highest hole probed in
+    given ∙ sym (ap (λ (d : Option (ℕ × ℕ)). option_or d q) (sym same) ∙ none_or o q none)
+
+pub counts_probe : (e : End) (at window : ℕ) (o : Option (ℕ × ℕ)) → at ≡ open_to e → Due e window o at →
+    IsFalse (asks e) → IsTrue e.overdue → is_some o ≡ false → (lost others : Option (ℕ × ℕ)) →
+    AreHoles e (open_to e) lost others → true ≡ is_probe e window lost others
+counts_probe e at window o is due asked over none lost others holes =
+    sym (is_probe_by e window o lost others (subst (Due e window o) is due lost others holes)
+    ∙ a_probe (asks e) e.overdue (is_some o) asked over none)

@@ -1,4 +1,5 @@
--- What the timer's end leaves of an end e: f is what it is once the timer has started again, and `left` is what is left.
+-- What the timer's end leaves of an end e: f is what it is once the timer has started again, and `left` is what is
+-- left.
 use Rattle.std.proofs.Common.{◌≡◌, ℕ, ℤ, true, false, rules, refl, sym, ap, subst, ◌∙◌, arith}
 use Rattle.std.specs.Prelude.{Bool, IsTrue, IsFalse, ◌↔◌, ◌&&◌, ◌||◌, int_le, int_lt, not, Option, Some, None}
 use Rattle.std.specs.Prelude.{if◌then◌else◌}

@@ -8,8 +8,8 @@ use Rattle.net_receiver.specs.SenderState.{SenderState, end_of, contiguous_end}
 use Rattle.net_receiver.specs.FiniteSender.{FiniteSenderState, IsLent}
 use Rattle.net_ends.specs.Ends.{IsSegment}
 
--- the first part ends at the limit, at the end, or where the storage begins again, and the second part then ends at one of
--- the first two
+-- the first part ends at the limit, at the end, or where the storage begins again, and the second part then ends at one
+-- of the first two
 both_sizes : (u : SenderState) (from to n m : ℕ) → n ≡ min (to - from) (contiguous_end u from - from) →
     m ≡ min (to - (from + n)) (contiguous_end u (from + n) - (from + n)) →
     n + m ≡ min (to - from) (end_of u - from)

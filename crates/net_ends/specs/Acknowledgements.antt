@@ -8,7 +8,8 @@
 --     has_block bs, is_duplicated ack bs      whether a block has a position, and the first one reports what came twice
 --     numbers_of sender, unsent_of sender s r      its numbers, and how much is lost and wasn't sent again
 --     answer_of      what an acknowledgement answers
---     doubted, answered, lost_by      the recovery, told what came twice and what is answered; below which position all is lost
+--     doubted, answered, lost_by      the recovery, told what came twice and what is answered; below which position all
+--         is lost
 --     IsLeft, Recovers      the recovery that is left, and whether it begins
 --     is_sought, begins_by, after_wait, loses_nothing, expiry_of      what the timer's end does, and means
 --     after_segment      the recovery once a range is sent
@@ -20,7 +21,8 @@ use Rattle.net_assembler.specs.Positions.{Positions, first_missing, front, with_
 use Rattle.net_numbers.specs.declared.sent_numbers.SentNumbers.{SentNumbers}
 use Rattle.net_receiver.specs.Scoreboards.{beyond, IsLossBound, IsEnd}
 use Rattle.net_recovery.specs.LossRecovery.{is_active, unsent_lost, is_equal_acknowledgement, is_duplicate_block}
-use Rattle.net_recovery.specs.LossRecovery.{after_duplicate, after_answer, after_report, after_silence, blind_lost, found, begun}
+use Rattle.net_recovery.specs.LossRecovery.{after_duplicate, after_answer, after_report, after_silence, blind_lost}
+use Rattle.net_recovery.specs.LossRecovery.{found, begun}
 use Rattle.net_recovery.specs.LossRecovery.{after_sending, forgotten}
 use Rattle.net_recovery.specs.declared.loss_recovery.Answer.{Answer}
 use Rattle.net_recovery.specs.declared.loss_recovery.LossRecovery.{LossRecovery}
@@ -71,8 +73,8 @@ unsent_at low s r = if is_active r low then unsent_lost r low s else 0
 abbrev pub unsent_of : FiniteSenderState → Positions → LossRecovery → ℕ
 unsent_of sender s r = unsent_at (first_number sender) s r
 
--- with the numbers before it: whether a block `says` what wasn't known, the segment is `empty`, that is, has no byte and no
--- FIN, and its window is the `same` as the one that was announced last
+-- with the numbers before it: whether a block `says` what wasn't known, the segment is `empty`, that is, has no byte
+-- and no FIN, and its window is the `same` as the one that was announced last
 abbrev pub answer_of : SentNumbers → ℕ → ℕ → List (ℕ × ℕ) → Bool → Bool → Bool → Answer
 answer_of at unsent ack bs says empty same = record {
   first = at.first_unacknowledged;
@@ -92,23 +94,24 @@ abbrev pub lost_by : ℕ → ℕ → ℕ → Answer → ℕ → LossRecovery →
 lost_by size ack sent a lost r = max lost (blind_lost size a.first ack sent r)
 
 -- where the peer has dropped what it reported, all below the highest reported position is lost; else what is found
-pub record IsLeft (size ack sent : ℕ) (a : Answer) (s : Positions) (r left : LossRecovery) (begins : Bool) : Type 0 where
-  pub dropped : IsTrue (has_dropped s ack sent) → (highest : ℕ) → IsEnd s highest →
-      left ≡ begun ack sent (max r.lost highest) r
-  pub dropped_begins : IsTrue (has_dropped s ack sent) → begins ≡ not (is_active r ack)
-  pub searched : IsFalse (has_dropped s ack sent) → (lost highest : ℕ) →
-      IsLossBound (answered size ack sent a s r).duplicates size s lost → IsEnd s highest →
-      left ≡ after_report size ack sent s (lost_by size ack sent a lost (answered size ack sent a s r)) highest
-      (answered size ack sent a s r)
-  pub searched_begins : IsFalse (has_dropped s ack sent) → (lost highest : ℕ) →
-      IsLossBound (answered size ack sent a s r).duplicates size s lost → IsEnd s highest →
-      begins ≡ (not (is_active (answered size ack sent a s r) ack)
-      && nat_lt ack (found s (lost_by size ack sent a lost (answered size ack sent a s r)) highest
-      (answered size ack sent a s r)))
+pub record IsLeft (size ack sent : ℕ) (a : Answer) (s : Positions) (r left : LossRecovery) (begins : Bool) : Type 0
+  where
+    pub dropped : IsTrue (has_dropped s ack sent) → (highest : ℕ) → IsEnd s highest →
+        left ≡ begun ack sent (max r.lost highest) r
+    pub dropped_begins : IsTrue (has_dropped s ack sent) → begins ≡ not (is_active r ack)
+    pub searched : IsFalse (has_dropped s ack sent) → (lost highest : ℕ) →
+        IsLossBound (answered size ack sent a s r).duplicates size s lost → IsEnd s highest →
+        left ≡ after_report size ack sent s (lost_by size ack sent a lost (answered size ack sent a s r)) highest
+        (answered size ack sent a s r)
+    pub searched_begins : IsFalse (has_dropped s ack sent) → (lost highest : ℕ) →
+        IsLossBound (answered size ack sent a s r).duplicates size s lost → IsEnd s highest →
+        begins ≡ (not (is_active (answered size ack sent a s r) ack)
+        && nat_lt ack (found s (lost_by size ack sent a lost (answered size ack sent a s r)) highest
+        (answered size ack sent a s r)))
 
 -- with the numbers, what was unsent, what was reported and the recovery before the acknowledgement
-abbrev pub Recovers : ℕ → ℕ → SentNumbers → ℕ → Positions → LossRecovery → ℕ → List (ℕ × ℕ) → Bool → Bool → Bool → LossRecovery →
-    Bool → Type 0
+abbrev pub Recovers : ℕ → ℕ → SentNumbers → ℕ → Positions → LossRecovery → ℕ → List (ℕ × ℕ) → Bool → Bool → Bool →
+    LossRecovery → Bool → Type 0
 Recovers n size at unsent s r ack bs empty same says left begins =
     IsLeft size ack at.sent (answer_of at unsent ack bs says empty same) (reported_by n at.sent s ack bs).0
     (doubted at ack bs r) left begins

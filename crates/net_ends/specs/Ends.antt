@@ -5,13 +5,16 @@
 --     is_acceptable e ack      whether a segment may acknowledge that (RFC 5961)
 --     timer_after, peer_after, greatest_after, heard      what an acknowledgement leaves
 --     kept s ack sent      what counts as reported then
---     is_shut e, open_to e, limit e      whether a probe may be sent; the end of what the window has room for, and of what
---         may be sent
+--     is_shut e, open_to e, limit e      whether a probe may be sent; the end of what the window has room for, and of
+--         what may be sent
 --     asks e      whether the next segment is a probe
 --     hurries e, delays e      whether the timer asks for a segment; whether Nagle's rule has small ones wait
---     is_enough e from to, is_worth e from to      whether a range is all that is left or much; whether it is worth a segment
+--     is_enough e from to, is_worth e from to      whether a range is all that is left or much; whether it is worth a
+--         segment
 --     found e limit window lost others, due_of e r      what the recovery sends next, with the holes that it looks at
 --         (AreHoles); a range, unless it is held back
+--     probe_of e limit highest hole      what a probe for an answer sends, with what it looks at (IsProbed)
+--     is_probe e window lost others      whether the next segment is such a probe
 --     may_send e from to      whether a range may be sent
 --     IsSegment s from to xs last      the bytes of a range
 --     Event, after_event, after_events      what happens to an end, and what that leaves
@@ -19,7 +22,9 @@
 --     Run, run      an end, the greatest edge that the peer gave, and what was sent
 --     small_sends, expiries      how many small segments are sent for the timer, and how often it ends
 use Rattle.std.specs.Prelude.{◌≡◌, ℕ, ℤ, ◌+◌, ◌-◌, ◌*◌, ◌/◌, ◌<◌, ◌≤◌, ◌⊎◌, min, max, Option, Some, None, is_some}
-use Rattle.std.specs.Prelude.{Bool, true, false, not, ◌&&◌, nat_lt, nat_le, nat_eq, IsTrue, if◌then◌else◌, List, [], ◌||◌, ◌↔◌, take, drop, length}
+use Rattle.std.specs.Prelude.{is_none}
+use Rattle.std.specs.Prelude.{Bool, true, false, not, ◌&&◌, nat_lt, nat_le, nat_eq, IsTrue, if◌then◌else◌, List, []}
+use Rattle.std.specs.Prelude.{◌||◌, ◌↔◌, take, drop, length}
 use Rattle.std.specs.Prelude.{◌∷◌, ◌++◌}
 use Rattle.std.specs.Coded.{Coded, coded_ℕ}
 use Rattle.std.specs.Int.{from_bool}
@@ -27,7 +32,8 @@ use Rattle.std.specs.FinSet as set
 use Rattle.net_assembler.specs.Positions.{Positions, contains, with_range, nothing}
 use Rattle.net_recovery.specs.LossRecovery.{begun as begun_recovery, forgotten, new_recovery}
 use Rattle.net_recovery.specs.LossRecovery.{next_segment as recovery_segment, next_range, in_flight, resumed, gone_on}
-use Rattle.net_receiver.specs.Scoreboards.{IsHole}
+use Rattle.net_recovery.specs.LossRecovery.{next_probe}
+use Rattle.net_receiver.specs.Scoreboards.{IsEnd, IsHole}
 use Rattle.net_tcp.specs.Estimate.{Estimate}
 use Rattle.net_tcp.specs.Retransmission.{after_acknowledged, with_sample, after_expiry, after_sending, started}
 use Rattle.net_tcp.specs.Retransmission.{after_report, has_expired, has_ended, new_timer, stopped}
@@ -42,7 +48,8 @@ use Rattle.net_ends.specs.declared.sending_end.Acknowledged.{Acknowledged}
 use Rattle.net_ends.specs.declared.sending_end.Acknowledged.TheVariants.{Refused, Old, Taken}
 use Rattle.net_receiver.specs.SenderState.{end_of}
 use Rattle.net_receiver.specs.FiniteSender.{FiniteSenderState, first_number, numbers_end, accepts, SenderCommand}
-use Rattle.net_receiver.specs.FiniteSender.{Writes, Closes, Marks, Acknowledges, sender_after_command, fresh_finite_sender}
+use Rattle.net_receiver.specs.FiniteSender.{Writes, Closes, Marks, Acknowledges, sender_after_command}
+use Rattle.net_receiver.specs.FiniteSender.{fresh_finite_sender}
 
 -- the positions as a code
 abbrev pub positions_code : Coded Positions
@@ -152,8 +159,8 @@ synchronized is_open first sent t = if not is_open && nat_le sent first then sto
 abbrev pub sampled : Positions → TimeoutBounds → ℤ → RetransmissionTimer → RetransmissionTimer
 sampled s b now t = if is_in s t.timed then with_sample b now t else t
 
--- a timed segment that is reported gives its sample; then the acknowledgement is the timer's, and then what a block says
--- that is new
+-- a timed segment that is reported gives its sample; then the acknowledgement is the timer's, and then what a block
+-- says that is new
 abbrev pub timer_after : End → Positions → Bool → ℕ → ℤ → RetransmissionTimer
 timer_after e s says ack now = told says now (after_acknowledged e.bounds (first e) e.sender.sent ack now
     (sampled s e.bounds now (synchronized e.is_open (first e) e.sender.sent e.timer)))
@@ -171,7 +178,8 @@ abbrev pub greatest_after : End → ℕ → ℕ → ℕ → ℕ
 greatest_after e seq ack window =
     greatest_of e.peer e.greatest (first e) e.sender.sent seq ack window
 
--- one that is accepted, with what is reported then and the recovery that it leaves, and whether a block says what is new
+-- one that is accepted, with what is reported then and the recovery that it leaves, and whether a block says what is
+-- new
 abbrev pub heard : End → Positions → LossRecovery → Bool → ℕ → ℕ → ℕ → ℤ → End
 heard e s r says seq ack window now = record e {
   sender = sender_after_command e.sender (Acknowledges ack);
@@ -226,7 +234,8 @@ is_due e from to = hurries e || nat_lt from e.sender.sent || is_worth e from to
 
 -- the holes in what was reported that the recovery looks at
 pub record AreHoles (e : End) (limit : ℕ) (lost others : Option (ℕ × ℕ)) : Type 0 where
-  pub first_hole : IsHole e.reported (resumed e.recovery (first e)) (min (min e.recovery.turn e.recovery.lost) limit) lost
+  pub first_hole : IsHole e.reported (resumed e.recovery (first e)) (min (min e.recovery.turn e.recovery.lost) limit)
+      lost
   pub other_hole : IsHole e.reported (gone_on e.recovery (first e)) (min e.recovery.lost limit) others
 
 -- what the recovery sends next, and that unless it is held back
@@ -238,6 +247,20 @@ found e limit window lost others =
 abbrev pub due_of : End → Option (ℕ × ℕ) → Option (ℕ × ℕ)
 due_of e None = None
 due_of e (Some r) = if is_due e r.0 r.1 then Some r else None
+
+-- what a probe for an answer sends, by the end of what was reported and the first hole in it
+pub record IsProbed (e : End) (limit highest : ℕ) (hole : Option (ℕ × ℕ)) : Type 0 where
+  pub top : IsEnd e.reported highest
+  pub first_hole : IsHole e.reported (first e) (min e.sender.sent limit) hole
+
+abbrev pub probe_of : End → ℕ → ℕ → Option (ℕ × ℕ) → Option (ℕ × ℕ)
+probe_of e limit highest hole =
+    next_probe e.recovery (max 1 e.size) (first e) e.sender.sent limit highest hole
+
+-- the next segment is such a probe: no answer came, the window isn't asked for, and nothing else may be sent
+abbrev pub is_probe : End → ℕ → Option (ℕ × ℕ) → Option (ℕ × ℕ) → Bool
+is_probe e window lost others =
+    not (asks e) && (e.overdue && is_none (due_of e (found e (open_to e) window lost others)))
 
 abbrev pub range_of : Option Outgoing → Option (ℕ × ℕ)
 range_of None = None
@@ -280,8 +303,9 @@ timed_out e now = all_lost (record e { timer = after_expiry e.bounds now e.timer
 
 -- ---- what happens
 -- a SYN comes, or the peer is forgotten, Nagle's rule is enabled or disabled, a SYN may be due, bytes are written, the
--- stream is closed, an acknowledgement comes, from whomever, with what is reported then, the recovery that it leaves, and
--- whether a block says what is new; the timer is looked at; and a range is sent, with the recovery that it leaves, or none
+-- stream is closed, an acknowledgement comes, from whomever, with what is reported then, the recovery that it leaves,
+-- and whether a block says what is new; the timer is looked at; and a range is sent, with the recovery that it leaves,
+-- or none
 pub data Event : Type 0 where
   Opened : ℕ → ℕ → ℕ → ℕ → Bool → ℤ → Event
   Forgot : ℤ → Event

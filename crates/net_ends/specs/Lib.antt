@@ -1,5 +1,6 @@
 pub mod Acknowledgements
 pub mod Buffers
 pub mod Ends
+pub mod Parts
 pub mod Path
 pub mod Receiving

@@ -42,9 +42,9 @@ LentIsWritten = (e : End) (vs later : List Event) (f : ℕ) (w : List ℕ) (pos 
     s.sender.first_unacknowledged ≤ pos → IsSegment s pos to xs last →
     MatchesFinite f (w ++ written e (vs ++ later)) pos xs last
 
--- what is read of a new receiving end is a prefix of what is written to a new sending end, and all of it once the receiver
--- says so. If no acknowledgement says more than the receiver has, the sender still has all that was written from the
--- receiver's first missing position on, and its end isn't acknowledged, until the receiver has all
+-- what is read of a new receiving end is a prefix of what is written to a new sending end, and all of it once the
+-- receiver says so. If no acknowledgement says more than the receiver has, the sender still has all that was written
+-- from the receiver's first missing position on, and its end isn't acknowledged, until the receiver has all
 abbrev pub EndsCarry : Type 0
 EndsCarry = (most_runs first to_send to_receive : ℕ) (e : End) (r : Receiving) (vs : List Event)
     (us : List receiving.Event) → first < no_end → e.sender ≡ fresh_finite_sender to_send first →

@@ -3,15 +3,17 @@ ghost use Rattle.std.specs.Prelude.{◌≡◌, ℕ, ℤ, ◌+◌, ◌-◌, ◌<�
 ghost use Rattle.net_assembler.specs.Positions.{Positions};
 ghost use Rattle.net_recovery.specs.declared.loss_recovery.LossRecovery.{LossRecovery};
 ghost use Rattle.net_receiver.specs.FiniteSender.{sender_after_commands, accepts, IsSoundSent};
-ghost use Rattle.net_ends.specs.Ends.{End, Event, after_event, after_events, commands, run, begun, IsAllowed, first, rest};
+ghost use Rattle.net_ends.specs.Ends.{End, Event, after_event, after_events, commands, run, begun, IsAllowed};
+ghost use Rattle.net_ends.specs.Ends.{first, rest};
 ghost use Rattle.net_ends.specs.Ends.{IsUnacknowledged, runs, Heard, Rested, end, news, IsNoWrite, hurries};
 ghost use Rattle.net_ends.specs.Ends.{small_sends, expiries};
 ghost use Rattle.net_ends.specs.Path.{LentIsWritten, EndsCarry};
 
-/// States of every end and of every list of what happens to it, forged acknowledgements among it: that its sender is that
-/// of a list of the sender's own commands; that nothing is sent beyond the greatest edge that the peer gave, but a probe,
-/// which is the first number that isn't acknowledged; and that its timer runs while something that was sent isn't
-/// acknowledged, if it did at first. And an acknowledgement of something new leaves less to be acknowledged, by what is new.
+/// States of every end and of every list of what happens to it, forged acknowledgements among it: that its sender is
+/// that of a list of the sender's own commands; that nothing is sent beyond the greatest edge that the peer gave, but a
+/// probe, which is the first number that isn't acknowledged; and that its timer runs while something that was sent
+/// isn't acknowledged, if it did at first. And an acknowledgement of something new leaves less to be acknowledged, by
+/// what is new.
 #[tactic(auto, using(crate::proofs::Ends::ends))]
 pub fn sending_ends()
     ensures refines { (e : End) (vs : List Event) →
@@ -39,12 +41,12 @@ pub fn progress()
         IsSoundSent (after_events e vs).sender }
 {}
 
-/// States what a receiving end reads of what a sending end lends, whatever the path between them does. What a sending end
-/// lends is of the stream that is written to it in the end, whatever is acknowledged (`lent`). If each segment that arrives
-/// at a new receiving end was lent by a new sending end at some moment, what is read is a prefix of what is written, and
-/// all of it once the receiver says so. If no acknowledgement says more than the receiver has, what it lacks can be sent
-/// again: the sender has all that was written from the receiver's first missing position on, and its end isn't acknowledged
-/// (`carry`).
+/// States what a receiving end reads of what a sending end lends, whatever the path between them does. What a sending
+/// end lends is of the stream that is written to it in the end, whatever is acknowledged (`lent`). If each segment that
+/// arrives at a new receiving end was lent by a new sending end at some moment, what is read is a prefix of what is
+/// written, and all of it once the receiver says so. If no acknowledgement says more than the receiver has, what it
+/// lacks can be sent again: the sender has all that was written from the receiver's first missing position on, and its
+/// end isn't acknowledged (`carry`).
 pub fn both_ends()
     ensures lent { LentIsWritten }
     ensures carry { EndsCarry }
@@ -53,9 +55,10 @@ pub fn both_ends()
     net_receiver::laws::transfers();
 }
 
-/// States that small segments are rare, of every end and of every list of what happens to it. What was never sent, and isn't
-/// worth a segment, is sent no more often than the timer ends, if it asked for no segment at first. A whole segment is worth
-/// one; and, unless Nagle's rule has it wait, all that is left, or half of the greatest window that the peer announced.
+/// States that small segments are rare, of every end and of every list of what happens to it. What was never sent, and
+/// isn't worth a segment, is sent no more often than the timer ends, if it asked for no segment at first. A whole
+/// segment is worth one; and, unless Nagle's rule has it wait, all that is left, or half of the greatest window that
+/// the peer announced.
 #[tactic(auto, using(crate::proofs::Small::small))]
 pub fn small_segments()
     ensures rare { (e : End) (vs : List Event) → IsFalse (hurries e) →

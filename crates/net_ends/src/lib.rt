@@ -5,7 +5,9 @@ pub mod laws;
 pub mod receiving_end;
 pub mod send_buffer;
 pub mod sending_end;
+pub mod stream_sender;
 
 pub use receiving_end::{Acknowledgement, ReceivingEnd, ReceivingEndOver};
-pub use send_buffer::{SendBuffer, SendBufferOver};
-pub use sending_end::{Acknowledged, Expired, Outgoing, SendingEnd, SendingEndOver};
+pub use send_buffer::{BufferParts, SendBuffer, SendBufferOver};
+pub use sending_end::{Acknowledged, Expired, Outgoing, SendingEnd, SendingEndOver, SendingParts};
+pub use stream_sender::StreamSender;

@@ -2,37 +2,53 @@
 ghost use Rattle.std.specs.Prelude.{◌≡◌, ◌-◌, ◌+◌, ◌<◌, ◌≤◌, ◌&&◌, ◌==◌, ℕ, Option, Some, IsTrue, IsFalse, min, max};
 ghost use Rattle.std.specs.Prelude.{IfSome, IfNone, is_some, ◌++◌, not, true, false, if◌then◌else◌, length};
 ghost use Rattle.net_assembler.specs.Positions.{contains};
-ghost use Rattle.net_recovery.specs.LossRecovery.{is_active, in_flight, begun, forgotten, next_segment, next_range, resumed};
-ghost use Rattle.net_recovery.specs.LossRecovery.{gone_on, begins_at};
+ghost use Rattle.net_recovery.specs.LossRecovery.{is_active, in_flight, begun, forgotten, next_segment, next_range};
+ghost use Rattle.net_recovery.specs.LossRecovery.{resumed};
+ghost use Rattle.net_recovery.specs.LossRecovery.{gone_on, begins_at, next_probe};
 ghost use Rattle.net_receiver.specs.FiniteSender.{sender_after_command, Writes, Closes, Marks, Acknowledges, accepts};
 ghost use Rattle.net_receiver.specs.FiniteSender.{finite_room, first_number, numbers_end};
 ghost use Rattle.net_receiver.specs.Finite.{no_end};
-ghost use Rattle.net_receiver.specs.Scoreboards.{IsEnd, IsHole};
+ghost use Rattle.net_receiver.specs.Scoreboards.{IsEnd, IsHole, IsSoundBoard};
+ghost use Rattle.net_assembler.specs.RunLists.{IsCanonical};
 ghost use Rattle.net_ends.specs.Ends.{IsSegment, kept, has_dropped};
-ghost use Rattle.net_ends.specs.Buffers.{new_buffer};
-ghost use Rattle.net_ends.specs.Acknowledgements.{with_block, is_new, after_blocks, reported_by, has_block, is_duplicated};
+ghost use Rattle.net_ends.specs.Buffers.{new_buffer, buffer_of};
+ghost use Rattle.net_ends.specs.Acknowledgements.{with_block, is_new, after_blocks, reported_by, has_block};
+ghost use Rattle.net_ends.specs.Acknowledgements.{is_duplicated};
 ghost use Rattle.net_ends.specs.Acknowledgements.{numbers_of, unsent_of, doubted, IsLeft, Recovers, begins_by};
 ghost use Rattle.net_ends.specs.Acknowledgements.{after_segment, after_wait};
 
+use crate::stream_sender::StreamSender;
+use net_assembler::Run;
 use net_numbers::SentNumbers;
-use net_receiver::{FiniteSenderOver, Scoreboard};
+use net_receiver::{FiniteSender, FiniteSenderOver, Scoreboard, ScoreboardHead};
 use net_recovery::{Answer, LossRecovery, is_duplicate_block, is_equal_acknowledgement};
-use net_ring::{ManagedSlice, Storage};
+use net_ring::Storage;
 use std::marker::Model;
 
-/// What a stream that ends has sent, over storage that is lent or owned.
-pub type SendBuffer<'a, const N: usize> = SendBufferOver<ManagedSlice<'a, u8>, N>;
+/// All that a send buffer knows besides its sender.
+#[derive(Copy, Clone, Debug)]
+pub struct BufferParts<const N: usize> {
+    /// What the scoreboard knows.
+    pub scoreboard: ScoreboardHead,
+    /// The scoreboard's runs.
+    pub runs: [Run; N],
+    /// What the recovery knows.
+    pub recovery: LossRecovery,
+}
 
-/// A [`SendBuffer`] over any storage: a sender, a scoreboard and a recovery. It knows bytes, what was reported and what is
-/// lost, and no clock, no window of a peer and no size of a segment: what a stream of QUIC sends, too.
+/// What a stream that ends has sent, over storage that is lent or owned.
+pub type SendBuffer<'a, const N: usize> = SendBufferOver<FiniteSender<'a>, N>;
+
+/// A [`SendBuffer`] over any sender: that, a scoreboard and a recovery. It knows bytes, what was reported and what
+/// is lost, and no clock, no window of a peer and no size of a segment: what a stream of QUIC sends, too.
 #[derive(Drop)]
-pub struct SendBufferOver<S: Storage<u8>, const N: usize> {
-    sender: FiniteSenderOver<S>,
+pub struct SendBufferOver<F: StreamSender, const N: usize> {
+    sender: F,
     scoreboard: Scoreboard<N>,
     recovery: LossRecovery,
 }
 
-impl<S: Storage<u8>, const N: usize> Model for SendBufferOver<S, N> {
+impl<F: StreamSender, const N: usize> Model for SendBufferOver<F, N> {
     ghost use Rattle.std.specs.Coded.{codes};
     ghost use Rattle.net_ends.specs.Ends.{positions_code};
     ghost use Rattle.net_ends.specs.Buffers.{Buffer};
@@ -42,13 +58,13 @@ impl<S: Storage<u8>, const N: usize> Model for SendBufferOver<S, N> {
     ghost coded = { Prim.hlevel (codes, positions_code) };
 
     ghost view = { λ b. record {
-      sender = b.sender;
+      sender = F.state b.sender;
       reported = b.scoreboard;
       recovery = b.recovery;
     } };
 }
 
-impl<S: Storage<u8>, const N: usize> SendBufferOver<S, N> {
+impl<S: Storage<u8>, const N: usize> SendBufferOver<FiniteSenderOver<S>, N> {
     /// Returns the buffer of a stream that begins at position `first`, to which nothing was written.
     ///
     /// A program in which `N` is 0 does not compile.
@@ -72,29 +88,20 @@ impl<S: Storage<u8>, const N: usize> SendBufferOver<S, N> {
         }
     }
 
-    /// Returns the first number that isn't acknowledged, and the one after the last that was sent.
-    #[must_use]
-    pub fn numbers(&self) -> SentNumbers
-        ensures value { result ≡ numbers_of self.now.sender }
-        ensures order { result.first_unacknowledged ≤ result.sent }
+    /// Begins again over the same storage: a stream that begins at position `first`, to which nothing was written.
+    ///
+    /// # Requires
+    ///
+    /// `first` is below `u64::MAX`: an end there would have no number after it.
+    #[track_caller]
+    pub fn reset_at(&mut self, first: u64)
+        requires { first < no_end }
+        ensures { self.new ≡ new_buffer self.old.sender.sender.capacity first }
     {
-        self.sender.sent_numbers()
-    }
-
-    /// Returns the number after the last byte's, and after the end's once the stream is closed.
-    #[must_use]
-    pub fn numbers_end(&self) -> u64
-        ensures { result ≡ numbers_end self.now.sender }
-    {
-        self.sender.numbers_end()
-    }
-
-    /// Returns whether the stream ends after what was written.
-    #[must_use]
-    pub fn is_closed(&self) -> bool
-        ensures { result ≡ (self.now.sender.closed == 1) }
-    {
-        self.sender.is_closed()
+        prove!(first < u64::MAX, "no number is left for an end");
+        self.sender.reset_at(first);
+        self.scoreboard.reset_at(first);
+        self.recovery = LossRecovery::new();
     }
 
     /// Returns how many bytes `write` would take.
@@ -111,39 +118,6 @@ impl<S: Storage<u8>, const N: usize> SendBufferOver<S, N> {
         ensures { result ≡ (self.now.sender.finished == 1) }
     {
         self.sender.is_closed_and_acknowledged()
-    }
-
-    /// Returns whether a position was reported.
-    #[must_use]
-    pub fn contains(&self, pos: u64) -> bool
-        ensures { result ≡ contains self.now.reported pos }
-    {
-        self.scoreboard.contains(pos)
-    }
-
-    /// Returns whether a recovery lasts.
-    #[must_use]
-    pub fn is_recovering(&self) -> bool
-        ensures { result ≡ is_active self.now.recovery (first_number self.now.sender) }
-    {
-        self.recovery.is_active(self.sender.sent_numbers())
-    }
-
-    /// Returns whether the peer reports nothing.
-    #[must_use]
-    pub fn is_blind(&self) -> bool
-        ensures { result ≡ self.now.recovery.is_blind }
-    {
-        self.recovery.is_blind()
-    }
-
-    /// Takes notice whether the peer reports what arrives.
-    pub fn expect_reports(&mut self, reports: bool)
-        ensures { self.new ≡ record self.old {
-          recovery = record self.old.recovery { is_blind = not reports; unknown = 0 };
-        } }
-    {
-        self.recovery.expect_reports(reports);
     }
 
     /// Enqueues the first of these bytes, as many as there is room for, and returns how many.
@@ -167,8 +141,115 @@ impl<S: Storage<u8>, const N: usize> SendBufferOver<S, N> {
         self.sender.close();
     }
 
-    /// Takes an acknowledgement of all below `ack`, and its blocks. Its segment `is_empty` if it has no byte and no FIN, and
-    /// `is_same` if it announces the window that was announced last.
+    /// Lends the bytes of a segment from `pos` on, whose numbers are below `end`, in two parts, and returns whether the
+    /// stream ends after them. Of a position that is acknowledged it lends none.
+    #[must_use]
+    pub fn bytes(&self, pos: u64, end: u64) -> (&[u8], &[u8], bool)
+        ensures { IsSegment self.now.sender pos end (result.0.now ++ result.1.now) result.2 }
+    {
+        lend(&self.sender, pos, end)
+    }
+}
+
+impl<F: StreamSender, const N: usize> SendBufferOver<F, N> {
+    /// Returns the buffer of a sender and these parts.
+    ///
+    /// # Requires
+    ///
+    /// The scoreboard's head is sound for its runs, as `ScoreboardHead::is_sound` tests.
+    pub fn from_parts(sender: F, parts: BufferParts<N>) -> Self
+        requires { IsSoundBoard parts.scoreboard parts.runs }
+        ensures { result ≡ buffer_of (F.state sender) parts.entry }
+    {
+        let runs = parts.runs;
+        SendBufferOver {
+            sender,
+            scoreboard: Scoreboard::from_parts(parts.scoreboard, runs),
+            recovery: parts.recovery,
+        }
+    }
+
+    /// Returns the sender and the parts, which represent the buffer.
+    pub fn into_parts(self) -> (F, BufferParts<N>)
+        ensures scoreboard { IsSoundBoard result.1.scoreboard result.1.runs }
+        ensures length { length result.1.runs ≡ N }
+        ensures canonical { IsCanonical result.1.scoreboard.reported }
+        ensures state { buffer_of (F.state result.0) result.1 ≡ self }
+    {
+        let SendBufferOver {
+            sender,
+            scoreboard,
+            recovery,
+        } = self;
+        let (scoreboard, runs) = scoreboard.into_parts();
+        let parts = BufferParts {
+            scoreboard,
+            runs,
+            recovery,
+        };
+        (sender, parts)
+    }
+
+    /// Returns the first number that isn't acknowledged, and the one after the last that was sent.
+    #[must_use]
+    pub fn numbers(&self) -> SentNumbers
+        ensures value { result ≡ numbers_of self.now.sender }
+        ensures order { result.first_unacknowledged ≤ result.sent }
+    {
+        self.sender.numbers()
+    }
+
+    /// Returns the number after the last byte's, and after the end's once the stream is closed.
+    #[must_use]
+    pub fn numbers_end(&self) -> u64
+        ensures { result ≡ numbers_end self.now.sender }
+    {
+        self.sender.end()
+    }
+
+    /// Returns whether the stream ends after what was written.
+    #[must_use]
+    pub fn is_closed(&self) -> bool
+        ensures { result ≡ (self.now.sender.closed == 1) }
+    {
+        self.sender.has_end()
+    }
+
+    /// Returns whether a position was reported.
+    #[must_use]
+    pub fn contains(&self, pos: u64) -> bool
+        ensures { result ≡ contains self.now.reported pos }
+    {
+        self.scoreboard.contains(pos)
+    }
+
+    /// Returns whether a recovery lasts.
+    #[must_use]
+    pub fn is_recovering(&self) -> bool
+        ensures { result ≡ is_active self.now.recovery (first_number self.now.sender) }
+    {
+        self.recovery.is_active(self.sender.numbers())
+    }
+
+    /// Returns whether the peer reports nothing.
+    #[must_use]
+    pub fn is_blind(&self) -> bool
+        ensures { result ≡ self.now.recovery.is_blind }
+    {
+        self.recovery.is_blind()
+    }
+
+    /// Takes notice whether the peer reports what arrives.
+    pub fn expect_reports(&mut self, reports: bool)
+        ensures { self.new ≡ record self.old {
+          recovery = record self.old.recovery { is_blind = not reports; unknown = 0 };
+        } }
+    {
+        self.recovery.expect_reports(reports);
+    }
+
+    /// Takes an acknowledgement of all below `ack`, and its blocks. Its segment `is_empty` if it has no byte and no
+    /// FIN, and `is_same` if it announces the window that was announced last.
     ///
     /// Returns whether a block reports what wasn't known, and whether it begins a recovery. Returns `None`, and changes
     /// nothing, if `ack` is below the first number that isn't acknowledged, or above what was sent.
@@ -199,7 +280,7 @@ impl<S: Storage<u8>, const N: usize> SendBufferOver<S, N> {
     {
         let numbers = self.numbers();
         let unsent = self.recovery.unsent(numbers, &self.scoreboard);
-        if !accept(&mut self.sender, ack) {
+        if !self.sender.accept(ack) {
             return None;
         }
         Some(self.take(
@@ -310,7 +391,7 @@ impl<S: Storage<u8>, const N: usize> SendBufferOver<S, N> {
             result ≡ begins_by (numbers_of self.old.sender) highest self.old.recovery }
     {
         self.recovery
-            .find_overdue(self.sender.sent_numbers(), &self.scoreboard)
+            .find_overdue(self.sender.numbers(), &self.scoreboard)
     }
 
     /// Loses all that was sent and isn't reported.
@@ -320,12 +401,12 @@ impl<S: Storage<u8>, const N: usize> SendBufferOver<S, N> {
               (forgotten self.old.recovery);
         } }
     {
-        self.recovery.lose_all(self.sender.sent_numbers());
+        self.recovery.lose_all(self.sender.numbers());
     }
 
     /// Returns what to send next below `limit`, as a start and an end, the end not included, at most a segment: what is
-    /// lost, else what was never sent. `None` if there is none, or if with a whole segment more than the congestion window
-    /// would be in flight. The first unacknowledged number is sent whatever is in flight.
+    /// lost, else what was never sent. `None` if there is none, or if with a whole segment more than the congestion
+    /// window would be in flight. The first unacknowledged number is sent whatever is in flight.
     #[must_use]
     pub fn next(
         &self,
@@ -358,10 +439,16 @@ impl<S: Storage<u8>, const N: usize> SendBufferOver<S, N> {
         )
     }
 
-    /// Returns what a probe for an answer sends below `limit`, whatever is in flight: in a recovery the first segment that
-    /// isn't reported, else a new one, and if the limit allows none, the last one.
+    /// Returns what a probe for an answer sends below `limit`, whatever is in flight: in a recovery the first segment
+    /// that isn't reported, else a new one, and if the limit allows none, the last one.
     #[must_use]
     pub fn next_probe(&self, limit: u64, segment_size: usize) -> Option<(u64, u64)>
+        ensures value { (highest : ℕ) (hole : Option (ℕ × ℕ)) →
+            let low = first_number self.now.sender in
+            IsEnd self.now.reported highest →
+            IsHole self.now.reported low (min self.now.sender.sent limit) hole →
+            result ≡ next_probe self.now.recovery (max 1 segment_size) low self.now.sender.sent
+            limit highest hole }
         ensures progress { first_number self.now.sender < min self.now.sender.sent limit →
             IsFalse (contains self.now.reported (first_number self.now.sender)) →
             IsTrue (is_some result) }
@@ -376,8 +463,8 @@ impl<S: Storage<u8>, const N: usize> SendBufferOver<S, N> {
             .next_probe(self.numbers(), &self.scoreboard, limit, segment_size)
     }
 
-    /// Takes notice that a range is sent: one that the peer `is_dropping`, since its window is shut, so that it is lost; a
-    /// probe for an answer; or neither.
+    /// Takes notice that a range is sent: one that the peer `is_dropping`, since its window is shut, so that it is
+    /// lost; a probe for an answer; or neither.
     pub fn mark(&mut self, from: u64, to: u64, is_dropping: bool, is_probe: bool)
         ensures { self.new ≡ record self.old {
           sender = sender_after_command self.old.sender (Marks to);
@@ -386,7 +473,7 @@ impl<S: Storage<u8>, const N: usize> SendBufferOver<S, N> {
         } }
     {
         let numbers = self.numbers();
-        let _is_written = self.sender.mark_sent(to);
+        self.sender.mark(to);
         self.recover(numbers, from, to, is_dropping, is_probe);
     }
 
@@ -415,28 +502,10 @@ impl<S: Storage<u8>, const N: usize> SendBufferOver<S, N> {
             self.recovery.sent(numbers, from..to);
         }
     }
-
-    /// Lends the bytes of a segment from `pos` on, whose numbers are below `end`, in two parts, and returns whether the
-    /// stream ends after them. Of a position that is acknowledged it lends none.
-    #[must_use]
-    pub fn bytes(&self, pos: u64, end: u64) -> (&[u8], &[u8], bool)
-        ensures { IsSegment self.now.sender pos end (result.0.now ++ result.1.now) result.2 }
-    {
-        lend(&self.sender, pos, end)
-    }
 }
 
-/// Has a sender take an acknowledgement, and returns whether it does.
-fn accept<S: Storage<u8>>(sender: &mut FiniteSenderOver<S>, ack: u64) -> bool
-    ensures value { result ≡ accepts sender.old ack }
-    ensures within { IsTrue result → (first_number sender.old ≤ ack) × (ack ≤ sender.old.sent) }
-    ensures step { sender.new ≡ sender_after_command sender.old (Acknowledges ack) }
-{
-    sender.acknowledge(ack)
-}
-
-/// Lends the bytes of a segment from `pos` on, whose numbers are below `end`, in two parts, and returns whether the stream
-/// ends after them.
+/// Lends the bytes of a segment from `pos` on, whose numbers are below `end`, in two parts, and returns whether the
+/// stream ends after them.
 #[tactic(auto, using(crate::proofs::Segments::segments))]
 fn lend<S: Storage<u8>>(sender: &FiniteSenderOver<S>, pos: u64, end: u64) -> (&[u8], &[u8], bool)
     ensures { IsSegment sender.now pos end (result.0.now ++ result.1.now) result.2 }
@@ -448,7 +517,8 @@ fn lend<S: Storage<u8>>(sender: &FiniteSenderOver<S>, pos: u64, end: u64) -> (&[
 }
 
 /// Finds what is lost by an acknowledgement, and returns whether a recovery begins. If the peer has dropped what it had
-/// reported, that is lost: else it would acknowledge it (RFC 2018, section 8). Nothing counts as reported any more then.
+/// reported, that is lost: else it would acknowledge it (RFC 2018, section 8). Nothing counts as reported any more
+/// then.
 fn find_losses<const N: usize>(
     recovery: &mut LossRecovery,
     board: &mut Scoreboard<N>,
@@ -494,8 +564,8 @@ fn report_blocks<const N: usize>(
     reports
 }
 
-/// Reports a block, if it begins beyond the first position that wasn't reported. Returns whether that wasn't known: what is
-/// refused is sent again.
+/// Reports a block, if it begins beyond the first position that wasn't reported. Returns whether that wasn't known:
+/// what is refused is sent again.
 fn report_block<const N: usize>(board: &mut Scoreboard<N>, start: u64, end: u64, sent: u64) -> bool
     ensures state { board.new ≡ with_block N sent board.old (start, end) }
     ensures value { result ≡ is_new N sent board.old (start, end) }

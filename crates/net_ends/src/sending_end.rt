@@ -1,6 +1,7 @@
 //! What sends a stream that ends.
 ghost use Rattle.std.specs.Prelude.{◌≡◌, ◌↔◌, ◌-◌, ◌+◌, ◌<◌, ◌≤◌, ◌&&◌, ◌==◌, ℕ, Option, Some, IsTrue, IsFalse, min};
-ghost use Rattle.std.specs.Prelude.{IfSome, IfNone, is_some, is_none, ◌||◌, ◌++◌, not, nat_lt, true, false, if◌then◌else◌, length, Bool};
+ghost use Rattle.std.specs.Prelude.{IfSome, IfNone, is_some, is_none, ◌||◌, ◌++◌, not, nat_lt, true, false};
+ghost use Rattle.std.specs.Prelude.{if◌then◌else◌, length, Bool};
 ghost use Rattle.net_assembler.specs.Positions.{contains};
 ghost use Rattle.net_recovery.specs.LossRecovery.{is_active};
 ghost use Rattle.net_receiver.specs.FiniteSender.{sender_after_command, Marks, Acknowledges, accepts, finite_room};
@@ -12,17 +13,23 @@ ghost use Rattle.net_ends.specs.Ends.{timed_out, all_lost, has_timed_out, is_ove
 ghost use Rattle.net_ends.specs.Ends.{has_dropped, begins_of, is_due, is_worth, is_enough, delays, hurries, Enabled};
 ghost use Rattle.net_ends.specs.Acknowledgements.{with_block, is_new, after_blocks, reported_by, has_block};
 ghost use Rattle.net_ends.specs.Acknowledgements.{is_duplicated, numbers_of, unsent_of, doubted, IsLeft, Recovers};
-ghost use Rattle.net_ends.specs.Acknowledgements.{is_sought, begins_by, after_segment, after_wait, loses_nothing, expiry_of};
-ghost use Rattle.net_receiver.specs.Scoreboards.{IsEnd};
+ghost use Rattle.net_ends.specs.Acknowledgements.{is_sought, begins_by, after_segment, after_wait, loses_nothing};
+ghost use Rattle.net_ends.specs.Acknowledgements.{expiry_of};
+ghost use Rattle.net_receiver.specs.Scoreboards.{IsEnd, IsSoundBoard};
+ghost use Rattle.net_assembler.specs.RunLists.{IsCanonical};
+ghost use Rattle.net_ends.specs.Parts.{end_of_parts};
 ghost use Rattle.net_tcp.specs.Retransmission.{has_ended, expiry, has_expired, after_expiry, after_sending};
 ghost use Rattle.net_tcp.specs.Retransmission.{with_sample, after_acknowledged, expires_at};
-ghost use Rattle.net_ends.specs.Ends.{AreHoles, open_to, found, due_of, range_of};
+ghost use Rattle.net_ends.specs.Ends.{AreHoles, open_to, found, due_of, range_of, IsProbed, probe_of, is_probe};
+ghost use Rattle.std.specs.Option.{option_or};
 ghost use Rattle.net_tcp.specs.Windows.{after_update, acknowledgement_number};
 
-use crate::send_buffer::SendBufferOver;
+use crate::send_buffer::{BufferParts, SendBufferOver};
+use crate::stream_sender::StreamSender;
 use net_base::time::{Duration, Instant};
 use net_numbers::SentNumbers;
-use net_ring::{ManagedSlice, Storage};
+use net_receiver::{FiniteSender, FiniteSenderOver};
+use net_ring::Storage;
 use net_tcp::{
     Announcement, Expiry, PeerWindow, RetransmissionTimer, TimeoutBounds, is_acknowledgement,
 };
@@ -52,14 +59,14 @@ pub enum Acknowledged {
 pub enum Expired {
     /// It hasn't ended, or a probe is due and the peer reports nothing, so that it couldn't answer.
     No,
-    /// No answer has come in time: what is overdue is lost, and if nothing of it may be sent, the next segment is a probe
-    /// for an answer.
+    /// No answer has come in time: what is overdue is lost, and if nothing of it may be sent, the next segment is a
+    /// probe for an answer.
     Overdue {
         /// Whether it begins a recovery: then halve the congestion window.
         begins: bool,
     },
-    /// The peer's window is shut, and the next segment is a probe of it; or nothing is in flight, and the next segment has
-    /// what was held back.
+    /// The peer's window is shut, and the next segment is a probe of it; or nothing is in flight, and the next segment
+    /// has what was held back.
     Probe,
     /// All that was sent is lost: let one segment be in flight.
     Lost,
@@ -76,13 +83,42 @@ pub struct Outgoing {
     pub is_again: bool,
 }
 
-/// What sends a stream that ends, over storage that is lent or owned.
-pub type SendingEnd<'a, const N: usize> = SendingEndOver<ManagedSlice<'a, u8>, N>;
+/// All that a sending end knows besides its sender.
+#[derive(Copy, Clone, Debug)]
+pub struct SendingParts<const N: usize> {
+    /// What the buffer knows besides it.
+    pub buffer: BufferParts<N>,
+    /// The timer.
+    pub timer: RetransmissionTimer,
+    /// The timeout before any sample.
+    pub first_timeout: Duration,
+    /// Between which bounds the timeout is.
+    pub bounds: TimeoutBounds,
+    /// The peer's window.
+    pub peer_window: PeerWindow,
+    /// The greatest window that the peer ever announced.
+    pub greatest_window: u64,
+    /// The window that it announced last.
+    pub last_window: u64,
+    /// The most bytes of a segment.
+    pub segment_size: usize,
+    /// Whether the peer has acknowledged anything, if only the own SYN.
+    pub is_open: bool,
+    /// Whether Nagle's rule is enabled.
+    pub nagle: bool,
+    /// Whether the timeout has passed and nothing was sent since then.
+    pub is_window_probe_due: bool,
+    /// Whether the next segment is a probe for an answer, if nothing else may be sent.
+    pub is_overdue: bool,
+}
 
-/// A [`SendingEnd`] over any storage: a buffer, a timer and the peer's window.
+/// What sends a stream that ends, over storage that is lent or owned.
+pub type SendingEnd<'a, const N: usize> = SendingEndOver<FiniteSender<'a>, N>;
+
+/// A [`SendingEnd`] over any sender: a buffer, a timer and the peer's window.
 #[derive(Drop)]
-pub struct SendingEndOver<S: Storage<u8>, const N: usize> {
-    buffer: SendBufferOver<S, N>,
+pub struct SendingEndOver<F: StreamSender, const N: usize> {
+    buffer: SendBufferOver<F, N>,
     timer: RetransmissionTimer,
     first_timeout: Duration,
     bounds: TimeoutBounds,
@@ -96,14 +132,14 @@ pub struct SendingEndOver<S: Storage<u8>, const N: usize> {
     is_open: bool,
     // Whether Nagle's rule is enabled.
     nagle: bool,
-    // Whether the timeout has passed and nothing was sent since then: nothing is held back, and if the window is shut, the
-    // next segment is a probe of it.
+    // Whether the timeout has passed and nothing was sent since then: nothing is held back, and if the window is shut,
+    // the next segment is a probe of it.
     is_window_probe_due: bool,
     // Whether the next segment is a probe for an answer, if nothing else may be sent.
     is_overdue: bool,
 }
 
-impl<S: Storage<u8>, const N: usize> Model for SendingEndOver<S, N> {
+impl<F: StreamSender, const N: usize> Model for SendingEndOver<F, N> {
     ghost use Rattle.std.specs.Coded.{codes};
     ghost use Rattle.net_ends.specs.Ends.{End, positions_code};
 
@@ -129,9 +165,9 @@ impl<S: Storage<u8>, const N: usize> Model for SendingEndOver<S, N> {
     } };
 }
 
-impl<S: Storage<u8>, const N: usize> SendingEndOver<S, N> {
-    /// Returns the end of a stream that begins at position `first`, to which nothing was written. `first_timeout` is that
-    /// before any sample: 1 second for TCP (RFC 6298, 2.1).
+impl<S: Storage<u8>, const N: usize> SendingEndOver<FiniteSenderOver<S>, N> {
+    /// Returns the end of a stream that begins at position `first`, to which nothing was written. `first_timeout` is
+    /// that before any sample: 1 second for TCP (RFC 6298, 2.1).
     ///
     /// A program in which `N` is 0 does not compile.
     ///
@@ -163,9 +199,141 @@ impl<S: Storage<u8>, const N: usize> SendingEndOver<S, N> {
         }
     }
 
-    /// Begins with a peer, whose SYN announced a window, how many bytes a segment may have, and whether it reports blocks
-    /// (SACK): one that doesn't couldn't answer a probe, and is sent none. What was written stays. It is done once, before
-    /// anything is sent; a second time begins with another peer, and the timer runs if something is in flight.
+    /// Begins again over the same storage, without a peer: a stream that begins at position `first`, to which nothing
+    /// was written. Whether Nagle's rule is enabled stays. It begins a new connection after one that was reset.
+    ///
+    /// # Requires
+    ///
+    /// `first` is below `u64::MAX`: an end there would have no number after it.
+    #[track_caller]
+    pub fn reset_at(&mut self, first: u64)
+        requires { first < no_end }
+        ensures { self.new ≡ record (new_end self.old.sender.sender.capacity first
+            self.old.first_timeout self.old.bounds) { nagle = self.old.nagle } }
+    {
+        prove!(first < u64::MAX, "no number is left for an end");
+        self.buffer.reset_at(first);
+        self.timer = RetransmissionTimer::new(self.first_timeout, false);
+        self.peer_window = PeerWindow::new();
+        self.greatest_window = 0;
+        self.last_window = 0;
+        self.segment_size = 1;
+        self.is_open = false;
+        self.is_window_probe_due = false;
+        self.is_overdue = false;
+    }
+
+    /// Enqueues the first of these bytes, as many as there is room for, and returns how many.
+    #[must_use]
+    pub fn write(&mut self, bytes: &[u8]) -> usize
+        ensures count { result ≡ min (length bytes.now) (finite_room self.old.sender) }
+        ensures step { self.new ≡ after_event self.old (Wrote bytes.now) }
+    {
+        self.buffer.write(bytes)
+    }
+
+    /// Ends the stream after what was written.
+    pub fn close(&mut self)
+        ensures { self.new ≡ after_event self.old Shut }
+    {
+        self.buffer.close();
+    }
+
+    /// Lends the bytes of a segment from `pos` on, whose numbers are below `end`, in two parts, and returns whether the
+    /// stream ends after them. Of a position that is acknowledged it lends none.
+    #[must_use]
+    pub fn bytes(&self, pos: u64, end: u64) -> (&[u8], &[u8], bool)
+        ensures { IsSegment self.now.sender pos end (result.0.now ++ result.1.now) result.2 }
+    {
+        self.buffer.bytes(pos, end)
+    }
+
+    /// Returns whether all that was written is acknowledged, and the end.
+    #[must_use]
+    pub fn is_done(&self) -> bool
+        ensures { result ≡ (self.now.sender.finished == 1) }
+    {
+        self.buffer.is_done()
+    }
+
+    /// Returns how many bytes `write` would take.
+    #[must_use]
+    pub fn window(&self) -> usize
+        ensures { result ≡ finite_room self.now.sender }
+    {
+        self.buffer.window()
+    }
+}
+
+impl<F: StreamSender, const N: usize> SendingEndOver<F, N> {
+    /// Returns the end of a sender and these parts.
+    ///
+    /// # Requires
+    ///
+    /// The scoreboard's head is sound for its runs, as `ScoreboardHead::is_sound` tests.
+    pub fn from_parts(sender: F, parts: SendingParts<N>) -> Self
+        requires { IsSoundBoard parts.buffer.scoreboard parts.buffer.runs }
+        ensures { result ≡ end_of_parts (F.state sender) parts.entry }
+    {
+        SendingEndOver {
+            buffer: SendBufferOver::from_parts(sender, parts.buffer),
+            timer: parts.timer,
+            first_timeout: parts.first_timeout,
+            bounds: parts.bounds,
+            peer_window: parts.peer_window,
+            greatest_window: parts.greatest_window,
+            last_window: parts.last_window,
+            segment_size: parts.segment_size,
+            is_open: parts.is_open,
+            nagle: parts.nagle,
+            is_window_probe_due: parts.is_window_probe_due,
+            is_overdue: parts.is_overdue,
+        }
+    }
+
+    /// Returns the sender and the parts, which represent the end.
+    pub fn into_parts(self) -> (F, SendingParts<N>)
+        ensures scoreboard { IsSoundBoard result.1.buffer.scoreboard result.1.buffer.runs }
+        ensures length { length result.1.buffer.runs ≡ N }
+        ensures canonical { IsCanonical result.1.buffer.scoreboard.reported }
+        ensures state { end_of_parts (F.state result.0) result.1 ≡ self }
+    {
+        let SendingEndOver {
+            buffer,
+            timer,
+            first_timeout,
+            bounds,
+            peer_window,
+            greatest_window,
+            last_window,
+            segment_size,
+            is_open,
+            nagle,
+            is_window_probe_due,
+            is_overdue,
+        } = self;
+        let (sender, buffer) = buffer.into_parts();
+        let parts = SendingParts {
+            buffer,
+            timer,
+            first_timeout,
+            bounds,
+            peer_window,
+            greatest_window,
+            last_window,
+            segment_size,
+            is_open,
+            nagle,
+            is_window_probe_due,
+            is_overdue,
+        };
+        (sender, parts)
+    }
+
+    /// Begins with a peer, whose SYN announced a window, how many bytes a segment may have, and whether it reports
+    /// blocks (SACK): one that doesn't couldn't answer a probe, and is sent none. What was written stays. It is done
+    /// once, before anything is sent; a second time begins with another peer, and the timer runs if something is in
+    /// flight.
     pub fn open(&mut self, it: Announcement, segment_size: usize, reports: bool, now: Instant)
         ensures { self.new ≡ after_event self.old
             (Opened it.seq it.ack it.window segment_size reports now) }
@@ -203,7 +371,8 @@ impl<S: Storage<u8>, const N: usize> SendingEndOver<S, N> {
         self.is_open = false;
     }
 
-    /// Returns whether a SYN is to be sent now, and starts the timer for the next one: until something is acknowledged.
+    /// Returns whether a SYN is to be sent now, the first one or one after a timeout, and starts the timer for the next.
+    /// Ask it only until something is acknowledged, at which it doesn't look.
     pub fn is_opening_due(&mut self, now: Instant) -> bool
         ensures value { result ≡ (has_expired self.old.timer now
             || is_none (expires_at self.old.timer)) }
@@ -215,28 +384,12 @@ impl<S: Storage<u8>, const N: usize> SendingEndOver<S, N> {
         has_expired || is_first
     }
 
-    /// Enqueues the first of these bytes, as many as there is room for, and returns how many.
-    #[must_use]
-    pub fn write(&mut self, bytes: &[u8]) -> usize
-        ensures count { result ≡ min (length bytes.now) (finite_room self.old.sender) }
-        ensures step { self.new ≡ after_event self.old (Wrote bytes.now) }
-    {
-        self.buffer.write(bytes)
-    }
-
-    /// Ends the stream after what was written.
-    pub fn close(&mut self)
-        ensures { self.new ≡ after_event self.old Shut }
-    {
-        self.buffer.close();
-    }
-
     /// Takes what a segment acknowledges and announces, and the blocks that it reports. It `is_empty` if it has no byte
     /// and no FIN. Whatever it says, the end stays sound.
     ///
-    /// A block counts that begins above the first number that isn't reported, has a number, and ends where something was
-    /// sent and less than 2^32 above that one, if what is reported beyond that one is at most `N` runs then. Any other
-    /// block says nothing.
+    /// A block counts that begins above the first number that isn't reported, has a number, and ends where something
+    /// was sent and less than 2^32 above that one, if what is reported beyond that one is at most `N` runs then. Any
+    /// other block says nothing.
     #[tactic(auto, using(crate::proofs::Steps::steps))]
     pub fn acknowledged(
         &mut self,
@@ -285,8 +438,8 @@ impl<S: Storage<u8>, const N: usize> SendingEndOver<S, N> {
         }
     }
 
-    /// Has the buffer take an acknowledgement. Returns `None` if it doesn't; else whether a block reports what wasn't known,
-    /// and whether a recovery begins.
+    /// Has the buffer take an acknowledgement. Returns `None` if it doesn't; else whether a block reports what wasn't
+    /// known, and whether a recovery begins.
     fn hear(
         &mut self,
         ack: u64,
@@ -335,8 +488,8 @@ impl<S: Storage<u8>, const N: usize> SendingEndOver<S, N> {
         self.time(numbers, it.ack, reports, now);
     }
 
-    /// Returns the first number that isn't acknowledged, near which those of an acknowledgement are, and the one after the
-    /// last that was sent.
+    /// Returns the first number that isn't acknowledged, near which those of an acknowledgement are, and the one after
+    /// the last that was sent.
     #[must_use]
     pub fn numbers(&self) -> SentNumbers
         ensures value { result ≡ record {
@@ -394,8 +547,8 @@ impl<S: Storage<u8>, const N: usize> SendingEndOver<S, N> {
         self.last_window = it.window;
     }
 
-    /// Takes the sample of a timed segment that is reported, and tells the timer what was acknowledged, and whether a block
-    /// reported what wasn't known.
+    /// Takes the sample of a timed segment that is reported, and tells the timer what was acknowledged, and whether a
+    /// block reported what wasn't known.
     fn time(&mut self, numbers: SentNumbers, ack: u64, reports: bool, now: Instant)
         ensures { self.new ≡ record self.old {
           timer = told reports now (after_acknowledged self.old.bounds
@@ -531,6 +684,16 @@ impl<S: Storage<u8>, const N: usize> SendingEndOver<S, N> {
             AreHoles self.now (open_to self.now) lost others →
             result.0 ≡ due_of self.now
             (found self.now (open_to self.now) congestion_window lost others) }
+        ensures answer { (lost others : Option (ℕ × ℕ)) (highest : ℕ) (hole : Option (ℕ × ℕ)) →
+            IsFalse (asks self.now) → IsTrue self.now.overdue →
+            AreHoles self.now (open_to self.now) lost others →
+            IsProbed self.now (open_to self.now) highest hole →
+            result.0 ≡ option_or (due_of self.now
+            (found self.now (open_to self.now) congestion_window lost others))
+            (probe_of self.now (open_to self.now) highest hole) }
+        ensures counts { (lost others : Option (ℕ × ℕ)) →
+            AreHoles self.now (open_to self.now) lost others →
+            result.1 ≡ is_probe self.now congestion_window lost others }
         ensures late { IsTrue self.now.probes →
             IsFalse (is_active self.now.recovery (first self.now)) →
             first self.now ≡ self.now.sender.sent → first self.now < end self.now →
@@ -552,6 +715,8 @@ impl<S: Storage<u8>, const N: usize> SendingEndOver<S, N> {
     /// Returns what a probe for an answer sends below a limit.
     fn next_probe(&self, limit: u64) -> Option<(u64, u64)>
         ensures within { IfSome result (λ r. (r.0 < r.1) × (r.1 ≤ limit) × (first self.now ≤ r.0)) }
+        ensures value { (highest : ℕ) (hole : Option (ℕ × ℕ)) →
+            IsProbed self.now limit highest hole → result ≡ probe_of self.now limit highest hole }
     {
         self.buffer.next_probe(limit, self.segment_size)
     }
@@ -594,8 +759,8 @@ impl<S: Storage<u8>, const N: usize> SendingEndOver<S, N> {
         self.is_window_probe_due || self.is_overdue
     }
 
-    /// Returns whether a range is worth a segment (RFC 9293, 3.8.6.2.1): a whole one; or, unless Nagle's rule has it wait,
-    /// all that is left, or half of the greatest window that the peer announced.
+    /// Returns whether a range is worth a segment (RFC 9293, 3.8.6.2.1): a whole one; or, unless Nagle's rule has it
+    /// wait, all that is left, or half of the greatest window that the peer announced.
     fn is_worth(&self, from: u64, to: u64) -> bool
         ensures { result ≡ is_worth self.now from to }
     {
@@ -659,10 +824,10 @@ impl<S: Storage<u8>, const N: usize> SendingEndOver<S, N> {
     }
 
     /// Returns the segment that is to be sent now, and takes notice that it is: if the peer's window and the congestion
-    /// window have room for one, or as a probe. What was never sent is held back if it is less than a segment, unless it is
-    /// all that is left, or half of the greatest window that the peer announced (RFC 9293, 3.8.6.2.1), and Nagle's rule
-    /// doesn't have it wait. Once the timer has ended, the next segment isn't held back. While anything that was written
-    /// isn't acknowledged, the timer runs.
+    /// window have room for one, or as a probe. What was never sent is held back if it is less than a segment, unless
+    /// it is all that is left, or half of the greatest window that the peer announced (RFC 9293, 3.8.6.2.1), and
+    /// Nagle's rule doesn't have it wait. Once the timer has ended, the next segment isn't held back. While anything
+    /// that was written isn't acknowledged, the timer runs.
     #[tactic(auto, using(crate::proofs::Steps::steps))]
     pub fn next_segment(&mut self, congestion_window: u64, now: Instant) -> Option<Outgoing>
         ensures within { IfSome result (λ r. IsTrue (may_send self.old r.pos r.end)) }
@@ -681,11 +846,23 @@ impl<S: Storage<u8>, const N: usize> SendingEndOver<S, N> {
             AreHoles self.old (open_to self.old) lost others →
             range_of result ≡ due_of self.old
             (found self.old (open_to self.old) congestion_window lost others) }
+        ensures answer { (lost others : Option (ℕ × ℕ)) (highest : ℕ) (hole : Option (ℕ × ℕ)) →
+            IsFalse (asks self.old) → IsTrue self.old.overdue →
+            AreHoles self.old (open_to self.old) lost others →
+            IsProbed self.old (open_to self.old) highest hole →
+            range_of result ≡ option_or (due_of self.old
+            (found self.old (open_to self.old) congestion_window lost others))
+            (probe_of self.old (open_to self.old) highest hole) }
         ensures again { IfSome result (λ r. r.is_again ≡ nat_lt r.pos self.old.sender.sent) }
         ensures rests { IfNone result (self.new ≡ after_event self.old (Rested now)) }
         ensures sends { IfSome result (λ r. self.new
             ≡ after_event self.old (Sent self.new.recovery r.pos r.end now)) }
-        ensures recovery { IfSome result (λ r. (probe : Bool)
+        ensures recovery { (lost others : Option (ℕ × ℕ)) →
+            AreHoles self.old (open_to self.old) lost others → IfSome result (λ r.
+            self.new.recovery ≡ after_segment (numbers_of self.old.sender) r.pos r.end
+            (asks self.old) (is_probe self.old congestion_window lost others)
+            self.old.recovery) }
+        ensures noted { IfSome result (λ r. (probe : Bool)
             × (IsTrue probe → IsTrue self.old.overdue)
             × (self.new.recovery
             ≡ after_segment (numbers_of self.old.sender) r.pos r.end (asks self.old) probe
@@ -707,23 +884,6 @@ impl<S: Storage<u8>, const N: usize> SendingEndOver<S, N> {
         })
     }
 
-    /// Lends the bytes of a segment from `pos` on, whose numbers are below `end`, in two parts, and returns whether the
-    /// stream ends after them. Of a position that is acknowledged it lends none.
-    #[must_use]
-    pub fn bytes(&self, pos: u64, end: u64) -> (&[u8], &[u8], bool)
-        ensures { IsSegment self.now.sender pos end (result.0.now ++ result.1.now) result.2 }
-    {
-        self.buffer.bytes(pos, end)
-    }
-
-    /// Returns whether all that was written is acknowledged, and the end.
-    #[must_use]
-    pub fn is_done(&self) -> bool
-        ensures { result ≡ (self.now.sender.finished == 1) }
-    {
-        self.buffer.is_done()
-    }
-
     /// Returns when `expired` is to be asked.
     #[must_use]
     pub fn expires_at(&self) -> Option<Instant>
@@ -733,8 +893,8 @@ impl<S: Storage<u8>, const N: usize> SendingEndOver<S, N> {
     }
 
     /// Returns how often the timeout has passed in a row, without anything new that was acknowledged or reported in
-    /// between, that of a SYN too: enough of them, and the peer is gone. Probes of a window that is shut count too, though
-    /// each is answered.
+    /// between, that of a SYN too: enough of them, and the peer is gone. Probes of a window that is shut count too,
+    /// though each is answered.
     #[must_use]
     pub fn timeouts(&self) -> u64
         ensures { result ≡ self.now.timer.timeouts }
@@ -779,17 +939,10 @@ impl<S: Storage<u8>, const N: usize> SendingEndOver<S, N> {
             .acknowledgement_number(self.buffer.numbers())
     }
 
-    /// Returns how many bytes `write` would take.
-    #[must_use]
-    pub fn window(&self) -> usize
-        ensures { result ≡ finite_room self.now.sender }
-    {
-        self.buffer.window()
-    }
-
-    /// Enables Nagle's rule (RFC 9293, 3.7.4), or disables it. While something that was sent isn't acknowledged, less than a
-    /// whole segment waits by it, unless the stream is closed or the timer has ended. It is enabled at first, as in a socket
-    /// of smoltcp: the RFC wants it so. Disable it where few bytes are written at a time, and none of them is to wait.
+    /// Enables Nagle's rule (RFC 9293, 3.7.4), or disables it. While something that was sent isn't acknowledged, less
+    /// than a whole segment waits by it, unless the stream is closed or the timer has ended. It is enabled at first, as
+    /// in a socket of smoltcp: the RFC wants it so. Disable it where few bytes are written at a time, and none of them
+    /// is to wait.
     pub fn set_nagle_enabled(&mut self, enabled: bool)
         ensures { self.new ≡ after_event self.old (Enabled enabled) }
     {
@@ -832,7 +985,7 @@ fn tell(
 }
 
 /// Finds what is overdue, if it is sought, and returns whether a recovery begins.
-fn seek<S: Storage<u8>, const N: usize>(buffer: &mut SendBufferOver<S, N>, is_sought: bool) -> bool
+fn seek<F: StreamSender, const N: usize>(buffer: &mut SendBufferOver<F, N>, is_sought: bool) -> bool
     ensures state { buffer.new ≡ record buffer.old { recovery = buffer.new.recovery } }
     ensures recovery { (highest : ℕ) → IsEnd buffer.old.reported highest → buffer.new.recovery
         ≡ after_wait is_sought (numbers_of buffer.old.sender) highest buffer.old.recovery }

@@ -2,38 +2,42 @@
 ghost use Rattle.std.specs.Prelude.{◌≡◌, ◌<◌, ◌≤◌, ℕ, List, IsTrue, IsSome, is_some, take};
 ghost use Rattle.net_receiver.specs.Finite.{MatchesFinite, acknowledged};
 ghost use Rattle.net_receiver.specs.FiniteSender.{IsSoundSent};
-ghost use Rattle.net_ends.specs.Ends.{IsUnacknowledged, rest, runs, Event, small_sends, expiries, has_timed_out, first, end};
+ghost use Rattle.net_ends.specs.Ends.{IsUnacknowledged, rest, runs, Event, small_sends, expiries, has_timed_out};
+ghost use Rattle.net_ends.specs.Ends.{first, end};
 ghost use Rattle.net_ends.specs.Receiving.{IsSoundReceiving};
 
 use net_base::time::Instant;
 use net_ends::{
-    Acknowledged, Acknowledgement, Outgoing, ReceivingEnd, ReceivingEndOver, SendingEndOver, laws,
-    receiving_end,
+    Acknowledged, Acknowledgement, Outgoing, ReceivingEnd, ReceivingEndOver, SendingEndOver,
+    StreamSender, laws, receiving_end,
 };
 use net_ring::{ManagedSlice, Storage};
 use net_tcp::Announcement;
 
-/// Takes an acknowledgement, and returns when the timer ends. It runs while something that was sent isn't acknowledged, if
-/// it did before.
-pub fn take_acknowledgement<S: Storage<u8>, const N: usize>(
-    sender: &mut SendingEndOver<S, N>,
+/// Takes an acknowledgement, and returns when the timer ends. It runs while something that was sent isn't acknowledged,
+/// if it did before.
+pub fn take_acknowledgement<F: StreamSender, const N: usize>(
+    sender: &mut SendingEndOver<F, N>,
     it: Announcement,
     now: Instant,
 ) -> Option<Instant>
-    ensures { (IsUnacknowledged sender.old → IsTrue (runs sender.old)) → IsUnacknowledged sender.new → IsSome result }
+    ensures { (IsUnacknowledged sender.old → IsTrue (runs sender.old)) →
+        IsUnacknowledged sender.new → IsSome result }
 {
     laws::sending_ends();
     let _taken = sender.acknowledged(it, &[], true, now);
     sender.expires_at()
 }
 
-/// Takes an acknowledgement, and returns whether it says something new. If one number was left, all is acknowledged then.
-pub fn take_last<S: Storage<u8>, const N: usize>(
-    sender: &mut SendingEndOver<S, N>,
+/// Takes an acknowledgement, and returns whether it says something new. If one number was left, all is acknowledged
+/// then.
+pub fn take_last<F: StreamSender, const N: usize>(
+    sender: &mut SendingEndOver<F, N>,
     it: Announcement,
     now: Instant,
 ) -> bool
-    ensures { IsSoundSent sender.old.sender → rest sender.old ≤ 1 → IsTrue result → rest sender.new ≡ 0 }
+    ensures { IsSoundSent sender.old.sender → rest sender.old ≤ 1 → IsTrue result →
+        rest sender.new ≡ 0 }
 {
     laws::progress();
     match sender.acknowledged(it, &[], true, now) {
@@ -43,8 +47,8 @@ pub fn take_last<S: Storage<u8>, const N: usize>(
 }
 
 /// Begins with a peer. Whatever happens then, what isn't worth a segment is sent no more often than the timer ends.
-pub fn begin<S: Storage<u8>, const N: usize>(
-    sender: &mut SendingEndOver<S, N>,
+pub fn begin<F: StreamSender, const N: usize>(
+    sender: &mut SendingEndOver<F, N>,
     it: Announcement,
     segment_size: usize,
     now: Instant,
@@ -55,10 +59,10 @@ pub fn begin<S: Storage<u8>, const N: usize>(
     sender.open(it, segment_size, true, now);
 }
 
-/// Looks at the timer, and sends what is next, and returns it. If the timeout has passed, nothing is in flight, and something
-/// waits, that is a segment, however small the peer's window is.
-pub fn send_late<S: Storage<u8>, const N: usize>(
-    sender: &mut SendingEndOver<S, N>,
+/// Looks at the timer, and sends what is next, and returns it. If the timeout has passed, nothing is in flight, and
+/// something waits, that is a segment, however small the peer's window is.
+pub fn send_late<F: StreamSender, const N: usize>(
+    sender: &mut SendingEndOver<F, N>,
     congestion_window: u64,
     now: Instant,
 ) -> Option<Outgoing>
@@ -69,15 +73,16 @@ pub fn send_late<S: Storage<u8>, const N: usize>(
     sender.next_segment(congestion_window, now)
 }
 
-/// Takes a segment, whatever it says, and returns what acknowledges it: no number below those that were acknowledged, and
-/// what was promised stays promised.
+/// Takes a segment, whatever it says, and returns what acknowledges it: no number below those that were acknowledged,
+/// and what was promised stays promised.
 pub fn take_segment<S: Storage<u8>, const N: usize>(
     receiver: &mut ReceivingEndOver<S, N>,
     pos: u64,
     bytes: &[u8],
     is_last: bool,
 ) -> Acknowledgement
-    ensures number { IsSoundReceiving receiver.old → acknowledged receiver.old.receiver ≤ result.next }
+    ensures number { IsSoundReceiving receiver.old →
+        acknowledged receiver.old.receiver ≤ result.next }
     ensures edge { IsSoundReceiving receiver.old → receiver.old.edge ≤ receiver.new.edge }
     ensures sound { IsSoundReceiving receiver.old → IsSoundReceiving receiver.new }
 {
@@ -94,7 +99,8 @@ pub fn read_first(
     is_last: bool,
     into: &mut [u8],
 ) -> usize
-    ensures { (x : List ℕ) → MatchesFinite 0 x pos bytes.now is_last → take result «into».new ≡ take result x }
+    ensures { (x : List ℕ) → MatchesFinite 0 x pos bytes.now is_last →
+        take result «into».new ≡ take result x }
 {
     receiving_end::laws::receiving_ends();
     let mut end = ReceivingEnd::<4>::over_at(ManagedSlice::Borrowed(storage), 0, 536);

@@ -1,6 +1,6 @@
 //! A text goes from a sending end to a receiving end over a path that loses, doubles, reorders and delays segments, and
-//! forges none. What is read is a prefix of the text, and all of it once the receiver says so, whatever is acknowledged, by
-//! forged segments too, and whatever the timer and the windows say.
+//! forges none. What is read is a prefix of the text, and all of it once the receiver says so, whatever is
+//! acknowledged, by forged segments too, and whatever the timer and the windows say.
 //!
 //! `carry` says so, in three clauses about the text and what was read. They hold for any list of events, in any order.
 //! `IsCarried` is what stays true from event to event, by the clauses of both ends and the laws over them.
@@ -54,8 +54,8 @@ pub struct Transfer<'s, 'r, A: Allocator + Copy> {
     pub read: usize,
 }
 
-/// Carries a text over a path of which nothing is known but that it forges no segment. Returns how many bytes were read into
-/// `into`, and whether the receiver says that these are all.
+/// Carries a text over a path of which nothing is known but that it forges no segment. Returns how many bytes were read
+/// into `into`, and whether the receiver says that these are all.
 pub fn carry<A: Allocator + Copy>(
     alloc: A,
     text: &[u8],
@@ -125,7 +125,8 @@ pub fn happen<A: Allocator + Copy>(
 /// Writes more of a text, of which `from` bytes were written, and closes the end after the last one.
 fn write_more(sender: &mut SendingEnd<'_, 4>, text: &[u8], from: usize) -> usize
     requires { from ≤ length text.now }
-    ensures writing { IsWriting text.now from sender.old.sender → IsWriting text.now result sender.new.sender }
+    ensures writing { IsWriting text.now from sender.old.sender →
+        IsWriting text.now result sender.new.sender }
     ensures within { result ≤ length text.now }
 {
     net_receiver::laws::finite_senders();
@@ -144,7 +145,8 @@ fn send<A: Allocator + Copy>(
     now: Instant,
     path: &mut Vec<Segment<A>, A>,
 ) -> Result<(), AllocError>
-    ensures writing { (text : List ℕ) (n : ℕ) → IsWriting text n sender.old.sender → IsWriting text n sender.new.sender }
+    ensures writing { (text : List ℕ) (n : ℕ) → IsWriting text n sender.old.sender →
+        IsWriting text n sender.new.sender }
     ensures path { IfOk result (λ _. (text : List ℕ) (n : ℕ) → IsWriting text n sender.old.sender →
         All (IsOfText text) path.old.items → All (IsOfText text) path.new.items) }
 {
@@ -209,7 +211,8 @@ fn take(receiver: &mut ReceivingEnd<'_, 4>, pos: u64, bytes: &[u8], is_last: boo
 
 /// Takes an acknowledgement, whatever it says.
 fn acknowledge(it: Announcement, block: (u64, u64), now: Instant, sender: &mut SendingEnd<'_, 4>)
-    ensures { (text : List ℕ) (n : ℕ) → IsWriting text n sender.old.sender → IsWriting text n sender.new.sender }
+    ensures { (text : List ℕ) (n : ℕ) → IsWriting text n sender.old.sender →
+        IsWriting text n sender.new.sender }
 {
     net_receiver::laws::finite_senders();
     laws::sending_ends();
@@ -218,7 +221,8 @@ fn acknowledge(it: Announcement, block: (u64, u64), now: Instant, sender: &mut S
 
 /// Looks at the timer.
 fn look(now: Instant, sender: &mut SendingEnd<'_, 4>)
-    ensures { (text : List ℕ) (n : ℕ) → IsWriting text n sender.old.sender → IsWriting text n sender.new.sender }
+    ensures { (text : List ℕ) (n : ℕ) → IsWriting text n sender.old.sender →
+        IsWriting text n sender.new.sender }
 {
     let _expired = sender.expired(now);
 }
@@ -237,16 +241,17 @@ fn read_more(receiver: &mut ReceivingEnd<'_, 4>, into: &mut [u8], from: usize) -
 /// Returns how many bytes were read, and whether the receiver says that these are all.
 fn outcome<A: Allocator + Copy>(it: &Transfer<'_, '_, A>) -> (usize, bool)
     ensures read { result.0 ≡ it.now.read }
-    ensures whole { (text into : List ℕ) → IsReading text it.now.read into it.now.receiver.receiver →
-        IsTrue result.1 → it.now.read ≡ length text }
+    ensures whole { (text into : List ℕ) →
+        IsReading text it.now.read into it.now.receiver.receiver → IsTrue result.1 →
+        it.now.read ≡ length text }
 {
     (it.read, has_all(&it.receiver))
 }
 
 /// Returns whether all has arrived and was read.
 fn has_all(receiver: &ReceivingEnd<'_, 4>) -> bool
-    ensures { (text : List ℕ) (n : ℕ) (into : List ℕ) → IsReading text n into receiver.now.receiver → IsTrue result →
-        n ≡ length text }
+    ensures { (text : List ℕ) (n : ℕ) (into : List ℕ) →
+        IsReading text n into receiver.now.receiver → IsTrue result → n ≡ length text }
 {
     net_receiver::laws::finite_receivers();
     net_receiver::laws::is_sound_end(receiver.receiver());

@@ -2,6 +2,8 @@
 use net_base::time::{Duration, Instant};
 use net_ends::{Outgoing, SendingEndOver};
 use net_numbers::SentNumbers;
+use net_receiver::FiniteSenderOver;
+use net_recovery::LossRecovery;
 use net_tcp::{Announcement, TimeoutBounds};
 
 /// What is sent first.
@@ -11,9 +13,10 @@ const SEGMENT: Outgoing = Outgoing {
     is_again: false,
 };
 
-/// Makes an end of a stream that begins at position 7, whose peer has room for 100 bytes, in segments of 2 bytes, and
-/// writes three bytes. Returns whether two of them are sent first, and lent.
-fn sends(storage: &mut [u8]) -> bool {
+type End<'a> = SendingEndOver<FiniteSenderOver<&'a mut [u8]>, 2>;
+
+/// Makes an end of a stream that begins at position 7, whose peer has room for 100 bytes, in segments of 2 bytes.
+fn opened(storage: &mut [u8]) -> End<'_> {
     let second = Duration::from_micros(1_000_000);
     let it = Announcement {
         seq: 1,
@@ -26,13 +29,30 @@ fn sends(storage: &mut [u8]) -> bool {
         tick: Duration::ZERO,
         ack_delay: Duration::ZERO,
     };
-    let mut end = SendingEndOver::<&mut [u8], 2>::over_at(storage, 7, second, bounds);
+    let mut end = End::over_at(storage, 7, second, bounds);
     end.open(it, 2, true, Instant::ZERO);
+    end
+}
+
+/// Writes three bytes. Returns whether two of them are sent first, and lent.
+fn sends(storage: &mut [u8]) -> bool {
+    let mut end = opened(storage);
     end.write(b"abc") == 3
         && end.next_segment(10, Instant::ZERO) == Some(SEGMENT)
         && end.expires_at().is_some()
         && is_in_flight(end.numbers())
         && lends(&end)
+}
+
+/// Sends two bytes, takes the end apart, and makes it again. Returns whether all is as before.
+fn goes_on(storage: &mut [u8]) -> bool {
+    let mut end = opened(storage);
+    let is_sent = end.write(b"ab") == 2 && end.next_segment(10, Instant::ZERO) == Some(SEGMENT);
+    let (sender, parts) = end.into_parts();
+    let again = LossRecovery::from_parts(parts.buffer.recovery.parts());
+    let is_known = again == parts.buffer.recovery;
+    let end = End::from_parts(sender, parts);
+    is_sent && is_known && end.expires_at().is_some() && is_in_flight(end.numbers()) && lends(&end)
 }
 
 /// Returns whether the segment is all that isn't acknowledged.
@@ -41,7 +61,7 @@ fn is_in_flight(numbers: SentNumbers) -> bool {
 }
 
 /// Returns whether an end lends the two bytes at position 7.
-fn lends(end: &SendingEndOver<&mut [u8], 2>) -> bool {
+fn lends(end: &End<'_>) -> bool {
     let (front, back, is_last) = end.bytes(SEGMENT.pos, SEGMENT.end);
     front == b"ab".as_slice() && back.is_empty() && !is_last
 }
@@ -50,4 +70,10 @@ fn lends(end: &SendingEndOver<&mut [u8], 2>) -> bool {
 fn an_end_sends_what_was_written(rt: HostRuntime) {
     let mut storage = [0u8; 8];
     assert!(rt; sends(&mut storage));
+}
+
+#[test]
+fn an_end_goes_on_from_its_parts(rt: HostRuntime) {
+    let mut storage = [0u8; 8];
+    assert!(rt; goes_on(&mut storage));
 }

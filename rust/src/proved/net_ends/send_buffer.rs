@@ -2,25 +2,40 @@
 //! What a stream that ends has sent, without a clock.
 
 use crate::rattle::prelude::*;
+use crate::proved::net_ends::stream_sender::StreamSender;
+use crate::proved::net_assembler::Run;
 use crate::proved::net_numbers::SentNumbers;
-use crate::proved::net_receiver::{FiniteSenderOver, Scoreboard};
+use crate::proved::net_receiver::{FiniteSender, FiniteSenderOver, Scoreboard, ScoreboardHead};
 use crate::proved::net_recovery::{Answer, LossRecovery, is_duplicate_block, is_equal_acknowledgement};
-use crate::proved::net_ring::{ManagedSlice, Storage};
+use crate::proved::net_ring::Storage;
 
-/// What a stream that ends has sent, over storage that is lent or owned.
-pub type SendBuffer<'a, const N: usize> = SendBufferOver<ManagedSlice<'a, u8>, N>;
-
-/// A [`SendBuffer`] over any storage: a sender, a scoreboard and a recovery. It knows bytes, what was reported and what is
-/// lost, and no clock, no window of a peer and no size of a segment: what a stream of QUIC sends, too.
+/// All that a send buffer knows besides its sender.
 ///
 /// Contracts: `crates/net_ends/src/send_buffer.rt`.
-pub struct SendBufferOver<S: Storage<u8>, const N: usize> {
-    sender: FiniteSenderOver<S>,
+#[derive(Copy, Clone, Debug)]
+pub struct BufferParts<const N: usize> {
+    /// What the scoreboard knows.
+    pub scoreboard: ScoreboardHead,
+    /// The scoreboard's runs.
+    pub runs: [Run; N],
+    /// What the recovery knows.
+    pub recovery: LossRecovery,
+}
+
+/// What a stream that ends has sent, over storage that is lent or owned.
+pub type SendBuffer<'a, const N: usize> = SendBufferOver<FiniteSender<'a>, N>;
+
+/// A [`SendBuffer`] over any sender: that, a scoreboard and a recovery. It knows bytes, what was reported and what
+/// is lost, and no clock, no window of a peer and no size of a segment: what a stream of QUIC sends, too.
+///
+/// Contracts: `crates/net_ends/src/send_buffer.rt`.
+pub struct SendBufferOver<F: StreamSender, const N: usize> {
+    sender: F,
     scoreboard: Scoreboard<N>,
     recovery: LossRecovery,
 }
 
-impl<S: Storage<u8>, const N: usize> SendBufferOver<S, N> {
+impl<S: Storage<u8>, const N: usize> SendBufferOver<FiniteSenderOver<S>, N> {
     /// Returns the buffer of a stream that begins at position `first`, to which nothing was written.
     ///
     /// A program in which `N` is 0 does not compile.
@@ -40,22 +55,17 @@ impl<S: Storage<u8>, const N: usize> SendBufferOver<S, N> {
         }
     }
 
-    /// Returns the first number that isn't acknowledged, and the one after the last that was sent.
-    #[must_use]
-    pub fn numbers(&self) -> SentNumbers {
-        self.sender.sent_numbers()
-    }
-
-    /// Returns the number after the last byte's, and after the end's once the stream is closed.
-    #[must_use]
-    pub fn numbers_end(&self) -> u64 {
-        self.sender.numbers_end()
-    }
-
-    /// Returns whether the stream ends after what was written.
-    #[must_use]
-    pub fn is_closed(&self) -> bool {
-        self.sender.is_closed()
+    /// Begins again over the same storage: a stream that begins at position `first`, to which nothing was written.
+    ///
+    /// # Panics
+    ///
+    /// Panics unless `first` is below `u64::MAX`: an end there would have no number after it.
+    #[track_caller]
+    pub fn reset_at(&mut self, first: u64) {
+        prove!(first < u64::MAX, "no number is left for an end");
+        self.sender.reset_at(first);
+        self.scoreboard.reset_at(first);
+        self.recovery = LossRecovery::new();
     }
 
     /// Returns how many bytes `write` would take.
@@ -70,6 +80,74 @@ impl<S: Storage<u8>, const N: usize> SendBufferOver<S, N> {
         self.sender.is_closed_and_acknowledged()
     }
 
+    /// Enqueues the first of these bytes, as many as there is room for, and returns how many.
+    #[must_use]
+    pub fn write(&mut self, bytes: &[u8]) -> usize {
+        self.sender.write(bytes)
+    }
+
+    /// Ends the stream after what was written.
+    pub fn close(&mut self) {
+        self.sender.close();
+    }
+
+    /// Lends the bytes of a segment from `pos` on, whose numbers are below `end`, in two parts, and returns whether the
+    /// stream ends after them. Of a position that is acknowledged it lends none.
+    #[must_use]
+    pub fn bytes(&self, pos: u64, end: u64) -> (&[u8], &[u8], bool) {
+        lend(&self.sender, pos, end)
+    }
+}
+
+impl<F: StreamSender, const N: usize> SendBufferOver<F, N> {
+    /// Returns the buffer of a sender and these parts.
+    ///
+    /// # Requires
+    ///
+    /// The scoreboard's head is sound for its runs, as `ScoreboardHead::is_sound` tests.
+    pub(crate) fn from_parts(sender: F, parts: BufferParts<N>) -> Self {
+        let runs = parts.runs;
+        SendBufferOver {
+            sender,
+            scoreboard: Scoreboard::from_parts(parts.scoreboard, runs),
+            recovery: parts.recovery,
+        }
+    }
+
+    /// Returns the sender and the parts, which represent the buffer.
+    pub(crate) fn into_parts(self) -> (F, BufferParts<N>) {
+        let SendBufferOver {
+            sender,
+            scoreboard,
+            recovery,
+        } = self;
+        let (scoreboard, runs) = scoreboard.into_parts();
+        let parts = BufferParts {
+            scoreboard,
+            runs,
+            recovery,
+        };
+        (sender, parts)
+    }
+
+    /// Returns the first number that isn't acknowledged, and the one after the last that was sent.
+    #[must_use]
+    pub fn numbers(&self) -> SentNumbers {
+        self.sender.numbers()
+    }
+
+    /// Returns the number after the last byte's, and after the end's once the stream is closed.
+    #[must_use]
+    pub fn numbers_end(&self) -> u64 {
+        self.sender.end()
+    }
+
+    /// Returns whether the stream ends after what was written.
+    #[must_use]
+    pub fn is_closed(&self) -> bool {
+        self.sender.has_end()
+    }
+
     /// Returns whether a position was reported.
     #[must_use]
     pub fn contains(&self, pos: u64) -> bool {
@@ -79,7 +157,7 @@ impl<S: Storage<u8>, const N: usize> SendBufferOver<S, N> {
     /// Returns whether a recovery lasts.
     #[must_use]
     pub fn is_recovering(&self) -> bool {
-        self.recovery.is_active(self.sender.sent_numbers())
+        self.recovery.is_active(self.sender.numbers())
     }
 
     /// Returns whether the peer reports nothing.
@@ -93,19 +171,8 @@ impl<S: Storage<u8>, const N: usize> SendBufferOver<S, N> {
         self.recovery.expect_reports(reports);
     }
 
-    /// Enqueues the first of these bytes, as many as there is room for, and returns how many.
-    #[must_use]
-    pub fn write(&mut self, bytes: &[u8]) -> usize {
-        self.sender.write(bytes)
-    }
-
-    /// Ends the stream after what was written.
-    pub fn close(&mut self) {
-        self.sender.close();
-    }
-
-    /// Takes an acknowledgement of all below `ack`, and its blocks. Its segment `is_empty` if it has no byte and no FIN, and
-    /// `is_same` if it announces the window that was announced last.
+    /// Takes an acknowledgement of all below `ack`, and its blocks. Its segment `is_empty` if it has no byte and no
+    /// FIN, and `is_same` if it announces the window that was announced last.
     ///
     /// Returns whether a block reports what wasn't known, and whether it begins a recovery. Returns `None`, and changes
     /// nothing, if `ack` is below the first number that isn't acknowledged, or above what was sent.
@@ -119,7 +186,7 @@ impl<S: Storage<u8>, const N: usize> SendBufferOver<S, N> {
     ) -> Option<(bool, bool)> {
         let numbers = self.numbers();
         let unsent = self.recovery.unsent(numbers, &self.scoreboard);
-        if !accept(&mut self.sender, ack) {
+        if !self.sender.accept(ack) {
             return None;
         }
         Some(self.take(
@@ -195,17 +262,17 @@ impl<S: Storage<u8>, const N: usize> SendBufferOver<S, N> {
     /// Finds what is overdue, where nothing was reported for two round trips, and returns whether a recovery begins.
     pub fn find_overdue(&mut self) -> bool {
         self.recovery
-            .find_overdue(self.sender.sent_numbers(), &self.scoreboard)
+            .find_overdue(self.sender.numbers(), &self.scoreboard)
     }
 
     /// Loses all that was sent and isn't reported.
     pub fn lose_all(&mut self) {
-        self.recovery.lose_all(self.sender.sent_numbers());
+        self.recovery.lose_all(self.sender.numbers());
     }
 
     /// Returns what to send next below `limit`, as a start and an end, the end not included, at most a segment: what is
-    /// lost, else what was never sent. `None` if there is none, or if with a whole segment more than the congestion window
-    /// would be in flight. The first unacknowledged number is sent whatever is in flight.
+    /// lost, else what was never sent. `None` if there is none, or if with a whole segment more than the congestion
+    /// window would be in flight. The first unacknowledged number is sent whatever is in flight.
     #[must_use]
     pub fn next(
         &self,
@@ -222,19 +289,19 @@ impl<S: Storage<u8>, const N: usize> SendBufferOver<S, N> {
         )
     }
 
-    /// Returns what a probe for an answer sends below `limit`, whatever is in flight: in a recovery the first segment that
-    /// isn't reported, else a new one, and if the limit allows none, the last one.
+    /// Returns what a probe for an answer sends below `limit`, whatever is in flight: in a recovery the first segment
+    /// that isn't reported, else a new one, and if the limit allows none, the last one.
     #[must_use]
     pub fn next_probe(&self, limit: u64, segment_size: usize) -> Option<(u64, u64)> {
         self.recovery
             .next_probe(self.numbers(), &self.scoreboard, limit, segment_size)
     }
 
-    /// Takes notice that a range is sent: one that the peer `is_dropping`, since its window is shut, so that it is lost; a
-    /// probe for an answer; or neither.
+    /// Takes notice that a range is sent: one that the peer `is_dropping`, since its window is shut, so that it is
+    /// lost; a probe for an answer; or neither.
     pub fn mark(&mut self, from: u64, to: u64, is_dropping: bool, is_probe: bool) {
         let numbers = self.numbers();
-        let _is_written = self.sender.mark_sent(to);
+        self.sender.mark(to);
         self.recover(numbers, from, to, is_dropping, is_probe);
     }
 
@@ -259,22 +326,10 @@ impl<S: Storage<u8>, const N: usize> SendBufferOver<S, N> {
             self.recovery.sent(numbers, from..to);
         }
     }
-
-    /// Lends the bytes of a segment from `pos` on, whose numbers are below `end`, in two parts, and returns whether the
-    /// stream ends after them. Of a position that is acknowledged it lends none.
-    #[must_use]
-    pub fn bytes(&self, pos: u64, end: u64) -> (&[u8], &[u8], bool) {
-        lend(&self.sender, pos, end)
-    }
 }
 
-/// Has a sender take an acknowledgement, and returns whether it does.
-fn accept<S: Storage<u8>>(sender: &mut FiniteSenderOver<S>, ack: u64) -> bool {
-    sender.acknowledge(ack)
-}
-
-/// Lends the bytes of a segment from `pos` on, whose numbers are below `end`, in two parts, and returns whether the stream
-/// ends after them.
+/// Lends the bytes of a segment from `pos` on, whose numbers are below `end`, in two parts, and returns whether the
+/// stream ends after them.
 fn lend<S: Storage<u8>>(sender: &FiniteSenderOver<S>, pos: u64, end: u64) -> (&[u8], &[u8], bool) {
     let (front, _ends) = sender.peek_at(pos, end);
     let after = pos + front.len() as u64;
@@ -283,7 +338,8 @@ fn lend<S: Storage<u8>>(sender: &FiniteSenderOver<S>, pos: u64, end: u64) -> (&[
 }
 
 /// Finds what is lost by an acknowledgement, and returns whether a recovery begins. If the peer has dropped what it had
-/// reported, that is lost: else it would acknowledge it (RFC 2018, section 8). Nothing counts as reported any more then.
+/// reported, that is lost: else it would acknowledge it (RFC 2018, section 8). Nothing counts as reported any more
+/// then.
 fn find_losses<const N: usize>(
     recovery: &mut LossRecovery,
     board: &mut Scoreboard<N>,
@@ -319,8 +375,8 @@ fn report_blocks<const N: usize>(
     reports
 }
 
-/// Reports a block, if it begins beyond the first position that wasn't reported. Returns whether that wasn't known: what is
-/// refused is sent again.
+/// Reports a block, if it begins beyond the first position that wasn't reported. Returns whether that wasn't known:
+/// what is refused is sent again.
 fn report_block<const N: usize>(board: &mut Scoreboard<N>, start: u64, end: u64, sent: u64) -> bool {
     if start <= board.first_unreported() {
         return false;

@@ -2,10 +2,12 @@
 //! What sends a stream that ends.
 
 use crate::rattle::prelude::*;
-use crate::proved::net_ends::send_buffer::SendBufferOver;
+use crate::proved::net_ends::send_buffer::{BufferParts, SendBufferOver};
+use crate::proved::net_ends::stream_sender::StreamSender;
 use crate::proved::net_base::time::{Duration, Instant};
 use crate::proved::net_numbers::SentNumbers;
-use crate::proved::net_ring::{ManagedSlice, Storage};
+use crate::proved::net_receiver::{FiniteSender, FiniteSenderOver};
+use crate::proved::net_ring::Storage;
 use crate::proved::net_tcp::{
     Announcement, Expiry, PeerWindow, RetransmissionTimer, TimeoutBounds, is_acknowledgement,
 };
@@ -38,14 +40,14 @@ pub enum Acknowledged {
 pub enum Expired {
     /// It hasn't ended, or a probe is due and the peer reports nothing, so that it couldn't answer.
     No,
-    /// No answer has come in time: what is overdue is lost, and if nothing of it may be sent, the next segment is a probe
-    /// for an answer.
+    /// No answer has come in time: what is overdue is lost, and if nothing of it may be sent, the next segment is a
+    /// probe for an answer.
     Overdue {
         /// Whether it begins a recovery: then halve the congestion window.
         begins: bool,
     },
-    /// The peer's window is shut, and the next segment is a probe of it; or nothing is in flight, and the next segment has
-    /// what was held back.
+    /// The peer's window is shut, and the next segment is a probe of it; or nothing is in flight, and the next segment
+    /// has what was held back.
     Probe,
     /// All that was sent is lost: let one segment be in flight.
     Lost,
@@ -64,14 +66,45 @@ pub struct Outgoing {
     pub is_again: bool,
 }
 
-/// What sends a stream that ends, over storage that is lent or owned.
-pub type SendingEnd<'a, const N: usize> = SendingEndOver<ManagedSlice<'a, u8>, N>;
-
-/// A [`SendingEnd`] over any storage: a buffer, a timer and the peer's window.
+/// All that a sending end knows besides its sender.
 ///
 /// Contracts: `crates/net_ends/src/sending_end.rt`.
-pub struct SendingEndOver<S: Storage<u8>, const N: usize> {
-    buffer: SendBufferOver<S, N>,
+#[derive(Copy, Clone, Debug)]
+pub struct SendingParts<const N: usize> {
+    /// What the buffer knows besides it.
+    pub buffer: BufferParts<N>,
+    /// The timer.
+    pub timer: RetransmissionTimer,
+    /// The timeout before any sample.
+    pub first_timeout: Duration,
+    /// Between which bounds the timeout is.
+    pub bounds: TimeoutBounds,
+    /// The peer's window.
+    pub peer_window: PeerWindow,
+    /// The greatest window that the peer ever announced.
+    pub greatest_window: u64,
+    /// The window that it announced last.
+    pub last_window: u64,
+    /// The most bytes of a segment.
+    pub segment_size: usize,
+    /// Whether the peer has acknowledged anything, if only the own SYN.
+    pub is_open: bool,
+    /// Whether Nagle's rule is enabled.
+    pub nagle: bool,
+    /// Whether the timeout has passed and nothing was sent since then.
+    pub is_window_probe_due: bool,
+    /// Whether the next segment is a probe for an answer, if nothing else may be sent.
+    pub is_overdue: bool,
+}
+
+/// What sends a stream that ends, over storage that is lent or owned.
+pub type SendingEnd<'a, const N: usize> = SendingEndOver<FiniteSender<'a>, N>;
+
+/// A [`SendingEnd`] over any sender: a buffer, a timer and the peer's window.
+///
+/// Contracts: `crates/net_ends/src/sending_end.rt`.
+pub struct SendingEndOver<F: StreamSender, const N: usize> {
+    buffer: SendBufferOver<F, N>,
     timer: RetransmissionTimer,
     first_timeout: Duration,
     bounds: TimeoutBounds,
@@ -85,16 +118,16 @@ pub struct SendingEndOver<S: Storage<u8>, const N: usize> {
     is_open: bool,
     // Whether Nagle's rule is enabled.
     nagle: bool,
-    // Whether the timeout has passed and nothing was sent since then: nothing is held back, and if the window is shut, the
-    // next segment is a probe of it.
+    // Whether the timeout has passed and nothing was sent since then: nothing is held back, and if the window is shut,
+    // the next segment is a probe of it.
     is_window_probe_due: bool,
     // Whether the next segment is a probe for an answer, if nothing else may be sent.
     is_overdue: bool,
 }
 
-impl<S: Storage<u8>, const N: usize> SendingEndOver<S, N> {
-    /// Returns the end of a stream that begins at position `first`, to which nothing was written. `first_timeout` is that
-    /// before any sample: 1 second for TCP (RFC 6298, 2.1).
+impl<S: Storage<u8>, const N: usize> SendingEndOver<FiniteSenderOver<S>, N> {
+    /// Returns the end of a stream that begins at position `first`, to which nothing was written. `first_timeout` is
+    /// that before any sample: 1 second for TCP (RFC 6298, 2.1).
     ///
     /// A program in which `N` is 0 does not compile.
     ///
@@ -122,9 +155,118 @@ impl<S: Storage<u8>, const N: usize> SendingEndOver<S, N> {
         }
     }
 
-    /// Begins with a peer, whose SYN announced a window, how many bytes a segment may have, and whether it reports blocks
-    /// (SACK): one that doesn't couldn't answer a probe, and is sent none. What was written stays. It is done once, before
-    /// anything is sent; a second time begins with another peer, and the timer runs if something is in flight.
+    /// Begins again over the same storage, without a peer: a stream that begins at position `first`, to which nothing
+    /// was written. Whether Nagle's rule is enabled stays. It begins a new connection after one that was reset.
+    ///
+    /// # Panics
+    ///
+    /// Panics unless `first` is below `u64::MAX`: an end there would have no number after it.
+    #[track_caller]
+    pub fn reset_at(&mut self, first: u64) {
+        prove!(first < u64::MAX, "no number is left for an end");
+        self.buffer.reset_at(first);
+        self.timer = RetransmissionTimer::new(self.first_timeout, false);
+        self.peer_window = PeerWindow::new();
+        self.greatest_window = 0;
+        self.last_window = 0;
+        self.segment_size = 1;
+        self.is_open = false;
+        self.is_window_probe_due = false;
+        self.is_overdue = false;
+    }
+
+    /// Enqueues the first of these bytes, as many as there is room for, and returns how many.
+    #[must_use]
+    pub fn write(&mut self, bytes: &[u8]) -> usize {
+        self.buffer.write(bytes)
+    }
+
+    /// Ends the stream after what was written.
+    pub fn close(&mut self) {
+        self.buffer.close();
+    }
+
+    /// Lends the bytes of a segment from `pos` on, whose numbers are below `end`, in two parts, and returns whether the
+    /// stream ends after them. Of a position that is acknowledged it lends none.
+    #[must_use]
+    pub fn bytes(&self, pos: u64, end: u64) -> (&[u8], &[u8], bool) {
+        self.buffer.bytes(pos, end)
+    }
+
+    /// Returns whether all that was written is acknowledged, and the end.
+    #[must_use]
+    pub fn is_done(&self) -> bool {
+        self.buffer.is_done()
+    }
+
+    /// Returns how many bytes `write` would take.
+    #[must_use]
+    pub fn window(&self) -> usize {
+        self.buffer.window()
+    }
+}
+
+impl<F: StreamSender, const N: usize> SendingEndOver<F, N> {
+    /// Returns the end of a sender and these parts.
+    ///
+    /// # Requires
+    ///
+    /// The scoreboard's head is sound for its runs, as `ScoreboardHead::is_sound` tests.
+    pub(crate) fn from_parts(sender: F, parts: SendingParts<N>) -> Self {
+        SendingEndOver {
+            buffer: SendBufferOver::from_parts(sender, parts.buffer),
+            timer: parts.timer,
+            first_timeout: parts.first_timeout,
+            bounds: parts.bounds,
+            peer_window: parts.peer_window,
+            greatest_window: parts.greatest_window,
+            last_window: parts.last_window,
+            segment_size: parts.segment_size,
+            is_open: parts.is_open,
+            nagle: parts.nagle,
+            is_window_probe_due: parts.is_window_probe_due,
+            is_overdue: parts.is_overdue,
+        }
+    }
+
+    /// Returns the sender and the parts, which represent the end.
+    pub(crate) fn into_parts(self) -> (F, SendingParts<N>) {
+        let SendingEndOver {
+            buffer,
+            timer,
+            first_timeout,
+            bounds,
+            peer_window,
+            greatest_window,
+            last_window,
+            segment_size,
+            is_open,
+            nagle,
+            is_window_probe_due,
+            is_overdue,
+        } = self;
+        let (sender, buffer) = buffer.into_parts();
+        let parts = SendingParts {
+            buffer,
+            timer,
+            first_timeout,
+            bounds,
+            peer_window,
+            greatest_window,
+            last_window,
+            segment_size,
+            is_open,
+            nagle,
+            is_window_probe_due,
+            is_overdue,
+        };
+        (sender, parts)
+    }
+
+    /// Begins with a peer, whose SYN announced a window, how many bytes a segment may have, and whether it reports
+    /// blocks (SACK): one that doesn't couldn't answer a probe, and is sent none. What was written stays. It is done
+    /// once, before anything is sent; a second time begins with another peer, and the timer runs if something is in
+    /// flight.
     pub fn open(&mut self, it: Announcement, segment_size: usize, reports: bool, now: Instant) {
         self.buffer.expect_reports(reports);
         self.renew(reports, now);
@@ -151,7 +293,8 @@ impl<S: Storage<u8>, const N: usize> SendingEndOver<S, N> {
         self.is_open = false;
     }
 
-    /// Returns whether a SYN is to be sent now, and starts the timer for the next one: until something is acknowledged.
+    /// Returns whether a SYN is to be sent now, the first one or one after a timeout, and starts the timer for the next.
+    /// Ask it only until something is acknowledged, at which it doesn't look.
     pub fn is_opening_due(&mut self, now: Instant) -> bool {
         let is_first = self.expires_at().is_none();
         let has_expired = self.expire(now).is_some();
@@ -159,23 +302,12 @@ impl<S: Storage<u8>, const N: usize> SendingEndOver<S, N> {
         has_expired || is_first
     }
 
-    /// Enqueues the first of these bytes, as many as there is room for, and returns how many.
-    #[must_use]
-    pub fn write(&mut self, bytes: &[u8]) -> usize {
-        self.buffer.write(bytes)
-    }
-
-    /// Ends the stream after what was written.
-    pub fn close(&mut self) {
-        self.buffer.close();
-    }
-
     /// Takes what a segment acknowledges and announces, and the blocks that it reports. It `is_empty` if it has no byte
     /// and no FIN. Whatever it says, the end stays sound.
     ///
-    /// A block counts that begins above the first number that isn't reported, has a number, and ends where something was
-    /// sent and less than 2^32 above that one, if what is reported beyond that one is at most `N` runs then. Any other
-    /// block says nothing.
+    /// A block counts that begins above the first number that isn't reported, has a number, and ends where something
+    /// was sent and less than 2^32 above that one, if what is reported beyond that one is at most `N` runs then. Any
+    /// other block says nothing.
     pub fn acknowledged(
         &mut self,
         it: Announcement,
@@ -199,8 +331,8 @@ impl<S: Storage<u8>, const N: usize> SendingEndOver<S, N> {
         }
     }
 
-    /// Has the buffer take an acknowledgement. Returns `None` if it doesn't; else whether a block reports what wasn't known,
-    /// and whether a recovery begins.
+    /// Has the buffer take an acknowledgement. Returns `None` if it doesn't; else whether a block reports what wasn't
+    /// known, and whether a recovery begins.
     fn hear(
         &mut self,
         ack: u64,
@@ -218,8 +350,8 @@ impl<S: Storage<u8>, const N: usize> SendingEndOver<S, N> {
         self.time(numbers, it.ack, reports, now);
     }
 
-    /// Returns the first number that isn't acknowledged, near which those of an acknowledgement are, and the one after the
-    /// last that was sent.
+    /// Returns the first number that isn't acknowledged, near which those of an acknowledgement are, and the one after
+    /// the last that was sent.
     #[must_use]
     pub fn numbers(&self) -> SentNumbers {
         self.buffer.numbers()
@@ -250,8 +382,8 @@ impl<S: Storage<u8>, const N: usize> SendingEndOver<S, N> {
         self.last_window = it.window;
     }
 
-    /// Takes the sample of a timed segment that is reported, and tells the timer what was acknowledged, and whether a block
-    /// reported what wasn't known.
+    /// Takes the sample of a timed segment that is reported, and tells the timer what was acknowledged, and whether a
+    /// block reported what wasn't known.
     fn time(&mut self, numbers: SentNumbers, ack: u64, reports: bool, now: Instant) {
         self.sample(now);
         tell(&mut self.timer, self.bounds, numbers, ack, reports, now);
@@ -369,8 +501,8 @@ impl<S: Storage<u8>, const N: usize> SendingEndOver<S, N> {
         self.is_window_probe_due || self.is_overdue
     }
 
-    /// Returns whether a range is worth a segment (RFC 9293, 3.8.6.2.1): a whole one; or, unless Nagle's rule has it wait,
-    /// all that is left, or half of the greatest window that the peer announced.
+    /// Returns whether a range is worth a segment (RFC 9293, 3.8.6.2.1): a whole one; or, unless Nagle's rule has it
+    /// wait, all that is left, or half of the greatest window that the peer announced.
     fn is_worth(&self, from: u64, to: u64) -> bool {
         let is_whole = self.segment_size as u64 <= to.saturating_sub(from);
         is_whole || self.is_enough(from, to) && !self.delays()
@@ -411,10 +543,10 @@ impl<S: Storage<u8>, const N: usize> SendingEndOver<S, N> {
     }
 
     /// Returns the segment that is to be sent now, and takes notice that it is: if the peer's window and the congestion
-    /// window have room for one, or as a probe. What was never sent is held back if it is less than a segment, unless it is
-    /// all that is left, or half of the greatest window that the peer announced (RFC 9293, 3.8.6.2.1), and Nagle's rule
-    /// doesn't have it wait. Once the timer has ended, the next segment isn't held back. While anything that was written
-    /// isn't acknowledged, the timer runs.
+    /// window have room for one, or as a probe. What was never sent is held back if it is less than a segment, unless
+    /// it is all that is left, or half of the greatest window that the peer announced (RFC 9293, 3.8.6.2.1), and
+    /// Nagle's rule doesn't have it wait. Once the timer has ended, the next segment isn't held back. While anything
+    /// that was written isn't acknowledged, the timer runs.
     pub fn next_segment(&mut self, congestion_window: u64, now: Instant) -> Option<Outgoing> {
         let sent = self.numbers().sent;
         let (chosen, is_probe) = self.choose(congestion_window);
@@ -432,19 +564,6 @@ impl<S: Storage<u8>, const N: usize> SendingEndOver<S, N> {
         })
     }
 
-    /// Lends the bytes of a segment from `pos` on, whose numbers are below `end`, in two parts, and returns whether the
-    /// stream ends after them. Of a position that is acknowledged it lends none.
-    #[must_use]
-    pub fn bytes(&self, pos: u64, end: u64) -> (&[u8], &[u8], bool) {
-        self.buffer.bytes(pos, end)
-    }
-
-    /// Returns whether all that was written is acknowledged, and the end.
-    #[must_use]
-    pub fn is_done(&self) -> bool {
-        self.buffer.is_done()
-    }
-
     /// Returns when `expired` is to be asked.
     #[must_use]
     pub fn expires_at(&self) -> Option<Instant> {
@@ -452,8 +571,8 @@ impl<S: Storage<u8>, const N: usize> SendingEndOver<S, N> {
     }
 
     /// Returns how often the timeout has passed in a row, without anything new that was acknowledged or reported in
-    /// between, that of a SYN too: enough of them, and the peer is gone. Probes of a window that is shut count too, though
-    /// each is answered.
+    /// between, that of a SYN too: enough of them, and the peer is gone. Probes of a window that is shut count too,
+    /// though each is answered.
     #[must_use]
     pub fn timeouts(&self) -> u64 {
         self.timer.timeouts()
@@ -487,15 +606,10 @@ impl<S: Storage<u8>, const N: usize> SendingEndOver<S, N> {
             .acknowledgement_number(self.buffer.numbers())
     }
 
-    /// Returns how many bytes `write` would take.
-    #[must_use]
-    pub fn window(&self) -> usize {
-        self.buffer.window()
-    }
-
-    /// Enables Nagle's rule (RFC 9293, 3.7.4), or disables it. While something that was sent isn't acknowledged, less than a
-    /// whole segment waits by it, unless the stream is closed or the timer has ended. It is enabled at first, as in a socket
-    /// of smoltcp: the RFC wants it so. Disable it where few bytes are written at a time, and none of them is to wait.
+    /// Enables Nagle's rule (RFC 9293, 3.7.4), or disables it. While something that was sent isn't acknowledged, less
+    /// than a whole segment waits by it, unless the stream is closed or the timer has ended. It is enabled at first, as
+    /// in a socket of smoltcp: the RFC wants it so. Disable it where few bytes are written at a time, and none of them
+    /// is to wait.
     pub fn set_nagle_enabled(&mut self, enabled: bool) {
         self.nagle = enabled;
     }
@@ -529,7 +643,7 @@ fn tell(
 }
 
 /// Finds what is overdue, if it is sought, and returns whether a recovery begins.
-fn seek<S: Storage<u8>, const N: usize>(buffer: &mut SendBufferOver<S, N>, is_sought: bool) -> bool {
+fn seek<F: StreamSender, const N: usize>(buffer: &mut SendBufferOver<F, N>, is_sought: bool) -> bool {
     is_sought && buffer.find_overdue()
 }
 
