@@ -36,8 +36,12 @@ import worked
 
 REPOSITORY = pathlib.Path(__file__).resolve().parent.parent
 ROWS, PROGRAM = "rust/tests/rows/rows.txt", "rust/tests/net_bench/rows.txt"
-ASSEMBLERS = "crates/net_core_tests/src/worked/assembler_rows.rt"
-PROGRAM_TABLES = "crates/net_program_tests/src/program_rows.rt"
+TABLES = {
+    **{f"crates/net_core_tests/src/worked/{name}_rows.rt": rows for name, rows in {
+        "assembler": tables.assembler_rows, "ring": tables.ring_rows, "packets": tables.packet_rows,
+        "receiver": tables.receiver_rows}.items()},
+    "crates/net_program_tests/src/program_rows.rt": tables.program_rows,
+}
 
 
 def text_of(blocks):
@@ -63,8 +67,7 @@ def given():
         print(f"{name:10} {len(of_subject):4} blocks {rows:6} lines")
     blocks = [block for of_subject in subjects.values() for block in of_subject] + by_hand.drawn()
     print(f"{len(branches.ALL)} questions, {sum(len(each.counts) for each in branches.ALL)} answers")
-    return {ROWS: text_of(blocks), PROGRAM: text_of(seen(program)), ASSEMBLERS: tables.assembler_rows(),
-            PROGRAM_TABLES: tables.program_rows()}, wrong
+    return {ROWS: text_of(blocks), PROGRAM: text_of(seen(program)), **{name: rows() for name, rows in TABLES.items()}}, wrong
 
 
 def unknown_tests():

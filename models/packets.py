@@ -69,8 +69,8 @@ class Packets:
 
     def lend(self, part, seed):
         begin, end = part
-        shown = show_bytes(self.storage[begin:end])
-        self.storage[begin:end] = pattern(end - begin, seed)
+        shown, written = show_bytes(self.storage[begin:end]), pattern(end - begin, seed)
+        self.storage[begin:begin + len(written)] = written
         return shown
 
     def gap_for(self, size):

@@ -6,6 +6,9 @@ MOST_BYTES = 8
 
 
 def pattern(count, seed):
+    """So many bytes of a seed; or those that are given in its place, which may be fewer."""
+    if isinstance(seed, bytes):
+        return bytearray(seed[:count])
     state, result = seed, bytearray(count)
     for at in range(count):
         state = (state * 6364136223846793005 + 1442695040888963407) & TOP

@@ -2,9 +2,11 @@
 contradicts ends the script.
 
 A row that makes the calls of a test of smoltcp names it: `test_buffer_enqueue_many`, say. What it expects is what that
-test expects. A row without a name is worked out by hand from the pages: CALLING.md of the crate for calls, docs/BENCH.md
-for lines of modes.
+test expects. A row with no name, or another one, is worked out by hand from the pages: CALLING.md of the crate for calls,
+docs/BENCH.md for lines of modes.
 """
+import re
+
 import assembler
 import closing
 import ending
@@ -40,94 +42,116 @@ RINGS = [
      "enqueue_one_with 1 1: ok; enqueue_one_with 2 1: ok; enqueue_one_with 3 1: ok; enqueue_one_with 4 1: ok; "
      "enqueue_one_with 5 1: full; dequeue_one_with 9 1: ok 0; dequeue_one_with 9 1: ok 1; dequeue_one_with 9 1: ok 2; "
      "dequeue_one_with 9 1: ok 3; dequeue_one_with 9 1: ok 4; dequeue_one_with 9 1: empty"),
+    ("test_buffer_write_wholly",
+     8, "enqueue_many 8 1: 8:; clear: done; enqueue_many 4 2: 4:; dequeue_many 4 3: 4:; enqueue_many 8 4: 8:"),
     ("", 4096, "enqueue_slice 3000 1: 3000; dequeue_many 3000 2: 3000#; enqueue_slice 6000 3: 4096; dequeue_many 5000 4: 4096#"),
     ("", 3, "pop_back: empty; push_one 97: ok; push_one 98: ok; push_one 99: ok; push_one 100: full; pop_back: 1:63; "
      "dequeue_one 0: 1:61; pop_back: 1:62; pop_back: empty; get_unallocated 0 3 1: 2:"),
     ("", 4, "enqueue_slice 3 1: 3; dequeue_slice 3 2: 3; rewind_if_empty: done; get_unallocated 0 4 3: 4:; "
      "enqueue_slice 2 4: 2; dequeue_allocated 1: done; rewind_if_empty: done; get_unallocated 0 4 5: 2:"),
-    ("test_buffer_dequeue_slice",
-     12, "enqueue_slice 12 1: 12; dequeue_slice 8 2: 8; enqueue_slice 4 3: 4; dequeue_slice 8 4: 8"),
-    ("test_buffer_read_allocated",
-     12, "enqueue_many 12 1: 12#; dequeue_many 6 2: 6:; enqueue_many 3 3: 3:; read_allocated 3 6 4: 6; "
-         "read_allocated 6 6 5: 3"),
-    ("test_buffer_write_unallocated",
-     12, "enqueue_many 6 1: 6:; dequeue_many 6 2: 6:; write_unallocated 0 3 3: 3; write_unallocated 3 6 4: 6; "
-         "get_unallocated 3 3 5: 3:; write_unallocated 9 6 6: 3; get_unallocated 9 3 7: 3:"),
-    ("test_buffer_enqueue_many", 12, "enqueue_many 8 1: 8:; enqueue_many 8 2: 4:"),
-    ("test_buffer_get_allocated",
-     12, "enqueue_slice 4 1: 4; enqueue_slice 8 2: 8; dequeue_many 4 3: 4:; get_allocated 4 8: 4:; "
-         "enqueue_slice 4 4: 4; get_allocated 4 8: 4:; get_allocated_mut 6 8 5: 2:; as_slices: 8:"),
-    ("test_buffer_with_no_capacity",
-     0, "get_unallocated 0 0 1: 0:; get_allocated 0 0: 0:; dequeue_allocated 0: done; enqueue_many 0 1: 0:; "
-        "enqueue_one 0: full"),
-    ("test_buffer_write_wholly",
-     8, "enqueue_many 2 1: 2:; enqueue_many 2 2: 2:; dequeue_many 4 3: 4:; enqueue_many 8 4: 8:; clear: done; "
-        "enqueue_many 4 5: 4:; dequeue_many 4 6: 4:; enqueue_many 8 7: 8:"),
-    ("test_buffer_enqueue_many_with",
-     12, "enqueue_many_with 2 1: 2 12#; enqueue_many_with 2 2: 2 10#; enqueue_many_with 4 3: 4 8#; "
-         "dequeue_many 4 4: 4:; enqueue_many_with 4 5: 4 4#; enqueue_many_with 4 6: 4 4#; get_allocated 0 12: 8:; "
-         "get_allocated 8 4: 4:"),
-    ("test_buffer_get_unallocated",
-     12, "get_unallocated 16 4 1: 0:; get_unallocated 0 4 2: 4:; enqueue_many 4 3: 4:; get_unallocated 4 8 4: 4:; "
-         "enqueue_many 8 5: 8:"),
-    ("", 2, "enqueue_one_with 7 0: err; dequeue_one 0: empty; enqueue_one_with 7 1: ok 7"),
     ("",
      2, "enqueue_one 97: 1:; enqueue_one 98: 1:; enqueue_one 99: full; dequeue_one 122: 1:61; get_unallocated 0 2 1: "
         "1:7a; dequeue_one 98: 1:62; dequeue_one 99: empty"),
-    ("", 2, "enqueue_one 97: 1:; enqueue_one 98: 1:; dequeue_one_with 122 0: err 97; dequeue_one 1: 1:7a; "
-        "dequeue_one_with 2 1: ok 98"),
-    ("", 4, "get_unallocated 18446744073709551615 1 1: 0:; write_unallocated 18446744073709551615 1 1: 0; "
-        "enqueue_slice 3 1: 3; dequeue_many 2 2: 2:; get_unallocated 18446744073709551615 1 1: 0:; "
-        "get_allocated 18446744073709551615 18446744073709551615: 0:; "
-        "read_allocated 18446744073709551615 2 1: 0; get_allocated 0 18446744073709551615: 1:"),
-    ("", 8, "enqueue_many 4 1: 4:; dequeue_many 4 2: 4:; write_unallocated 0 2 3: 2; enqueue_unallocated 2: done; "
-        "get_allocated 0 2: 2:; enqueue_unallocated 7: forbidden"),
-    ("", 8, "enqueue_many 4 1: 4:; dequeue_many 4 2: 4:; write_unallocated 0 2 3: 2; enqueue_many 2 4: 2:"),
-    ("", 4, "enqueue_many_with 0 1: 0 4#; enqueue_slice 4 2: 4; dequeue_many_with 0 3: 0 4#; dequeue_slice 4 4: 4"),
+    ("", 4, "enqueue_slice 3 1: 3; dequeue_many 2 2: 2:; get_unallocated 18446744073709551615 1 1: 0:; "
+        "get_allocated 18446744073709551615 18446744073709551615: 0:; read_allocated 18446744073709551615 2 1: 0; "
+        "get_allocated 0 18446744073709551615: 1:; enqueue_unallocated 4: forbidden"),
     ("", 1, "dequeue_one_with 0 1: empty; enqueue_slice 2 1: 1; enqueue_one_with 0 1: full; dequeue_slice 1 2: 1"),
 ]
 
-# The same of a packet queue: how many slots and bytes it has.
-PACKETS = [
-    ("test_simple, test_peek",
-     4, 16, "peek: empty; dequeue 1: empty; take 1: empty; pop_slice 0 1: empty; dequeue_with 1 1 1: empty; "
-            "push_slice 6 0 1: ok; enqueue 16 1 2: full; peek: 0 6:; dequeue 3: 0 6:; peek: empty"),
-    ("test_contiguous_window_too_small, test_contiguous_window_wrap, test_capacity_too_small, test_metadata_full_empty, "
-     "clear, test_padding_with_large_payload, test_contig_window_prioritized",
-     4, 16, "enqueue 4 0 1: 4:; enqueue 8 0 2: 8:; dequeue 3: 0 4:; enqueue 8 0 4: full; reset: done; enqueue 15 0 5: 15#; "
-            "dequeue 6: 0 15#; enqueue 16 0 7: 16#; reset: done; enqueue 32 0 8: full; enqueue 1 0 9: 1:; "
-            "enqueue 1 0 10: 1:; enqueue 1 0 11: 1:; enqueue 1 0 12: 1:; enqueue 1 0 13: full; reset: done; "
-            "enqueue 6 0 14: 6:; reset: done; enqueue 16 0 15: 16#; reset: done; enqueue 12 0 16: 12#; "
-            "dequeue 17: 0 12#; enqueue 12 0 18: 12#; reset: done; enqueue 4 0 19: 4:; dequeue 20: 0 4:; "
-            "enqueue 5 0 21: 5:"),
-    ("test_padding",
-     4, 16, "enqueue 6 0 1: 6:; enqueue 8 0 2: 8:; dequeue 3: 0 6:; enqueue 4 0 4: 4:; dequeue 5: 0 8:; peek: 0 4:; "
-            "dequeue 6: 0 4:"),
-    ("test_dequeue_with",
-     4, 16, "enqueue 6 0 1: 6:; enqueue 8 0 2: 8:; dequeue 3: 0 6:; enqueue 4 0 4: 4:; dequeue 5: 0 8:; "
-            "dequeue_with 9 6 0: err 0 4#; peek: 9 4:; dequeue_with 1 7 1: ok 9 4#; peek: empty"),
-    ("test_enqueue_fallible_full_metadata_fn_not_called",
-     4, 16, "enqueue 12 0 1: 12#; enqueue 1 0 2: 1:; enqueue 1 0 3: 1:; enqueue 1 0 4: 1:; dequeue 5: 0 12#; "
-            "enqueue_with_infallible 5 1 0 6: full; enqueue 1 0 7: 1:"),
-    ("", 4, 16, "enqueue 15 0 1: 15#; dequeue 2: 0 15#; enqueue_with_infallible 16 2 0 3: 2 16#; enqueue 0 0 4: 0:; "
-            "dequeue 5: 0 2:; dequeue 6: 0 0:"),
-    ("", 4, 16, "enqueue 10 0 1: 10#; enqueue 4 0 2: 4:; dequeue 3: 0 10#; enqueue_with_infallible 5 0 0 4: 0 5#; "
-            "dequeue 5: 0 4:; peek: 0 0:; dequeue 6: 0 0:; peek: empty"),
-    ("", 2, 4, "place 2 5 1: 2:; take 2: 5 2:; peek: empty; dequeue 3: empty; take 4: empty; pop_slice 0 5: empty"),
-    ("", 2, 0, "enqueue 0 0 1: 0:; enqueue 1 0 2: full; enqueue 0 0 3: 0:; enqueue 0 0 4: full"),
-    ("", 2, 4, "enqueue 2 0 1: 2:; enqueue 1 0 2: 1:; dequeue 3: 0 2:; enqueue 2 0 4: full"),
-    ("", 1, 3, "enqueue 2 0 1: 2:; dequeue 2: 0 2:; enqueue_with_infallible 2 2 0 3: 2 2#"),
-    ("", 4, 16, "push_slice 15 7 1: ok; push_slice 2 8 2: full; pop_slice 2 3: 7 2; peek: empty; push_slice 2 9 4: ok; "
-            "pop_slice 3 5: 9 2"),
+# Rows that are tables of Rattle too: a name, the bytes of the storage, and the calls, each with its whole reply. Bytes are
+# in quotes, after `#` where the model shows their digest however few there are. A reply that ends in `:` or `#` goes on
+# with bytes that the row doesn't say. The Cargo crate's rows have seeds for the bytes.
+DOTS = 12 * "."
+QUEUED = [
+    ("test_buffer_dequeue_slice", DOTS, "enqueue_slice 12 'abcdefghijkl': 12; dequeue_slice 8 '': 8 'abcdefgh'|4 8 8; "
+     "enqueue_slice 4 'abcd': 4; dequeue_slice 8 '': 8 'ijklabcd'|0 12 8"),
+    ("test_buffer_read_allocated", DOTS, "enqueue_many 12 'abcdefghijkl': '............'; dequeue_many 6 '': 'abcdef'; "
+     "enqueue_many 3 'mno': 'abc'; read_allocated 3 6 '': 6 'jklmno'; read_allocated 6 6 '': 3 'mno'"),
+    ("test_buffer_enqueue_many", DOTS, "enqueue_many 8 '': '........'; enqueue_many 8 '': '....'|12 0 0"),
+    ("test_buffer_get_allocated", DOTS, "enqueue_slice 4 'abcd': 4; enqueue_slice 8 'efghijkl': 8; "
+     "dequeue_many 4 '': 'abcd'; get_allocated 4 8: 'ijkl'; enqueue_slice 4 'abcd': 4; get_allocated 4 8: 'ijkl'; "
+     "get_allocated_mut 6 8 '': 'kl'; as_slices: 'efghijkl' 'abcd'"),
+    ("test_buffer_write_wholly", 8 * ".", "enqueue_many 2 'ab': '..'; enqueue_many 2 'cd': '..'; dequeue_many 4 '': 'abcd'; "
+     "enqueue_many 8 '': 'abcd....'"),
+    ("test_buffer_enqueue_many_with", DOTS, "enqueue_many_with 2 'ab': 2 #'............'; "
+     "enqueue_many_with 2 'cdXX': 2 #'..........'; enqueue_many_with 4 'efgh': 4 #'XX......'; dequeue_many 4 '': 'abcd'; "
+     "enqueue_many_with 4 'ijkl': 4 #'....'; enqueue_many_with 4 'abcd': 4 #'abcd'; get_allocated 0 12: 'efghijkl'; "
+     "get_allocated 8 4: 'abcd'"),
+    ("an_empty_ring_is_enqueued_from_its_beginning", 8 * ".", "enqueue_many 4 'abcd': '....'; "
+     "dequeue_many 4 '': 'abcd'|0 8 4; enqueue_many 8 '': 'abcd....'"),
+    ("what_a_refusing_closure_writes_stays", 2 * "\0", "enqueue_one_with 7 0: err 0|0 2 2; get_unallocated 0 1 '': '\7'; "
+     "dequeue_one 0: empty"),
+    ("what_a_keeping_closure_writes_stays", 2 * "\0", "enqueue_slice 2 'ab': 2; dequeue_one_with 122 0: err 97|2 0 0; "
+     "dequeue_slice 2 '': 2 'zb'"),
+    ("what_is_written_and_not_counted_stays", 4 * "\0", "enqueue_many_with 0 'ab': 0 #'\0\0\0\0'|0 4 4; "
+     "get_unallocated 0 2 '': 'ab'"),
+    ("what_is_written_and_not_taken_off_stays", 4 * ".", "enqueue_slice 4 'abcd': 4; dequeue_many_with 0 'x': 0 #'abcd'; "
+     "dequeue_slice 4 '': 4 'xbcd'"),
+    ("test_buffer_enqueue_dequeue_one", 3 * ".", "dequeue_one 0: empty; enqueue_one 97: '.'; enqueue_one 98: '.'; "
+     "enqueue_one 99: '.'; enqueue_one 0: full; dequeue_one 0: 'a'; dequeue_one 0: 'b'; dequeue_one 0: 'c'; "
+     "dequeue_one 0: empty"),
+]
+UNALLOCATED = [
+    ("test_buffer_write_unallocated", DOTS, "enqueue_many 6 'abcdef': '......'; dequeue_many 6 '': 'abcdef'; "
+     "write_unallocated 0 3 'ghi': 3; write_unallocated 3 6 'jklmno': 6; get_unallocated 3 3 '': 'jkl'; "
+     "write_unallocated 9 6 'pqrstu': 3; get_unallocated 9 3 '': 'pqr'"),
+    ("test_buffer_get_unallocated", DOTS, "get_unallocated 16 4 '': ''; get_unallocated 0 4 'abcd': '....'; "
+     "enqueue_many 4 '....': 'abcd'; get_unallocated 4 8 'ijkl': '....'; enqueue_many 8 '': '....ijkl'"),
+    ("test_buffer_with_no_capacity", "", "get_unallocated 0 0 '': ''; get_allocated 0 0: ''; dequeue_allocated 0: done; "
+     "enqueue_many 0 '': ''; enqueue_one 0: full|0 0 0"),
+    ("what_was_written_ahead_is_enqueued", 8 * "\0", "enqueue_many 4 '': '\0\0\0\0'; dequeue_many 4 '': '\0\0\0\0'; "
+     "write_unallocated 0 2 'xy': 2; enqueue_unallocated 2: done; get_allocated 0 2: 'xy'|2 6 2"),
+    ("enqueue_many_forgets_what_was_written_ahead", 8 * "\0", "enqueue_many 4 '': '\0\0\0\0'; "
+     "dequeue_many 4 '': '\0\0\0\0'; write_unallocated 0 2 'xy': 2; enqueue_many 2 '': '\0\0'"),
+    ("the_highest_offset", 4 * ".", "get_unallocated 18446744073709551615 1 '': ''; "
+     "write_unallocated 18446744073709551615 1 'a': 0"),
 ]
 
-# The same of long packets, by each call, with long gaps.
-LONG_PACKETS = [
-    ("", 4, 4096, "push_slice 3000 7 1: ok; push_slice 600 8 2: ok; pop_slice 3000 3: 7 3000; push_slice 2500 9 4: ok; "
+# The same of a packet queue over zeros: how many slots and bytes it has.
+PACKETS = [
+    ("test_simple", 4, 16, "enqueue 6 0 'abcdef': 6:; enqueue 16 0 '': full|1 4 6; dequeue '': 0 'abcdef'; peek: empty; "
+     "dequeue '': empty"),
+    ("test_peek", 4, 16, "peek: empty; dequeue '': empty; enqueue 6 0 'abcdef': 6:; peek: 0 'abcdef'; dequeue '': 0 'abcdef'; "
+     "peek: empty; dequeue '': empty"),
+    ("test_contiguous_window_too_small", 4, 16, "enqueue 4 0 '': 4:; enqueue 8 0 '': 8:; dequeue '': 0 4:; "
+     "enqueue 8 0 '': full|1 4 8"),
+    ("test_contiguous_window_wrap", 4, 16, "enqueue 15 0 '': 15#; dequeue '': 0 15#; enqueue 16 0 '': 16#"),
+    ("test_capacity_too_small", 4, 16, "enqueue 32 0 '': full"),
+    ("test_metadata_full_empty", 4, 16, "enqueue 1 0 '': 1:; enqueue 1 0 '': 1:; enqueue 1 0 '': 1:; "
+     "enqueue 1 0 '': 1:|4 4 4 16 0 1; enqueue 1 0 '': full"),
+    ("test_padding", 4, 16, "enqueue 6 0 '': 6:; enqueue 8 0 '': 8:; dequeue '': 0 6:; enqueue 4 0 'abcd': 4:|3 4 14; "
+     "dequeue '': 0 8:|2 4 6; peek: 0 'abcd'|1 4 4; dequeue '': 0 'abcd'|0 4 0"),
+    ("test_dequeue_with", 4, 16, "enqueue 6 0 '': 6:; enqueue 8 0 '': 8:; dequeue '': 0 6:; enqueue 4 0 'abcd': 4:|3 4 14; "
+     "dequeue '': 0 8:; dequeue_with 0 '' 123: err 0 #'abcd'|1 4 4; dequeue_with 0 '' 1: ok 0 #'abcd'|0 4 0"),
+    ("clear", 4, 16, "enqueue 6 0 '': 6:; reset: done|0 4 0 16 1 0; enqueue 16 0 '': 16#"),
+    ("test_padding_with_large_payload", 4, 16, "enqueue 12 0 '': 12#; dequeue '': 0 12#; enqueue 12 0 '': 12#"),
+    ("test_contig_window_prioritized", 4, 16, "enqueue 4 0 '': 4:; dequeue '': 0 4:; enqueue 5 0 '': 5:"),
+    ("test_enqueue_fallible_full_metadata_fn_not_called", 4, 16, "enqueue 12 0 '': 12#; enqueue 1 0 '': 1:; "
+     "enqueue 1 0 '': 1:; enqueue 1 0 '': 1:; dequeue '': 0 12#; enqueue_with_infallible 5 1 0 '': full|3 4 3; "
+     "enqueue 1 0 '': 1:"),
+    ("an_empty_queue_is_filled_from_its_beginning", 4, 16, "enqueue 15 0 '': 15#; dequeue '': 0 15#; "
+     "enqueue_with_infallible 16 2 0 '': 2 16#; enqueue 0 0 '': 0:; dequeue '': 0 2:; dequeue '': 0 0:"),
+    ("what_a_keeping_closure_writes_stays", 4, 16, "enqueue 2 7 'ab': 2:; dequeue_with 9 'x' 0: err 7 #'ab'; "
+     "peek: 9 'xb'|1 4 2; dequeue '': 9 'xb'"),
+    ("a_packet_of_no_bytes_behind_a_gap", 4, 16, "enqueue 10 0 '': 10#; enqueue 4 0 '': 4:; dequeue '': 0 10#; "
+     "enqueue_with_infallible 5 0 0 '': 0 5#|3 4 6; dequeue '': 0 4:; peek: 0 ''|1 4 0; dequeue '': 0 ''; peek: empty; "
+     "dequeue '': empty"),
+    ("packets_of_no_bytes", 2, 0, "enqueue 0 0 '': 0:; enqueue 1 0 '': full; enqueue 0 0 '': 0:; enqueue 0 0 '': full"),
+    ("no_slot", 0, 16, "enqueue 0 0 '': full|0 0 0 16 1 1; peek: empty; dequeue '': empty"),
+    ("a_shorter_packet_than_was_placed", 1, 3, "enqueue 2 0 '': 2:; dequeue '': 0 2:; enqueue_with_infallible 2 2 0 '': 2 2#"),
+]
+
+# Other packets, by seeds: calls that no table of Rattle has, and long ones.
+MORE_PACKETS = [
+    (4, 16, "take 1: empty; pop_slice 0 1: empty; dequeue_with 1 1 1: empty"),
+    (2, 4, "place 2 5 1: 2:; take 2: 5 2:; peek: empty; dequeue 3: empty; take 4: empty; pop_slice 0 5: empty"),
+    (2, 4, "enqueue 2 0 1: 2:; enqueue 1 0 2: 1:; dequeue 3: 0 2:; enqueue 2 0 4: full"),
+    (4, 16, "push_slice 15 7 1: ok; push_slice 2 8 2: full; pop_slice 2 3: 7 2; peek: empty; push_slice 2 9 4: ok; "
+            "pop_slice 3 5: 9 2"),
+    (4, 4096, "push_slice 3000 7 1: ok; push_slice 600 8 2: ok; pop_slice 3000 3: 7 3000; push_slice 2500 9 4: ok; "
               "pop_slice 1000 5: 8 600; peek: 9 2500#; take 6: 9 2500#; enqueue 3000 1 7: 3000#; dequeue 8: 1 3000#; "
               "enqueue_with_infallible 4000 3500 2 9: 3500 4000#; dequeue_with 1 2 1: ok 2 3500#"),
-    ("",
-     3, 4096, "place 3000 1 1: 3000#; place 600 2 2: 600#; take 3: 1 3000#; place 2000 3 4: 2000#; place 1 4 5: full; "
+    (3, 4096, "place 3000 1 1: 3000#; place 600 2 2: 600#; take 3: 1 3000#; place 2000 3 4: 2000#; place 1 4 5: full; "
               "dequeue 6: 2 600#; pop_slice 2000 7: 3 2000"),
 ]
 
@@ -229,7 +253,7 @@ SENDERS = [
 ]
 
 
-# The same of a receiver of four runs.
+# The same of a receiver of four runs, whose other worked rows are the streams of the program's.
 RECEIVERS = [
     (100, 0, "segment 10 3 1: 3; newest_runs 10 3: 1 10-13; segment 20 3 2: 3; newest_runs 20 3: 2 20-23 10-13; "
              "segment 30 3 3: 3; newest_runs 30 3: 3 30-33 20-23 10-13; segment 40 3 4: 3; newest_runs 40 3: 3 40-43 30-33 20-23; "
@@ -246,29 +270,20 @@ RECEIVERS = [
               "segment 105 1 4: 1; newest_runs 105 2: 2 4-6 8-10"),
     (8, 100, "segment 103 2 1: 2 0 3-5; count_new 103 2: 0; count_new 102 4: 2; count_new 90 40: 6; window_end: 8; "
              "segment 100 3 2: 3 5 -; window_end: 8"),
-    (10, 2 ** 64 - 6, "window_end: none"),
+    (10, 2 ** 64 - 6, "window_end: none; segment 18446744073709551614 2 1: forbidden; fits 18446744073709551615 1: 0"),
     (5, 2 ** 64 - 6, "window_end: 5"),
-    (16, 0, "segment 0 5 1: 5 5 - - -; read 3 2: 3; execute 2 0 0 0: 5 2 14 0#"),
-    (16, 0, "segment 2 2 1: 2 0 2-4; segment 3 2 2: 2 0 2-5; segment 0 2 3: 2 5 -; read 5 4: 5"),
-    (16, 0, "segment 0 2 1: 2 2; segment 0 3 2: 1 1; read 9 3: 3"),
-    (16, 0, "segment 2 2 1: 2 0 2-4; read 9 2: 0; segment 0 2 3: 2 4; read 9 4: 4; execute 2 0 0 0: 4 0 16 0#"),
-    (8, 0, "segment 4 2 1: 2 0 4-6; segment 3 3 2: 3 0 3-6; segment 5 5 3: 3 0 3-8; segment 0 4 4: 4 8 -; "
-           "segment 0 1 5: 0 0; read 8 6: 8"),
-    (64, 0, "segment 10 3 1: 3 0 10-13 -; segment 20 3 2: 3 0 10-13 20-23 -; segment 30 3 3: 3 0 10-13 20-23 30-33; "
-            "segment 40 3 4: 3 0 10-13 20-23 30-33; segment 50 1 5: refused; segment 13 1 6: 1 0 10-14 20-23 30-33; "
-            "segment 0 3 7: 3 3 10-14 20-23 30-33; execute 2 0 0 0: 3 3 61 4#"),
-    (64, 0, "segment 2 1 1: 1 0 2-3 -; segment 4 1 1: 1 0 2-3 4-5 -; segment 6 1 1: 1 0 2-3 4-5 6-7; "
-            "segment 8 1 1: 1 0 2-3 4-5 6-7; segment 10 1 1: refused; segment 62 1 1: refused; "
-            "segment 1 1 2: 1 0 1-3 4-5 6-7; segment 0 1 3: 1 3 4-5 6-7 8-9; segment 10 1 4: 1 0 4-5 6-7 8-9"),
-    (4, 0, "segment 0 5 1: 4 4 -; segment 4 1 2: 0 0 -; read 2 3: 2; segment 4 3 4: 2 2 -; read 4 5: 4; "
-           "segment 8 1 6: 1 0 8-9; segment 6 2 7: 2 3 -; read 9 8: 3"),
-    (0, 0, "segment 0 1 1: 0 0 -; read 1 2: 0; execute 2 0 0 0: 0 0 0 0#"),
-    (16, 0, "segment 18446744073709551614 1 1: 0 0 -; segment 18446744073709551614 2 1: forbidden"),
-    (8, 1000, "segment 998 4 1: 2 2 -; segment 1004 1 2: 1 0 4-5; segment 0 1 3: 0 0 4-5; read 9 4: 2"),
-    (8, 2 ** 64 - 2, "segment 18446744073709551614 1 1: 1 1 -; segment 18446744073709551615 0 2: 0 0 -; "
-                     "fits 18446744073709551615 1: 0; execute 2 0 0 0: 1 1 7 0#"),
     (8, 0, "segment 0 6 1: 6 6; read 4 2: 4; segment 6 4 3: 4 4; peek 0 9: 4:; peek 4 9: 2:; peek 1 2: 2:; peek 6 1: 0:; "
            "as_slices: 4:; peek_slice 5 4: 5; read_with 3: 3 4#; peek 0 9: 1:"),
+]
+
+# Sixty segments that overlap, of a receiver of 64 bytes: where they begin, and how long they are.
+SIXTY = [
+    [(5, 3), (12, 9), (20, 1), (7, 6), (30, 4), (44, 9), (29, 2), (13, 5), (40, 8), (21, 7), (58, 6), (26, 1), (60, 9), (35, 5),
+     (2, 1), (3, 2), (17, 8), (33, 9), (9, 4), (50, 7)],
+    [(1, 1), (45, 3), (52, 9), (24, 6), (6, 9), (15, 2), (38, 4), (62, 5), (28, 8), (11, 7), (0, 1), (1, 9), (43, 1), (19, 9),
+     (31, 3), (47, 5), (8, 8), (55, 4), (36, 6), (22, 2)],
+    [(4, 9), (27, 9), (41, 2), (34, 7), (16, 4), (56, 8), (10, 9), (25, 5), (48, 9), (0, 9), (18, 1), (39, 9), (30, 6), (57, 3),
+     (63, 1), (46, 9), (53, 9), (23, 9), (32, 9), (61, 3)],
 ]
 
 # Two receivers of 16 bytes that take segments, and whether they are then equal.
@@ -464,7 +479,7 @@ RUNS = [
      "stream 4 4",
      "s 0 6162636465;s 4 65;r 2;s 4 656667;r 4;s 8 6a;s 6 6869;r 9;",
      "kept 4 queued 4 sack -;kept 0 queued 0 sack -;read 6162;kept 2 queued 2 sack -;read 63646566;kept 1 queued 0 sack 8-9;kept 2 queued 3 sack -;read 68696a;= Ok"),
-    ("a_range_too_long",
+    ("a_segment_beyond_the_window",
      "stream 16 4",
      "s 18446744073709551614 01;s 18446744073709551614 0102;",
      "kept 0 queued 0 sack -;= line 2: range too long"),
@@ -512,7 +527,7 @@ RUNS = [
      "stream 16 4",
      "s 2 41;--;s 2 42;",
      "kept 1 queued 0 sack 2-3;kept 1 queued 0 sack 2-3;same;= Ok"),
-    ("two_empty_schedules",
+    ("two_fresh_receivers",
      "stream 16 4",
      "--;",
      "same;= Ok"),
@@ -565,6 +580,10 @@ RUNS = [
      "f;f;f;f;f;f;f;f;f;f;f;;f;",
      "front 0;front 0;front 0;front 0;front 0;front 0;front 0;front 0;front 0;front 0;front 0;= line 12: bad command"),
     ("a_read_of_nothing",
+     "stream 16 4",
+     "s 2 4141;r 9;s 0 4242;r 9;?;",
+     "kept 2 queued 0 sack 2-4;read -;kept 2 queued 4 sack -;read 42424141;next 4 queued 0 window 16 held -;= Ok"),
+    ("a_read_of_an_empty_stream",
      "stream 8 4",
      "r 1;",
      "read -;= Ok"),
@@ -673,10 +692,20 @@ ENDINGS = [
     # end below it; both, and the last segment begins with old bytes.
     (8, 1, 0, "keep 5 1 9 0: 1 0|0 0 8 1 - 0 0; keep 0 4 1 0: 4 4|4 4 4 1 - 4 0; can_end 4: 0; keep 4 0 0 1: 0 0|4 4 4 0 4 5 1; "
      "keep 6 0 0 1: other_end|4 4 4 0 4 5 1; read 9: 4:; keep 4 0 0 1: 0 0|4 0 8 0 4 5 2"),
-    (8, 1, 0, "keep 6 0 0 1: 0 0|0 0 8 0 6 0 0; keep 0 4 1 0: 4 4|4 4 4 0 6 4 0; can_end 4: 0; keep 4 0 0 1: 0 0|4 4 4 0 4 5 1"),
+    (8, 1, 0, "keep 6 0 0 1: 0 0|0 0 8 0 6 0 0; keep 0 4 1 0: 4 4|4 4 4 0 6 4 0; can_end 4: 0; keep 4 0 0 1: 0 0|4 4 4 0 4 5 1; "
+     "keep 5 1 9 0: 0 0|4 4 4 0 4 5 1"),
     (8, 1, 0, "keep 5 2 9 1: 2 0|0 0 8 1 7 0 0; keep 0 4 1 1: 4 4|4 4 4 0 4 5 1; keep 5 2 9 1: other_end|4 4 4 0 4 5 1"),
     (8, 1, 0, "keep 2 0 0 1: 0 0|0 0 8 0 2 0 0; keep 0 4 1 1: 4 4|4 4 4 0 4 5 1"),
     (8, 1, 0, "keep 0 2 1 0: 2 2|2 2 6 0 - 2 0; keep 3 4 9 1: 4 0|2 2 6 1 7 2 0; keep 1 3 2 1: 2 2|4 4 4 0 4 5 1"),
+    # What is left of the orders of lwIP's tests double_FIN: four bytes, their end, a byte beyond it, and an end after that.
+    (8, 1, 0, "keep 0 4 1 0: 4 4|4 4 4 0 - 4 0; keep 4 0 0 1: 0 0|4 4 4 0 4 5 1; keep 5 1 9 0: 0 0|4 4 4 0 4 5 1; "
+     "keep 6 0 0 1: other_end|4 4 4 0 4 5 1; keep 5 1 9 0: 0 0|4 4 4 0 4 5 1"),
+    (8, 1, 0, "keep 4 0 0 1: 0 0|0 0 8 0 4 0 0; keep 5 1 9 0: 0 0|0 0 8 0 4 0 0; keep 6 0 0 1: other_end|0 0 8 0 4 0 0; "
+     "keep 5 1 9 0: 0 0; keep 0 4 1 0: 4 4|4 4 4 0 4 5 1; keep 5 1 9 0: 0 0|4 4 4 0 4 5 1; keep 6 0 0 1: other_end|4 4 4 0 4 5 1"),
+    (8, 1, 0, "keep 0 4 1 0: 4 4; keep 5 1 9 0: 1 0|4 4 4 1 - 4 0; keep 6 0 0 1: 0 0|4 4 4 1 6 4 0; keep 4 0 0 1: 0 0|4 4 4 0 4 5 1"),
+    (8, 1, 0, "keep 5 1 9 0: 1 0; keep 6 0 0 1: 0 0|0 0 8 1 6 0 0; keep 0 4 1 0: 4 4|4 4 4 1 6 4 0; keep 4 0 0 1: 0 0|4 4 4 0 4 5 1"),
+    (8, 1, 0, "keep 0 4 1 0: 4 4; keep 6 0 0 1: 0 0|4 4 4 0 6 4 0; keep 4 0 0 1: 0 0|4 4 4 0 4 5 1; keep 5 1 9 0: 0 0|4 4 4 0 4 5 1"),
+    (8, 1, 0, "keep 0 4 1 0: 4 4; keep 5 1 9 0: 1 0; keep 4 0 0 1: 0 0|4 4 4 0 4 5 1; keep 6 0 0 1: other_end|4 4 4 0 4 5 1"),
     # It isn't in order while a byte before it is missing, or once a byte beyond it is queued.
     (8, 1, 0, "keep 5 1 9 0: 1 0|0 0 8 1 - 0 0; keep 3 1 2 1: other_end|0 0 8 1 - 0 0; keep 0 3 1 0: 3 3|3 3 5 1 - 3 0; "
      "keep 3 1 2 1: 1 1|4 4 4 0 4 5 1"),
@@ -840,19 +869,46 @@ SILENT_TIMERS = [
 
 
 def tests_of_smoltcp():
-    """The tests that rows name."""
-    rows = [*RINGS, *PACKETS, *LONG_PACKETS, *ASSEMBLERS]
-    return {name for row in rows for name in row[0].split(", ") if name}
+    """The tests that rows name: all begin with `test_`, but one."""
+    names = [row[0] for row in [*RINGS, *QUEUED, *UNALLOCATED, *PACKETS, *ASSEMBLERS]]
+    return {name for name in names if name == "clear" or name.startswith("test_")}
 
 
 def rows_of(text):
-    """The calls of a row, each with how its reply begins."""
+    """The calls of a row, each with how its reply begins. A word of a call is a number, or bytes in quotes."""
     for row in text.split("; "):
         call, _, begins = row.partition(": ") if ": " in row else row.partition(":")
-        name, *numbers = call.split(" ")
-        if not all(number.removeprefix("-").isdigit() for number in numbers):
+        name, *words = call.split(" ")
+        if not all(re.fullmatch("-?[0-9]+|'.*'", word) for word in words):
             raise SystemExit(f"worked row: {call} has a word that is no number")
-        yield name, [int(number) for number in numbers], begins.strip()
+        yield name, [word[1:-1].encode() if word[0] == "'" else int(word) for word in words], begins.strip()
+
+
+def seeded(text):
+    """The calls of a row whose bytes are written out, with a seed for these. The table of Rattle has their replies."""
+    for seed, (name, words, _) in enumerate(rows_of(text), 1):
+        yield name, [seed if isinstance(word, bytes) else word for word in words], ""
+
+
+def commands(lines):
+    """Lines of a stream: a verb with its numbers and bytes."""
+    for line in filter(None, lines.split(";")):
+        verb, *words = line.split(" ")
+        yield verb, [*map(int, words[:1]), *map(modes.hex_bytes, words[1:])]
+
+
+def streams():
+    """Streams of four runs of the program's: a name, how many bytes, the first position, and commands with their replies."""
+    for name, words, lines, written in RUNS:
+        mode, *numbers = words.split(" ")
+        if mode == "stream" and numbers[1] == "4" and "--" not in lines and ";" in written:
+            yield name, int(numbers[0]), int([*numbers, 0][2]), list(zip(commands(lines), written.split(";")[:-1]))
+
+
+def executed(stream):
+    """A stream as commands of `execute`, with seeds for the bytes."""
+    return [[0, words[0], len(words[1]), seed] if verb == "s" else [1, *words, 0, 0] if verb == "r" else [2, 0, 0, 0]
+            for seed, ((verb, words), _) in enumerate(stream, 1)]
 
 
 def answer(where, subject, name, numbers):
@@ -871,10 +927,10 @@ def agree(name, found, begins):
         raise SystemExit(f"worked row, {name}: expected {begins}, and the model gives {found}")
 
 
-def play(cases, first, subject, text):
+def play(cases, first, subject, rows):
     state = subject.show if hasattr(subject, "show") else str
     cases.begin(first, state())
-    for name, numbers, begins in rows_of(text):
+    for name, numbers, begins in rows_of(rows) if isinstance(rows, str) else rows:
         reply = answer(first, subject, name, numbers)
         agree(f"{first}, {name} {numbers}", f"{reply}|{state()}", begins)
         cases.add(name, numbers, reply, state())
@@ -884,9 +940,12 @@ def add(cases):
     for _, capacity, text in RINGS:
         subject = ring.Bytes(capacity, 0)
         play(cases, f"ring {capacity} 0", subject, text)
-    for _, slots, count, text in PACKETS:
+    for _, storage, text in [*QUEUED, *UNALLOCATED]:
+        subject = ring.Bytes(len(storage), 0)
+        play(cases, f"ring {len(storage)} 0", subject, seeded(text))
+    for slots, count, rows in [*((*row[1:3], seeded(row[3])) for row in PACKETS), *MORE_PACKETS]:
         subject = packets.Packets(slots, count, 0)
-        play(cases, f"packets {slots} {count} 0", subject, text)
+        play(cases, f"packets {slots} {count} 0", subject, rows)
     for _, most, text, runs in ASSEMBLERS:
         subject = assembler.Assembler(most)
         fill = "; ".join(f"add {10 * number} 3: ok" for number in range(1, most + 1))
@@ -909,9 +968,6 @@ def add(cases):
     add_values(cases)
     add_lines(cases)
     add_ends(cases)
-    for _, slots, count, text in LONG_PACKETS:
-        subject = packets.Packets(slots, count, 0)
-        play(cases, f"packets {slots} {count} 0", subject, text)
 
 
 def add_ends(cases):
@@ -972,18 +1028,21 @@ def play_all(cases, most, calls):
 
 
 def add_schedules(cases):
-    """The rows of receivers of segments and reads alone, by one call of `replay`."""
-    kinds = {"segment": 0, "read": 1, "execute": 2}
-    for capacity, first, text in RECEIVERS:
-        calls = list(rows_of(text))
-        if any(name not in kinds or begins == "forbidden" for name, _, begins in calls):
-            continue
-        commands = [([0, *numbers] if name == "segment" else [kinds[name], numbers[0], 0, 0])
-                    for name, numbers, _ in calls]
-        subject = receiver.Pair(capacity, 4, first)
-        cases.begin(f"receiver {capacity} 4 {first}", subject.show())
-        for part in (commands[:2], commands[2:]):
-            receiver.add(cases, subject, "replay", [number for command in part for number in command])
+    """The streams of the program's, by a call each, and by one call of `replay`."""
+    for _, capacity, first, stream in streams():
+        commands = executed(stream)
+        calls = [("segment", numbers) if kind == 0 else ("read", numbers[:2]) if kind == 1 else ("execute", [kind, *numbers])
+                 for kind, *numbers in commands]
+        lists = [("replay", [number for command in part for number in command]) for part in (commands[:2], commands[2:])]
+        for made in (calls, lists):
+            subject = receiver.Pair(capacity, 4, first)
+            cases.begin(f"receiver {capacity} 4 {first}", subject.show())
+            for name, numbers in made:
+                receiver.add(cases, subject, name, numbers)
+    subject = receiver.Pair(64, 4, 0)
+    cases.begin("receiver 64 4 0", subject.show())
+    for seed, segment in enumerate(sum(SIXTY, []), 1):
+        receiver.add(cases, subject, "segment", [*segment, seed])
     reply_often(cases)
     hold_and_send(cases, 64, range(0, 64, 7), False)
     hold_and_send(cases, 16, range(0, 48, 7), True)

@@ -1,8 +1,9 @@
 //! Worked rows: calls with the answers that they must have. Each row has a plain name, which is that of smoltcp's test
-//! if there is one. The names of these rows and of the program's are printed by
+//! if there is one. Files `_rows` are written from models/worked.py. The names of these rows and of the program's are
+//! printed by
 //!
 //! ```text
-//! grep -rnoE '\(?"[a-z][a-z_0-9]{5,}",' crates/net_core_tests/src/worked crates/net_program_tests/src/{modes,rows}.rt
+//! grep -rnoE '\(?"[a-z][a-z_0-9]{5,}",' crates/net_core_tests/src/worked crates/net_program_tests/src/program_rows.rt
 //! ```
 //!
 //! The tests of devices have no table: they are functions of `base`.
@@ -10,7 +11,10 @@
 mod assembler;
 mod assembler_rows;
 mod packets;
+mod packets_rows;
 mod random;
 mod receiver;
+mod receiver_rows;
 mod ring;
+mod ring_rows;
 mod times;

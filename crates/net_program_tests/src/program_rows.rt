@@ -1,6 +1,7 @@
 //! Rows of the program, of models/worked.py: `python3 models/make.py` writes this file.
 use crate::rows::Row;
 
+/// Lines of rings.
 pub static RINGS: [Row<'static>; 15] = [
     (
         "a_ring_in_and_out",
@@ -103,6 +104,7 @@ pub static RINGS: [Row<'static>; 15] = [
     ),
 ];
 
+/// Lines of assemblers.
 pub static ASSEMBLERS: [Row<'static>; 12] = [
     (
         "test_shrink_next_hole",
@@ -122,7 +124,8 @@ pub static ASSEMBLERS: [Row<'static>; 12] = [
         "test_add_then_remove_front_at_front_full",
         "asm 4",
         b"a 10 3\na 20 3\na 30 3\na 40 3\na 1 3\nt 1 3\nt 0 3\np\n",
-        b"ok\nok\nok\nok\nrefused too many holes\nrefused too many holes\nfront 3\n[ (7) 3 (7) 3 (7) 3 (7) 3 ]\n",
+        b"ok\nok\nok\nok\nrefused too many holes\nrefused too many holes\nfront 3\n\
+         [ (7) 3 (7) 3 (7) 3 (7) 3 ]\n",
         "",
     ),
     (
@@ -135,7 +138,8 @@ pub static ASSEMBLERS: [Row<'static>; 12] = [
     (
         "ranges_at_the_highest_positions",
         "asm 4",
-        b"a 18446744073709551615 0\na 18446744073709551614 1\np\nt 0 18446744073709551615\np\na 18446744073709551615 1\n",
+        b"a 18446744073709551615 0\na 18446744073709551614 1\np\nt 0 18446744073709551615\np\n\
+         a 18446744073709551615 1\n",
         b"ok\nok\n[ (18446744073709551614) 1 ]\nfront 18446744073709551615\n[ ]\n",
         "line 6: range too long",
     ),
@@ -149,8 +153,13 @@ pub static ASSEMBLERS: [Row<'static>; 12] = [
     (
         "thirty_two_runs",
         "asm 32",
-        b"a 10 3\na 20 3\na 30 3\na 40 3\na 50 3\na 60 3\na 70 3\na 80 3\na 90 3\na 100 3\na 110 3\na 120 3\na 130 3\na 140 3\na 150 3\na 160 3\na 170 3\na 180 3\na 190 3\na 200 3\na 210 3\na 220 3\na 230 3\na 240 3\na 250 3\na 260 3\na 270 3\na 280 3\na 290 3\na 300 3\na 310 3\na 320 3\na 1 3\nt 0 3\nf\na 0 320\np\nf\np\n",
-        b"ok\nok\nok\nok\nok\nok\nok\nok\nok\nok\nok\nok\nok\nok\nok\nok\nok\nok\nok\nok\nok\nok\nok\nok\nok\nok\nok\nok\nok\nok\nok\nok\nrefused too many holes\nfront 3\nfront 0\nok\n[ 320 ]\nfront 320\n[ ]\n",
+        b"a 10 3\na 20 3\na 30 3\na 40 3\na 50 3\na 60 3\na 70 3\na 80 3\na 90 3\na 100 3\na 110 3\n\
+         a 120 3\na 130 3\na 140 3\na 150 3\na 160 3\na 170 3\na 180 3\na 190 3\na 200 3\na 210 3\n\
+         a 220 3\na 230 3\na 240 3\na 250 3\na 260 3\na 270 3\na 280 3\na 290 3\na 300 3\na 310 3\n\
+         a 320 3\na 1 3\nt 0 3\nf\na 0 320\np\nf\np\n",
+        b"ok\nok\nok\nok\nok\nok\nok\nok\nok\nok\nok\nok\nok\nok\nok\nok\nok\nok\nok\nok\nok\nok\n\
+         ok\nok\nok\nok\nok\nok\nok\nok\nok\nok\nrefused too many holes\nfront 3\nfront 0\nok\n\
+         [ 320 ]\nfront 320\n[ ]\n",
         "",
     ),
     (
@@ -167,12 +176,14 @@ pub static ASSEMBLERS: [Row<'static>; 12] = [
         "an_empty_twelfth_line",
         "asm 4",
         b"f\nf\nf\nf\nf\nf\nf\nf\nf\nf\nf\n\nf\n",
-        b"front 0\nfront 0\nfront 0\nfront 0\nfront 0\nfront 0\nfront 0\nfront 0\nfront 0\nfront 0\nfront 0\n",
+        b"front 0\nfront 0\nfront 0\nfront 0\nfront 0\nfront 0\nfront 0\nfront 0\nfront 0\nfront 0\n\
+         front 0\n",
         "line 12: bad command",
     ),
 ];
 
-pub static STREAMS: [Row<'static>; 15] = [
+/// Lines of a stream.
+pub static STREAMS: [Row<'static>; 16] = [
     (
         "bytes_are_read_in_parts",
         "stream 16 4",
@@ -184,7 +195,8 @@ pub static STREAMS: [Row<'static>; 15] = [
         "the_last_byte_of_each_position",
         "stream 16 4",
         b"s 2 4141\ns 3 4242\ns 0 4343\nr 5\n",
-        b"kept 2 queued 0 sack 2-4\nkept 2 queued 0 sack 2-5\nkept 2 queued 5 sack -\nread 4343414242\n",
+        b"kept 2 queued 0 sack 2-4\nkept 2 queued 0 sack 2-5\nkept 2 queued 5 sack -\n\
+         read 4343414242\n",
         "",
     ),
     (
@@ -198,18 +210,23 @@ pub static STREAMS: [Row<'static>; 15] = [
         "a_fifth_run_is_refused",
         "stream 64 4",
         b"s 10 010101\ns 20 020202\ns 30 030303\ns 40 040404\ns 50 01\ns 13 01\ns 0 616263\n?\n",
-        b"kept 3 queued 0 sack 10-13\nkept 3 queued 0 sack 10-13,20-23\nkept 3 queued 0 sack 10-13,20-23,30-33\nkept 3 queued 0 sack 10-13,20-23,30-33\nrefused too many holes\nkept 1 queued 0 sack 10-14,20-23,30-33\nkept 3 queued 3 sack 10-14,20-23,30-33\nnext 3 queued 3 window 61 held 10-14,20-23,30-33,40-43\n",
+        b"kept 3 queued 0 sack 10-13\nkept 3 queued 0 sack 10-13,20-23\n\
+         kept 3 queued 0 sack 10-13,20-23,30-33\nkept 3 queued 0 sack 10-13,20-23,30-33\n\
+         refused too many holes\nkept 1 queued 0 sack 10-14,20-23,30-33\n\
+         kept 3 queued 3 sack 10-14,20-23,30-33\n\
+         next 3 queued 3 window 61 held 10-14,20-23,30-33,40-43\n",
         "",
     ),
     (
         "a_full_window",
         "stream 4 4",
         b"s 0 6162636465\ns 4 65\nr 2\ns 4 656667\nr 4\ns 8 6a\ns 6 6869\nr 9\n",
-        b"kept 4 queued 4 sack -\nkept 0 queued 0 sack -\nread 6162\nkept 2 queued 2 sack -\nread 63646566\nkept 1 queued 0 sack 8-9\nkept 2 queued 3 sack -\nread 68696a\n",
+        b"kept 4 queued 4 sack -\nkept 0 queued 0 sack -\nread 6162\nkept 2 queued 2 sack -\n\
+         read 63646566\nkept 1 queued 0 sack 8-9\nkept 2 queued 3 sack -\nread 68696a\n",
         "",
     ),
     (
-        "a_range_too_long",
+        "a_segment_beyond_the_window",
         "stream 16 4",
         b"s 18446744073709551614 01\ns 18446744073709551614 0102\n",
         b"kept 0 queued 0 sack -\n",
@@ -219,14 +236,18 @@ pub static STREAMS: [Row<'static>; 15] = [
         "runs_of_a_byte_up_to_the_windows_end",
         "stream 64 4",
         b"s 2 01\ns 4 01\ns 6 01\ns 8 01\ns 10 01\ns 62 01\ns 1 02\ns 0 03\ns 10 04\n?\n",
-        b"kept 1 queued 0 sack 2-3\nkept 1 queued 0 sack 2-3,4-5\nkept 1 queued 0 sack 2-3,4-5,6-7\nkept 1 queued 0 sack 2-3,4-5,6-7\nrefused too many holes\nrefused too many holes\nkept 1 queued 0 sack 1-3,4-5,6-7\nkept 1 queued 3 sack 4-5,6-7,8-9\nkept 1 queued 0 sack 4-5,6-7,8-9\nnext 3 queued 3 window 61 held 4-5,6-7,8-9,10-11\n",
+        b"kept 1 queued 0 sack 2-3\nkept 1 queued 0 sack 2-3,4-5\nkept 1 queued 0 sack 2-3,4-5,6-7\n\
+         kept 1 queued 0 sack 2-3,4-5,6-7\nrefused too many holes\nrefused too many holes\n\
+         kept 1 queued 0 sack 1-3,4-5,6-7\nkept 1 queued 3 sack 4-5,6-7,8-9\n\
+         kept 1 queued 0 sack 4-5,6-7,8-9\nnext 3 queued 3 window 61 held 4-5,6-7,8-9,10-11\n",
         "",
     ),
     (
         "segments_that_disagree",
         "stream 8 4",
         b"s 4 6161\ns 3 626262\ns 5 6363636363\ns 0 64646464\ns 0 7a\nr 8\n",
-        b"kept 2 queued 0 sack 4-6\nkept 3 queued 0 sack 3-6\nkept 3 queued 0 sack 3-8\nkept 4 queued 8 sack -\nkept 0 queued 0 sack -\nread 6464646462636363\n",
+        b"kept 2 queued 0 sack 4-6\nkept 3 queued 0 sack 3-6\nkept 3 queued 0 sack 3-8\n\
+         kept 4 queued 8 sack -\nkept 0 queued 0 sack -\nread 6464646462636363\n",
         "",
     ),
     (
@@ -240,24 +261,41 @@ pub static STREAMS: [Row<'static>; 15] = [
         "a_stream_that_begins_at_1000",
         "stream 8 4 1000",
         b"s 998 61626364\n?\ns 1004 78\ns 0 61\nr 9\n",
-        b"kept 2 queued 2 sack -\nnext 1002 queued 2 window 6 held -\nkept 1 queued 0 sack 1004-1005\nkept 0 queued 0 sack 1004-1005\nread 6364\n",
+        b"kept 2 queued 2 sack -\nnext 1002 queued 2 window 6 held -\n\
+         kept 1 queued 0 sack 1004-1005\nkept 0 queued 0 sack 1004-1005\nread 6364\n",
         "",
     ),
     (
         "a_stream_that_begins_below_the_last_position",
         "stream 8 4 18446744073709551614",
         b"s 18446744073709551614 61\n?\ns 18446744073709551615 -\ns 18446744073709551615 62\n",
-        b"kept 1 queued 1 sack -\nnext 18446744073709551615 queued 1 window 7 held -\nkept 0 queued 0 sack -\n",
+        b"kept 1 queued 1 sack -\nnext 18446744073709551615 queued 1 window 7 held -\n\
+         kept 0 queued 0 sack -\n",
         "line 4: range too long",
     ),
     (
         "five_runs_are_held",
         "stream 65536 32",
         b"s 1 61\ns 3 61\ns 5 61\ns 7 61\ns 9 61\n",
-        b"kept 1 queued 0 sack 1-2\nkept 1 queued 0 sack 1-2,3-4\nkept 1 queued 0 sack 1-2,3-4,5-6\nkept 1 queued 0 sack 1-2,3-4,5-6\nkept 1 queued 0 sack 1-2,3-4,5-6\n",
+        b"kept 1 queued 0 sack 1-2\nkept 1 queued 0 sack 1-2,3-4\nkept 1 queued 0 sack 1-2,3-4,5-6\n\
+         kept 1 queued 0 sack 1-2,3-4,5-6\nkept 1 queued 0 sack 1-2,3-4,5-6\n",
         "",
     ),
-    ("a_read_of_nothing", "stream 8 4", b"r 1\n", b"read -\n", ""),
+    (
+        "a_read_of_nothing",
+        "stream 16 4",
+        b"s 2 4141\nr 9\ns 0 4242\nr 9\n?\n",
+        b"kept 2 queued 0 sack 2-4\nread -\nkept 2 queued 4 sack -\nread 42424141\n\
+         next 4 queued 0 window 16 held -\n",
+        "",
+    ),
+    (
+        "a_read_of_an_empty_stream",
+        "stream 8 4",
+        b"r 1\n",
+        b"read -\n",
+        "",
+    ),
     ("no_input_of_a_stream", "stream 8 32 5", b"", b"", ""),
     (
         "a_bad_command_of_a_stream",
@@ -268,19 +306,22 @@ pub static STREAMS: [Row<'static>; 15] = [
     ),
 ];
 
+/// Lines of two streams.
 pub static SCHEDULES: [Row<'static>; 13] = [
     (
         "bytes_in_another_order",
         "stream 16 4",
         b"s 0 61\ns 1 62\ns 2 63\n--\ns 2 63\ns 0 6162\n",
-        b"kept 1 queued 1 sack -\nkept 1 queued 1 sack -\nkept 1 queued 1 sack -\nkept 1 queued 0 sack 2-3\nkept 2 queued 3 sack -\nsame\n",
+        b"kept 1 queued 1 sack -\nkept 1 queued 1 sack -\nkept 1 queued 1 sack -\n\
+         kept 1 queued 0 sack 2-3\nkept 2 queued 3 sack -\nsame\n",
         "",
     ),
     (
         "a_third_schedule",
         "stream 16 4",
         b"s 0 61\ns 1 62\ns 2 63\n--\ns 2 63\ns 0 6162\n--\n",
-        b"kept 1 queued 1 sack -\nkept 1 queued 1 sack -\nkept 1 queued 1 sack -\nkept 1 queued 0 sack 2-3\nkept 2 queued 3 sack -\n",
+        b"kept 1 queued 1 sack -\nkept 1 queued 1 sack -\nkept 1 queued 1 sack -\n\
+         kept 1 queued 0 sack 2-3\nkept 2 queued 3 sack -\n",
         "line 7: too many schedules",
     ),
     (
@@ -304,7 +345,7 @@ pub static SCHEDULES: [Row<'static>; 13] = [
         b"kept 1 queued 0 sack 2-3\nkept 1 queued 0 sack 2-3\nsame\n",
         "",
     ),
-    ("two_empty_schedules", "stream 16 4", b"--\n", b"same\n", ""),
+    ("two_fresh_receivers", "stream 16 4", b"--\n", b"same\n", ""),
     (
         "a_bad_command_of_a_second_schedule",
         "stream 16 4",
@@ -356,6 +397,7 @@ pub static SCHEDULES: [Row<'static>; 13] = [
     ),
 ];
 
+/// Lines that no mode has.
 pub static NO_LINES: [Row<'static>; 27] = [
     ("no_line", "ring 8", b"w 61\r\n", b"", "line 1: bad command"),
     ("no_line", "ring 8", b"w  61\n", b"", "line 1: bad command"),
