@@ -4,8 +4,19 @@ A rule of the model asks its questions through one of these classes, which note 
 that no case gave makes `cases.py` fail, and is named.
 """
 
+import contextlib
+
 ALL = []
 FIRST = []  # each answer, when it was first given
+ASKED = [""]  # the answers count of questions whose names begin so
+
+
+@contextlib.contextmanager
+def asking(name):
+    """A model that is made of others: their questions are asked by their own rows."""
+    ASKED.append(name)
+    yield
+    ASKED.pop()
 
 
 class Question:
@@ -16,9 +27,10 @@ class Question:
         ALL.append(self)
 
     def note(self, answer):
-        self.counts[answer] += 1
-        if self.counts[answer] == 1:
-            FIRST.append(answer)
+        if self.name.startswith(ASKED[-1]):
+            self.counts[answer] += 1
+            if self.counts[answer] == 1:
+                FIRST.append(answer)
         return answer
 
     def missing(self):

@@ -12,10 +12,12 @@ import modes
 import moments
 import packets
 import receiver
+import receiving
 import recovery
 import ring
 import scoreboard
 import sender
+import sending
 import small
 import tcp
 import texts
@@ -42,6 +44,8 @@ PARTS = [
     (ending.draw, 1800, 70),
     (timer.draw, 1200, 72),
     (recovery.draw, 1500, 74),
+    (sending.draw, 3000, 118),
+    (receiving.draw, 1500, 91),
 ]
 # What draws rows of one call, how many lines of each, and the calls.
 OWN = [

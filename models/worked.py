@@ -15,12 +15,15 @@ import modes
 import moments
 import packets
 import receiver
+import receiving
 import ring
 import scoreboard
 import sender
+import sending
 import small
 import tcp
 import timer
+import worked_ends
 
 # The test of smoltcp, if there is one; how many bytes a ring has; and its calls, each with how its reply begins: counts,
 # and what is lent or refused. After a call's name are its sizes and offsets, and then the seed of its bytes, as the
@@ -993,6 +996,9 @@ def add_ends(cases):
         found = answer("tcp", tcp.CALLS, name, numbers)
         agree(f"{name} {numbers}", found, reply)
         cases.add(name, numbers, found)
+    for name, of, rows in (("sending", sending.Sending, worked_ends.SENDING), ("receiving", receiving.Receiving, worked_ends.RECEIVING)):
+        for numbers, text in rows:
+            play(cases, " ".join([name, *map(str, numbers)]), of(*numbers), text)
 
 
 def add_ranges(cases):

@@ -24,13 +24,13 @@ NO_CALLS = {"RingOver::read_allocated": "it changes nothing, and borrows `&mut` 
 # Public types without rows of their own.
 ROWLESS = {
     "rows show it as what a call gives": """HeldRunIter HeldRuns MissingRunIter NewestRunIter HoleIter Iter IterData
-        RunIter AcceptError Transmission""",
-    "rows of the types that have it, or are made of it, take its parts": "FragmentSlot TimedSegment TimerParts",
+        RunIter AcceptError Transmission Acknowledgement""",
+    "rows of the types that have it, or are made of it, take its parts": "FragmentSlot RecoveryParts TimedSegment TimerParts",
     "rust/tests/phy.rs tests devices": """Checksum ChecksumCapabilities DeviceCapabilities Medium PacketMeta
         Loopback PacketLoopback SegmentationCapabilities Device RxToken TxToken""",
     "rust/tests/split_ring.rs plays both ends beside a queue": "Span SplitCounts SplitSpan",
-    "rust/tests/ends.rs tests both ends, whose parts have rows": """Acknowledged Expired Acknowledgement Outgoing
-        ReceivingEnd ReceivingEndOver SendBuffer SendBufferOver SendingEnd SendingEndOver""",
+    "rust/tests/ends.rs has a test of it, and rows show the ends over it": "StreamSender",
+    "rows of a sending end, which has it, make its calls, and rust/tests/ends.rs": "SendBuffer SendBufferOver",
 }
 
 

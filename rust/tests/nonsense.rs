@@ -1,5 +1,6 @@
 //! Calls that take numbers from a packet, with any numbers: none panics, also where sums are checked. `CALLS` says how
 //! many calls are made of each kind.
+use net_base::ends::{Acknowledged, Expired, ReceivingEndOver, SendBufferOver, SendingEndOver};
 use net_base::finite::{FiniteReceiver, FiniteSender, SentNumbers};
 use net_base::receiver::Receiver;
 use net_base::scoreboard::Scoreboard;
@@ -192,6 +193,146 @@ fn windows_and_timers() {
         timeout.take_sample(bounds, Duration::from_micros(len));
         timeout.acknowledged(bounds, Transmission::Once(draw.instant()), draw.instant());
         assert!(timeout.timeout() >= bounds.least && timer.timeout() >= bounds.least);
+    }
+}
+
+/// Up to three blocks.
+fn blocks(draw: &mut Draw) -> Vec<(u64, u64)> {
+    (0..draw.below(4)).map(|_| (draw.number(), draw.number())).collect()
+}
+
+#[test]
+fn sending_ends() {
+    let mut draw = Draw(0x9e37_79b9_7f4a_7c15, 0);
+    let bounds = TimeoutBounds::default();
+    let mut end = SendingEndOver::<_, 2>::over_at([0; 16], 0, Duration::from_secs(1), bounds);
+    for _ in 0..calls() {
+        let before = end.numbers();
+        // As often as not the numbers are about those of the end.
+        if draw.bit() {
+            draw.1 = if draw.bit() { before.sent } else { before.first_unacknowledged };
+        }
+        let ([seq, ack, window], now) = (draw.numbers(), draw.instant());
+        let it = Announcement { seq, ack, window };
+        match draw.below(40) {
+            0 => {
+                let [least, most, tick, ack_delay] = draw.numbers().map(Duration::from_micros);
+                let bounds = TimeoutBounds { least, most, tick, ack_delay };
+                let first_timeout = Duration::from_micros(window);
+                let first = ack.min(u64::MAX - 1);
+                end = SendingEndOver::over_at([0; 16], first, first_timeout, bounds);
+            }
+            1..=3 => end.open(it, draw.number() as usize, draw.bit(), now),
+            4 => end.forget(now),
+            5 => {
+                let _is_due = end.is_opening_due(now);
+                assert!(end.expires_at().is_some());
+            }
+            6..=11 => assert!(end.write(draw.bytes(BYTES)) <= 16),
+            12 => end.close(),
+            13 => end.set_nagle_enabled(draw.bit()),
+            14..=23 => match end.acknowledged(it, &blocks(&mut draw), draw.bit(), now) {
+                Acknowledged::Taken { new, .. } => {
+                    assert!(new == ack - before.first_unacknowledged && ack <= before.sent)
+                }
+                _ => assert!(end.numbers() == before),
+            },
+            24..=28 => {
+                let was_due = end.expires_at().is_some_and(|it| it <= now);
+                assert!(end.expired(now) == Expired::No || was_due);
+            }
+            29 => assert!(end.bytes(seq, ack).0.len() <= 16),
+            _ => {
+                if let Some(it) = end.next_segment(window, now) {
+                    assert!(before.first_unacknowledged <= it.pos && it.pos < it.end);
+                    let (front, back, is_last) = end.bytes(it.pos, it.end);
+                    let numbers = front.len() + back.len() + usize::from(is_last);
+                    assert!(numbers as u64 == it.end - it.pos && end.expires_at().is_some());
+                }
+            }
+        }
+        let SentNumbers { first_unacknowledged, sent } = end.numbers();
+        assert!(first_unacknowledged <= sent && end.flight_size() <= 17 && end.window() <= 16);
+        assert!(end.acknowledgement_number() <= sent);
+        let _whatever_it_was = (end.is_recovering(), end.round_trip(), end.timeouts());
+    }
+}
+
+#[test]
+fn send_buffers() {
+    let mut draw = Draw(0xd1b5_4a32_d192_ed03, 0);
+    let mut buffer = SendBufferOver::<_, 2>::over_at([0; 16], 0);
+    for _ in 0..calls() {
+        let before = buffer.numbers();
+        if draw.bit() {
+            draw.1 = if draw.bit() { before.sent } else { before.first_unacknowledged };
+        }
+        let ([from, to, window], size) = (draw.numbers(), draw.number() as usize);
+        match draw.below(20) {
+            0 => buffer = SendBufferOver::over_at([0; 16], from.min(u64::MAX - 1)),
+            1 => buffer.expect_reports(draw.bit()),
+            2..=5 => assert!(buffer.write(draw.bytes(BYTES)) <= 16),
+            6 => buffer.close(),
+            7..=10 => {
+                let blocks = blocks(&mut draw);
+                let taken = buffer.acknowledge(from, &blocks, size, draw.bit(), draw.bit());
+                assert!(taken.is_none() || from <= before.sent && !buffer.contains(from));
+            }
+            11 => assert!(!buffer.find_overdue() || buffer.is_recovering()),
+            12 => buffer.lose_all(),
+            13 => {
+                let probe = buffer.next_probe(to, size);
+                assert!(probe.is_none_or(|it| it.0 < it.1 && it.1 <= to.max(before.sent)));
+            }
+            14 => assert!(buffer.bytes(from, to).0.len() <= 16),
+            15 => buffer.mark(from, to, draw.bit(), draw.bit()),
+            _ => {
+                if let Some((from, to)) = buffer.next(to, window, size) {
+                    assert!(before.first_unacknowledged <= from && from < to);
+                    buffer.mark(from, to, draw.bit(), draw.bit());
+                }
+            }
+        }
+        let SentNumbers { first_unacknowledged, sent } = buffer.numbers();
+        assert!(first_unacknowledged <= sent && sent <= buffer.numbers_end());
+        assert!(buffer.window() <= 16 && (!buffer.is_done() || buffer.is_closed()));
+    }
+}
+
+#[test]
+fn receiving_ends() {
+    let mut draw = Draw(0x94d0_49bb_1331_11eb, 0);
+    let mut end = ReceivingEndOver::<_, 2>::over_at([0; 16], 0, 4);
+    for _ in 0..calls() {
+        let (next, ([pos, len], bytes)) =
+            (end.receiver().acknowledged(), (draw.numbers(), draw.bytes(BYTES)));
+        if draw.bit() {
+            draw.1 = next;
+        }
+        match draw.below(30) {
+            0 => end = ReceivingEndOver::over_at([0; 16], pos.min(u64::MAX - 1), len as u16),
+            1 => assert!(end.open(pos.min(u64::MAX - 1), len as u8) <= 16),
+            2 => {
+                let (syn, ack, rst) = (draw.bit(), draw.bit(), draw.bit());
+                let _whatever_it_is = end.classify(Segment { seq: pos, len, syn, ack, rst });
+            }
+            3 => end.answer(),
+            4..=6 => assert_eq!(end.announce().0, next),
+            7..=12 => {
+                let it = end.acknowledgement();
+                assert!(it.next == next && it.blocks.iter().flatten().all(|it| it.0 < it.1));
+                assert!(!end.is_due());
+            }
+            13..=16 => assert!(end.read(&mut [0; 9]) <= 9),
+            17 => assert!(end.read_with(|part| (part.len() / 2, part.len())).1 <= 16),
+            _ => {
+                let (is_last, was_due) = (draw.below(8) == 0, end.is_due());
+                let kept = end.arrived(pos, bytes, is_last);
+                assert!(kept.map_or(0, |it| it.kept) <= bytes.len());
+                assert!(was_due || end.is_due() || !is_last);
+            }
+        }
+        assert!(!end.is_due() || end.is_wanted());
     }
 }
 

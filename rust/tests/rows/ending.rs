@@ -3,6 +3,7 @@ use crate::show::{bytes, digest, mix_bytes, pattern, truth, START};
 use crate::storages::{with_storage, Stored};
 use crate::{unless_panics, Call, Subject};
 use net_base::finite::{FiniteError, FiniteReceiver, FiniteReceiverOver};
+use net_base::receiver::KeptBytes;
 use net_base::storage::Storage;
 
 /// A receiver, and its stream's first position.
@@ -30,14 +31,7 @@ impl<S: Storage<u8>, const N: usize> Subject for Ending<S, N> {
     fn make(&mut self, call: &Call) -> String {
         let (receiver, one) = (&mut self.receiver, call.at(0));
         match call.name {
-            "keep" => {
-                let data = pattern(call.size(1), call.at(2));
-                match receiver.keep(one, &data, call.at(3) == 1) {
-                    Ok(kept) => format!("{} {}", kept.kept, kept.queued),
-                    Err(FiniteError::TooManyHoles) => "refused".to_string(),
-                    Err(FiniteError::OtherEnd) => "other_end".to_string(),
-                }
-            }
+            "keep" => kept(receiver.keep(one, &pattern(call.size(1), call.at(2)), call.at(3) == 1)),
             "read" => {
                 let mut into = vec![0; call.size(0)];
                 let count = receiver.read(&mut into);
@@ -60,23 +54,38 @@ impl<S: Storage<u8>, const N: usize> Subject for Ending<S, N> {
         format!("{:?}", self.receiver)
     }
 
-    /// The first missing position; how many bytes are queued and free; how many runs are held; the end, or `-`; the
-    /// acknowledged number; 0, 1 once all came, and 2 once all was read; the digest of the queue. Positions are counted
-    /// from the stream's first.
     fn show(&mut self) -> String {
-        let (finite, first) = (&self.receiver, self.first);
-        let of_bytes = finite.receiver();
-        let (one, other) = of_bytes.as_slices();
-        format!(
-            "{} {} {} {} {} {} {} {}",
-            of_bytes.next() - first,
-            of_bytes.queued(),
-            of_bytes.window(),
-            of_bytes.held().count(),
-            finite.end().map_or("-".to_string(), |end| (end - first).to_string()),
-            finite.acknowledged() - first,
-            u8::from(finite.is_complete()) + u8::from(finite.has_read_all()),
-            digest(mix_bytes(mix_bytes(START, one), other))
-        )
+        shown(&self.receiver, self.first)
     }
+}
+
+/// What a segment gives.
+pub fn kept(result: Result<KeptBytes, FiniteError>) -> String {
+    match result {
+        Ok(it) => format!("{} {}", it.kept, it.queued),
+        Err(FiniteError::TooManyHoles) => "refused".to_string(),
+        Err(FiniteError::OtherEnd) => "other_end".to_string(),
+    }
+}
+
+/// The first missing position; how many bytes are queued and free; how many runs are held; the end, or `-`; the
+/// acknowledged number; 0, 1 once all came, and 2 once all was read; the digest of the queue. Positions are counted
+/// from the stream's first.
+pub fn shown<S: Storage<u8>, const N: usize>(
+    finite: &FiniteReceiverOver<S, N>,
+    first: u64,
+) -> String {
+    let of_bytes = finite.receiver();
+    let (one, other) = of_bytes.as_slices();
+    format!(
+        "{} {} {} {} {} {} {} {}",
+        of_bytes.next() - first,
+        of_bytes.queued(),
+        of_bytes.window(),
+        of_bytes.held().count(),
+        finite.end().map_or("-".to_string(), |end| (end - first).to_string()),
+        finite.acknowledged() - first,
+        u8::from(finite.is_complete()) + u8::from(finite.has_read_all()),
+        digest(mix_bytes(mix_bytes(START, one), other))
+    )
 }

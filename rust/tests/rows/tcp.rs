@@ -15,7 +15,7 @@ impl Subject for Tcp {
         let [one, two, three, four] = [0, 1, 2, 3].map(|index| call.at(index));
         match call.name {
             "is_acceptable" => truth(is_acceptable(one, two, three, four)).to_string(),
-            "classify" => arrival(call).to_string(),
+            "classify" => arrival(classify(one, two, segment(&call.numbers[2..]))),
             "is_acknowledgement" => {
                 truth(is_acknowledgement(sent_numbers(one, two), three, four)).to_string()
             }
@@ -59,16 +59,21 @@ impl Subject for Tcp {
     }
 }
 
-fn arrival(call: &Call) -> &'static str {
-    let [syn, ack, rst] = [4, 5, 6].map(|index| call.at(index) != 0);
-    let segment = Segment { seq: call.at(2), len: call.at(3), syn, ack, rst };
-    match classify(call.at(0), call.at(1), segment) {
+/// The segment with these numbers.
+pub fn segment(of: &[u64]) -> Segment {
+    let [syn, ack, rst] = [2, 3, 4].map(|index| of[index] != 0);
+    Segment { seq: of[0], len: of[1], syn, ack, rst }
+}
+
+pub fn arrival(it: Arrival) -> String {
+    match it {
         Arrival::Take => "take",
         Arrival::AcknowledgementOnly => "acknowledgement",
         Arrival::Answer => "answer",
         Arrival::Ignore => "ignore",
         Arrival::Reset => "reset",
     }
+    .to_string()
 }
 
 /// The calls of a window of which numbers were announced.

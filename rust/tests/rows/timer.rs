@@ -63,6 +63,6 @@ impl Subject for Timer {
 }
 
 /// A moment so many microseconds after moment 0.
-fn moment(micros: u64) -> Instant {
+pub fn moment(micros: u64) -> Instant {
     Instant::from_micros(micros as i64)
 }
