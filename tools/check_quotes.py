@@ -36,8 +36,10 @@ import functools
 import pathlib
 import re
 import sys
+import textwrap
 
 import definitions
+from parts.erase_tokens import Text
 
 ROOT = pathlib.Path(__file__).resolve().parent.parent
 # The crates whose lines doc comments quote as examples.
@@ -45,101 +47,61 @@ EXAMPLES = ["net_examples", "net_core_tests"]
 # Where names are looked for.
 SOURCES = ["crates/**/*", "models/*", "compare/**/*", "rust/**/*", "c/**/*", "tools/**/*", "crates.txt", "HANDLES", ".ci/run", "*", "docs/*"]
 ELSEWHERE = set("""
-    WouldBlock must_use non_exhaustive plant tidy my_crate directory logic dac8208d650f15bf axioms trusted nat defmt
-    Format Debug2Format Display2Format spsc iproute2 util my CAUSE DATA END MODULE PATH start_lib __builtin_add_overflow int32_t mtu softfp
+    MODULE tidy axioms nat dac8208d650f15bf __builtin_add_overflow int32_t spsc defmt Format Debug2Format
     c.storage-1.given
 """.split())
 NAME = re.compile(r"[A-Za-z_][A-Za-z0-9_]*")
 IMPL = re.compile(r"^impl(?:<[^{]*?>)? (?:\w+::)*(\w+)(?:<.*>)? for (\w+)", re.M)
 
 
-def dedented(lines):
-    """The lines without the spaces that all of them begin with."""
-    spaces = [len(line) - len(line.lstrip(" ")) for line in lines if line.strip()]
-    cut = min(spaces, default=0)
-    return [line[cut:].rstrip() for line in lines]
-
-
 def blocks(page):
     """The blocks of a page that are marked `rust`, each with the number of its first line."""
-    block, begins = None, 0
-    for number, line in enumerate(page.read_text().splitlines(), 1):
-        if block is None and line.strip() == "```rust":
-            block, begins = [], number + 1
-        elif block is not None and line.strip() == "```":
-            yield begins, block
-            block = None
-        elif block is not None:
-            block.append(line)
+    text = page.read_text()
+    for found in re.finditer(r"^ *```rust\n(.*?)^ *```$", text, re.M | re.S):
+        yield line_of(text, found.start(1)), textwrap.dedent(re.sub(r"\A#!\[tactic\(auto\)\]\n\n?", "", found[1]))
+
+
+def line_of(text, at):
+    """The number of the line of a place in a text."""
+    return text.count("\n", 0, at) + 1
+
+
+def doc_comments(path):
+    """Each doc comment of a source: the number of its first line, its text, and the name of the item after it, if there is
+    one."""
+    text = path.read_text()
+    for found in re.finditer(r"(?:^ *//[/!].*\n)+(?:\s*#\[[^\]]*\]\n)*(?:\s*(?:pub )?(?:const |unsafe )*"
+                             r"(?:fn|const|struct|enum|trait|type) (\w+))?", text, re.M):
+        yield line_of(text, found.start()), "\n".join(re.findall(r"^ *//[/!] ?(.*)", found[0], re.M)), found[1]
 
 
 def examples(path):
     """The examples in Rattle of a source's doc comments, each with the number of its first line and its item's name."""
-    block, begins, ended, is_rattle = None, 0, [], False
-    for number, line in enumerate(path.read_text().splitlines(), 1):
-        comment = re.match(r"\s*//[/!] ?(.*)$", line)
-        item = re.match(r"\s*(?:pub )?(?:const |unsafe )*(?:fn|const|struct|enum|trait|type) (\w+)", line)
-        if comment and comment.group(1).startswith("```"):
-            if block is None:
-                block, begins, is_rattle = [], number + 1, comment.group(1).startswith("```rust")
-            else:
-                ended += [(begins, block)] if is_rattle else []
-                block = None
-        elif block is not None:
-            block.append(comment.group(1) if comment else line)
-        elif item and not comment:
-            yield from ((begins, block, item.group(1)) for begins, block in ended)
-            ended = []
-    for begins, block in [*ended, *([] if block is None else [(begins, block)])]:
-        yield begins, block, None
-
-
-def without_root_attribute(lines):
-    """The lines without a leading `#![tactic(auto)]` and the empty line after it."""
-    if lines[:1] == ["#![tactic(auto)]"]:
-        lines = lines[1:]
-        if lines and not lines[0].strip():
-            lines = lines[1:]
-    return lines
+    for number, text, name in doc_comments(path):
+        for found in re.finditer(r"^```(.*)\n?((?:(?!```).*\n?)*)", text, re.M):
+            if found[1].startswith("rust"):
+                yield number + line_of(text, found.start()), found[2], name
 
 
 def has_block(block, source):
-    """Whether the source's lines have the block, indented by any number of spaces."""
-    first = block[0]
-    for start, line in enumerate(source[: len(source) - len(block) + 1]):
-        if line.strip() == first.strip():
-            if dedented(source[start : start + len(block)]) == block:
-                return True
-    return False
-
-
-def contract(lines):
-    """A function's lines from its first on, up to its body or to the semicolon in its place."""
-    depth = 0
-    for end, line in enumerate(lines):
-        if depth == 0 and line.strip() in ("{", "{}"):
-            return lines[:end]
-        depth += line.count("{") - line.count("}")
-        if depth == 0 and line.endswith(";") or depth == 1 and line.endswith("{"):
-            return lines[: end + 1]
-    return lines
+    """Whether a text has the lines of a block, indented by any number of spaces."""
+    lines = [re.escape(line) for line in block.splitlines()]
+    indented = "".join(rf"\n\1{line}" if line else r"\n" for line in lines[1:])
+    return lines and re.search(rf"^( *){lines[0]}{indented} *$", source, re.M)
 
 
 def functions(crate):
     """Of each function in a crate's sources, by name: the names of its clauses. A clause without one has ''."""
     found = {}
     for path in sorted(crate.glob("src/**/*.rt")):
-        lines = [line for line in path.read_text().splitlines() if not line.strip().startswith("//")]
-        for start, line in enumerate(lines):
-            function = re.match(r"\s*(?:pub(?:\(crate\))? )?(?:const )?fn (\w+)", line)
-            if not function:
-                continue
-            clauses = found.setdefault(function.group(1), set())
-            text = "\n".join(contract(lines[start:])).rstrip(" ;{")
-            for part in re.split(r"\n\s*(?=(?:ensures|requires)\b)", text)[1:]:
-                clause = re.match(r"(?:ensures|requires)\*? ?(\w*) \{", part)
-                if clause:
-                    clauses.add(clause.group(1))
+        text = Text(path.read_text())
+        for k, (kind, word, _) in enumerate(text.tokens):
+            if kind == "word" and word == "fn":
+                clauses = found.setdefault(text.tokens[text.next(k + 1)][1], set())
+            elif kind == "clause":
+                clauses.add(re.match(r"\w+\*?\s*(\w*)", word)[1])
+            elif word == "{":
+                clauses = set()                    # of a closure in the body
     return found
 
 
@@ -150,7 +112,8 @@ def names_of_sources():
         if {"out", "target", "__pycache__"} & set(path.parts):
             continue
         known.update([path.name, path.stem])
-        if path.is_file() and path.suffix != ".md":
+        # This script and its tests name what no other source does.
+        if path.is_file() and path.suffix != ".md" and path.stem not in ("check_quotes", "checker_tests"):
             text = path.read_text(errors="replace")
             known.update(NAME.findall(text))
             if path.suffix == ".rt":
@@ -182,7 +145,7 @@ def clauses_named(page):
     text = page.read_text()
     for found in re.finditer(r"[Cc]lauses?\s+((?:`\w+`(?:,\s+|\s+and\s+)?)+)", text):
         for name in re.findall(r"`(\w+)`", found.group(1)):
-            yield text.count("\n", 0, found.start()) + 1, name
+            yield line_of(text, found.start()), name
 
 
 @functools.cache
@@ -227,7 +190,7 @@ def clauses_of(page):
     name = r"`(?P<name>\w+(?:::\w+)*)`"
     for form in (rf"[Cc]lauses?\s+{listed}\s+of\s+{name}", rf"{name},\s+clauses?\s+{listed}"):
         for found in re.finditer(form, text):
-            number = text.count("\n", 0, found.start()) + 1
+            number = line_of(text, found.start())
             for clause in re.findall(r"`(\w+)`", found["clauses"]):
                 yield number, clause, found["name"].split("::")[-1]
 
@@ -276,41 +239,26 @@ def statements(text):
             yield part[0].lower() + part[1:]
 
 
-def comments():
-    """Each doc comment of the crates, as one text, with the name of the function after it, if there is one; and whether it
-    is one of a module `laws`."""
-    for path in sorted(ROOT.glob("crates/*/src/**/*.rt")):
-        is_law, comment = "laws" in path.relative_to(ROOT).with_suffix("").parts, []
-        for line in path.read_text().splitlines():
-            said = re.match(r"\s*///? ?(.*)$|\s*#\[", line)
-            if said:
-                comment += [said[1] or ""]
-                continue
-            function = re.match(r"\s*pub (?:const )?fn (\w+)", line)
-            if comment:
-                yield " ".join(" ".join(comment).split()), function and function[1], is_law
-            comment = []
-
-
 def items(page):
     """Each item of a page that begins with a name and a colon: its line, the names before that, and its text."""
     text = page.read_text()
     for found in re.finditer(r"^( *)- ((?:`\w+`(?:, )?)+): (.*(?:\n\1  (?! *- ).*)*)", text, re.M):
-        yield text.count("\n", 0, found.start()) + 1, re.findall(r"\w+", found[2]), found[3]
+        yield line_of(text, found.start()), re.findall(r"\w+", found[2]), found[3]
 
 
 def beyond(page):
     """What a page promises that no comment does, each with its line."""
     said, laws = [], collections.defaultdict(set)
-    for comment, name, is_law in comments():
-        said.append(comment)
-        if is_law and name:
-            laws[name] |= set(statements(comment))
+    for path in sorted(ROOT.glob("crates/*/src/**/*.rt")):
+        for _, comment, name in doc_comments(path):
+            said.append(" ".join(comment.split()))
+            if "laws" in path.relative_to(ROOT).with_suffix("").parts:
+                laws[name] |= set(statements(comment))
     text = page.read_text()
     for found in re.finditer(r"(?:^> .*\n)+", text, re.M):
         quote = " ".join(found[0].replace("\n> ", " ").removeprefix("> ").split())
         if not any(quote[0].lower() + quote[1:] in comment or quote in comment for comment in said):
-            yield text.count("\n", 0, found.start()) + 1, f"no comment says: {quote[:60]}"
+            yield line_of(text, found.start()), f"no comment says: {quote[:60]}"
     for number, names, promise in items(page):
         if not set(names) & set(laws):
             continue
@@ -320,76 +268,78 @@ def beyond(page):
                 yield number, f"no comment of {', '.join(names)} says: {part[:60]}"
 
 
-def main():
-    crates = sorted(ROOT.glob("crates/*"))
-    sources = [path.read_text().splitlines() for path in sorted(ROOT.glob("crates/*/src/**/*.rt"))]
-    for path in sorted(ROOT.glob("rust/src/**/*.rs")):
-        sources.append([re.sub(r"^\s*//[/!] ?", "", line) for line in path.read_text().splitlines()])
-    known = {crate: functions(crate) for crate in crates}
-    pages = [ROOT / "README.md", ROOT / "rust/README.md", *sorted(ROOT.glob("docs/*.md")), *sorted(ROOT.glob("crates/*/CALLING.md"))]
-    counts = {"blocks": 0, "examples": 0, "clauses": 0}
-    missing = 0
-
-    def miss(page, number, what):
-        nonlocal missing
-        missing += 1
-        print(f"{page.relative_to(ROOT)}:{number}: {what}")
-
+def quoted(pages):
+    """Each block of a page, with what is wrong with it."""
+    sources = [path.read_text() for path in ROOT.glob("crates/*/src/**/*.rt")]
+    sources += [re.sub(r"^ *//[/!] ?", "", path.read_text(), flags=re.M) for path in ROOT.glob("rust/src/**/*.rs")]
     for page in pages:
         for number, block in blocks(page):
-            block = dedented(without_root_attribute(block))
-            if block and any(has_block(block, source) for source in sources):
-                counts["blocks"] += 1
-            else:
-                miss(page, number, f"is in no source: {block[:1]}")
-    proved = [
-        path.read_text().splitlines()
-        for crate in EXAMPLES
-        for path in sorted(ROOT.glob(f"crates/{crate}/src/**/*.rt"))
-    ]
+            is_quoted = any(has_block(block, source) for source in sources)
+            yield page, number, "" if is_quoted else f"is in no source: {block.splitlines()[:1]}"
+
+
+def exampled():
+    """Each example of a doc comment, with what is wrong with it."""
+    proved = [path.read_text() for crate in EXAMPLES for path in ROOT.glob(f"crates/{crate}/src/**/*.rt")]
     for path in sorted(ROOT.glob("crates/*/src/**/*.rt")):
         for number, block, name in examples(path):
-            if not block or not any(has_block(dedented(block), source) for source in proved):
-                miss(path, number, f"is in no example: {block[:1]}")
-            elif name is None or name not in NAME.findall("\n".join(block)):
-                miss(path, number, f"an example that doesn't name {name}")
-            else:
-                counts["examples"] += 1
-    named = names_of_sources()
-    answers = names_of_answers() | ELSEWHERE
-    all_clauses = {clause for here in known.values() for clauses in here.values() for clause in clauses}
-    for page in [*pages, ROOT / "CONTRIBUTING.md"]:
+            wrong = "" if name in NAME.findall(block) else f"an example that doesn't name {name}"
+            if not any(has_block(textwrap.dedent(block), source) for source in proved):
+                wrong = f"is in no example: {block.splitlines()[:1]}"
+            yield path, number, wrong
+
+
+def cited(pages, known):
+    """Each clause that a page says is of a function, with what is wrong with it."""
+    for page in pages:
         for number, clause, name in clauses_of(page):
-            having = [here[name] for here in known.values() if name in here]
-            if having and not any(clause in here for here in having):
-                miss(page, number, f"{name} has no clause {clause}")
-            counts["clauses"] += bool(having)
-        for number, name in clauses_named(page):
-            if name not in all_clauses:
-                miss(page, number, f"no function has a clause {name}")
-        for number, span, behind in spans(page):
-            for name in NAME.findall(span):
-                if not is_named(name, named):
-                    miss(page, number, f"no source has the name {name}")
-            if re.fullmatch(r"c(\.[\w-]+)+", span) and span not in answers:
-                miss(page, number, f"no proof has the name {span}")
-            if not is_spec(span):
-                miss(page, number, f"there is no module {span}")
-            if not is_there(page, span):
-                miss(page, number, f"there is no file {span}")
-            lines = re.match(r",? (\d+) lines", behind)
-            if lines and not has_lines(span, int(lines.group(1))):
-                miss(page, number, f"{span} hasn't {lines.group(1)} lines")
-    for page in (ROOT / name for name in PROMISING):
-        for number, what in beyond(page) if page.is_file() else ():
-            miss(page, number, what)
-    for what in [*miscounted(), *definitions.miscounted()]:
-        miss(ROOT / "docs/TRUST.md", 1, what)
-    print(f"{counts['blocks']} quoted blocks are in the sources")
-    print(f"{counts['examples']} examples of doc comments are in {', '.join(EXAMPLES)}")
-    print(f"{counts['clauses']} clauses that pages name are those of their functions")
-    print(f"{missing} things are in no source")
-    return 1 if missing else 0
+            having = [here[name] for here in known if name in here]
+            if having:
+                is_one = any(clause in here for here in having)
+                yield page, number, "" if is_one else f"{name} has no clause {clause}"
+
+
+def unknown(page, clauses, names, answers):
+    """What a page names that isn't there, each with its line."""
+    for number, name in clauses_named(page):
+        if name not in clauses:
+            yield number, f"no function has a clause {name}"
+    for number, span, behind in spans(page):
+        for name in NAME.findall(span):
+            if not is_named(name, names):
+                yield number, f"no source has the name {name}"
+        if re.fullmatch(r"c(\.[\w-]+)+", span) and span not in answers:
+            yield number, f"no proof has the name {span}"
+        if not is_spec(span):
+            yield number, f"there is no module {span}"
+        if not is_there(page, span):
+            yield number, f"there is no file {span}"
+        lines = re.match(r",? (\d+) lines", behind)
+        if lines and not has_lines(span, int(lines[1])):
+            yield number, f"{span} hasn't {lines[1]} lines"
+
+
+def main():
+    quoting = [ROOT / "README.md", ROOT / "rust/README.md", *sorted(ROOT.glob("docs/*.md")),
+               *sorted(ROOT.glob("crates/*/CALLING.md"))]
+    pages = [*quoting, ROOT / "CONTRIBUTING.md"]
+    known = [functions(crate) for crate in sorted(ROOT.glob("crates/*"))]
+    counted = {
+        "quoted blocks are in the sources": [*quoted(quoting)],
+        f"examples of doc comments are in {', '.join(EXAMPLES)}": [*exampled()],
+        "clauses that pages name are those of their functions": [*cited(pages, known)],
+    }
+    clauses = {clause for here in known for named in here.values() for clause in named}
+    names, answers = names_of_sources(), names_of_answers() | ELSEWHERE
+    wrong = [it for found in counted.values() for it in found if it[2]]
+    wrong += [(page, *it) for page in pages for it in unknown(page, clauses, names, answers)]
+    wrong += [(ROOT / name, *it) for name in PROMISING if (ROOT / name).is_file() for it in beyond(ROOT / name)]
+    wrong += [(ROOT / "docs/TRUST.md", 1, what) for what in [*miscounted(), *definitions.miscounted()]]
+    print(*(f"{page.relative_to(ROOT)}:{number}: {what}\n" for page, number, what in wrong), sep="", end="")
+    for what, found in counted.items():
+        print(f"{sum(not it[2] for it in found)} {what}")
+    print(f"{len(wrong)} things are in no source")
+    return 1 if wrong else 0
 
 
 if __name__ == "__main__":

@@ -8,6 +8,7 @@ definitions of the kit. A definition's lines are counted without comments, blank
 With a word it prints those of the rows that begin with it. `tools/check_quotes.py` tests the table's numbers.
 """
 
+import functools
 import pathlib
 import re
 import sys
@@ -56,15 +57,11 @@ class Specs:
             self.imports[local or name] = (found[1], found[2], name)
 
 
-FILES = {}
-
-
+@functools.cache
 def specs(crate, file):
     """A file of specs of this repository, or None for what is generated or of the kit."""
-    path = ROOT / "crates" / crate / "specs" / (file + ".antt")
-    if path not in FILES:
-        FILES[path] = Specs(path) if path.exists() else None
-    return FILES[path]
+    path = ROOT / "crates" / crate / "specs" / f"{file}.antt"
+    return Specs(path) if path.exists() else None
 
 
 def follow(it, name, seen):
@@ -78,8 +75,7 @@ def follow(it, name, seen):
                     follow(it, word, seen)
     elif name in it.imports:
         crate, file, there = it.imports[name]
-        other = specs(crate, file)
-        if other:
+        if other := specs(crate, file):
             follow(other, there, seen)
 
 

@@ -1,7 +1,7 @@
 #!/usr/bin/env python3
 """Plants faults in the Cargo crate and in the library for C, all in one build of each, and says which no test sees.
 
-    python3 tools/faults.py [rust|c] [--sample N] [--seed N] [--by] [WORD ..]
+    python3 tools/faults.py [rust|c] [--sample N] [--seed N] [WORD ..]
 
 In a copy, each line of code is written so that it is wrong if the environment's FAULT is the line's number: a condition is
 negated, `<` is `<=`, a number is one more, a statement, a guard or an entry of a match is left out; in the shim two arguments
@@ -11,8 +11,7 @@ compiler refuses is dropped. Then a fault costs one run of each program, until o
 documentation; or four programs of c/run.sh. N faults are drawn, or all are tried, of the files whose path has one of the words, if there are any. What is
 drawn depends on the seed alone, which is that of tools/faults.txt if none is given.
 
-A fault that is listed there, with why, may stay unseen. Status 1 if another isn't seen. --by also prints by which program
-each is seen first.
+A fault that is listed there, with why, may stay unseen. Status 1 if another isn't seen.
 """
 import argparse
 import collections
@@ -283,8 +282,6 @@ def main():
     parser.add_argument("words", nargs="*")
     parser.add_argument("--sample", type=int)
     parser.add_argument("--seed", type=int)
-    parser.add_argument("--by", action="store_true")
-    parser.add_argument("--jobs", type=int, default=os.cpu_count())
     options = parser.parse_intermixed_args()
     listed = [line.split(": ", 2) for line in KNOWN.read_text().splitlines() if line[:1] not in ("", "#")]
     known = {tuple(words[:2]) for words in listed if len(words) == 3}
@@ -306,16 +303,14 @@ def main():
         if options.sample and options.sample < len(chosen):
             chosen = sorted(random.Random(options.seed).sample(chosen, options.sample))
         counts, unseen = collections.Counter(), 0
-        with concurrent.futures.ThreadPoolExecutor(options.jobs) as pool:
+        with concurrent.futures.ThreadPoolExecutor(os.cpu_count()) as pool:
             for it, by in zip(chosen, pool.map(lambda it: seen_by(programs, it), chosen)):
                 path, line, kind, text = found[it]
                 name = f"{lines[it].relative_to(ROOT)}:{line + 1}"
                 source = lines[it].read_text().split("\n")[line].strip()
                 is_known = (f"{lines[it].relative_to(ROOT)} {kind}", source) in known
                 counts[by or ("known" if is_known else "nothing")] += 1
-                if options.by and by:
-                    print(f"{name}: {kind}: {by}", flush=True)
-                elif not by and not is_known:
+                if not by and not is_known:
                     unseen += 1
                     print(f"{name}: NOT SEEN: {kind}: {source}", flush=True)
     said = ", ".join(f"{count} by {name}" for name, count in counts.most_common())

@@ -1,13 +1,13 @@
 #!/usr/bin/env python3
-"""growth.py [--write] [--rust FOLDER]
+"""growth.py [--write]
 
-How the instructions of each call that a packet reaches grow with the runs that are held, or with the packets of a table:
-counts them by callgrind at 32 and at 1,024, in the crate of rust/ or of FOLDER. Prints a table. That of
-docs/PERFORMANCE.md has of each type and class the most that a call takes: `--write` writes it there. Each case of
-growth/src/main.rs has a class, that of the worst case: a call looks at some runs, searches them, or passes them once. One
-that passed them for each of them would grow 1,024 times. Status 1 if a call grows more than its class allows, if a public
-call of the types that have runs, and of the others of `TYPES`, has no case, and no reason in `LEFT_OUT`, if a case or a
-reason has no call, or if a number of the page is off by more than a tenth.
+How the instructions of each call that a packet reaches grow with the runs that are held, or with the packets of a
+table: counts them by callgrind at 32 and at 1,024, and prints a table. That of docs/PERFORMANCE.md has of each type
+and class the most that a call takes: `--write` writes it there. Each case of growth/src/main.rs has a class, that of
+the worst case: a call looks at some runs, searches them, or passes them once. One that passed them for each of them
+would grow 1,024 times. Status 1 if a call grows more than its class allows, if a public call of the types that have
+runs, and of the others of `TYPES`, has no case, and no reason in `LEFT_OUT`, if a case or a reason has no call, or if
+a number of the page is off by more than a tenth.
 """
 import argparse
 import itertools
@@ -27,28 +27,33 @@ TYPES = {
     "assembler": "Assembler", "scoreboard": "Scoreboard", "recovery": "LossRecovery", "receiver": "ReceiverOver",
     "finite_receiver": "FiniteReceiverOver", "sender": "SenderOver", "finite_sender": "FiniteSenderOver",
     "plan": "Plan", "fragments": "FragmentsOver", "slot": "FragmentSlot", "table": "fragment_table",
+    "send_buffer": "SendBufferOver", "sending_end": "SendingEndOver", "receiving_end": "ReceivingEndOver",
 }
-# Types with runs whose calls are made of those above, without a loop over runs (composition.py).
-MADE_OF_THESE = "SendBufferOver SendingEndOver ReceivingEndOver".split()
 # Calls without a class, by reason.
 LEFT_OUT = {
     "it makes a value, takes one apart, or begins anew: a program does that": """
-        assembler: new empty clear / scoreboard: empty empty_at reset_at / recovery: new
+        assembler: new empty clear / scoreboard: empty empty_at reset_at / recovery: from_parts new
         receiver: new new_at empty empty_at over over_at into_storage reset_at
         finite_receiver: empty_at over over_at into_storage reset_at
         sender: new new_at over over_at into_storage reset_at / finite_sender: new_at over over_at into_storage reset_at
-        fragments: new empty over into_storage / slot: over""",
+        fragments: new empty over into_storage / slot: over
+        send_buffer: new_at over_at reset_at / sending_end: forget new_at over_at reset_at / receiving_end: empty_at over_at""",
     "it reads numbers of the head, or of what it is given": """
         assembler: fits is_empty peek_front run_count / scoreboard: first_unreported
-        recovery: duplicates is_active is_blind / receiver: capacity first_unread fits held_count is_empty next queued window
+        recovery: duplicates is_active is_blind parts / receiver: capacity first_unread fits held_count is_empty next queued window
         receiver: window_end
         finite_receiver: acknowledged end has_read_all is_complete receiver window_end
         sender: capacity end first_unacknowledged is_empty len window
         finite_sender: capacity first_number is_closed is_closed_and_acknowledged is_empty len numbers_end sent
-        finite_sender: sent_numbers window / fragments: capacity expires_at is_empty is_expired total_size / slot: is_for""",
+        finite_sender: sent_numbers window / fragments: capacity expires_at is_empty is_expired total_size / slot: is_for
+        send_buffer: is_blind is_closed is_done is_recovering numbers numbers_end window
+        sending_end: acknowledgement_number expires_at flight_size is_done is_recovering nagle_enabled numbers round_trip
+        sending_end: segment_size timeouts window / receiving_end: answer is_due receiver""",
     "only a program makes it, and it takes queued bytes": """
         receiver: as_slices peek peek_slice peek_slices read_with / finite_receiver: read_with
-        sender: write / finite_sender: close write""",
+        receiving_end: read_with""",
+    "only a program makes it, and it gives bytes, or ends the stream": """
+        sender: write / finite_sender: close write / send_buffer: close write / sending_end: close set_nagle_enabled write""",
     "only a program makes it: it compares two values": "receiver: same_state / finite_receiver: same_state",
     "it copies the runs, of which callgrind counts each byte where they are many": "receiver: plan",
 }
@@ -69,8 +74,7 @@ def public_calls():
             calls.add(f"{known[of]}_{name}")
         elif "<const N: usize" in rest or ", const N: usize" in rest:
             others.add(of)
-    unknown = others - {*known, *MADE_OF_THESE}
-    return calls, [f"{it}: has runs, and isn't in TYPES of growth.py" for it in sorted(unknown)]
+    return calls, [f"{it}: has runs, and isn't in TYPES of growth.py" for it in sorted(others - {*known})]
 
 
 def call_of(name, calls):
@@ -137,14 +141,14 @@ def counts(program, runs, folder):
     return {name: cost / times for name, (cost, times) in found.items()}
 
 
-def counted(rust):
+def counted():
     """The instructions of each call at few runs and at many."""
     with tempfile.TemporaryDirectory() as name:
         folder = Path(name)
         source = folder / "growth"
         shutil.copytree(HERE / "growth", source)
         manifest = source / "Cargo.toml"
-        manifest.write_text(manifest.read_text().replace("../../rust", str(rust.resolve())))
+        manifest.write_text(manifest.read_text().replace("../../rust", str(HERE.parent / "rust")))
         target = Path(os.environ.get("CARGO_TARGET_DIR", folder / "target"))
         words = ["cargo", "build", "--quiet", "--release", "--offline", "--target-dir", target]
         if subprocess.run(words, cwd=source).returncode:
@@ -155,12 +159,11 @@ def counted(rust):
 def main():
     parser = argparse.ArgumentParser(description=__doc__)
     parser.add_argument("--write", action="store_true")
-    parser.add_argument("--rust", type=Path, default=HERE.parent / "rust")
     arguments = parser.parse_args()
     if not shutil.which("valgrind"):
         print("not run: valgrind isn't here")
         return 2
-    few, many = counted(arguments.rust)
+    few, many = counted()
     source = (HERE / "growth/src/main.rs").read_text()
     classes = {call: kind for kind, call in re.findall(rf"^ +({'|'.join(MOST)}) (\w+) {{", source, re.M)}
     calls, bad = public_calls()
@@ -171,8 +174,7 @@ def main():
         print(f"| {call} | {kind} | {few[call]:,.0f} | {many[call]:,.0f} | {ratio:.2f} | {MOST[kind]} |")
         if ratio > MOST[kind]:
             bad.append(f"{call}: grows {ratio:.2f} times")
-    if arguments.rust == parser.get_default("rust"):
-        bad += differing(page_table(few, many, classes), arguments.write)
+    bad += differing(page_table(few, many, classes), arguments.write)
     for line in bad:
         print(line, file=sys.stderr)
     return 1 if bad else 0

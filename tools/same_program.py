@@ -20,7 +20,6 @@ the two have otherwise are in `SAME`, and what one side has alone in `ALONE`. A 
 if a function differs or isn't understood, 2 if there is no compiler.
 """
 import json
-import os
 import re
 import subprocess
 import sys
@@ -30,7 +29,7 @@ from pathlib import Path
 sys.dont_write_bytecode = True
 import widths
 from parts import erase_list as given
-from parts.same_compiled import NUMBERS, Compiled, CompiledSide, split
+from parts.same_compiled import NUMBERS, Compiled, CompiledSide
 from parts.same_proved import Proved, ProvedSide
 from parts.same_terms import FALSE, UNIT, Differ, Unknown, any_part, discriminant, holds_ref, is_test, mentions, met, negated, operation, shown
 
@@ -358,27 +357,22 @@ def kept(crate):
 
 def compiled(root, kit, target):
     """Rustc's program of the crate, and of its example."""
-    environment, found = dict(os.environ, RUSTC=str(kit / 'rustc'), RUSTC_BOOTSTRAP='1', CARGO_TARGET_DIR=str(target)), []
-    for what, folder in (('--lib', 'src/proved'), ('--example=net_bench', 'examples/net_bench/proved')):
-        subprocess.run(['cargo', 'rustc', '--offline', '--quiet', what, '--features', 'segmentation-offload,c', '--', *widths.FLAGS],
-                       cwd=root, check=True, env=environment)
-        mir, = target.glob('debug/deps/*.mir' if not found else 'debug/examples/*.mir')
-        found.append(Compiled(root, mir.read_text(), folder, *found))
-    return found
+    widths.rustc(root, kit, target, check=True)
+    library = Compiled(root, widths.mir_of(target))
+    widths.rustc(root, kit, target, '--example=net_bench', check=True)
+    return library, Compiled(root, widths.mir_of(target, 'examples'), 'examples/net_bench/proved', library)
 
 
 def programs(arguments, temporary):
     """The prover's programs by crate; of each crate or module that is compared its name and rustc's program; and the compiler's
     folder. Where these can't be had a line says why, and the status is what ends this."""
     folders = [Path(word).resolve() for word in arguments if word != '--all']
-    kit, folder = [*folders, *[temporary] * 2][:2]
+    folder = [*folders, *[temporary] * 2][1]
     folder.mkdir(parents=True, exist_ok=True)
     missing = [crate for crate in (*given.CRATES, *given.PROGRAM) if crate != given.EXPORTS and not kept(crate).is_file()]
     if missing:
         sys.exit(f'{Path(sys.argv[0]).stem}: not compared: no proved library of {", ".join(missing)}: rt ci')
-    if status := subprocess.run(['sh', REPOSITORY / 'rust/kit.sh', kit]).returncode:
-        print(f'{Path(sys.argv[0]).stem}: not run: no compiler', file=sys.stderr)
-        sys.exit(status)
+    kit = widths.kit_of(folders, temporary)
     library, example = compiled(REPOSITORY / 'rust', kit, temporary / 'target')
     mirs = {crate: kept(crate) for crate in (*given.CRATES, *given.PROGRAM)} | {given.EXPORTS: exports(folder)}
     of_example = [(within, example) for within in (SCHEDULE, *given.PROGRAM)]

@@ -1,9 +1,12 @@
 #!/usr/bin/env python3
-"""Texts that the kit proves, and that may mean something else once they are erased: python3 tools/same_texts.py [--show] KIT [FOLDER]
+"""Texts that the kit proves, and that may mean something else once they are erased:
 
-Each of tools/parts/planted_texts.py is proved in a crate of its own in FOLDER, or a temporary one, erased and compiled, and has
-to be found by what its entry says: the eraser, rustc, tools/same_program.py, widths.py or std_calls.py; or to do what was
-proved. With --show what finds each is printed. The status is 1 if one isn't found so, and 2 if there is no compiler."""
+    python3 tools/same_texts.py [--show] KIT [FOLDER]
+
+Each of tools/parts/planted_texts.py is proved in a crate of its own in FOLDER, or a temporary one, erased and compiled,
+and has to be found by what its entry says: the eraser, rustc, tools/same_program.py or widths.py; or to do what was
+proved. With --show what finds each is printed. The status is 1 if one isn't found so, and 2 if there is no compiler.
+"""
 import json
 import os
 import re
@@ -21,21 +24,21 @@ from parts import erase_list as given
 from parts.planted_texts import TEXTS
 from parts.same_compiled import Compiled
 from parts.same_proved import Proved
-from std_calls import CALL, DEFINED, name as std_name
 
 HEAD = '//! A text.\nghost use Rattle.std.specs.Prelude.{◌≡◌, ◌+◌, ◌*◌, ◌<◌, ◌↔◌, IsTrue, IsFalse, IsOk, IfOk, min};\n'
+# Modules that texts use, and all that there are.
 OTHERS = {'config': '//! Numbers.\n\n/// A number.\npub const ASSEMBLER_MAX_SEGMENT_COUNT: usize = 9;\n',
           'traits': '//! Traits.\n\n/// Goes.\npub trait Goes {\n    fn go(self) -> u64;\n}\n'}
+FILES = {name: HEAD + text for name, *_, text in TEXTS} | OTHERS
 
 
 def proved(folder):
     """The prover's program of all texts."""
     source = folder / 'crates/planted/src'
     source.mkdir(parents=True, exist_ok=True)
-    files = {name: HEAD + text for name, _, _, text in TEXTS} | OTHERS
-    files['lib'] = '//! Texts.\n#![tactic(auto)]\n\n' + ''.join(f'pub mod {name};\n' for name in files)
-    for name, text in files.items():
+    for name, text in FILES.items():
         (source / f'{name}.rt').write_text(text)
+    (source / 'lib.rt').write_text('//! Texts.\n#![tactic(auto)]\n\n' + ''.join(f'pub mod {name};\n' for name in FILES))
     (folder / 'crates.txt').write_text('planted:\n')
     mir = folder / 'crates/planted/out/rlib/planted.rlib/toolchain/mir.json'
     ran = subprocess.run(['rt', 'lib'], cwd=source.parent, stdout=subprocess.PIPE, stderr=subprocess.STDOUT, text=True)
@@ -49,14 +52,13 @@ def erased(crate, found):
     given.CRATES = [*given.CRATES, 'planted']
     out = crate / 'src/proved/planted'
     out.mkdir()
-    traits = {name for *_, text in TEXTS for name in re.findall(r'^(?:pub )?trait (\w+)', text, re.M)} | {'Goes'}
-    for name, _, _, text in TEXTS:
+    traits = {name for text in FILES.values() for name in re.findall(r'^(?:pub )?trait (\w+)', text, re.M)}
+    for name, text in FILES.items():
         try:
-            (out / f'{name}.rs').write_text(erase.Eraser(HEAD + text, 'planted', (), f'crates/planted/src/{name}.rt', None, traits).run())
+            eraser = erase.Eraser(text, 'planted', (), f'crates/planted/src/{name}.rt', traits=traits)
+            (out / f'{name}.rs').write_text(eraser.run())
         except erase.Refused as refused:
             found[name] = f'eraser: {refused}'
-    for name, text in OTHERS.items():
-        (out / f'{name}.rs').write_text(erase.Eraser(text, 'planted', (), f'crates/planted/src/{name}.rt', None, traits).run())
     modules = crate / 'src/proved/mod.rs'
     modules.write_text(modules.read_text() + '#[allow(missing_docs)]\npub mod planted;\n')
     return out
@@ -64,14 +66,11 @@ def erased(crate, found):
 
 def compiled(crate, kit, target, out, found):
     """Rustc's program; what it refuses is found by it."""
-    environment = dict(os.environ, RUSTC=str(kit / 'rustc'), RUSTC_BOOTSTRAP='1', CARGO_TARGET_DIR=str(target))
     while True:
-        (out / 'mod.rs').write_text(''.join(f'pub mod {name};\n' for name in [*(name for name, *_ in TEXTS if name not in found), *OTHERS]))
-        ran = subprocess.run(['cargo', 'rustc', '--offline', '--quiet', '--lib', '--features', 'segmentation-offload,c', '--', *widths.FLAGS],
-                             cwd=crate, env=environment, capture_output=True, text=True)
+        (out / 'mod.rs').write_text(''.join(f'pub mod {name};\n' for name in FILES if name not in found))
+        ran = widths.rustc(crate, kit, target, capture_output=True, text=True)
         if not ran.returncode:
-            mir, = (target / 'debug/deps').glob('*.mir')
-            return mir.read_text()
+            return widths.mir_of(target)
         refused = {name: text for text, name in re.findall(r'error[^:]*: ([^\n]*)\n +--> src/proved/planted/(\w+)\.rs', ran.stderr)}
         if not refused.keys() - found.keys():
             sys.exit(f'same_texts: not compiled:\n{ran.stderr[:3000]}')
@@ -94,13 +93,10 @@ def runs(crate, target, names):
 
 def main(arguments):
     shows, folders = '--show' in arguments, [Path(word).resolve() for word in arguments if word != '--show']
-    kit, found = folders[0], {}
+    found = {}
     with tempfile.TemporaryDirectory() as temporary:
-        if status := subprocess.run(['sh', widths.REPOSITORY / 'rust/kit.sh', kit]).returncode:
-            print('same_texts: not run: no compiler', file=sys.stderr)
-            return status
         temporary = Path(temporary)
-        crate = temporary / 'crate'
+        kit, crate = widths.kit_of(folders, temporary), temporary / 'crate'
         shutil.copytree(widths.REPOSITORY / 'rust', crate, ignore=shutil.ignore_patterns('target'))
         program = proved(folders[1] if folders[1:] else temporary)
         out = erased(crate, found)
@@ -115,12 +111,6 @@ def main(arguments):
         for at, kind in [*((at, kind) for at, kind in reader.operations if not reader.cover(at, kind)), *reader.large]:
             if '/planted/' in at[0]:
                 found.setdefault(Path(at[0]).stem, f'widths: {kind}')
-        told, own = (widths.REPOSITORY / 'docs/TRUST.md').read_text(), {name for *_, text in TEXTS for name in DEFINED.findall(text)} | {'Goes'}
-        for line in mir.split('\n'):
-            call, place = CALL.match(line), re.search(r'at src/proved/planted/(\w+)\.rs', line)
-            one = std_name(widths.called(call[1]), own) if call and place else None
-            if one and f'`{one[1]}`' not in told and not re.search(r'panick|fmt::rt', call[1]):
-                found.setdefault(place[1], f'std: {one[0]}::{one[1]}')
         left = [name for name, *_ in TEXTS if name not in found]
         right = runs(crate, temporary / 'tests', left)
     found |= {name: 'runs' for name in right}

@@ -8,7 +8,6 @@ unpacked in FOLDER, or in a temporary one; the status is 2 if there is none. Ope
 what derives print aren't listed.
 """
 import re
-import subprocess
 import sys
 import tempfile
 import textwrap
@@ -16,21 +15,11 @@ from pathlib import Path
 
 sys.dont_write_bytecode = True
 import widths
-from widths import called
+from parts.mir_text import called, without
 
 REPOSITORY = widths.REPOSITORY
 CALL = re.compile(r'^\s+[^=]+? = (?:move |copy )?(.+\)) -> .*// scope \d+ at src/proved/')
 DEFINED = re.compile(r'\b(?:fn|struct|enum|trait|type|union) (\w+)')
-
-
-def without(text):
-    """A path without what it has between angles, but for those that it begins with."""
-    depth, kept = 0, ''
-    for k, sign in enumerate(text):
-        depth += sign == '<'
-        kept += sign if not depth else ''
-        depth -= sign == '>' and text[k - 1] != '-'
-    return kept.replace('::::', '::').removesuffix('::')
 
 
 def name(path, own):
@@ -69,13 +58,8 @@ def main(arguments):
     folders = [word for word in arguments if word != '--check']
     with tempfile.TemporaryDirectory() as temporary:
         temporary = Path(temporary)
-        kit = Path(folders[0]).resolve() if folders else temporary / 'kit'
-        if status := subprocess.run(['sh', REPOSITORY / 'rust/kit.sh', kit]).returncode:
-            print('std_calls: not run: no compiler', file=sys.stderr)
-            return status
-        widths.compiled(REPOSITORY / 'rust', kit, temporary / 'target')
-        mir, = (temporary / 'target/debug/deps').glob('*.mir')
-        rows, crates = lists(mir.read_text())
+        widths.rustc(REPOSITORY / 'rust', widths.kit_of(folders, temporary), temporary, check=True)
+        rows, crates = lists(widths.mir_of(temporary))
     block = '\n'.join(rows)
     print(block, crates, sep='\n')
     told = (REPOSITORY / 'docs/TRUST.md').read_text()

@@ -1,7 +1,7 @@
 #!/usr/bin/env python3
 """Lists the public functions and methods of the libraries, and of the Cargo crate, that no test and no example names.
 
-    python3 tools/untested.py [CRATE ..]
+    python3 tools/untested.py
     python3 tools/untested.py --laws      the laws alone, which take a second
 
 Public are a `pub fn` that a user of the crate reaches by `pub mod` and `pub use`, each `pub fn` of a
@@ -343,16 +343,10 @@ def main():
         print(*missing, count, sep="\n")
         return 1 if missing else 0
     calls, named = of_rattle()
-    wanted = [it for it in calls if not sys.argv[1:] or it[0] in sys.argv[1:]]
-    missing = [f"{crate}: {subject + '::' if subject else ''}{name}" for crate, subject, name in wanted
-               if (crate, subject, name) not in named]
-    count = len(wanted)
-    if not sys.argv[1:] or "rust" in sys.argv[1:]:
-        calls, named = of_rust()
-        missing += [f"rust: {it.removeprefix('::')}" for it in calls if it not in named]
-        count += len(calls)
-    if not sys.argv[1:]:
-        missing += unused_laws()[0]
+    of_crate, named_there = of_rust()
+    missing = [f"{it[0]}: {'::'.join(filter(None, it[1:]))}" for it in calls if it not in named]
+    missing += [f"rust: {it.removeprefix('::')}" for it in of_crate if it not in named_there] + unused_laws()[0]
+    count = len(calls) + len(of_crate)
     print(*missing, f"{count} public functions and methods, {len(missing)} that no test or example names", sep="\n")
     return 1 if missing else 0
 

@@ -39,6 +39,7 @@ import tempfile
 from pathlib import Path
 
 sys.dont_write_bytecode = True
+from parts.mir_text import called
 
 REPOSITORY = Path(__file__).resolve().parent.parent
 MARK = '"in any `usize`"'
@@ -114,16 +115,6 @@ class File:
     def begins(self, start):
         """Whether a statement is a block, a branch or a loop, which ends with its brace."""
         return re.match(r'\s*(?:if|while|for|loop|match|unsafe|\{|#\[)', self.code[start:])
-
-
-def called(text):
-    """The function of a call, without its arguments."""
-    depth = 0
-    for k, sign in enumerate(text):
-        depth += (sign == '<') - (sign == '>' and text[k - 1] != '-')
-        if sign == '(' and not depth:
-            return text[:k]
-    return text
 
 
 def plain(text):
@@ -212,7 +203,7 @@ class Reader:
         file = self.file(name)
         if kind.startswith('unknown core::mem::size_of::<') and re.match(r' == 0\)', file.code[end:]):
             return 'no bytes'
-        if kind.startswith('unknown <usize as core::hash::Hash>') and re.fullmatch(r'\w+: usize', file.code[start:end]):
+        if kind.startswith('unknown <usize as core::hash::Hash>') and re.fullmatch(r'(?:pub )?\w+: usize', file.code[start:end]):
             return 'derived hash'                  # of a field: no clause says what a hasher is given
         if kind.startswith('unknown') or kind == 'isize':
             return None
@@ -295,29 +286,26 @@ class Reader:
         return False
 
     def is_bounded(self, file, start, end, text):
-        blocks = file.blocks(start)
-        names = {text}
-        statement = next(((a, b) for a, b in file.statements(blocks[0]) if a <= start < b), None)
-        if statement:
-            names |= self.named(file, statement, start, end)
+        """Whether on each way a bound of an expression's value follows it, or a bound of the expression precedes it."""
         cast = re.fullmatch(r'\(?([\w.-]+)\)?asusize', text)
-        names |= {cast[1]} if cast else set()
-        place = start
+        own = {text, cast[1]} if cast else {text}
+        blocks = file.blocks(start)
+        statement = next((a, b) for a, b in file.statements(blocks[0]) if a <= start < b)
+        names = own | self.named(file, statement, start, end)
         for brace in blocks:
             statements = list(file.statements(brace))
-            here = next(k for k, (a, b) in enumerate(statements) if a <= place < b or a <= start < b)
-            if self.bounded_after(file, statements, here, names, start, end):
+            here = next(k for k, (a, b) in enumerate(statements) if a <= start < b)
+            if self.bounded_after(file, statements[here:], names, start, end):
                 return True
             known = names - self.assigned(file, statement)
-            if self.bounded_before(file, statements, here, known, start, text.removesuffix('asusize')):
+            if self.bounded_before(file, statements[:here + 1], known, start, text.removesuffix('asusize')):
                 return True
             # A way that leaves a block, or runs it again, passes no bound after it.
             rest = file.code[max(end, statements[here][0]):file.close[brace]]
             if self.leaves(rest) or re.search(r'\b(?:while|for|loop)\b[^{};]*$', file.code[:brace]):
-                names = {text} if not cast else {text, cast[1]}
+                names = own
             if re.search(r'\|\s*$|=>\s*$', file.code[:brace]):
                 return False
-            place = brace
         return False
 
     @staticmethod
@@ -335,41 +323,42 @@ class Reader:
     @staticmethod
     def assigned(file, statement):
         """What a statement assigns: after it a bound that was tested before says nothing of that."""
-        if not statement:
-            return set()
         return set(re.findall(r'([\w.]+)\s*[-+*/]?=(?!=)', file.code[statement[0]:statement[1]]))
 
     @staticmethod
     def leaves(code):
         return re.search(r'\b(?:return|break|continue)\b|\?', code)
 
-    def bounded_after(self, file, statements, here, names, start, end):
-        """Whether a bound of one of the names follows, with nothing that leaves or assigns it in between."""
-        between = file.code[end:statements[here][1]] if statements[here][0] <= start else ''
-        if self.leaves(between):
+    def bound_of(self, file, statement):
+        """The bound that a statement is, if it is one."""
+        a, b = statement
+        return next((x for x in self.bounds(file) if a <= x[0] and x[1] <= b and not file.code[a:x[0]].strip()), None)
+
+    def bounded_after(self, file, statements, names, start, end):
+        """Whether a bound of one of the names follows the first statement, with nothing that leaves or assigns it in between."""
+        if self.leaves(file.code[end:statements[0][1]]):
             return False
-        for a, b in statements[here + 1:]:
-            bound = next((x for x in self.bounds(file) if a <= x[0] and x[1] <= b and not file.code[a:x[0]].strip()), None)
-            code = file.code[a:b]
-            if bound and bound[2] in names and self.is_there(file, bound[3], bound[2], start):
-                return True
-            if not bound and self.leaves(code):
+        for statement in statements[1:]:
+            code = file.code[slice(*statement)]
+            if bound := self.bound_of(file, statement):
+                if bound[2] in names and self.is_there(file, bound[3], bound[2], start):
+                    return True
+            elif self.leaves(code):
                 return False
-            names = names if bound else {name for name in names if not self.changed(code, name)}
+            else:
+                names = {name for name in names if not self.changed(code, name)}
         return False
 
-    def bounded_before(self, file, statements, here, names, start, text):
-        """Whether a bound of the expression precedes, with no variable of it assigned in between."""
-        a, b = statements[here]
-        if self.is_nested(file, a, start):
-            loop = re.search(r'\b(?:while|for|loop)\b', file.code[a:start])
-            if self.changed(file.code[a:b if loop else start], text):
-                return False
-        for a, b in reversed(statements[:here]):
-            bound = next((x for x in self.bounds(file) if a <= x[0] and x[1] <= b and not file.code[a:x[0]].strip()), None)
-            if bound and bound[2] in names and self.is_there(file, bound[3], bound[2], start):
-                return True
-            if not bound and self.changed(file.code[a:b], text):
+    def bounded_before(self, file, statements, names, start, text):
+        """Whether a bound of the expression precedes the last statement, with no variable of it assigned in between."""
+        *before, last = statements
+        if self.is_nested(file, last[0], start) and self.changed(file.code[slice(*last)], text):
+            return False
+        for statement in reversed(before):
+            if bound := self.bound_of(file, statement):
+                if bound[2] in names and self.is_there(file, bound[3], bound[2], start):
+                    return True
+            elif self.changed(file.code[slice(*statement)], text):
                 return False
         return False
 
@@ -399,9 +388,9 @@ class Reader:
         """Whether the right side of a bound is a number that was there before the operation."""
         if right == left:
             return False
-        if right.removesuffix('asu64') == 'most()':
-            return True
         right = right.removesuffix('asu64')
+        if right == 'most()':
+            return True
         path = re.fullmatch(rf'({PATH})(?:\.len\(\))?', right)
         if not path:
             return False
@@ -486,13 +475,32 @@ def unfolded(crates):
             yield f'{path}: a proof unfolds shortfall'
 
 
+def kit_of(folders, temporary):
+    """The first of the folders, or one that is made, with the compiler of rust/kit.sh; ends the script if that can't be had."""
+    kit = Path(folders[0]).resolve() if folders else temporary / 'kit'
+    if status := subprocess.run(['sh', REPOSITORY / 'rust/kit.sh', kit]).returncode:
+        print(f'{Path(sys.argv[0]).stem}: not run: no compiler', file=sys.stderr)
+        sys.exit(status)
+    return kit
+
+
+def rustc(crate, kit, target, what='--lib', **options):
+    """Compiles an erased crate, with its exports for C, or an example of it."""
+    environment = dict(os.environ, RUSTC=str(kit / 'rustc'), RUSTC_BOOTSTRAP='1', CARGO_TARGET_DIR=str(target))
+    words = ['cargo', 'rustc', '--offline', '--quiet', what, '--features', 'segmentation-offload,c', '--', *FLAGS]
+    return subprocess.run(words, cwd=crate, env=environment, **options)
+
+
+def mir_of(target, folder='deps'):
+    """What `rustc` wrote."""
+    mir, = (target / 'debug' / folder).glob('*.mir')
+    return mir.read_text()
+
+
 def compiled(crate, kit, target):
     """The reader of an erased crate."""
-    environment = dict(os.environ, RUSTC=str(kit / 'rustc'), RUSTC_BOOTSTRAP='1', CARGO_TARGET_DIR=str(target))
-    subprocess.run(['cargo', 'rustc', '--offline', '--quiet', '--lib', '--features', 'segmentation-offload,c', '--', *FLAGS],
-                   cwd=crate, check=True, env=environment)
-    mir, = (target / 'debug/deps').glob('*.mir')
-    return Reader(crate, mir.read_text())
+    rustc(crate, kit, target, check=True)
+    return Reader(crate, mir_of(target))
 
 
 def show(reader, everything=False):
@@ -517,12 +525,7 @@ def main(arguments):
     folders = [a for a in arguments if a != '--all']
     with tempfile.TemporaryDirectory() as temporary:
         temporary = Path(temporary)
-        kit = Path(folders[0]).resolve() if folders else temporary / 'kit'
-        compiler = subprocess.run(['sh', REPOSITORY / 'rust/kit.sh', kit])
-        if compiler.returncode:
-            print('widths: not run: no compiler', file=sys.stderr)
-            return compiler.returncode
-        counts = show(compiled(REPOSITORY / 'rust', kit, temporary / 'target'), everything)
+        counts = show(compiled(REPOSITORY / 'rust', kit_of(folders, temporary), temporary / 'target'), everything)
     for line in [*laws(sorted((REPOSITORY / 'crates').glob('*/src/**/*.rt'))), *unfolded(REPOSITORY / 'crates')]:
         counts['open'] += 1
         print(f'open: {line}')

@@ -6,39 +6,14 @@ import json
 import re
 
 import widths
+from parts.mir_text import called, closing, depths, split, without
 from parts.same_proved import WRAPPING, bits, tail
 from parts.same_terms import FALSE, SIGNS, TRUE, UNIT, Side, Unknown, cast, discriminant, length, negated, operation, pointer, sliced, take
-from std_calls import called, without
 
 WIDTHS = {'bool': 1, 'char': 32, 'usize': 64, 'isize': -64} | {f'{sign}{n}': n * (1 if sign == 'u' else -1) for n in (8, 16, 32, 64, 128) for sign in 'ui'}
 NUMBERS = r'(?:[iu](?:8|16|32|64|128|size))'
 VARIANTS = {'Option': ['None', 'Some'], 'Result': ['Ok', 'Err'], 'ControlFlow': ['Continue', 'Break'], 'Ordering': ['Less', 'Equal', 'Greater']}
 SILENT = re.compile(r'Storage|//|PlaceMention|FakeRead|AscribeUser|Retag|Coverage|nop|ConstEvalCounter')
-
-
-def closing(text, k, opened=0):
-    """Where the bracket ends that a place is in, or that many more."""
-    while True:
-        opened += (text[k] in '([{<') - (text[k] in ')]}' or text[k] == '>' and text[k - 1] not in '-=')
-        if opened < 0:
-            return k
-        k += 1
-
-
-def split(text):
-    """Parts between commas."""
-    parts, depth, start, k = [], 0, 0, 0
-    while k < len(text):
-        sign = text[k]
-        if sign == '"':
-            k = re.compile(r'"(?:\\.|[^"\\])*"').match(text, k).end()
-            continue
-        depth += (sign in '([{<') - (sign in ')]}' or sign == '>' and text[k - 1] not in '-=')
-        if sign == ',' and not depth:
-            parts.append(text[start:k].strip())
-            start = k + 1
-        k += 1
-    return parts + ([text[start:].strip()] if text[start:].strip() else [])
 
 
 class Compiled:
@@ -131,11 +106,7 @@ class Compiled:
     def callee(self, path):
         if path.startswith('<') and ' as ' in path:
             end = closing(path, 1)                 # `<A as B>::c`
-            depth, middle = 0, 0
-            for middle in range(1, end):
-                depth += (path[middle] == '<') - (path[middle] == '>' and path[middle - 1] != '-')
-                if not depth and path[middle:middle + 4] == ' as ':
-                    break
+            middle = next((at for at, sign, depth in depths(path, 1) if sign == ' as ' and not depth), end - 1)
             kind, trait, method = path[1:middle], path[middle + 4:end], path[end + 3:].split('::')[0]
             if tail(trait) in ('Index', 'IndexMut') and re.match(r'core::ops::Index(?:Mut)?<core::ops::Range\w*<', trait) and \
                     re.match(r'\[|core::vec::Vec<', kind):
