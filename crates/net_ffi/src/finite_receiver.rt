@@ -27,12 +27,13 @@ pub(crate) fn has_number(receiver: &FiniteReceiverHead) -> bool
 /// segment's first byte is at `position`. `is_last` says that the stream ends after the segment; the end is taken if it
 /// is at most the end of the free window.
 ///
-/// Returns `NET_BASE_DONE`, also if no byte is in the free window: then `kept` is 0. Returns `NET_BASE_OTHER_END`, and
-/// nothing changes, if the segment says that the stream ends where it can't, as `net_base_finite_receiver_can_end` tells,
-/// and not in order. An end in order is never refused: that of a last segment which begins at or below the first missing
-/// position, and ends at or above it and within the free window, while something is missing. What was held beyond it, and
-/// an end that was known, go then. Else returns `NET_BASE_TOO_MANY_RUNS`, and nothing changes, not the end either, if the segment has bytes in the free
-/// window, the first missing position is not one of theirs, and with them there would be more runs than the slice has
+/// Returns `NET_BASE_DONE`, also if no byte is in the free window: then `kept` is 0. Returns `NET_BASE_OTHER_END`,
+/// and nothing changes, if the segment says that the stream ends where it can't, as
+/// `net_base_finite_receiver_can_end` tells, and not in order. An end in order is never refused: that of a last
+/// segment which begins at or below the first missing position, and ends at or above it and within the free window,
+/// while something is missing. What was held beyond it, and an end that was known, go then. Else returns
+/// `NET_BASE_TOO_MANY_RUNS`, and nothing changes, not the end either, if the segment has bytes in the free window,
+/// the first missing position is not one of theirs, and with them there would be more runs than the slice has
 /// elements.
 ///
 /// Bytes after which an end has no number are left out.
@@ -53,24 +54,27 @@ pub extern "C" fn net_base_finite_receiver_segment(
     is_last: bool,
     counts: &mut KeptCounts,
 ) -> SegmentStatus
-    requires sound { IsPlausible (length storage.old) (length runs.old) receiver.old.receiver → HasSoundFinite
-        receiver.old (length storage.old) runs.old }
-    ensures result { IsPlausible (length storage.old) (length runs.old) receiver.old.receiver → MatchResult
-        (finite_result (length runs.old) (finite_of receiver.old storage.old runs.old) position bytes.now is_last) (λ k.
-        (result ≡ NET_BASE_DONE) × (counts.new.kept ≡ k.kept) × (counts.new.queued ≡ k.queued)) (λ e. (result ≡
-        status_of_finite e) × (counts.new ≡ counts.old) × (receiver.new ≡ receiver.old) × (storage.new ≡ storage.old) ×
-        (runs.new ≡ runs.old)) }
-    ensures state { IsPlausible (length storage.old) (length runs.old) receiver.old.receiver → finite_of
-        receiver.new storage.new runs.new ≡ finite_after (length runs.old) (finite_of receiver.old storage.old runs.old)
-        position bytes.now is_last }
-    ensures stored { IsPlausible (length storage.old) (length runs.old) receiver.old.receiver → storage.new ≡
-        finite_storage_after receiver.old storage.old runs.old position bytes.now is_last }
-    ensures canonical { IsCanonical receiver.old.receiver.held → IsCanonical receiver.new.receiver.held }
-    ensures sound { IsPlausible (length storage.old) (length runs.old) receiver.old.receiver → HasSoundFinite
-        receiver.new (length storage.new) runs.new }
-    ensures refused { (IsPlausible (length storage.old) (length runs.old) receiver.old.receiver → ⊥) → (result ≡
-        NET_BASE_REFUSED) × (receiver.new ≡ receiver.old) × (storage.new ≡ storage.old) × (runs.new ≡ runs.old) ×
-        (counts.new ≡ counts.old) }
+    requires sound { IsPlausible (length storage.old) (length runs.old) receiver.old.receiver →
+        HasSoundFinite receiver.old (length storage.old) runs.old }
+    ensures result { IsPlausible (length storage.old) (length runs.old) receiver.old.receiver →
+        MatchResult (finite_result (length runs.old) (finite_of receiver.old storage.old runs.old)
+        position bytes.now is_last) (λ k. (result ≡ NET_BASE_DONE) × (counts.new.kept ≡ k.kept) ×
+        (counts.new.queued ≡ k.queued)) (λ e. (result ≡ status_of_finite e) × (counts.new ≡
+        counts.old) × (receiver.new ≡ receiver.old) × (storage.new ≡ storage.old) × (runs.new ≡
+        runs.old)) }
+    ensures state { IsPlausible (length storage.old) (length runs.old) receiver.old.receiver →
+        finite_of receiver.new storage.new runs.new ≡ finite_after (length runs.old) (finite_of
+        receiver.old storage.old runs.old) position bytes.now is_last }
+    ensures stored { IsPlausible (length storage.old) (length runs.old) receiver.old.receiver →
+        storage.new ≡ finite_storage_after receiver.old storage.old runs.old position bytes.now
+        is_last }
+    ensures canonical { IsCanonical receiver.old.receiver.held → IsCanonical
+        receiver.new.receiver.held }
+    ensures sound { IsPlausible (length storage.old) (length runs.old) receiver.old.receiver →
+        HasSoundFinite receiver.new (length storage.new) runs.new }
+    ensures refused { (IsPlausible (length storage.old) (length runs.old) receiver.old.receiver →
+        ⊥) → (result ≡ NET_BASE_REFUSED) × (receiver.new ≡ receiver.old) × (storage.new ≡
+        storage.old) × (runs.new ≡ runs.old) × (counts.new ≡ counts.old) }
 {
     if !is_plausible(&receiver.receiver, storage.len(), runs.len()) {
         return NET_BASE_REFUSED;
@@ -100,14 +104,16 @@ pub extern "C" fn net_base_finite_receiver_window_end(
     capacity: usize,
     end: &mut u64,
 ) -> bool
-    ensures fits { IsTrue result ↔ ((receiver.now.receiver.place.length ≤ capacity) × (next_of receiver.now < no_end)
-        × (receiver.now.receiver.first + receiver.now.receiver.count_read + capacity < 2 ^ 64)) }
-    ensures end { IsTrue result → end.new ≡ max (receiver.now.receiver.first + receiver.now.receiver.count_read
-        + capacity) (if next_of receiver.now == end_of receiver.now then next_of receiver.now + 1 else next_of
-        receiver.now) }
-    ensures limit { (storage : List ℕ) (runs : List (ℕ × ℕ)) → length storage ≡ capacity → HasSoundFinite
-        receiver.now capacity runs → IsTrue result → end.new ≡ max (limit_of (finite_of receiver.now storage
-        runs).receiver) (acknowledged (finite_of receiver.now storage runs)) }
+    ensures fits { IsTrue result ↔ ((receiver.now.receiver.place.length ≤ capacity) × (next_of
+        receiver.now < no_end) × (receiver.now.receiver.first + receiver.now.receiver.count_read +
+        capacity < 2 ^ 64)) }
+    ensures end { IsTrue result → end.new ≡ max (receiver.now.receiver.first +
+        receiver.now.receiver.count_read + capacity) (if next_of receiver.now == end_of
+        receiver.now then next_of receiver.now + 1 else next_of receiver.now) }
+    ensures limit { (storage : List ℕ) (runs : List (ℕ × ℕ)) → length storage ≡ capacity →
+        HasSoundFinite receiver.now capacity runs → IsTrue result → end.new ≡ max (limit_of
+        (finite_of receiver.now storage runs).receiver) (acknowledged (finite_of receiver.now
+        storage runs)) }
     ensures unchanged { IsFalse result → end.new ≡ end.old }
 {
     if receiver.receiver.place.length > capacity || !has_number(receiver) {

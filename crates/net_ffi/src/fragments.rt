@@ -29,12 +29,12 @@ pub extern "C" fn net_base_fragments_complete(
     runs: &[Run],
     size: &mut usize,
 ) -> bool
-    requires sound { IsPlausible capacity (length runs.now) fragments.now → HasSoundRuns fragments.now.present
-        runs.now }
-    ensures done { IsPlausible capacity (length runs.now) fragments.now → (bytes : List ℕ) (n : ℕ) → IsComplete
-        (fragments_of fragments.now bytes runs.now) n → IsTrue result × (size.new ≡ n) }
-    ensures missing { IsPlausible capacity (length runs.now) fragments.now → (bytes : List ℕ) → (((n : ℕ) ×
-        IsComplete (fragments_of fragments.now bytes runs.now) n) → ⊥) → IsFalse result }
+    requires sound { IsPlausible capacity (length runs.now) fragments.now → HasSoundRuns
+        fragments.now.present runs.now }
+    ensures done { IsPlausible capacity (length runs.now) fragments.now → (bytes : List ℕ) (n : ℕ)
+        → IsComplete (fragments_of fragments.now bytes runs.now) n → IsTrue result × (size.new ≡ n) }
+    ensures missing { IsPlausible capacity (length runs.now) fragments.now → (bytes : List ℕ) →
+        (((n : ℕ) × IsComplete (fragments_of fragments.now bytes runs.now) n) → ⊥) → IsFalse result }
     ensures refused { (IsPlausible capacity (length runs.now) fragments.now → ⊥) → IsFalse result }
     ensures unchanged { IsFalse result → size.new ≡ size.old }
 {

@@ -80,16 +80,20 @@ pub extern "C" fn net_base_packets_enqueue(
     capacity: usize,
     size: usize,
 ) -> PacketPlace
-    ensures placed { let n = length slots.old in IsSoundHead n capacity packets.old → (gap : ℕ) → placement_in n
-        capacity packets.old size ≡ Some gap → (result ≡ place_after_gap n capacity packets.old gap) × (packets.new ≡
-        with_packet_placed gap size packets.old) × (slots.new ≡ slots_written result size slots.old) }
-    ensures full { IsSoundHead (length slots.old) capacity packets.old → placement_in (length slots.old) capacity
-        packets.old size ≡ None → (result ≡ no_place) × (packets.new ≡ packets.old) × (slots.new ≡ slots.old) }
-    ensures refused { (IsSoundHead (length slots.old) capacity packets.old → ⊥) → (result ≡ nonsense_place) ×
-        (packets.new ≡ packets.old) × (slots.new ≡ slots.old) }
-    ensures state { (xs : List ℕ) → length xs ≡ capacity → HasSoundSlots capacity packets.old slots.old → queue_of
-        packets.new slots.new xs ≡ with_packet_if_room (queue_of packets.old slots.old xs) size tt }
-    ensures sound { HasSoundSlots capacity packets.old slots.old → HasSoundSlots capacity packets.new slots.new }
+    ensures placed { let n = length slots.old in IsSoundHead n capacity packets.old → (gap : ℕ) →
+        placement_in n capacity packets.old size ≡ Some gap → (result ≡ place_after_gap n capacity
+        packets.old gap) × (packets.new ≡ with_packet_placed gap size packets.old) × (slots.new ≡
+        slots_written result size slots.old) }
+    ensures full { IsSoundHead (length slots.old) capacity packets.old → placement_in (length
+        slots.old) capacity packets.old size ≡ None → (result ≡ no_place) × (packets.new ≡
+        packets.old) × (slots.new ≡ slots.old) }
+    ensures refused { (IsSoundHead (length slots.old) capacity packets.old → ⊥) → (result ≡
+        nonsense_place) × (packets.new ≡ packets.old) × (slots.new ≡ slots.old) }
+    ensures state { (xs : List ℕ) → length xs ≡ capacity → HasSoundSlots capacity packets.old
+        slots.old → queue_of packets.new slots.new xs ≡ with_packet_if_room (queue_of packets.old
+        slots.old xs) size tt }
+    ensures sound { HasSoundSlots capacity packets.old slots.old → HasSoundSlots capacity
+        packets.new slots.new }
 {
     if !packets.is_sound(slots.len(), capacity) {
         return refused_packet_place();
@@ -112,19 +116,22 @@ pub extern "C" fn net_base_packets_dequeue(
     slots: &[PacketSlot],
     capacity: usize,
 ) -> FirstPacket
-    ensures taken { IsSoundHead (length slots.now) capacity packets.old → HasFirst capacity packets.old slots.now →
-        (result ≡ first_packet capacity packets.old slots.now) × (packets.new ≡ head_after_first capacity packets.old
-        slots.now) }
-    ensures empty { IsSoundHead (length slots.now) capacity packets.old → packets.old.slots.length ≡ 0 → (result ≡
-        no_first) × (packets.new ≡ packets.old) }
-    ensures refused { (IsSoundHead (length slots.now) capacity packets.old × (HasFirst capacity packets.old slots.now
-        ⊎ (packets.old.slots.length ≡ 0)) → ⊥) → (result ≡ nonsense_first) × (packets.new ≡ packets.old) }
-    ensures first { HasSoundSlots capacity packets.old slots.now → 1 ≤ packets.old.slots.length → HasFirst capacity
-        packets.old slots.now }
-    ensures state { (xs : List ℕ) → length xs ≡ capacity → HasSoundSlots capacity packets.old slots.now → 1 ≤
-        packets.old.slots.length → (queue_of packets.new slots.now xs ≡ without_first_and_gap (queue_of packets.old
-        slots.now xs)) × IsFirstAt (queue_of packets.old slots.now xs) result }
-    ensures sound { HasSoundSlots capacity packets.old slots.now → HasSoundSlots capacity packets.new slots.now }
+    ensures taken { IsSoundHead (length slots.now) capacity packets.old → HasFirst capacity
+        packets.old slots.now → (result ≡ first_packet capacity packets.old slots.now) ×
+        (packets.new ≡ head_after_first capacity packets.old slots.now) }
+    ensures empty { IsSoundHead (length slots.now) capacity packets.old → packets.old.slots.length
+        ≡ 0 → (result ≡ no_first) × (packets.new ≡ packets.old) }
+    ensures refused { (IsSoundHead (length slots.now) capacity packets.old × (HasFirst capacity
+        packets.old slots.now ⊎ (packets.old.slots.length ≡ 0)) → ⊥) → (result ≡ nonsense_first) ×
+        (packets.new ≡ packets.old) }
+    ensures first { HasSoundSlots capacity packets.old slots.now → 1 ≤ packets.old.slots.length →
+        HasFirst capacity packets.old slots.now }
+    ensures state { (xs : List ℕ) → length xs ≡ capacity → HasSoundSlots capacity packets.old
+        slots.now → 1 ≤ packets.old.slots.length → (queue_of packets.new slots.now xs ≡
+        without_first_and_gap (queue_of packets.old slots.now xs)) × IsFirstAt (queue_of
+        packets.old slots.now xs) result }
+    ensures sound { HasSoundSlots capacity packets.old slots.now → HasSoundSlots capacity
+        packets.new slots.now }
 {
     if !packets.is_sound(slots.len(), capacity) {
         return refused_first_packet();
@@ -149,14 +156,15 @@ pub extern "C" fn net_base_packets_peek(
     slots: &[PacketSlot],
     capacity: usize,
 ) -> FirstPacket
-    ensures first { IsSoundHead (length slots.now) capacity packets.now → HasFirst capacity packets.now slots.now →
-        result ≡ first_packet capacity packets.now slots.now }
-    ensures empty { IsSoundHead (length slots.now) capacity packets.now → packets.now.slots.length ≡ 0 → result ≡
-        no_first }
-    ensures refused { (IsSoundHead (length slots.now) capacity packets.now × (HasFirst capacity packets.now slots.now
-        ⊎ (packets.now.slots.length ≡ 0)) → ⊥) → result ≡ nonsense_first }
-    ensures state { (xs : List ℕ) → length xs ≡ capacity → HasSoundSlots capacity packets.now slots.now → 1 ≤
-        packets.now.slots.length → IsFirstAt (queue_of packets.now slots.now xs) result }
+    ensures first { IsSoundHead (length slots.now) capacity packets.now → HasFirst capacity
+        packets.now slots.now → result ≡ first_packet capacity packets.now slots.now }
+    ensures empty { IsSoundHead (length slots.now) capacity packets.now → packets.now.slots.length
+        ≡ 0 → result ≡ no_first }
+    ensures refused { (IsSoundHead (length slots.now) capacity packets.now × (HasFirst capacity
+        packets.now slots.now ⊎ (packets.now.slots.length ≡ 0)) → ⊥) → result ≡ nonsense_first }
+    ensures state { (xs : List ℕ) → length xs ≡ capacity → HasSoundSlots capacity packets.now
+        slots.now → 1 ≤ packets.now.slots.length → IsFirstAt (queue_of packets.now slots.now xs)
+        result }
 {
     if !packets.is_sound(slots.len(), capacity) {
         return refused_first_packet();
@@ -171,8 +179,8 @@ pub extern "C" fn net_base_packets_peek(
 }
 
 /// Removes the first slot in use, which the caller passes as `first`, with its bytes, and returns the index of the
-/// first of these bytes. `first` must be the slot at the index `slots.read_at`: that of the gap before the first packet,
-/// or that of the first packet if it has no gap. Only its size is tested.
+/// first of these bytes. `first` must be the slot at the index `slots.read_at`: that of the gap before the first
+/// packet, or that of the first packet if it has no gap. Only its size is tested.
 ///
 /// A head whose numbers aren't those of rings is refused, and so is a slot that can't be the first one: if none is in
 /// use, if its size is above the number of bytes in use, if its bytes aren't contiguous, or if it is a gap's that has
@@ -184,17 +192,21 @@ pub extern "C" fn net_base_packets_take_slot(
     capacity: usize,
     first: &PacketSlot,
 ) -> usize
-    ensures taken { IsSoundHead slot_count capacity packets.old → CanTake capacity packets.old first.now → (result ≡
-        packets.old.bytes.read_at) × (packets.new ≡ with_slot_taken slot_count capacity first.now.size packets.old) }
-    ensures refused { (IsSoundHead slot_count capacity packets.old × CanTake capacity packets.old first.now → ⊥) →
-        (result ≡ no_number) × (packets.new ≡ packets.old) }
-    ensures first { (slots : List PacketSlot) → length slots ≡ slot_count → HasSoundSlots capacity packets.old slots →
-        IsFirstSlot packets.old slots first.now → CanTake capacity packets.old first.now }
-    ensures state { (slots : List PacketSlot) (xs : List ℕ) → length slots ≡ slot_count → length xs ≡ capacity →
-        HasSoundSlots capacity packets.old slots → IsFirstSlot packets.old slots first.now → queue_of packets.new slots
-        xs ≡ after_slot first.now (queue_of packets.old slots xs) }
-    ensures sound { (slots : List PacketSlot) → length slots ≡ slot_count → HasSoundSlots capacity packets.old slots →
-        IsFirstSlot packets.old slots first.now → HasSoundSlots capacity packets.new slots }
+    ensures taken { IsSoundHead slot_count capacity packets.old → CanTake capacity packets.old
+        first.now → (result ≡ packets.old.bytes.read_at) × (packets.new ≡ with_slot_taken
+        slot_count capacity first.now.size packets.old) }
+    ensures refused { (IsSoundHead slot_count capacity packets.old × CanTake capacity packets.old
+        first.now → ⊥) → (result ≡ no_number) × (packets.new ≡ packets.old) }
+    ensures first { (slots : List PacketSlot) → length slots ≡ slot_count → HasSoundSlots capacity
+        packets.old slots → IsFirstSlot packets.old slots first.now → CanTake capacity packets.old
+        first.now }
+    ensures state { (slots : List PacketSlot) (xs : List ℕ) → length slots ≡ slot_count → length xs
+        ≡ capacity → HasSoundSlots capacity packets.old slots → IsFirstSlot packets.old slots
+        first.now → queue_of packets.new slots xs ≡ after_slot first.now (queue_of packets.old
+        slots xs) }
+    ensures sound { (slots : List PacketSlot) → length slots ≡ slot_count → HasSoundSlots capacity
+        packets.old slots → IsFirstSlot packets.old slots first.now → HasSoundSlots capacity
+        packets.new slots }
 {
     if !packets.is_sound(slot_count, capacity) || !packets.can_take(slot_count, capacity, first) {
         return no_number();

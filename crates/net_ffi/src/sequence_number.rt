@@ -21,8 +21,8 @@ pub extern "C" fn net_base_sequence_number_position(
 ) -> bool
     ensures number { IsTrue result → number_at initial position.new ≡ number }
     ensures near { IsTrue result → IsNear next position.new }
-    ensures found { (pos : ℕ) → pos < 2 ^ 64 → number_at initial pos ≡ number → IsNear next pos → IsTrue result ×
-        (position.new ≡ pos) }
+    ensures found { (pos : ℕ) → pos < 2 ^ 64 → number_at initial pos ≡ number → IsNear next pos →
+        IsTrue result × (position.new ≡ pos) }
     ensures unchanged { IsFalse result → position.new ≡ position.old }
 {
     let number = SequenceNumber::new(number);

@@ -28,8 +28,8 @@ pub extern "C" fn net_base_advertised_window_classify(
     next: u64,
     segment: &Segment,
 ) -> ArrivalStatus
-    ensures { IsArrival NET_BASE_TAKE NET_BASE_ACKNOWLEDGEMENT_ONLY NET_BASE_ANSWER NET_BASE_RESET NET_BASE_IGNORE
-        next (advertised.now.edge - next) segment.now result }
+    ensures { IsArrival NET_BASE_TAKE NET_BASE_ACKNOWLEDGEMENT_ONLY NET_BASE_ANSWER NET_BASE_RESET
+        NET_BASE_IGNORE next (advertised.now.edge - next) segment.now result }
 {
     number_of(advertised.classify(next, *segment))
 }
@@ -52,13 +52,17 @@ pub extern "C" fn net_base_advertised_window_announce(
     window_end: u64,
 ) -> u16
     ensures field { result ≡ field_for (shift_count scale) (window_end - next) }
-    ensures edge { advertised.new.edge ≡ max advertised.old.edge (announced next (shift_count scale) result) }
+    ensures edge { advertised.new.edge ≡ max advertised.old.edge (announced next (shift_count
+        scale) result) }
     ensures never_back { advertised.old.edge ≤ advertised.new.edge }
     ensures within { announced next (shift_count scale) result ≤ max next window_end }
-    ensures room { advertised.old.edge ≤ max next window_end → advertised.new.edge ≤ max next window_end }
-    ensures most { (f : ℕ) → f ≤ 65535 → announced next (shift_count scale) f ≤ max next window_end → f ≤ result }
-    ensures lost { advertised.old.edge ≤ max next window_end → advertised.old.edge ≤ announced next (shift_count
-        scale) 65535 → advertised.old.edge < announced next (shift_count scale) result + 2 ^ shift_count scale }
+    ensures room { advertised.old.edge ≤ max next window_end → advertised.new.edge ≤ max next
+        window_end }
+    ensures most { (f : ℕ) → f ≤ 65535 → announced next (shift_count scale) f ≤ max next window_end
+        → f ≤ result }
+    ensures lost { advertised.old.edge ≤ max next window_end → advertised.old.edge ≤ announced next
+        (shift_count scale) 65535 → advertised.old.edge < announced next (shift_count scale) result
+        + 2 ^ shift_count scale }
 {
     advertised.announce(scale, next, window_end)
 }
@@ -76,15 +80,17 @@ pub extern "C" fn net_base_advertised_window_announce_in_steps(
     capacity: u64,
     mss: u16,
 ) -> u16
-    ensures due { worth capacity mss ≤ gain advertised.old.edge (shift_count scale) next window_end → result ≡
-        field_for (shift_count scale) (window_end - next) }
-    ensures held { gain advertised.old.edge (shift_count scale) next window_end < worth capacity mss → result ≡
-        field_for (shift_count scale) (min advertised.old.edge window_end - next) }
-    ensures edge { advertised.new.edge ≡ max advertised.old.edge (announced next (shift_count scale) result) }
+    ensures due { worth capacity mss ≤ gain advertised.old.edge (shift_count scale) next window_end
+        → result ≡ field_for (shift_count scale) (window_end - next) }
+    ensures held { gain advertised.old.edge (shift_count scale) next window_end < worth capacity
+        mss → result ≡ field_for (shift_count scale) (min advertised.old.edge window_end - next) }
+    ensures edge { advertised.new.edge ≡ max advertised.old.edge (announced next (shift_count
+        scale) result) }
     ensures within { announced next (shift_count scale) result ≤ max next window_end }
-    ensures room { advertised.old.edge ≤ max next window_end → advertised.new.edge ≤ max next window_end }
-    ensures steps { advertised.old.edge + worth capacity mss ≤ advertised.new.edge ⊎ (advertised.new.edge ≡ max
-        advertised.old.edge next) }
+    ensures room { advertised.old.edge ≤ max next window_end → advertised.new.edge ≤ max next
+        window_end }
+    ensures steps { advertised.old.edge + worth capacity mss ≤ advertised.new.edge ⊎
+        (advertised.new.edge ≡ max advertised.old.edge next) }
 {
     advertised.announce_in_steps(scale, next, window_end, capacity, mss)
 }
@@ -105,8 +111,8 @@ pub extern "C" fn net_base_advertised_window_is_update_due(
     capacity: u64,
     mss: u16,
 ) -> bool
-    ensures { IsTrue result ↔ ((next ≤ window_end) × (worth capacity mss ≤ gain advertised.now.edge (shift_count
-        scale) next window_end)) }
+    ensures { IsTrue result ↔ ((next ≤ window_end) × (worth capacity mss ≤ gain advertised.now.edge
+        (shift_count scale) next window_end)) }
 {
     advertised.is_update_due(scale, next, window_end, capacity, mss)
 }

@@ -59,14 +59,15 @@ pub extern "C" fn net_base_assembler_add(
 ) -> RoomStatus
     requires sound { assembler.old.used ≤ length runs.old → HasSoundRuns assembler.old runs.old }
     ensures sound { assembler.old.used ≤ length runs.old → HasSoundRuns assembler.new runs.new }
-    ensures added { (assembler.old.used ≤ length runs.old) × (RangeFits offset size) → Adds (length runs.old)
-        (set_of assembler.old runs.old) offset size (done_or_many result) (set_of assembler.new runs.new) }
-    ensures unchanged { (assembler.old.used ≤ length runs.old) × (RangeFits offset size) → OnErr (done_or_many
-        result) ((assembler.new ≡ assembler.old) × (runs.new ≡ runs.old)) }
+    ensures added { (assembler.old.used ≤ length runs.old) × (RangeFits offset size) → Adds (length
+        runs.old) (set_of assembler.old runs.old) offset size (done_or_many result) (set_of
+        assembler.new runs.new) }
+    ensures unchanged { (assembler.old.used ≤ length runs.old) × (RangeFits offset size) → OnErr
+        (done_or_many result) ((assembler.new ≡ assembler.old) × (runs.new ≡ runs.old)) }
     ensures canonical { IsCanonical assembler.old → IsCanonical assembler.new }
     ensures status { (assembler.old.used ≤ length runs.old) × (RangeFits offset size) → result < 2 }
-    ensures refused { ((assembler.old.used ≤ length runs.old) × (RangeFits offset size) → ⊥) → (result ≡
-        NET_BASE_REFUSED) × (assembler.new ≡ assembler.old) × (runs.new ≡ runs.old) }
+    ensures refused { ((assembler.old.used ≤ length runs.old) × (RangeFits offset size) → ⊥) →
+        (result ≡ NET_BASE_REFUSED) × (assembler.new ≡ assembler.old) × (runs.new ≡ runs.old) }
 {
     if assembler.used > runs.len() || !AssemblerHead::fits(offset, size) {
         return NET_BASE_REFUSED;
@@ -96,19 +97,22 @@ pub extern "C" fn net_base_assembler_add_then_remove_front(
 ) -> FrontLength
     requires sound { assembler.old.used ≤ length runs.old → HasSoundRuns assembler.old runs.old }
     ensures sound { assembler.old.used ≤ length runs.old → HasSoundRuns assembler.new runs.new }
-    ensures both { (assembler.old.used ≤ length runs.old) × (RangeFits offset size) → AddsThenRemovesFront (length
-        runs.old) (set_of assembler.old runs.old) offset size (length_or_many result.status result.length) (set_of
-        assembler.new runs.new) }
-    ensures unchanged { (assembler.old.used ≤ length runs.old) × (RangeFits offset size) → OnErr (length_or_many
-        result.status result.length) ((assembler.new ≡ assembler.old) × (runs.new ≡ runs.old)) }
-    ensures more { (assembler.old.used ≤ length runs.old) × (RangeFits offset size) → run_count (set_of
-        assembler.new runs.new) ≤ run_count (set_of assembler.old runs.old) + 1 }
+    ensures both { (assembler.old.used ≤ length runs.old) × (RangeFits offset size) →
+        AddsThenRemovesFront (length runs.old) (set_of assembler.old runs.old) offset size
+        (length_or_many result.status result.length) (set_of assembler.new runs.new) }
+    ensures unchanged { (assembler.old.used ≤ length runs.old) × (RangeFits offset size) → OnErr
+        (length_or_many result.status result.length) ((assembler.new ≡ assembler.old) × (runs.new ≡
+        runs.old)) }
+    ensures more { (assembler.old.used ≤ length runs.old) × (RangeFits offset size) → run_count
+        (set_of assembler.new runs.new) ≤ run_count (set_of assembler.old runs.old) + 1 }
     ensures canonical { IsCanonical assembler.old → IsCanonical assembler.new }
-    ensures status { (assembler.old.used ≤ length runs.old) × (RangeFits offset size) → result.status < 2 }
-    ensures none { (assembler.old.used ≤ length runs.old) × (RangeFits offset size) → result.status ≡ 1 →
-        result.length ≡ 0 }
-    ensures refused { ((assembler.old.used ≤ length runs.old) × (RangeFits offset size) → ⊥) → (result.status ≡
-        NET_BASE_REFUSED) × (result.length ≡ 0) × (assembler.new ≡ assembler.old) × (runs.new ≡ runs.old) }
+    ensures status { (assembler.old.used ≤ length runs.old) × (RangeFits offset size) →
+        result.status < 2 }
+    ensures none { (assembler.old.used ≤ length runs.old) × (RangeFits offset size) → result.status
+        ≡ 1 → result.length ≡ 0 }
+    ensures refused { ((assembler.old.used ≤ length runs.old) × (RangeFits offset size) → ⊥) →
+        (result.status ≡ NET_BASE_REFUSED) × (result.length ≡ 0) × (assembler.new ≡ assembler.old)
+        × (runs.new ≡ runs.old) }
 {
     if assembler.used > runs.len() || !AssemblerHead::fits(offset, size) {
         return refused_front_length();
@@ -133,18 +137,19 @@ pub extern "C" fn net_base_assembler_remove_front(
 ) -> FrontLength
     requires sound { assembler.old.used ≤ length runs.old → HasSoundRuns assembler.old runs.old }
     ensures sound { assembler.old.used ≤ length runs.old → HasSoundRuns assembler.new runs.new }
-    ensures removed { assembler.old.used ≤ length runs.old → RemovesFront (length runs.old) (set_of assembler.old
-        runs.old) result.length (set_of assembler.new runs.new) }
-    ensures unchanged { assembler.old.used ≤ length runs.old → result.length ≡ 0 → (assembler.new ≡ assembler.old) ×
-        (runs.new ≡ runs.old) }
-    ensures fewer { assembler.old.used ≤ length runs.old → 0 < result.length → run_count (set_of assembler.new
-        runs.new) + 1 ≡ run_count (set_of assembler.old runs.old) }
-    ensures room { assembler.old.used ≤ length runs.old → 0 < result.length → run_count (set_of assembler.new
-        runs.new) < length runs.old }
+    ensures removed { assembler.old.used ≤ length runs.old → RemovesFront (length runs.old) (set_of
+        assembler.old runs.old) result.length (set_of assembler.new runs.new) }
+    ensures unchanged { assembler.old.used ≤ length runs.old → result.length ≡ 0 → (assembler.new ≡
+        assembler.old) × (runs.new ≡ runs.old) }
+    ensures fewer { assembler.old.used ≤ length runs.old → 0 < result.length → run_count (set_of
+        assembler.new runs.new) + 1 ≡ run_count (set_of assembler.old runs.old) }
+    ensures room { assembler.old.used ≤ length runs.old → 0 < result.length → run_count (set_of
+        assembler.new runs.new) < length runs.old }
     ensures canonical { IsCanonical assembler.old → IsCanonical assembler.new }
     ensures status { assembler.old.used ≤ length runs.old → result.status ≡ NET_BASE_DONE }
-    ensures refused { (assembler.old.used ≤ length runs.old → ⊥) → (result.status ≡ NET_BASE_REFUSED) ×
-        (result.length ≡ 0) × (assembler.new ≡ assembler.old) × (runs.new ≡ runs.old) }
+    ensures refused { (assembler.old.used ≤ length runs.old → ⊥) → (result.status ≡
+        NET_BASE_REFUSED) × (result.length ≡ 0) × (assembler.new ≡ assembler.old) × (runs.new ≡
+        runs.old) }
 {
     if assembler.used > runs.len() {
         return refused_front_length();
@@ -173,9 +178,10 @@ pub extern "C" fn net_base_assembler_shift(
     requires sound { assembler.old.used ≤ length runs.old → HasSoundRuns assembler.old runs.old }
     ensures done { IsTrue result ↔ (assembler.old.used ≤ length runs.old) }
     ensures sound { IsTrue result → HasSoundRuns assembler.new runs.new }
-    ensures set { IsTrue result → set_of assembler.new runs.new ≡ shift_down (set_of assembler.old runs.old) count }
-    ensures fewer { IsTrue result → run_count (set_of assembler.new runs.new) ≤ run_count (set_of assembler.old
-        runs.old) }
+    ensures set { IsTrue result → set_of assembler.new runs.new ≡ shift_down (set_of assembler.old
+        runs.old) count }
+    ensures fewer { IsTrue result → run_count (set_of assembler.new runs.new) ≤ run_count (set_of
+        assembler.old runs.old) }
     ensures canonical { IsCanonical assembler.old → IsCanonical assembler.new }
     ensures unchanged { IsFalse result → (assembler.new ≡ assembler.old) × (runs.new ≡ runs.old) }
 {
@@ -199,10 +205,11 @@ pub extern "C" fn net_base_assembler_peek_front(
     runs: &[Run],
 ) -> FrontLength
     requires sound { assembler.now.used ≤ length runs.now → HasSoundRuns assembler.now runs.now }
-    ensures value { assembler.now.used ≤ length runs.now → result.length ≡ front (set_of assembler.now runs.now) }
+    ensures value { assembler.now.used ≤ length runs.now → result.length ≡ front (set_of
+        assembler.now runs.now) }
     ensures status { assembler.now.used ≤ length runs.now → result.status ≡ NET_BASE_DONE }
-    ensures refused { (assembler.now.used ≤ length runs.now → ⊥) → (result.status ≡ NET_BASE_REFUSED) ×
-        (result.length ≡ 0) }
+    ensures refused { (assembler.now.used ≤ length runs.now → ⊥) → (result.status ≡
+        NET_BASE_REFUSED) × (result.length ≡ 0) }
 {
     if assembler.used > runs.len() {
         return refused_front_length();
@@ -228,8 +235,8 @@ pub extern "C" fn net_base_assembler_contains(
     position: usize,
 ) -> bool
     requires sound { assembler.now.used ≤ length runs.now → HasSoundRuns assembler.now runs.now }
-    ensures value { assembler.now.used ≤ length runs.now → result ≡ contains (set_of assembler.now runs.now)
-        position }
+    ensures value { assembler.now.used ≤ length runs.now → result ≡ contains (set_of assembler.now
+        runs.now) position }
     ensures refused { (assembler.now.used ≤ length runs.now → ⊥) → IsFalse result }
 {
     if assembler.used > runs.len() {
@@ -253,8 +260,8 @@ pub extern "C" fn net_base_assembler_run_at(
     index: usize,
 ) -> Run
     requires sound { assembler.now.used ≤ length runs.now → HasSoundRuns assembler.now runs.now }
-    ensures run { assembler.now.used ≤ length runs.now → result ≡ unwrap_or (slice_get (maximal_runs (set_of
-        assembler.now runs.now)) index) (0, 0) }
+    ensures run { assembler.now.used ≤ length runs.now → result ≡ unwrap_or (slice_get
+        (maximal_runs (set_of assembler.now runs.now)) index) (0, 0) }
     ensures refused { (assembler.now.used ≤ length runs.now → ⊥) → result ≡ (no_number, no_number) }
 {
     if assembler.used > runs.len() {
@@ -279,8 +286,8 @@ pub extern "C" fn net_base_assembler_hole_at(
     index: usize,
 ) -> Run
     requires sound { assembler.now.used ≤ length runs.now → HasSoundRuns assembler.now runs.now }
-    ensures hole { assembler.now.used ≤ length runs.now → result ≡ unwrap_or (slice_get (holes (set_of assembler.now
-        runs.now)) index) (0, 0) }
+    ensures hole { assembler.now.used ≤ length runs.now → result ≡ unwrap_or (slice_get (holes
+        (set_of assembler.now runs.now)) index) (0, 0) }
     ensures refused { (assembler.now.used ≤ length runs.now → ⊥) → result ≡ (no_number, no_number) }
 {
     if assembler.used > runs.len() {

@@ -31,8 +31,8 @@ use net_receiver::FiniteSenderHead;
 pub extern "C" fn net_base_finite_sender_init(sender: &mut FiniteSenderHead, first: u64) -> bool
     ensures done { IsTrue result ↔ (first < no_end) }
     ensures sound { IsTrue result → (capacity : ℕ) → IsSoundFiniteSender capacity sender.new }
-    ensures state { IsTrue result → (storage : List ℕ) → finite_sender_of sender.new storage ≡ fresh_finite_sender
-        (length storage) first }
+    ensures state { IsTrue result → (storage : List ℕ) → finite_sender_of sender.new storage ≡
+        fresh_finite_sender (length storage) first }
     ensures numbers { IsTrue result → sender.new ≡ finite_sender_head first }
     ensures unchanged { IsFalse result → (sender.new ≡ sender.old) }
 {
@@ -65,8 +65,10 @@ pub extern "C" fn net_base_finite_sender_first_number(
     sender: &FiniteSenderHead,
     number: &mut u64,
 ) -> bool
-    ensures done { IsTrue result ↔ (sender.now.sender.first_unacknowledged + sender.now.finished < 2 ^ 64) }
-    ensures value { IsTrue result → number.new ≡ sender.now.sender.first_unacknowledged + sender.now.finished }
+    ensures done { IsTrue result ↔ (sender.now.sender.first_unacknowledged + sender.now.finished <
+        2 ^ 64) }
+    ensures value { IsTrue result → number.new ≡ sender.now.sender.first_unacknowledged +
+        sender.now.finished }
     ensures unchanged { IsFalse result → (number.new ≡ number.old) }
 {
     if sender.finished > u64::MAX - sender.sender.first_unacknowledged {
@@ -85,8 +87,8 @@ pub extern "C" fn net_base_finite_sender_numbers_end(
     sender: &FiniteSenderHead,
     number: &mut u64,
 ) -> bool
-    ensures done { IsTrue result ↔ (sender.now.sender.first_unacknowledged + sender.now.sender.place.length +
-        sender.now.closed < 2 ^ 64) }
+    ensures done { IsTrue result ↔ (sender.now.sender.first_unacknowledged +
+        sender.now.sender.place.length + sender.now.closed < 2 ^ 64) }
     ensures value { IsTrue result → number.new ≡ sender.now.sender.first_unacknowledged +
         sender.now.sender.place.length + sender.now.closed }
     ensures unchanged { IsFalse result → (number.new ≡ number.old) }
@@ -108,9 +110,11 @@ pub extern "C" fn net_base_finite_sender_numbers_end(
 /// `capacity` bytes: `NET_BASE_NONE`.
 #[unsafe(no_mangle)]
 pub extern "C" fn net_base_finite_sender_room(sender: &FiniteSenderHead, capacity: usize) -> usize
-    ensures value { (capacity ≢ no_number) × (IsSoundFiniteSender capacity sender.now) → (storage : List ℕ) → length
-        storage ≡ capacity → result ≡ finite_room (finite_sender_of sender.now storage) }
-    ensures refused { ((capacity ≢ no_number) × (IsSoundFiniteSender capacity sender.now) → ⊥) → result ≡ no_number }
+    ensures value { (capacity ≢ no_number) × (IsSoundFiniteSender capacity sender.now) → (storage :
+        List ℕ) → length storage ≡ capacity → result ≡ finite_room (finite_sender_of sender.now
+        storage) }
+    ensures refused { ((capacity ≢ no_number) × (IsSoundFiniteSender capacity sender.now) → ⊥) →
+        result ≡ no_number }
 {
     if capacity == no_number() || !sender.is_sound(capacity) {
         return no_number();
@@ -129,19 +133,21 @@ pub extern "C" fn net_base_finite_sender_write(
     storage: &mut [u8],
     bytes: &[u8],
 ) -> usize
-    ensures sound { IsSoundFiniteSender (length storage.old) sender.old → IsSoundFiniteSender (length storage.old)
-        sender.new }
-    ensures count { IsSoundFiniteSender (length storage.old) sender.old → result ≡ min (length bytes.now)
-        (finite_room (finite_sender_of sender.old storage.old)) }
-    ensures state { IsSoundFiniteSender (length storage.old) sender.old → finite_sender_of sender.new storage.new ≡
-        with_bytes (finite_sender_of sender.old storage.old) (take result bytes.now) }
-    ensures ring { IsSoundFiniteSender (length storage.old) sender.old → sender.old.closed ≡ 0 → let g =
-        rewind_if_empty (ring_at storage.old sender.old.sender.place) in ring_at storage.new sender.new.sender.place
-        ≡ with_enqueued result (with_elements_wrapping g (write_at g) (take result bytes.now)) }
-    ensures closed { IsSoundFiniteSender (length storage.old) sender.old → 0 < sender.old.closed → (sender.new ≡
-        sender.old) × (storage.new ≡ storage.old) }
-    ensures refused { (IsSoundFiniteSender (length storage.old) sender.old → ⊥) → (result ≡ no_number) × (sender.new
-        ≡ sender.old) × (storage.new ≡ storage.old) }
+    ensures sound { IsSoundFiniteSender (length storage.old) sender.old → IsSoundFiniteSender
+        (length storage.old) sender.new }
+    ensures count { IsSoundFiniteSender (length storage.old) sender.old → result ≡ min (length
+        bytes.now) (finite_room (finite_sender_of sender.old storage.old)) }
+    ensures state { IsSoundFiniteSender (length storage.old) sender.old → finite_sender_of
+        sender.new storage.new ≡ with_bytes (finite_sender_of sender.old storage.old) (take result
+        bytes.now) }
+    ensures ring { IsSoundFiniteSender (length storage.old) sender.old → sender.old.closed ≡ 0 →
+        let g = rewind_if_empty (ring_at storage.old sender.old.sender.place) in ring_at
+        storage.new sender.new.sender.place ≡ with_enqueued result (with_elements_wrapping g
+        (write_at g) (take result bytes.now)) }
+    ensures closed { IsSoundFiniteSender (length storage.old) sender.old → 0 < sender.old.closed →
+        (sender.new ≡ sender.old) × (storage.new ≡ storage.old) }
+    ensures refused { (IsSoundFiniteSender (length storage.old) sender.old → ⊥) → (result ≡
+        no_number) × (sender.new ≡ sender.old) × (storage.new ≡ storage.old) }
 {
     if !sender.is_sound(storage.len()) {
         return no_number();
@@ -152,10 +158,10 @@ pub extern "C" fn net_base_finite_sender_write(
 /// Ends the stream after what was written. A second call changes nothing.
 #[unsafe(no_mangle)]
 pub extern "C" fn net_base_finite_sender_close(sender: &mut FiniteSenderHead)
-    ensures sound { (capacity : ℕ) → IsSoundFiniteSender capacity sender.old → IsSoundFiniteSender capacity
-        sender.new }
-    ensures state { (storage : List ℕ) → finite_sender_of sender.new storage ≡ closed_sender (finite_sender_of
-        sender.old storage) }
+    ensures sound { (capacity : ℕ) → IsSoundFiniteSender capacity sender.old → IsSoundFiniteSender
+        capacity sender.new }
+    ensures state { (storage : List ℕ) → finite_sender_of sender.new storage ≡ closed_sender
+        (finite_sender_of sender.old storage) }
 {
     sender.close();
 }
@@ -175,10 +181,10 @@ pub extern "C" fn net_base_finite_sender_peek_at(
     position: u64,
     limit: u64,
 ) -> SegmentSpan
-    ensures value { IsSoundFiniteSender capacity sender.now → LendsAt capacity sender.now position limit result.from
-        result.count result.contiguous result.is_last }
-    ensures refused { (IsSoundFiniteSender capacity sender.now → ⊥) → (result.from ≡ no_number) × (result.count ≡ 0)
-        × (result.contiguous ≡ 0) × IsFalse result.is_last }
+    ensures value { IsSoundFiniteSender capacity sender.now → LendsAt capacity sender.now position
+        limit result.from result.count result.contiguous result.is_last }
+    ensures refused { (IsSoundFiniteSender capacity sender.now → ⊥) → (result.from ≡ no_number) ×
+        (result.count ≡ 0) × (result.contiguous ≡ 0) × IsFalse result.is_last }
 {
     if !sender.is_sound(capacity) {
         return refused_segment_span();
@@ -199,13 +205,15 @@ pub extern "C" fn net_base_finite_sender_send_at(
     position: u64,
     limit: u64,
 ) -> SegmentSpan
-    ensures sound { IsSoundFiniteSender capacity sender.old → IsSoundFiniteSender capacity sender.new }
-    ensures mark { IsSoundFiniteSender capacity sender.old → sender.new ≡ head_after_sending sender.old position
-        (result.contiguous + from_bool result.is_last) }
-    ensures lends { IsSoundFiniteSender capacity sender.old → LendsAt capacity sender.old position limit result.from
-        result.count result.contiguous result.is_last }
-    ensures refused { (IsSoundFiniteSender capacity sender.old → ⊥) → (result.from ≡ no_number) × (result.count ≡ 0)
-        × (result.contiguous ≡ 0) × IsFalse result.is_last × (sender.new ≡ sender.old) }
+    ensures sound { IsSoundFiniteSender capacity sender.old → IsSoundFiniteSender capacity
+        sender.new }
+    ensures mark { IsSoundFiniteSender capacity sender.old → sender.new ≡ head_after_sending
+        sender.old position (result.contiguous + from_bool result.is_last) }
+    ensures lends { IsSoundFiniteSender capacity sender.old → LendsAt capacity sender.old position
+        limit result.from result.count result.contiguous result.is_last }
+    ensures refused { (IsSoundFiniteSender capacity sender.old → ⊥) → (result.from ≡ no_number) ×
+        (result.count ≡ 0) × (result.contiguous ≡ 0) × IsFalse result.is_last × (sender.new ≡
+        sender.old) }
 {
     if !sender.is_sound(capacity) {
         return refused_segment_span();
@@ -225,12 +233,16 @@ pub extern "C" fn net_base_finite_sender_mark_sent(
     capacity: usize,
     position: u64,
 ) -> bool
-    ensures sound { IsSoundFiniteSender capacity sender.old → IsSoundFiniteSender capacity sender.new }
+    ensures sound { IsSoundFiniteSender capacity sender.old → IsSoundFiniteSender capacity
+        sender.new }
     ensures accepted { IsSoundFiniteSender capacity sender.old → (IsTrue result ↔ (position ≤
-        sender.old.sender.first_unacknowledged + sender.old.sender.place.length + sender.old.closed)) }
-    ensures mark { IsTrue result → sender.new ≡ record sender.old { sent = max sender.old.sent position } }
+        sender.old.sender.first_unacknowledged + sender.old.sender.place.length +
+        sender.old.closed)) }
+    ensures mark { IsTrue result → sender.new ≡ record sender.old
+        { sent = max sender.old.sent position } }
     ensures refused { IsFalse result → sender.new ≡ sender.old }
-    ensures unsound { (IsSoundFiniteSender capacity sender.old → ⊥) → (IsFalse result) × (sender.new ≡ sender.old) }
+    ensures unsound { (IsSoundFiniteSender capacity sender.old → ⊥) → (IsFalse result) ×
+        (sender.new ≡ sender.old) }
 {
     if !sender.is_sound(capacity) {
         return false;
@@ -250,16 +262,22 @@ pub extern "C" fn net_base_finite_sender_acknowledge(
     capacity: usize,
     next: u64,
 ) -> bool
-    ensures sound { IsSoundFiniteSender capacity sender.old → IsSoundFiniteSender capacity sender.new }
+    ensures sound { IsSoundFiniteSender capacity sender.old → IsSoundFiniteSender capacity
+        sender.new }
     ensures accepted { IsSoundFiniteSender capacity sender.old → (IsTrue result ↔
-        ((sender.old.sender.first_unacknowledged + sender.old.finished ≤ next) × (next ≤ sender.old.sent))) }
-    ensures first { IsTrue result → sender.new.sender.first_unacknowledged + sender.new.finished ≡ next }
-    ensures state { IsTrue result → (storage : List ℕ) → length storage ≡ capacity → finite_sender_of sender.new
-        storage ≡ acknowledged_below (finite_sender_of sender.old storage) next }
-    ensures sends { (storage : List ℕ) → length storage ≡ capacity → (f : ℕ) (w : List ℕ) → Sends f w
-        (finite_sender_of sender.old storage).sender → Sends f w (finite_sender_of sender.new storage).sender }
+        ((sender.old.sender.first_unacknowledged + sender.old.finished ≤ next) × (next ≤
+        sender.old.sent))) }
+    ensures first { IsTrue result → sender.new.sender.first_unacknowledged + sender.new.finished ≡
+        next }
+    ensures state { IsTrue result → (storage : List ℕ) → length storage ≡ capacity →
+        finite_sender_of sender.new storage ≡ acknowledged_below (finite_sender_of sender.old
+        storage) next }
+    ensures sends { (storage : List ℕ) → length storage ≡ capacity → (f : ℕ) (w : List ℕ) → Sends f
+        w (finite_sender_of sender.old storage).sender → Sends f w (finite_sender_of sender.new
+        storage).sender }
     ensures refused { IsFalse result → sender.new ≡ sender.old }
-    ensures unsound { (IsSoundFiniteSender capacity sender.old → ⊥) → (IsFalse result) × (sender.new ≡ sender.old) }
+    ensures unsound { (IsSoundFiniteSender capacity sender.old → ⊥) → (IsFalse result) ×
+        (sender.new ≡ sender.old) }
 {
     if !sender.is_sound(capacity) {
         return false;

@@ -40,7 +40,8 @@ pub extern "C" fn net_base_parts_sum_checksum(sum: &PartsSum) -> u16
 #[unsafe(no_mangle)]
 pub extern "C" fn net_base_parts_sum_is_valid(sum: &PartsSum) -> bool
     ensures value { IsTrue result ↔ (sum.now.sum ≡ 65535) }
-    ensures bytes { (xs : List ℕ) → Sums sum.now xs → (IsTrue result ↔ (folded (word_sum xs) ≡ 65535)) }
+    ensures bytes { (xs : List ℕ) → Sums sum.now xs → (IsTrue result ↔ (folded (word_sum xs) ≡
+        65535)) }
 {
     sum.is_valid()
 }

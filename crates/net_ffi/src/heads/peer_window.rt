@@ -31,10 +31,10 @@ pub extern "C" fn net_base_peer_window_update(
     numbers: &SentNumbers,
     it: &Announcement,
 ) -> bool
-    ensures accepted { IsTrue result ↔ ((numbers.now.first_unacknowledged ≤ it.now.ack) × (it.now.ack ≤
-        numbers.now.sent) × (Replaces peer.old it.now.seq it.now.ack)) }
-    ensures state { peer.new ≡ after_update peer.old numbers.now.first_unacknowledged numbers.now.sent it.now.seq
-        it.now.ack it.now.window }
+    ensures accepted { IsTrue result ↔ ((numbers.now.first_unacknowledged ≤ it.now.ack) ×
+        (it.now.ack ≤ numbers.now.sent) × (Replaces peer.old it.now.seq it.now.ack)) }
+    ensures state { peer.new ≡ after_update peer.old numbers.now.first_unacknowledged
+        numbers.now.sent it.now.seq it.now.ack it.now.window }
 {
     peer.update(*numbers, *it)
 }
@@ -64,8 +64,10 @@ pub extern "C" fn net_base_peer_window_is_probe_allowed(
     first_unacknowledged: u64,
     end: u64,
 ) -> bool
-    ensures value { IsTrue result ↔ ((peer.now.edge ≤ first_unacknowledged) × (first_unacknowledged < end)) }
-    ensures progress { first_unacknowledged < end → IsFalse result → first_unacknowledged < min peer.now.edge end }
+    ensures value { IsTrue result ↔ ((peer.now.edge ≤ first_unacknowledged) × (first_unacknowledged
+        < end)) }
+    ensures progress { first_unacknowledged < end → IsFalse result → first_unacknowledged < min
+        peer.now.edge end }
 {
     peer.is_probe_allowed(first_unacknowledged, end)
 }
@@ -81,10 +83,12 @@ pub extern "C" fn net_base_peer_window_acknowledgement_number(
     peer: &PeerWindow,
     numbers: &SentNumbers,
 ) -> u64
-    ensures value { result ≡ acknowledgement_number peer.now numbers.now.first_unacknowledged numbers.now.sent }
+    ensures value { result ≡ acknowledgement_number peer.now numbers.now.first_unacknowledged
+        numbers.now.sent }
     ensures sent { result ≤ numbers.now.sent }
     ensures promised { result ≤ max peer.now.edge numbers.now.first_unacknowledged }
-    ensures first { numbers.now.first_unacknowledged ≤ numbers.now.sent → numbers.now.first_unacknowledged ≤ result }
+    ensures first { numbers.now.first_unacknowledged ≤ numbers.now.sent →
+        numbers.now.first_unacknowledged ≤ result }
 {
     peer.acknowledgement_number(*numbers)
 }

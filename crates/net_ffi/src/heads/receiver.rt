@@ -40,8 +40,8 @@ pub extern "C" fn net_base_receiver_is_sound(
 /// It is refused if `next` doesn't fit 64 bits: false, and nothing changes.
 #[unsafe(no_mangle)]
 pub extern "C" fn net_base_receiver_next(receiver: &ReceiverHead, next: &mut u64) -> bool
-    ensures done { IsTrue result ↔ (receiver.now.first + receiver.now.count_read + receiver.now.place.length < 2 ^
-        64) }
+    ensures done { IsTrue result ↔ (receiver.now.first + receiver.now.count_read +
+        receiver.now.place.length < 2 ^ 64) }
     ensures value { IsTrue result → next.new ≡ receiver.now.first + receiver.now.count_read +
         receiver.now.place.length }
     ensures unchanged { IsFalse result → (next.new ≡ next.old) }
@@ -60,9 +60,10 @@ pub extern "C" fn net_base_receiver_next(receiver: &ReceiverHead, next: &mut u64
 /// `NET_BASE_NONE`.
 #[unsafe(no_mangle)]
 pub extern "C" fn net_base_receiver_window(receiver: &ReceiverHead, capacity: usize) -> usize
-    ensures value { (capacity ≢ no_number) × (receiver.now.place.length ≤ capacity) → result ≡ capacity -
-        receiver.now.place.length }
-    ensures refused { ((capacity ≢ no_number) × (receiver.now.place.length ≤ capacity) → ⊥) → result ≡ no_number }
+    ensures value { (capacity ≢ no_number) × (receiver.now.place.length ≤ capacity) → result ≡
+        capacity - receiver.now.place.length }
+    ensures refused { ((capacity ≢ no_number) × (receiver.now.place.length ≤ capacity) → ⊥) →
+        result ≡ no_number }
 {
     if capacity == no_number() || receiver.place.length > capacity {
         return no_number();
@@ -82,12 +83,13 @@ pub extern "C" fn net_base_receiver_peek_slice(
     storage: &[u8],
     into: &mut [u8],
 ) -> usize
-    ensures count { IsSoundPlace (length storage.now) receiver.now.place → result ≡ min (length into.old)
-        receiver.now.place.length }
-    ensures into { let queued = queue (ring_at storage.now receiver.now.place) in IsSoundPlace (length storage.now)
-        receiver.now.place → into.new ≡ take (length into.old) queued ++ drop (length queued) into.old }
-    ensures refused { (IsSoundPlace (length storage.now) receiver.now.place → ⊥) → (result ≡ no_number) ×
-        («into».new ≡ «into».old) }
+    ensures count { IsSoundPlace (length storage.now) receiver.now.place → result ≡ min (length
+        into.old) receiver.now.place.length }
+    ensures into { let queued = queue (ring_at storage.now receiver.now.place) in IsSoundPlace
+        (length storage.now) receiver.now.place → into.new ≡ take (length into.old) queued ++ drop
+        (length queued) into.old }
+    ensures refused { (IsSoundPlace (length storage.now) receiver.now.place → ⊥) → (result ≡
+        no_number) × («into».new ≡ «into».old) }
 {
     if !receiver.place.is_sound(storage.len()) {
         return no_number();
@@ -122,14 +124,15 @@ pub extern "C" fn net_base_receiver_newest_runs(
     into: &mut [HeldRun],
 ) -> usize
     requires sound { HasRuns (length runs.now) receiver.now → HasSoundHeld receiver.now runs.now }
-    ensures listed { HasRuns (length runs.now) receiver.now → take result into.new ≡ newest_runs (length into.old)
-        (held_at receiver.now runs.now) (position ∷ recent.old) }
+    ensures listed { HasRuns (length runs.now) receiver.now → take result into.new ≡ newest_runs
+        (length into.old) (held_at receiver.now runs.now) (position ∷ recent.old) }
     ensures count { HasRuns (length runs.now) receiver.now → result ≤ length into.old }
-    ensures rest { HasRuns (length runs.now) receiver.now → drop result into.new ≡ drop result into.old }
-    ensures recent { HasRuns (length runs.now) receiver.now → recent.new ≡ with_starts recent.old (take result
-        into.new) }
-    ensures refused { (HasRuns (length runs.now) receiver.now → ⊥) → (result ≡ no_number) × (recent.new ≡
-        recent.old) × («into».new ≡ «into».old) }
+    ensures rest { HasRuns (length runs.now) receiver.now → drop result into.new ≡ drop result
+        into.old }
+    ensures recent { HasRuns (length runs.now) receiver.now → recent.new ≡ with_starts recent.old
+        (take result into.new) }
+    ensures refused { (HasRuns (length runs.now) receiver.now → ⊥) → (result ≡ no_number) ×
+        (recent.new ≡ recent.old) × («into».new ≡ «into».old) }
 {
     if !has_runs(receiver, runs.len()) {
         return no_number();

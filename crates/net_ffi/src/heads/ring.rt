@@ -54,9 +54,12 @@ pub extern "C" fn net_base_ring_unallocated(
     size: usize,
 ) -> Span
     ensures from { IsSound capacity place.now → result.from ≡ free_index capacity place.now offset }
-    ensures count { IsSound capacity place.now → result.count ≡ min size (capacity - place.now.length - offset) }
-    ensures contiguous { IsSound capacity place.now → result.contiguous ≡ min result.count (capacity - result.from) }
-    ensures within { IsSound capacity place.now → (result.from ≤ capacity) × IsWithin capacity result }
+    ensures count { IsSound capacity place.now → result.count ≡ min size (capacity -
+        place.now.length - offset) }
+    ensures contiguous { IsSound capacity place.now → result.contiguous ≡ min result.count
+        (capacity - result.from) }
+    ensures within { IsSound capacity place.now → (result.from ≤ capacity) × IsWithin capacity
+        result }
     ensures refused { (IsSound capacity place.now → ⊥) → result ≡ nowhere }
 {
     if !place.is_sound(capacity) {
@@ -77,10 +80,14 @@ pub extern "C" fn net_base_ring_allocated(
     offset: usize,
     size: usize,
 ) -> Span
-    ensures from { IsSound capacity place.now → result.from ≡ queued_index capacity place.now offset }
-    ensures count { IsSound capacity place.now → result.count ≡ min size (place.now.length - offset) }
-    ensures contiguous { IsSound capacity place.now → result.contiguous ≡ min result.count (capacity - result.from) }
-    ensures within { IsSound capacity place.now → (result.from ≤ capacity) × IsWithin capacity result }
+    ensures from { IsSound capacity place.now → result.from ≡ queued_index capacity place.now
+        offset }
+    ensures count { IsSound capacity place.now → result.count ≡ min size (place.now.length -
+        offset) }
+    ensures contiguous { IsSound capacity place.now → result.contiguous ≡ min result.count
+        (capacity - result.from) }
+    ensures within { IsSound capacity place.now → (result.from ≤ capacity) × IsWithin capacity
+        result }
     ensures refused { (IsSound capacity place.now → ⊥) → result ≡ nowhere }
 {
     if !place.is_sound(capacity) {
@@ -105,7 +112,8 @@ pub extern "C" fn net_base_ring_rewind_if_empty(place: &mut RingHead)
 /// elements are free: false, and nothing changes.
 #[unsafe(no_mangle)]
 pub extern "C" fn net_base_ring_enqueue(place: &mut RingHead, capacity: usize, count: usize) -> bool
-    ensures done { IsTrue result ↔ ((IsSound capacity place.old) × (count ≤ capacity - place.old.length)) }
+    ensures done { IsTrue result ↔ ((IsSound capacity place.old) × (count ≤ capacity -
+        place.old.length)) }
     ensures place { IsTrue result → place.new ≡ enqueued_place count place.old }
     ensures sound { IsTrue result → IsSound capacity place.new }
     ensures unchanged { IsFalse result → (place.new ≡ place.old) }
@@ -141,7 +149,8 @@ pub extern "C" fn net_base_ring_dequeue(place: &mut RingHead, capacity: usize, c
 #[unsafe(no_mangle)]
 pub extern "C" fn net_base_ring_drop_last(place: &mut RingHead, count: usize) -> bool
     ensures done { IsTrue result ↔ (count ≤ place.old.length) }
-    ensures place { IsTrue result → place.new ≡ place_of place.old.read_at (place.old.length - count) }
+    ensures place { IsTrue result → place.new ≡ place_of place.old.read_at (place.old.length -
+        count) }
     ensures sound { IsTrue result → (c : ℕ) → IsSound c place.old → IsSound c place.new }
     ensures unchanged { IsFalse result → (place.new ≡ place.old) }
 {
@@ -164,13 +173,19 @@ pub extern "C" fn net_base_ring_enqueue_span(
     capacity: usize,
     size: usize,
 ) -> Span
-    ensures from { IsSound capacity place.old → result.from ≡ free_index capacity (rewound place.old) 0 }
-    ensures count { IsSound capacity place.old → result.count ≡ min size (capacity - place.old.length) }
-    ensures contiguous { IsSound capacity place.old → result.contiguous ≡ min result.count (capacity - result.from) }
-    ensures within { IsSound capacity place.old → (result.from ≤ capacity) × IsWithin capacity result }
-    ensures place { IsSound capacity place.old → place.new ≡ enqueued_place result.count (rewound place.old) }
+    ensures from { IsSound capacity place.old → result.from ≡ free_index capacity (rewound
+        place.old) 0 }
+    ensures count { IsSound capacity place.old → result.count ≡ min size (capacity -
+        place.old.length) }
+    ensures contiguous { IsSound capacity place.old → result.contiguous ≡ min result.count
+        (capacity - result.from) }
+    ensures within { IsSound capacity place.old → (result.from ≤ capacity) × IsWithin capacity
+        result }
+    ensures place { IsSound capacity place.old → place.new ≡ enqueued_place result.count (rewound
+        place.old) }
     ensures sound { IsSound capacity place.old → IsSound capacity place.new }
-    ensures refused { (IsSound capacity place.old → ⊥) → (result ≡ nowhere) × (place.new ≡ place.old) }
+    ensures refused { (IsSound capacity place.old → ⊥) → (result ≡ nowhere) × (place.new ≡
+        place.old) }
 {
     if !place.is_sound(capacity) {
         return refused_span();
@@ -190,11 +205,15 @@ pub extern "C" fn net_base_ring_dequeue_span(
 ) -> Span
     ensures from { IsSound capacity place.old → result.from ≡ queued_index capacity place.old 0 }
     ensures count { IsSound capacity place.old → result.count ≡ min size place.old.length }
-    ensures contiguous { IsSound capacity place.old → result.contiguous ≡ min result.count (capacity - result.from) }
-    ensures within { IsSound capacity place.old → (result.from ≤ capacity) × IsWithin capacity result }
-    ensures place { IsSound capacity place.old → place.new ≡ dequeued_place capacity result.count place.old }
+    ensures contiguous { IsSound capacity place.old → result.contiguous ≡ min result.count
+        (capacity - result.from) }
+    ensures within { IsSound capacity place.old → (result.from ≤ capacity) × IsWithin capacity
+        result }
+    ensures place { IsSound capacity place.old → place.new ≡ dequeued_place capacity result.count
+        place.old }
     ensures sound { IsSound capacity place.old → IsSound capacity place.new }
-    ensures refused { (IsSound capacity place.old → ⊥) → (result ≡ nowhere) × (place.new ≡ place.old) }
+    ensures refused { (IsSound capacity place.old → ⊥) → (result ≡ nowhere) × (place.new ≡
+        place.old) }
 {
     if !place.is_sound(capacity) {
         return refused_span();
@@ -214,15 +233,16 @@ pub extern "C" fn net_base_ring_write_unallocated(
     offset: usize,
     data: &[u8],
 ) -> usize
-    ensures count { IsSound (length storage.old) place.now → result ≡ min (length «data».now) (window (ring_at
-        storage.old place.now) - offset) }
-    ensures ring { let g = ring_at storage.old place.now in IsSound (length storage.old) place.now → ring_at
-        storage.new place.now ≡ with_elements_wrapping g (spare_index g offset) (take result «data».now) }
-    ensures written { IsSound (length storage.old) place.now → WritesSpare (ring_at storage.old place.now) offset
-        (take result «data».now) (ring_at storage.new place.now) }
+    ensures count { IsSound (length storage.old) place.now → result ≡ min (length «data».now)
+        (window (ring_at storage.old place.now) - offset) }
+    ensures ring { let g = ring_at storage.old place.now in IsSound (length storage.old) place.now
+        → ring_at storage.new place.now ≡ with_elements_wrapping g (spare_index g offset) (take
+        result «data».now) }
+    ensures written { IsSound (length storage.old) place.now → WritesSpare (ring_at storage.old
+        place.now) offset (take result «data».now) (ring_at storage.new place.now) }
     ensures size { IsSound (length storage.old) place.now → length storage.new ≡ length storage.old }
-    ensures refused { (IsSound (length storage.old) place.now → ⊥) → (result ≡ no_number) × (storage.new ≡
-        storage.old) }
+    ensures refused { (IsSound (length storage.old) place.now → ⊥) → (result ≡ no_number) ×
+        (storage.new ≡ storage.old) }
 {
     if !place.is_sound(storage.len()) {
         return no_number();
@@ -243,12 +263,12 @@ pub extern "C" fn net_base_ring_read_allocated(
     offset: usize,
     into: &mut [u8],
 ) -> usize
-    ensures count { IsSound (length storage.now) place.now → result ≡ min (length «into».old) (place.now.length -
-        offset) }
-    ensures given { IsSound (length storage.now) place.now → «into».new ≡ take result (drop offset (queue (ring_at
-        storage.now place.now))) ++ drop result «into».old }
-    ensures refused { (IsSound (length storage.now) place.now → ⊥) → (result ≡ no_number) × («into».new ≡
-        «into».old) }
+    ensures count { IsSound (length storage.now) place.now → result ≡ min (length «into».old)
+        (place.now.length - offset) }
+    ensures given { IsSound (length storage.now) place.now → «into».new ≡ take result (drop offset
+        (queue (ring_at storage.now place.now))) ++ drop result «into».old }
+    ensures refused { (IsSound (length storage.now) place.now → ⊥) → (result ≡ no_number) ×
+        («into».new ≡ «into».old) }
 {
     if !place.is_sound(storage.len()) {
         return no_number();
@@ -269,20 +289,20 @@ pub extern "C" fn net_base_ring_enqueue_slice(
     storage: &mut [u8],
     data: &[u8],
 ) -> usize
-    ensures count { IsSound (length storage.old) place.old → result ≡ min (length «data».now) (window (ring_at
-        storage.old place.old)) }
-    ensures ring { let g = rewind_if_empty (ring_at storage.old place.old) in IsSound (length storage.old) place.old
-        → ring_at storage.new place.new ≡ with_enqueued result (with_elements_wrapping g (write_at g) (take result
-        «data».now)) }
-    ensures enqueued { IsSound (length storage.old) place.old → Enqueues (rewind_if_empty (ring_at storage.old
-        place.old)) (take result «data».now) (ring_at storage.new place.new) }
-    ensures queue { IsSound (length storage.old) place.old → queue (ring_at storage.new place.new) ≡ queue (ring_at
-        storage.old place.old) ++ take result «data».now }
-    ensures same { IsSound (length storage.old) place.old → (place.new.length ≡ place.old.length + result) × (length
-        storage.new ≡ length storage.old) }
+    ensures count { IsSound (length storage.old) place.old → result ≡ min (length «data».now)
+        (window (ring_at storage.old place.old)) }
+    ensures ring { let g = rewind_if_empty (ring_at storage.old place.old) in IsSound (length
+        storage.old) place.old → ring_at storage.new place.new ≡ with_enqueued result
+        (with_elements_wrapping g (write_at g) (take result «data».now)) }
+    ensures enqueued { IsSound (length storage.old) place.old → Enqueues (rewind_if_empty (ring_at
+        storage.old place.old)) (take result «data».now) (ring_at storage.new place.new) }
+    ensures queue { IsSound (length storage.old) place.old → queue (ring_at storage.new place.new)
+        ≡ queue (ring_at storage.old place.old) ++ take result «data».now }
+    ensures same { IsSound (length storage.old) place.old → (place.new.length ≡ place.old.length +
+        result) × (length storage.new ≡ length storage.old) }
     ensures sound { IsSound (length storage.old) place.old → IsSound (length storage.new) place.new }
-    ensures refused { (IsSound (length storage.old) place.old → ⊥) → (result ≡ no_number) × (place.new ≡ place.old)
-        × (storage.new ≡ storage.old) }
+    ensures refused { (IsSound (length storage.old) place.old → ⊥) → (result ≡ no_number) ×
+        (place.new ≡ place.old) × (storage.new ≡ storage.old) }
 {
     if !place.is_sound(storage.len()) {
         return no_number();
@@ -301,18 +321,20 @@ pub extern "C" fn net_base_ring_dequeue_slice(
     storage: &[u8],
     into: &mut [u8],
 ) -> usize
-    ensures count { IsSound (length storage.now) place.old → result ≡ min (length «into».old) place.old.length }
-    ensures given { IsSound (length storage.now) place.old → «into».new ≡ take result (queue (ring_at storage.now
-        place.old)) ++ drop result «into».old }
-    ensures ring { IsSound (length storage.now) place.old → ring_at storage.now place.new ≡ with_dequeued result
-        (ring_at storage.now place.old) }
-    ensures dequeued { IsSound (length storage.now) place.old → Dequeues (ring_at storage.now place.old) result
-        (take result (queue (ring_at storage.now place.old))) (ring_at storage.now place.new) }
-    ensures queue { IsSound (length storage.now) place.old → queue (ring_at storage.now place.new) ≡ drop result
-        (queue (ring_at storage.now place.old)) }
+    ensures count { IsSound (length storage.now) place.old → result ≡ min (length «into».old)
+        place.old.length }
+    ensures given { IsSound (length storage.now) place.old → «into».new ≡ take result (queue
+        (ring_at storage.now place.old)) ++ drop result «into».old }
+    ensures ring { IsSound (length storage.now) place.old → ring_at storage.now place.new ≡
+        with_dequeued result (ring_at storage.now place.old) }
+    ensures dequeued { IsSound (length storage.now) place.old → Dequeues (ring_at storage.now
+        place.old) result (take result (queue (ring_at storage.now place.old))) (ring_at
+        storage.now place.new) }
+    ensures queue { IsSound (length storage.now) place.old → queue (ring_at storage.now place.new)
+        ≡ drop result (queue (ring_at storage.now place.old)) }
     ensures sound { IsSound (length storage.now) place.old → IsSound (length storage.now) place.new }
-    ensures refused { (IsSound (length storage.now) place.old → ⊥) → (result ≡ no_number) × (place.new ≡ place.old)
-        × («into».new ≡ «into».old) }
+    ensures refused { (IsSound (length storage.now) place.old → ⊥) → (result ≡ no_number) ×
+        (place.new ≡ place.old) × («into».new ≡ «into».old) }
 {
     if !place.is_sound(storage.len()) {
         return no_number();

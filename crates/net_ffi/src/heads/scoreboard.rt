@@ -25,7 +25,8 @@ use net_receiver::{ReportError, ScoreboardHead};
 #[unsafe(no_mangle)]
 pub extern "C" fn net_base_scoreboard_init(scoreboard: &mut ScoreboardHead, first: u64)
     ensures sound { (runs : List (ℕ × ℕ)) → IsSoundBoard scoreboard.new runs }
-    ensures empty { (runs : List (ℕ × ℕ)) → reported_by scoreboard.new runs ≡ with_range nothing 0 first }
+    ensures empty { (runs : List (ℕ × ℕ)) → reported_by scoreboard.new runs ≡ with_range nothing 0
+        first }
     ensures numbers { scoreboard.new ≡ scoreboard_head first }
 {
     *scoreboard = ScoreboardHead::new_at(first);
@@ -66,16 +67,17 @@ pub extern "C" fn net_base_scoreboard_report(
     ensures no_block { IsSoundBoard scoreboard.old runs.old → (((done_or_report_error result) ≡ Err
         ReportError.NoBlock) ↔ (IsReport scoreboard.old.base sent start end → ⊥)) }
     ensures too_many { IsSoundBoard scoreboard.old runs.old → (((done_or_report_error result) ≡ Err
-        ReportError.TooManyHoles) ↔ (IsReport scoreboard.old.base sent start end × HasNoRoom (length runs.old)
-        (reported_by scoreboard.old runs.old) start (end - start))) }
-    ensures ok { IsSoundBoard scoreboard.old runs.old → OnOk (done_or_report_error result) (reported_by
-        scoreboard.new runs.new ≡ with_range (reported_by scoreboard.old runs.old) start (end - start)) }
-    ensures unchanged { IsSoundBoard scoreboard.old runs.old → OnErr (done_or_report_error result) ((scoreboard.new
-        ≡ scoreboard.old) × (runs.new ≡ runs.old)) }
+        ReportError.TooManyHoles) ↔ (IsReport scoreboard.old.base sent start end × HasNoRoom
+        (length runs.old) (reported_by scoreboard.old runs.old) start (end - start))) }
+    ensures ok { IsSoundBoard scoreboard.old runs.old → OnOk (done_or_report_error result)
+        (reported_by scoreboard.new runs.new ≡ with_range (reported_by scoreboard.old runs.old)
+        start (end - start)) }
+    ensures unchanged { IsSoundBoard scoreboard.old runs.old → OnErr (done_or_report_error result)
+        ((scoreboard.new ≡ scoreboard.old) × (runs.new ≡ runs.old)) }
     ensures canonical { IsCanonical scoreboard.old.reported → IsCanonical scoreboard.new.reported }
     ensures status { IsSoundBoard scoreboard.old runs.old → result < 3 }
-    ensures refused { (IsSoundBoard scoreboard.old runs.old → ⊥) → (result ≡ NET_BASE_REFUSED) × (scoreboard.new ≡
-        scoreboard.old) × (runs.new ≡ runs.old) }
+    ensures refused { (IsSoundBoard scoreboard.old runs.old → ⊥) → (result ≡ NET_BASE_REFUSED) ×
+        (scoreboard.new ≡ scoreboard.old) × (runs.new ≡ runs.old) }
 {
     if !scoreboard.is_sound(runs) {
         return NET_BASE_REFUSED;
@@ -94,8 +96,8 @@ pub extern "C" fn net_base_scoreboard_acknowledge(
 ) -> bool
     ensures done { IsTrue result ↔ (IsSoundBoard scoreboard.old runs.old) }
     ensures sound { IsTrue result → IsSoundBoard scoreboard.new runs.new }
-    ensures set { IsTrue result → reported_by scoreboard.new runs.new ≡ with_range (reported_by scoreboard.old
-        runs.old) 0 next }
+    ensures set { IsTrue result → reported_by scoreboard.new runs.new ≡ with_range (reported_by
+        scoreboard.old runs.old) 0 next }
     ensures canonical { IsCanonical scoreboard.old.reported → IsCanonical scoreboard.new.reported }
     ensures unchanged { IsFalse result → (scoreboard.new ≡ scoreboard.old) × (runs.new ≡ runs.old) }
 {
@@ -115,8 +117,8 @@ pub extern "C" fn net_base_scoreboard_contains(
     runs: &[Run],
     position: u64,
 ) -> bool
-    ensures value { IsSoundBoard scoreboard.now runs.now → result ≡ contains (reported_by scoreboard.now runs.now)
-        position }
+    ensures value { IsSoundBoard scoreboard.now runs.now → result ≡ contains (reported_by
+        scoreboard.now runs.now) position }
     ensures refused { (IsSoundBoard scoreboard.now runs.now → ⊥) → IsFalse result }
 {
     if !scoreboard.is_sound(runs) {
@@ -139,11 +141,11 @@ pub extern "C" fn net_base_scoreboard_next_hole(
     position: u64,
     limit: u64,
 ) -> Hole
-    ensures value { IsSoundBoard scoreboard.now runs.now → IsNextHole (reported_by scoreboard.now runs.now) position
-        limit result.start result.end }
+    ensures value { IsSoundBoard scoreboard.now runs.now → IsNextHole (reported_by scoreboard.now
+        runs.now) position limit result.start result.end }
     ensures status { IsSoundBoard scoreboard.now runs.now → result.status ≡ NET_BASE_DONE }
-    ensures refused { (IsSoundBoard scoreboard.now runs.now → ⊥) → (result.status ≡ NET_BASE_REFUSED) ×
-        (result.start ≡ 0) × (result.end ≡ 0) }
+    ensures refused { (IsSoundBoard scoreboard.now runs.now → ⊥) → (result.status ≡
+        NET_BASE_REFUSED) × (result.start ≡ 0) × (result.end ≡ 0) }
 {
     if !scoreboard.is_sound(runs) {
         return refused_hole();
@@ -184,8 +186,8 @@ pub extern "C" fn net_base_scoreboard_count_beyond(
     scoreboard: &ScoreboardHead,
     runs: &[Run],
 ) -> usize
-    ensures value { IsSoundBoard scoreboard.now runs.now → result ≡ length (positions (beyond (reported_by
-        scoreboard.now runs.now))) }
+    ensures value { IsSoundBoard scoreboard.now runs.now → result ≡ length (positions (beyond
+        (reported_by scoreboard.now runs.now))) }
     ensures refused { (IsSoundBoard scoreboard.now runs.now → ⊥) → result ≡ no_number }
 {
     if !scoreboard.is_sound(runs) {
@@ -211,8 +213,8 @@ pub extern "C" fn net_base_scoreboard_lost_below(
     limit: &mut u64,
 ) -> bool
     ensures done { IsTrue result ↔ (IsSoundBoard scoreboard.now runs.now) }
-    ensures value { IsTrue result → IsLossBound duplicates segment_size (reported_by scoreboard.now runs.now)
-        limit.new }
+    ensures value { IsTrue result → IsLossBound duplicates segment_size (reported_by scoreboard.now
+        runs.now) limit.new }
     ensures unchanged { IsFalse result → (limit.new ≡ limit.old) }
 {
     if !scoreboard.is_sound(runs) {

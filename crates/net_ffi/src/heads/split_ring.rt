@@ -43,16 +43,19 @@ pub extern "C" fn net_base_split_ring_free(
     capacity: usize,
     size: usize,
 ) -> SplitSpan
-    ensures from { AreCounts capacity known → result.span.from ≡ free_index capacity (seen capacity known.taken
-        known.written) 0 }
-    ensures count { AreCounts capacity known → result.span.count ≡ min size (capacity - (seen capacity known.taken
-        known.written).length) }
-    ensures contiguous { AreCounts capacity known → result.span.contiguous ≡ min result.span.count (capacity -
-        result.span.from) }
-    ensures within { AreCounts capacity known → (result.span.from ≤ capacity) × IsWithin capacity result.span }
-    ensures next { AreCounts capacity known → result.next ≡ count_after capacity known.written result.span.count }
+    ensures from { AreCounts capacity known → result.span.from ≡ free_index capacity (seen capacity
+        known.taken known.written) 0 }
+    ensures count { AreCounts capacity known → result.span.count ≡ min size (capacity - (seen
+        capacity known.taken known.written).length) }
+    ensures contiguous { AreCounts capacity known → result.span.contiguous ≡ min result.span.count
+        (capacity - result.span.from) }
+    ensures within { AreCounts capacity known → (result.span.from ≤ capacity) × IsWithin capacity
+        result.span }
+    ensures next { AreCounts capacity known → result.next ≡ count_after capacity known.written
+        result.span.count }
     ensures sound { AreCounts capacity known → AreCounts capacity (counts result.next known.taken) }
-    ensures refused { (AreCounts capacity known → ⊥) → (result.span ≡ nowhere) × (result.next ≡ known.written) }
+    ensures refused { (AreCounts capacity known → ⊥) → (result.span ≡ nowhere) × (result.next ≡
+        known.written) }
 {
     if !known.is_sound(capacity) {
         return refused_split_span(known.written);
@@ -72,16 +75,20 @@ pub extern "C" fn net_base_split_ring_queued(
     capacity: usize,
     size: usize,
 ) -> SplitSpan
-    ensures from { AreCounts capacity known → result.span.from ≡ queued_index capacity (seen capacity known.taken
-        known.written) 0 }
-    ensures count { AreCounts capacity known → result.span.count ≡ min size (seen capacity known.taken
-        known.written).length }
-    ensures contiguous { AreCounts capacity known → result.span.contiguous ≡ min result.span.count (capacity -
-        result.span.from) }
-    ensures within { AreCounts capacity known → (result.span.from ≤ capacity) × IsWithin capacity result.span }
-    ensures next { AreCounts capacity known → result.next ≡ count_after capacity known.taken result.span.count }
-    ensures sound { AreCounts capacity known → AreCounts capacity (counts known.written result.next) }
-    ensures refused { (AreCounts capacity known → ⊥) → (result.span ≡ nowhere) × (result.next ≡ known.taken) }
+    ensures from { AreCounts capacity known → result.span.from ≡ queued_index capacity (seen
+        capacity known.taken known.written) 0 }
+    ensures count { AreCounts capacity known → result.span.count ≡ min size (seen capacity
+        known.taken known.written).length }
+    ensures contiguous { AreCounts capacity known → result.span.contiguous ≡ min result.span.count
+        (capacity - result.span.from) }
+    ensures within { AreCounts capacity known → (result.span.from ≤ capacity) × IsWithin capacity
+        result.span }
+    ensures next { AreCounts capacity known → result.next ≡ count_after capacity known.taken
+        result.span.count }
+    ensures sound { AreCounts capacity known → AreCounts capacity (counts known.written
+        result.next) }
+    ensures refused { (AreCounts capacity known → ⊥) → (result.span ≡ nowhere) × (result.next ≡
+        known.taken) }
 {
     if !known.is_sound(capacity) {
         return refused_split_span(known.taken);

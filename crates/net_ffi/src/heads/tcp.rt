@@ -22,8 +22,8 @@ use net_tcp::Segment;
 /// tested afterwards, by `net_base_tcp_is_acknowledgement`.
 #[unsafe(no_mangle)]
 pub extern "C" fn net_base_tcp_classify(next: u64, window: u64, segment: &Segment) -> ArrivalStatus
-    ensures { IsArrival NET_BASE_TAKE NET_BASE_ACKNOWLEDGEMENT_ONLY NET_BASE_ANSWER NET_BASE_RESET NET_BASE_IGNORE
-        next window segment.now result }
+    ensures { IsArrival NET_BASE_TAKE NET_BASE_ACKNOWLEDGEMENT_ONLY NET_BASE_ANSWER NET_BASE_RESET
+        NET_BASE_IGNORE next window segment.now result }
 {
     number_of(net_tcp::classify(next, window, *segment))
 }
