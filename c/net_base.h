@@ -19,25 +19,40 @@
  *     complete
  *   `net_base_parts_sum_`: init, add, write_checksum, is_valid, checksum
  *   `net_base_tcp_`: updated_checksum
- * - A stream's receiving end: segments in any order, the queue, the end, SACK blocks:
- *   `net_base_finite_receiver_`: init, is_sound, segment, read, remove, acknowledged, is_complete,
- *     has_read_all, can_end, count_new, window_end
+ * - A stream's receiving end: segments in any order, the queue, the end, what is announced and when
+ *   it is acknowledged:
+ *   `net_base_receiving_end_`: init, is_sound, open, classify, arrived, answer, is_due, is_wanted,
+ *     announce, acknowledgement, read
+ *   `net_base_finite_receiver_`: acknowledged, is_complete, has_read_all
+ * - A stream's sending end: the queue, the end, what is lost, the timer, the peer's window:
+ *   `net_base_sending_end_`: init, is_sound, open, forget, is_opening_due, set_nagle_enabled,
+ *     write, close, acknowledged, expired, next_segment
+ *   `net_base_sending_end_`: bytes, is_done, expires_at, numbers, acknowledgement_number,
+ *     is_recovering
+ *   `net_base_finite_sender_`: room
+ * - Sequence numbers and windows of segments, for both ends:
+ *   `net_base_sequence_number_`: position
+ *   `net_base_tcp_`: scale_for, scaled
+ * - Parts of an end of other rules, which nobody needs beside these two: what is received, SACK
+ *   blocks:
+ *   `net_base_finite_receiver_`: init, is_sound, segment, read, remove, can_end, count_new,
+ *     window_end
  *   `net_base_receiver_`: is_sound, next, window, peek_slice, newest_runs, run_at
- * - A stream's sending end: the queue, the end, what is lost:
- *   `net_base_finite_sender_`: init, is_sound, write, room, close, send_at, peek_at, mark_sent,
+ * - Parts of an end of other rules: what is sent, what is lost:
+ *   `net_base_finite_sender_`: init, is_sound, write, close, send_at, peek_at, mark_sent,
  *     acknowledge, is_block, first_number, numbers_end
  *   `net_base_finite_sender_`: is_closed, is_closed_and_acknowledged
  *   `net_base_scoreboard_`: init, is_sound, report, acknowledge, lost_below, next_hole, contains,
  *     highest_reported, count_beyond
- * - The windows of both ends, segments that aren't acceptable, sequence numbers:
+ * - Parts of an end of other rules: windows, segments that aren't acceptable:
  *   `net_base_advertised_window_`: init, announce, announce_in_steps, is_update_due, classify
  *   `net_base_peer_window_`: init, update, usable, send_limit, is_probe_allowed,
  *     acknowledgement_number
- *   `net_base_tcp_`: classify, is_acknowledgement, scale_for, scaled
- *   `net_base_sequence_number_`: position
- * - When to send again, and time:
+ *   `net_base_tcp_`: classify, is_acknowledgement
+ * - Parts of an end of other rules: when to send again:
  *   `net_base_retransmission_timer_`: init, timeout, sent, acknowledged, reported, expire,
  *     take_sample, start, stop
+ * - Time:
  *   `net_base_instant_`: saturating_add, distance
  * - Sets of positions:
  *   `net_base_assembler_`: init, is_sound, add, add_then_remove_front, remove_front, peek_front,
@@ -123,14 +138,14 @@
 /** The number of this interface. It is in the name that each function is linked by, so that no
  * library of another version links or loads.
  */
-#define NET_BASE_INTERFACE 3
+#define NET_BASE_INTERFACE 4
 /** @cond */
 #ifdef NET_BASE_PLAIN_NAMES
 #define NET_BASE_LINK(name)
 #else
 #define NET_BASE_TEXT(text) #text
 #define NET_BASE_LABEL(before, name) __asm__(NET_BASE_TEXT(before) name)
-#define NET_BASE_LINK(name) NET_BASE_LABEL(__USER_LABEL_PREFIX__, "net_base_3_" #name)
+#define NET_BASE_LINK(name) NET_BASE_LABEL(__USER_LABEL_PREFIX__, "net_base_4_" #name)
 #endif
 /** @endcond */
 
@@ -202,9 +217,9 @@ enum NET_BASE_32_BITS net_base_size_status {
 enum NET_BASE_32_BITS net_base_segment_status {
     /** The call was done. */
     NET_BASE_SEGMENT_DONE = 0,
-    /** There would be more runs than the slice has elements. Nothing changes. */
+    /** There would be more runs than there is room for. Nothing of it is kept. */
     NET_BASE_SEGMENT_TOO_MANY_RUNS = 1,
-    /** The stream can't end there. Nothing changes. */
+    /** The stream can't end there. Nothing of it is kept. */
     NET_BASE_SEGMENT_OTHER_END = 5,
     /** What was passed is nonsense. Nothing changes. */
     NET_BASE_SEGMENT_REFUSED = 2,
@@ -250,6 +265,50 @@ enum NET_BASE_32_BITS net_base_expiry_status {
     NET_BASE_EXPIRY_TIMEOUT = 12,
     /** What was passed is nonsense. Nothing changes. */
     NET_BASE_EXPIRY_REFUSED = 2,
+};
+
+/** What became of an acknowledgement: `DONE`, `OLD`, `ANSWER` or `REFUSED`. */
+enum NET_BASE_32_BITS net_base_acknowledged_status {
+    /** It was taken. */
+    NET_BASE_ACKNOWLEDGED_DONE = 0,
+    /** It says nothing, but the bytes of its segment may be new. Nothing changes. */
+    NET_BASE_ACKNOWLEDGED_OLD = 15,
+    /** No peer sends it. Answer its segment, and take nothing of that (RFC 5961, section 5).
+     * Nothing changes.
+     */
+    NET_BASE_ACKNOWLEDGED_ANSWER = 8,
+    /** What was passed is nonsense. Nothing changes. */
+    NET_BASE_ACKNOWLEDGED_REFUSED = 2,
+};
+
+/** What the timer's end means: `DONE`, `OVERDUE`, `PROBE`, `LOST` or `REFUSED`. */
+enum NET_BASE_32_BITS net_base_expired_status {
+    /** The timer hasn't ended, or a probe is due and the peer reports nothing, so that it couldn't
+     * answer.
+     */
+    NET_BASE_EXPIRED_DONE = 0,
+    /** No answer has come in time: what is overdue is lost, and if nothing of it may be sent, the
+     * next segment is a probe for an answer.
+     */
+    NET_BASE_EXPIRED_OVERDUE = 13,
+    /** The next segment is a probe of a shut window, or, with nothing in flight, has what was held
+     * back.
+     */
+    NET_BASE_EXPIRED_PROBE = 11,
+    /** All that was sent is lost: let one segment be in flight. */
+    NET_BASE_EXPIRED_LOST = 14,
+    /** What was passed is nonsense. Nothing changes. */
+    NET_BASE_EXPIRED_REFUSED = 2,
+};
+
+/** Whether a segment is to be sent: `DONE`, `NOTHING` or `REFUSED`. */
+enum NET_BASE_32_BITS net_base_outgoing_status {
+    /** One is. */
+    NET_BASE_OUTGOING_DONE = 0,
+    /** Nothing is to be sent now. */
+    NET_BASE_OUTGOING_NOTHING = 16,
+    /** What was passed is nonsense. Nothing changes. */
+    NET_BASE_OUTGOING_REFUSED = 2,
 };
 
 /** In place of a length, an index or a count: what was passed is nonsense, or there is none. */
@@ -1929,6 +1988,479 @@ NET_BASE_MUST_USE bool net_base_parts_sum_write_checksum(
 
 /** @} */
 
+/** @defgroup net_base_receiving_end The receiving end of a stream as one machine
+ *
+ * The receiving end of a stream as one machine: a receiver of a stream that ends, the window that
+ * it announces, when it acknowledges, and what an acknowledgement lists.
+ *
+ * @{
+ */
+
+/** The receiving end of a stream.
+ *
+ * A head of zeros is new, of a stream that begins at position 0, with segments of no bytes. All of
+ * an end is in its head but the bytes: at most 16 runs are held. A segment is classified, and
+ * arrives if it is to be taken; `net_base_receiving_end_answer` is for one that is only answered.
+ * While `net_base_receiving_end_is_due` an acknowledgement is sent at once. While
+ * `net_base_receiving_end_is_wanted` one is sent after the delay that the program has for it,
+ * unless a segment with bytes is sent before that and announces. The calls of a finite receiver
+ * that look at it may look at `receiver`: whether it is complete, whether all was read, what it
+ * acknowledges.
+ */
+struct net_base_receiving_end {
+    /** The receiver. */
+    struct net_base_finite_receiver receiver;
+    /** The runs that it holds. */
+    struct net_base_run runs[16];
+    /** What was announced. */
+    struct net_base_advertised_window advertised;
+    /** The position of the newest segment. */
+    uint64_t newest;
+    /** The starts of the runs that were listed last. */
+    uint64_t recent[4];
+    /** What came twice, and wasn't reported yet. */
+    struct net_base_held_run duplicate;
+    /** Not 0 if anything came twice, and wasn't reported yet. */
+    uint32_t has_duplicate;
+    /** The most bytes of a segment. */
+    uint16_t segment_size;
+    /** The scale of the windows. */
+    uint8_t scale;
+    /** How many segments wait for an acknowledgement, 2 at most: it is due if as many do. */
+    uint8_t unanswered;
+};
+
+/** What a segment without bytes tells the peer. */
+struct net_base_acknowledgement {
+    /** The first number that is missing. */
+    uint64_t next;
+    /** What came twice since the last one, if anything did (RFC 2883), and then the newest runs
+     * that are held, the newest first.
+     */
+    struct net_base_held_run blocks[4];
+    /** How many blocks there are. The others are zeros. */
+    size_t block_count;
+    /** The window, in units of the scale. */
+    uint16_t window;
+};
+
+/** Makes `end` that of a stream that begins at position `first`, at which nothing has arrived, and
+ * whose segments have at most `segment_size` bytes. It is sound with every storage.
+ *
+ * It is refused if `first` is `UINT64_MAX`: false, and nothing changes.
+ */
+NET_BASE_MUST_USE bool net_base_receiving_end_init(
+    struct net_base_receiving_end *end, uint64_t first, uint16_t segment_size)
+    NET_BASE_LINK(receiving_end_init);
+
+/** Returns whether this head is that of an end whose storage has `capacity` bytes: its receiver is
+ * sound with the runs. It looks at each held run, and at no byte.
+ */
+NET_BASE_MUST_USE bool net_base_receiving_end_is_sound(
+    const struct net_base_receiving_end *end, size_t capacity)
+    NET_BASE_LINK(receiving_end_is_sound);
+
+/** Begins again with a stream that begins at position `first`, and whose windows have this scale.
+ * `capacity` is how many bytes the storage has. Writes to `window` what a SYN announces, which has
+ * no scale, and returns true.
+ *
+ * It is refused if `first` is `UINT64_MAX`: false, and nothing changes.
+ */
+NET_BASE_MUST_USE bool net_base_receiving_end_open(
+    struct net_base_receiving_end *NET_BASE_RESTRICT end, size_t capacity, uint64_t first,
+    uint8_t scale, uint16_t *NET_BASE_RESTRICT window) NET_BASE_LINK(receiving_end_open);
+
+/** Returns what to do with a segment, as `net_base_tcp_classify` says, in the window that was
+ * announced.
+ *
+ * If the number after `next` doesn't fit 64 bits, as in no sound head: `NET_BASE_ARRIVAL_IGNORE`.
+ */
+NET_BASE_MUST_USE enum net_base_arrival_status net_base_receiving_end_classify(
+    const struct net_base_receiving_end *end, const struct net_base_segment *segment)
+    NET_BASE_LINK(receiving_end_classify);
+
+/** Takes the bytes of a segment whose first byte is at `position`, and the end if it `is_last`, as
+ * `net_base_finite_receiver_segment` does, and writes to `counts` how many were kept. A segment
+ * out of order, one with the end, and one that isn't kept are answered at once: an acknowledgement
+ * is then due. Of the others each second one is. What of its bytes came before is reported by the
+ * next acknowledgement: what is below the first missing position, or else the first part that is
+ * held. One with neither bytes nor the end changes nothing, and its counts are 0.
+ *
+ * Returns `NET_BASE_SEGMENT_DONE`, or for a segment that isn't kept `NET_BASE_SEGMENT_OTHER_END`
+ * or `NET_BASE_SEGMENT_TOO_MANY_RUNS`, as `net_base_finite_receiver_segment` says: then of the
+ * receiver, the storage and `counts` nothing changes.
+ *
+ * Returns `NET_BASE_SEGMENT_REFUSED`, and nothing changes, if `receiver` isn't that of a storage
+ * of `storage_length` bytes, if `next` doesn't fit 64 bits, or if more than 16 runs are used.
+ *
+ * Requires: the head is sound with the storage, as `net_base_receiving_end_is_sound` tests.
+ */
+NET_BASE_MUST_USE enum net_base_segment_status net_base_receiving_end_arrived(
+    struct net_base_receiving_end *NET_BASE_RESTRICT end, uint8_t *NET_BASE_RESTRICT storage,
+    size_t storage_length, uint64_t position, const uint8_t *NET_BASE_RESTRICT bytes,
+    size_t bytes_length, bool is_last, struct net_base_kept_counts *NET_BASE_RESTRICT counts)
+    NET_BASE_LINK(receiving_end_arrived);
+
+/** Has an acknowledgement sent at once. */
+void net_base_receiving_end_answer(
+    struct net_base_receiving_end *end) NET_BASE_LINK(receiving_end_answer);
+
+/** Returns whether an acknowledgement is to be sent at once. */
+NET_BASE_MUST_USE bool net_base_receiving_end_is_due(
+    const struct net_base_receiving_end *end) NET_BASE_LINK(receiving_end_is_due);
+
+/** Returns whether an acknowledgement is to be sent before one waits, where the storage has
+ * `capacity` bytes: something came, or an update of the window is worth a segment. No update is,
+ * once all bytes and the end have arrived: nothing follows that needs room, and a peer that has
+ * closed its connection would answer it by a reset.
+ *
+ * It is refused if `receiver` isn't that of a storage of `capacity` bytes, if `next` doesn't fit
+ * 64 bits, or if more than 16 runs are used: false.
+ *
+ * Requires: the head is sound with the storage, as `net_base_receiving_end_is_sound` tests.
+ */
+NET_BASE_MUST_USE bool net_base_receiving_end_is_wanted(
+    const struct net_base_receiving_end *end, size_t capacity)
+    NET_BASE_LINK(receiving_end_is_wanted);
+
+/** Writes what a segment with bytes of its own tells, takes notice that it does, and returns true:
+ * the first number that is missing to `next`, and to `window` the window, in units of the scale.
+ * `capacity` is how many bytes the storage has. The window's edge is moved only if that is worth a
+ * segment. An acknowledgement that is due stays so, since it lists runs.
+ *
+ * It is refused if `receiver` isn't that of a storage of `capacity` bytes, if `next` doesn't fit
+ * 64 bits, or if more than 16 runs are used: false, and nothing changes.
+ *
+ * Requires: the head is sound with the storage, as `net_base_receiving_end_is_sound` tests.
+ */
+NET_BASE_MUST_USE bool net_base_receiving_end_announce(
+    struct net_base_receiving_end *NET_BASE_RESTRICT end, size_t capacity,
+    uint64_t *NET_BASE_RESTRICT next, uint16_t *NET_BASE_RESTRICT window)
+    NET_BASE_LINK(receiving_end_announce);
+
+/** Writes what a segment without bytes tells, takes notice that it does, and returns true. What
+ * came twice is told once. `capacity` is how many bytes the storage has.
+ *
+ * It is refused if `receiver` isn't that of a storage of `capacity` bytes, if `next` doesn't fit
+ * 64 bits, or if more than 16 runs are used: false, and nothing changes.
+ *
+ * Requires: the head is sound with the storage, as `net_base_receiving_end_is_sound` tests.
+ */
+NET_BASE_MUST_USE bool net_base_receiving_end_acknowledgement(
+    struct net_base_receiving_end *NET_BASE_RESTRICT end, size_t capacity,
+    struct net_base_acknowledgement *NET_BASE_RESTRICT acknowledgement)
+    NET_BASE_LINK(receiving_end_acknowledgement);
+
+/** Moves bytes from the head of the queue to the beginning of `into`, and returns how many: as many
+ * as are queued and as `into` has room for. The rest of `into` stays as it is.
+ *
+ * It is refused if `receiver.receiver.place` isn't that of a ring of `storage_length` bytes, or if
+ * `next` doesn't fit 64 bits: `NET_BASE_NONE`, and nothing changes.
+ */
+NET_BASE_MUST_USE size_t net_base_receiving_end_read(
+    struct net_base_receiving_end *NET_BASE_RESTRICT end, const uint8_t *NET_BASE_RESTRICT storage,
+    size_t storage_length, uint8_t *NET_BASE_RESTRICT into, size_t into_length)
+    NET_BASE_LINK(receiving_end_read);
+
+/** @} */
+
+/** @defgroup net_base_sending_end The sending end of a stream as one machine
+ *
+ * The sending end of a stream as one machine: a sender of a stream that ends, what the peer has
+ * reported, what is lost, the timer, and the peer's window.
+ *
+ * @{
+ */
+
+/** What is lost; zeros are nothing. */
+struct net_base_loss_recovery {
+    /** The recovery lasts until all positions below this one are acknowledged. */
+    uint64_t until;
+    /** What is below this position and isn't reported is lost. */
+    uint64_t lost;
+    /** What is lost below this position was sent again in this pass. */
+    uint64_t again;
+    /** What is lost from this position on and below `resume` was sent again before this pass, which
+     * leaves it out.
+     */
+    uint64_t turn;
+    /** All that was sent again below this position was sent before what was sent again from there
+     * on.
+     */
+    uint64_t resume;
+    /** The number after the last one that was sent when `resume` was set. */
+    uint64_t sent;
+    /** How many positions were sent again from `resume` on since then. */
+    uint64_t later;
+    /** Where the probe begins that wasn't answered, if there is one. */
+    uint64_t probe;
+    /** Not 0 while a probe wasn't answered. */
+    uint64_t has_probe;
+    /** The number after the last one that was sent when the probe was. */
+    uint64_t asked;
+    /** Not 0 if the peer doesn't report what has arrived. */
+    uint64_t is_blind;
+    /** How many positions have arrived that it doesn't report. */
+    uint64_t unknown;
+    /** Until all positions below this one are acknowledged, `duplicates` stays. */
+    uint64_t round;
+    /** How many segments above a position tell that it is lost, if `has_duplicates` isn't 0; else 3
+     * do.
+     */
+    size_t duplicates;
+    /** Not 0 once `duplicates` counts. */
+    size_t has_duplicates;
+};
+
+/** The sending end of a stream.
+ *
+ * A head of zeros is new, of a stream that begins at position 0, whose first timeout is 1 second
+ * within the RFC's bounds. All of an end is in its head but the bytes: at most 16 runs are
+ * remembered of what was reported, enough for windows of up to 256 KiB on paths that reorder.
+ * `net_base_sending_end_write` alone writes into the storage; of the others each that is passed
+ * one needs only its length. Where the peer's SYN has come, `net_base_sending_end_open` begins
+ * with it. Each segment that is taken is acknowledged by `net_base_sending_end_acknowledged`. What
+ * is to be sent, `net_base_sending_end_next_segment` says, until it says that nothing is, and
+ * `net_base_sending_end_bytes` where it is. At the moment of `net_base_sending_end_expires_at` the
+ * timer is asked by `net_base_sending_end_expired`. Calls that look at a sender, a window or a
+ * timer may look at `sender`, `peer_window` and `timer`.
+ */
+struct net_base_sending_end {
+    /** The sender. */
+    struct net_base_finite_sender sender;
+    /** What was reported. */
+    struct net_base_scoreboard scoreboard;
+    /** The runs of what was reported. */
+    struct net_base_run runs[16];
+    /** What is lost. */
+    struct net_base_loss_recovery recovery;
+    /** The timer. */
+    struct net_base_retransmission_timer timer;
+    /** The timeout before any sample. 0 counts as 1 second. */
+    uint64_t first_timeout;
+    /** The bounds of the timeout. */
+    struct net_base_timeout_bounds bounds;
+    /** The peer's window. */
+    struct net_base_peer_window peer_window;
+    /** The greatest window that the peer ever announced. */
+    uint64_t greatest_window;
+    /** The window that it announced last. */
+    uint64_t last_window;
+    /** The most bytes of a segment. 0 counts as 1. */
+    size_t segment_size;
+    /** Not 0 if Nagle's rule is disabled. */
+    size_t no_delay;
+    /** Not 0 once the peer has acknowledged anything, if only the own SYN. */
+    uint64_t is_open;
+    /** Not 0 if the timeout has passed and nothing was sent since then. */
+    uint64_t is_window_probe_due;
+    /** Not 0 if the next segment is a probe for an answer, if nothing else may be sent. */
+    uint64_t is_overdue;
+};
+
+/** What an acknowledgement said. */
+struct net_base_taken_acknowledgement {
+    /** What became of it. */
+    enum net_base_acknowledged_status status;
+    /** How many numbers it acknowledged that weren't before. */
+    uint64_t count;
+    /** Whether a block of it reports what wasn't known. */
+    bool reports;
+    /** Whether it begins a recovery: then halve the congestion window. */
+    bool begins;
+};
+
+/** What the timer's end means. */
+struct net_base_ended_timer {
+    /** What it means. */
+    enum net_base_expired_status status;
+    /** Whether it begins a recovery: then halve the congestion window. */
+    bool begins;
+};
+
+/** A segment to send now. */
+struct net_base_outgoing_segment {
+    /** Whether there is one. */
+    enum net_base_outgoing_status status;
+    /** The position of its first byte, or of the end; 0 if there is none. */
+    uint64_t position;
+    /** The number after its last one, that of the end among them; 0 if there is none. */
+    uint64_t end;
+    /** Whether some of it was sent before. */
+    bool is_again;
+};
+
+/** Where the bytes of a segment are, in two parts, and whether it ends the stream. */
+struct net_base_segment_parts {
+    /** The index of the first byte; `NET_BASE_NONE` if the call was refused. */
+    size_t from;
+    /** How many bytes are from there on. */
+    size_t count;
+    /** The index of the bytes after these. */
+    size_t rest_from;
+    /** How many bytes are from there on. */
+    size_t rest_count;
+    /** Whether the segment ends the stream. */
+    bool is_last;
+};
+
+/** Makes `end` the end of a stream that begins at position `first`, to which nothing was written.
+ * `first_timeout` is that before any sample: 1 second for TCP (RFC 6298, 2.1), as which 0 counts.
+ *
+ * It is refused if `first` is `UINT64_MAX`, since an end there would have no number after it:
+ * false, and nothing changes.
+ */
+NET_BASE_MUST_USE bool net_base_sending_end_init(
+    struct net_base_sending_end *NET_BASE_RESTRICT end, uint64_t first, uint64_t first_timeout,
+    const struct net_base_timeout_bounds *NET_BASE_RESTRICT bounds) NET_BASE_LINK(sending_end_init);
+
+/** Returns whether the end is sound over a storage of `capacity` bytes, for any numbers: `sender`
+ * is that of a sender over as many, and `scoreboard` is sound with `runs`. It looks at each used
+ * run.
+ */
+NET_BASE_MUST_USE bool net_base_sending_end_is_sound(
+    const struct net_base_sending_end *end, size_t capacity) NET_BASE_LINK(sending_end_is_sound);
+
+/** Begins with a peer, whose SYN announced a window (`it`), how many bytes a segment may have, and
+ * whether it reports blocks (SACK): one that doesn't couldn't answer a probe, and is sent none.
+ * What was written stays. It is done once, before anything is sent; a second time begins with
+ * another peer, and the timer runs if something is in flight.
+ *
+ * It is refused if `end` isn't sound over `storage_length` bytes: false, and nothing changes.
+ */
+NET_BASE_MUST_USE bool net_base_sending_end_open(
+    struct net_base_sending_end *NET_BASE_RESTRICT end, const uint8_t *NET_BASE_RESTRICT storage,
+    size_t storage_length, const struct net_base_announcement *NET_BASE_RESTRICT it,
+    size_t segment_size, bool reports, int64_t now) NET_BASE_LINK(sending_end_open);
+
+/** Begins again without a peer: the timer stops, unless something is in flight. What was written
+ * stays.
+ *
+ * It is refused if `end` isn't sound over `storage_length` bytes: false, and nothing changes.
+ */
+NET_BASE_MUST_USE bool net_base_sending_end_forget(
+    struct net_base_sending_end *NET_BASE_RESTRICT end, const uint8_t *NET_BASE_RESTRICT storage,
+    size_t storage_length, int64_t now) NET_BASE_LINK(sending_end_forget);
+
+/** Returns whether a SYN is to be sent now, the first one or one after a timeout, and starts the
+ * timer for the next. Ask it only until something is acknowledged, at which it doesn't look.
+ *
+ * It is refused if `end` isn't sound over `storage_length` bytes: false, and nothing changes.
+ */
+NET_BASE_MUST_USE bool net_base_sending_end_is_opening_due(
+    struct net_base_sending_end *NET_BASE_RESTRICT end, const uint8_t *NET_BASE_RESTRICT storage,
+    size_t storage_length, int64_t now) NET_BASE_LINK(sending_end_is_opening_due);
+
+/** Enables Nagle's rule (RFC 9293, 3.7.4), or disables it. While something that was sent isn't
+ * acknowledged, less than a whole segment waits by it, unless the stream is closed or the timer
+ * has ended. It is enabled at first.
+ */
+void net_base_sending_end_set_nagle_enabled(
+    struct net_base_sending_end *end, bool enabled) NET_BASE_LINK(sending_end_set_nagle_enabled);
+
+/** Enqueues the first of these bytes, as many as there is room for, and returns how many:
+ * `net_base_finite_sender_room` of `sender`.
+ *
+ * It is refused if `sender` isn't that of a sender over `storage_length` bytes: `NET_BASE_NONE`,
+ * and nothing changes.
+ */
+NET_BASE_MUST_USE size_t net_base_sending_end_write(
+    struct net_base_sending_end *NET_BASE_RESTRICT end, uint8_t *NET_BASE_RESTRICT storage,
+    size_t storage_length, const uint8_t *NET_BASE_RESTRICT bytes, size_t bytes_length)
+    NET_BASE_LINK(sending_end_write);
+
+/** Ends the stream after what was written. A second call changes nothing. */
+void net_base_sending_end_close(struct net_base_sending_end *end) NET_BASE_LINK(sending_end_close);
+
+/** Takes what a segment acknowledges and announces (`it`), and the blocks that it reports, as
+ * positions. It `is_empty` if it has no byte and no FIN. Whatever it says, the end stays sound.
+ *
+ * A block counts that begins above the first number that isn't reported, has a number, and ends
+ * where something was sent and less than 2^32 above that one, if what is reported beyond that one
+ * is at most 16 runs then. Any other block says nothing.
+ *
+ * It is refused if `end` isn't sound over `storage_length` bytes, or if there are more than 4
+ * blocks: `count` is 0, `reports` and `begins` are false, the status is
+ * `NET_BASE_ACKNOWLEDGED_REFUSED`, and nothing changes.
+ */
+NET_BASE_MUST_USE struct net_base_taken_acknowledgement net_base_sending_end_acknowledged(
+    struct net_base_sending_end *NET_BASE_RESTRICT end, const uint8_t *NET_BASE_RESTRICT storage,
+    size_t storage_length, const struct net_base_announcement *NET_BASE_RESTRICT it,
+    const struct net_base_held_run *NET_BASE_RESTRICT blocks, size_t blocks_length, bool is_empty,
+    int64_t now) NET_BASE_LINK(sending_end_acknowledged);
+
+/** Returns whether the timer has ended, and what that means. If it has, it starts again, and
+ * `net_base_sending_end_next_segment` says what is then to be sent.
+ *
+ * It is refused if `end` isn't sound over `storage_length` bytes: `begins` is false, the status is
+ * `NET_BASE_EXPIRED_REFUSED`, and nothing changes.
+ */
+NET_BASE_MUST_USE struct net_base_ended_timer net_base_sending_end_expired(
+    struct net_base_sending_end *NET_BASE_RESTRICT end, const uint8_t *NET_BASE_RESTRICT storage,
+    size_t storage_length, int64_t now) NET_BASE_LINK(sending_end_expired);
+
+/** Returns the segment that is to be sent now, and takes notice that it is: if the peer's window
+ * and the congestion window have room for one, or as a probe. What was never sent is held back if
+ * it is less than a segment, unless it is all that is left, or half of the greatest window that
+ * the peer announced (RFC 9293, 3.8.6.2.1), and Nagle's rule doesn't have it wait. Once the timer
+ * has ended, the next segment isn't held back. While anything that was written isn't acknowledged,
+ * the timer runs.
+ *
+ * It is refused if `end` isn't sound over `storage_length` bytes: `position` and `end` are 0,
+ * `is_again` is false, the status is `NET_BASE_OUTGOING_REFUSED`, and nothing changes.
+ */
+NET_BASE_MUST_USE struct net_base_outgoing_segment net_base_sending_end_next_segment(
+    struct net_base_sending_end *NET_BASE_RESTRICT end, const uint8_t *NET_BASE_RESTRICT storage,
+    size_t storage_length, uint64_t congestion_window, int64_t now)
+    NET_BASE_LINK(sending_end_next_segment);
+
+/** Returns where the bytes of a segment from `position` on are, whose numbers are below `limit`, in
+ * two parts, and whether the stream ends after them. Of a position that is acknowledged there are
+ * none.
+ *
+ * It is refused if `sender` isn't that of a sender over `capacity` bytes: `from` is
+ * `NET_BASE_NONE`, `count`, `rest_from` and `rest_count` are 0, `is_last` is false.
+ */
+NET_BASE_MUST_USE struct net_base_segment_parts net_base_sending_end_bytes(
+    const struct net_base_sending_end *end, size_t capacity, uint64_t position, uint64_t limit)
+    NET_BASE_LINK(sending_end_bytes);
+
+/** Returns whether all that was written is acknowledged, and the end. Once it is so it stays so. */
+NET_BASE_MUST_USE bool net_base_sending_end_is_done(
+    const struct net_base_sending_end *end) NET_BASE_LINK(sending_end_is_done);
+
+/** Returns whether the timer runs, and writes to `moment` when `net_base_sending_end_expired` is to
+ * be asked, if it does.
+ */
+NET_BASE_MUST_USE bool net_base_sending_end_expires_at(
+    const struct net_base_sending_end *NET_BASE_RESTRICT end, int64_t *NET_BASE_RESTRICT moment)
+    NET_BASE_LINK(sending_end_expires_at);
+
+/** Writes to `numbers` the first number that isn't acknowledged, near which those of an
+ * acknowledgement are, and the one after the last that was sent.
+ *
+ * It is refused if the first doesn't fit 64 bits: false, and nothing changes.
+ */
+NET_BASE_MUST_USE bool net_base_sending_end_numbers(
+    const struct net_base_sending_end *NET_BASE_RESTRICT end,
+    struct net_base_sent_numbers *NET_BASE_RESTRICT numbers) NET_BASE_LINK(sending_end_numbers);
+
+/** Returns the number of a segment without positions.
+ *
+ * It is refused if the first number that isn't acknowledged doesn't fit 64 bits: `UINT64_MAX`.
+ */
+NET_BASE_MUST_USE uint64_t net_base_sending_end_acknowledgement_number(
+    const struct net_base_sending_end *end) NET_BASE_LINK(sending_end_acknowledgement_number);
+
+/** Returns whether a recovery lasts.
+ *
+ * It is refused if the first number that isn't acknowledged doesn't fit 64 bits: false.
+ */
+NET_BASE_MUST_USE bool net_base_sending_end_is_recovering(
+    const struct net_base_sending_end *end) NET_BASE_LINK(sending_end_is_recovering);
+
+/** @} */
+
 /** @defgroup net_base_rand Random words, drawn from a state that the caller keeps
  *
  * Random words, drawn from a state that the caller keeps. Any state is allowed; the words are not
@@ -2057,6 +2589,15 @@ NET_BASE_SLICES(finite_receiver_segment, NET_BASE_WRITES(2, 3) NET_BASE_WRITES(4
 NET_BASE_SLICES(finite_sender_write, NET_BASE_WRITES(2, 3) NET_BASE_READS(4, 5))
 NET_BASE_SLICES(parts_sum_add, NET_BASE_READS(2, 3))
 NET_BASE_SLICES(parts_sum_write_checksum, NET_BASE_WRITES(2, 3))
+NET_BASE_SLICES(receiving_end_arrived, NET_BASE_WRITES(2, 3) NET_BASE_READS(5, 6))
+NET_BASE_SLICES(receiving_end_read, NET_BASE_READS(2, 3) NET_BASE_WRITES(4, 5))
+NET_BASE_SLICES(sending_end_open, NET_BASE_READS(2, 3))
+NET_BASE_SLICES(sending_end_forget, NET_BASE_READS(2, 3))
+NET_BASE_SLICES(sending_end_is_opening_due, NET_BASE_READS(2, 3))
+NET_BASE_SLICES(sending_end_write, NET_BASE_WRITES(2, 3) NET_BASE_READS(4, 5))
+NET_BASE_SLICES(sending_end_acknowledged, NET_BASE_READS(2, 3) NET_BASE_READS(5, 6))
+NET_BASE_SLICES(sending_end_expired, NET_BASE_READS(2, 3))
+NET_BASE_SLICES(sending_end_next_segment, NET_BASE_READS(2, 3))
 #pragma GCC diagnostic pop
 #endif
 #endif

@@ -925,6 +925,249 @@ NET_BASE_MUST_USE static inline bool net_base_parts_sum_write_checksum_checked_(
     return net_base_parts_sum_write_checksum(sum, into, into_length);
 }
 
+NET_BASE_MUST_USE static inline bool net_base_receiving_end_init_checked_(
+    struct net_base_receiving_end *end, uint64_t first, uint16_t segment_size) {
+    NET_BASE_POINTER_("net_base_receiving_end_init", end, struct net_base_receiving_end);
+    return net_base_receiving_end_init(end, first, segment_size);
+}
+
+NET_BASE_MUST_USE static inline bool net_base_receiving_end_is_sound_checked_(
+    const struct net_base_receiving_end *end, size_t capacity) {
+    NET_BASE_POINTER_("net_base_receiving_end_is_sound", end, struct net_base_receiving_end);
+    return net_base_receiving_end_is_sound(end, capacity);
+}
+
+NET_BASE_MUST_USE static inline bool net_base_receiving_end_open_checked_(
+    struct net_base_receiving_end *end, size_t capacity, uint64_t first, uint8_t scale,
+    uint16_t *window) {
+    NET_BASE_POINTER_("net_base_receiving_end_open", end, struct net_base_receiving_end);
+    NET_BASE_POINTER_("net_base_receiving_end_open", window, uint16_t);
+    net_base_check_(net_base_apart_(end, sizeof(*end), window, sizeof(*window)), "net_base_receiving_end_open: end and window overlap (duty 2)");
+    return net_base_receiving_end_open(end, capacity, first, scale, window);
+}
+
+NET_BASE_MUST_USE static inline enum net_base_arrival_status net_base_receiving_end_classify_checked_(
+    const struct net_base_receiving_end *end, const struct net_base_segment *segment) {
+    NET_BASE_POINTER_("net_base_receiving_end_classify", end, struct net_base_receiving_end);
+    NET_BASE_POINTER_("net_base_receiving_end_classify", segment, struct net_base_segment);
+    enum net_base_arrival_status result = net_base_receiving_end_classify(end, segment);
+    NET_BASE_ANSWERS_("net_base_receiving_end_classify", result != NET_BASE_ARRIVAL_REFUSED);
+    return result;
+}
+
+NET_BASE_MUST_USE static inline enum net_base_segment_status net_base_receiving_end_arrived_checked_(
+    struct net_base_receiving_end *end, uint8_t *storage, size_t storage_length, uint64_t position,
+    const uint8_t *bytes, size_t bytes_length, bool is_last, struct net_base_kept_counts *counts) {
+    NET_BASE_POINTER_("net_base_receiving_end_arrived", end, struct net_base_receiving_end);
+    NET_BASE_SLICE_("net_base_receiving_end_arrived", storage, uint8_t);
+    NET_BASE_SLICE_("net_base_receiving_end_arrived", bytes, uint8_t);
+    NET_BASE_POINTER_("net_base_receiving_end_arrived", counts, struct net_base_kept_counts);
+    net_base_check_(net_base_apart_(end, sizeof(*end), storage, storage_length * sizeof(*storage)), "net_base_receiving_end_arrived: end and storage overlap (duty 2)");
+    net_base_check_(net_base_apart_(end, sizeof(*end), bytes, bytes_length * sizeof(*bytes)), "net_base_receiving_end_arrived: end and bytes overlap (duty 2)");
+    net_base_check_(net_base_apart_(end, sizeof(*end), counts, sizeof(*counts)), "net_base_receiving_end_arrived: end and counts overlap (duty 2)");
+    net_base_check_(net_base_apart_(storage, storage_length * sizeof(*storage), bytes, bytes_length * sizeof(*bytes)), "net_base_receiving_end_arrived: storage and bytes overlap (duty 2)");
+    net_base_check_(net_base_apart_(storage, storage_length * sizeof(*storage), counts, sizeof(*counts)), "net_base_receiving_end_arrived: storage and counts overlap (duty 2)");
+    net_base_check_(net_base_apart_(bytes, bytes_length * sizeof(*bytes), counts, sizeof(*counts)), "net_base_receiving_end_arrived: bytes and counts overlap (duty 2)");
+    net_base_check_(net_base_receiving_end_is_sound(end, storage_length), "net_base_receiving_end_arrived: head, runs or lengths aren't those of calls of its own kind (duty 5, 6 or 7)");
+    enum net_base_segment_status result = net_base_receiving_end_arrived(end, storage, storage_length, position, bytes, bytes_length, is_last, counts);
+    NET_BASE_ANSWERS_("net_base_receiving_end_arrived", result != NET_BASE_SEGMENT_REFUSED);
+    return result;
+}
+
+static inline void net_base_receiving_end_answer_checked_(struct net_base_receiving_end *end) {
+    NET_BASE_POINTER_("net_base_receiving_end_answer", end, struct net_base_receiving_end);
+    net_base_receiving_end_answer(end);
+}
+
+NET_BASE_MUST_USE static inline bool net_base_receiving_end_is_due_checked_(
+    const struct net_base_receiving_end *end) {
+    NET_BASE_POINTER_("net_base_receiving_end_is_due", end, struct net_base_receiving_end);
+    return net_base_receiving_end_is_due(end);
+}
+
+NET_BASE_MUST_USE static inline bool net_base_receiving_end_is_wanted_checked_(
+    const struct net_base_receiving_end *end, size_t capacity) {
+    NET_BASE_POINTER_("net_base_receiving_end_is_wanted", end, struct net_base_receiving_end);
+    net_base_check_(net_base_receiving_end_is_sound(end, capacity), "net_base_receiving_end_is_wanted: head, runs or lengths aren't those of calls of its own kind (duty 5, 6 or 7)");
+    return net_base_receiving_end_is_wanted(end, capacity);
+}
+
+NET_BASE_MUST_USE static inline bool net_base_receiving_end_announce_checked_(
+    struct net_base_receiving_end *end, size_t capacity, uint64_t *next, uint16_t *window) {
+    NET_BASE_POINTER_("net_base_receiving_end_announce", end, struct net_base_receiving_end);
+    NET_BASE_POINTER_("net_base_receiving_end_announce", next, uint64_t);
+    NET_BASE_POINTER_("net_base_receiving_end_announce", window, uint16_t);
+    net_base_check_(net_base_apart_(end, sizeof(*end), next, sizeof(*next)), "net_base_receiving_end_announce: end and next overlap (duty 2)");
+    net_base_check_(net_base_apart_(end, sizeof(*end), window, sizeof(*window)), "net_base_receiving_end_announce: end and window overlap (duty 2)");
+    net_base_check_(net_base_apart_(next, sizeof(*next), window, sizeof(*window)), "net_base_receiving_end_announce: next and window overlap (duty 2)");
+    net_base_check_(net_base_receiving_end_is_sound(end, capacity), "net_base_receiving_end_announce: head, runs or lengths aren't those of calls of its own kind (duty 5, 6 or 7)");
+    return net_base_receiving_end_announce(end, capacity, next, window);
+}
+
+NET_BASE_MUST_USE static inline bool net_base_receiving_end_acknowledgement_checked_(
+    struct net_base_receiving_end *end, size_t capacity,
+    struct net_base_acknowledgement *acknowledgement) {
+    NET_BASE_POINTER_("net_base_receiving_end_acknowledgement", end, struct net_base_receiving_end);
+    NET_BASE_POINTER_("net_base_receiving_end_acknowledgement", acknowledgement, struct net_base_acknowledgement);
+    net_base_check_(net_base_apart_(end, sizeof(*end), acknowledgement, sizeof(*acknowledgement)), "net_base_receiving_end_acknowledgement: end and acknowledgement overlap (duty 2)");
+    net_base_check_(net_base_receiving_end_is_sound(end, capacity), "net_base_receiving_end_acknowledgement: head, runs or lengths aren't those of calls of its own kind (duty 5, 6 or 7)");
+    return net_base_receiving_end_acknowledgement(end, capacity, acknowledgement);
+}
+
+NET_BASE_MUST_USE static inline size_t net_base_receiving_end_read_checked_(
+    struct net_base_receiving_end *end, const uint8_t *storage, size_t storage_length,
+    uint8_t *into, size_t into_length) {
+    NET_BASE_POINTER_("net_base_receiving_end_read", end, struct net_base_receiving_end);
+    NET_BASE_SLICE_("net_base_receiving_end_read", storage, uint8_t);
+    NET_BASE_SLICE_("net_base_receiving_end_read", into, uint8_t);
+    net_base_check_(net_base_apart_(end, sizeof(*end), storage, storage_length * sizeof(*storage)), "net_base_receiving_end_read: end and storage overlap (duty 2)");
+    net_base_check_(net_base_apart_(end, sizeof(*end), into, into_length * sizeof(*into)), "net_base_receiving_end_read: end and into overlap (duty 2)");
+    net_base_check_(net_base_apart_(storage, storage_length * sizeof(*storage), into, into_length * sizeof(*into)), "net_base_receiving_end_read: storage and into overlap (duty 2)");
+    return net_base_receiving_end_read(end, storage, storage_length, into, into_length);
+}
+
+NET_BASE_MUST_USE static inline bool net_base_sending_end_init_checked_(
+    struct net_base_sending_end *end, uint64_t first, uint64_t first_timeout,
+    const struct net_base_timeout_bounds *bounds) {
+    NET_BASE_POINTER_("net_base_sending_end_init", end, struct net_base_sending_end);
+    NET_BASE_POINTER_("net_base_sending_end_init", bounds, struct net_base_timeout_bounds);
+    net_base_check_(net_base_apart_(end, sizeof(*end), bounds, sizeof(*bounds)), "net_base_sending_end_init: end and bounds overlap (duty 2)");
+    return net_base_sending_end_init(end, first, first_timeout, bounds);
+}
+
+NET_BASE_MUST_USE static inline bool net_base_sending_end_is_sound_checked_(
+    const struct net_base_sending_end *end, size_t capacity) {
+    NET_BASE_POINTER_("net_base_sending_end_is_sound", end, struct net_base_sending_end);
+    return net_base_sending_end_is_sound(end, capacity);
+}
+
+NET_BASE_MUST_USE static inline bool net_base_sending_end_open_checked_(
+    struct net_base_sending_end *end, const uint8_t *storage, size_t storage_length,
+    const struct net_base_announcement *it, size_t segment_size, bool reports, int64_t now) {
+    NET_BASE_POINTER_("net_base_sending_end_open", end, struct net_base_sending_end);
+    NET_BASE_SLICE_("net_base_sending_end_open", storage, uint8_t);
+    NET_BASE_POINTER_("net_base_sending_end_open", it, struct net_base_announcement);
+    net_base_check_(net_base_apart_(end, sizeof(*end), storage, storage_length * sizeof(*storage)), "net_base_sending_end_open: end and storage overlap (duty 2)");
+    net_base_check_(net_base_apart_(end, sizeof(*end), it, sizeof(*it)), "net_base_sending_end_open: end and it overlap (duty 2)");
+    return net_base_sending_end_open(end, storage, storage_length, it, segment_size, reports, now);
+}
+
+NET_BASE_MUST_USE static inline bool net_base_sending_end_forget_checked_(
+    struct net_base_sending_end *end, const uint8_t *storage, size_t storage_length, int64_t now) {
+    NET_BASE_POINTER_("net_base_sending_end_forget", end, struct net_base_sending_end);
+    NET_BASE_SLICE_("net_base_sending_end_forget", storage, uint8_t);
+    net_base_check_(net_base_apart_(end, sizeof(*end), storage, storage_length * sizeof(*storage)), "net_base_sending_end_forget: end and storage overlap (duty 2)");
+    return net_base_sending_end_forget(end, storage, storage_length, now);
+}
+
+NET_BASE_MUST_USE static inline bool net_base_sending_end_is_opening_due_checked_(
+    struct net_base_sending_end *end, const uint8_t *storage, size_t storage_length, int64_t now) {
+    NET_BASE_POINTER_("net_base_sending_end_is_opening_due", end, struct net_base_sending_end);
+    NET_BASE_SLICE_("net_base_sending_end_is_opening_due", storage, uint8_t);
+    net_base_check_(net_base_apart_(end, sizeof(*end), storage, storage_length * sizeof(*storage)), "net_base_sending_end_is_opening_due: end and storage overlap (duty 2)");
+    return net_base_sending_end_is_opening_due(end, storage, storage_length, now);
+}
+
+static inline void net_base_sending_end_set_nagle_enabled_checked_(
+    struct net_base_sending_end *end, bool enabled) {
+    NET_BASE_POINTER_("net_base_sending_end_set_nagle_enabled", end, struct net_base_sending_end);
+    net_base_sending_end_set_nagle_enabled(end, enabled);
+}
+
+NET_BASE_MUST_USE static inline size_t net_base_sending_end_write_checked_(
+    struct net_base_sending_end *end, uint8_t *storage, size_t storage_length, const uint8_t *bytes,
+    size_t bytes_length) {
+    NET_BASE_POINTER_("net_base_sending_end_write", end, struct net_base_sending_end);
+    NET_BASE_SLICE_("net_base_sending_end_write", storage, uint8_t);
+    NET_BASE_SLICE_("net_base_sending_end_write", bytes, uint8_t);
+    net_base_check_(net_base_apart_(end, sizeof(*end), storage, storage_length * sizeof(*storage)), "net_base_sending_end_write: end and storage overlap (duty 2)");
+    net_base_check_(net_base_apart_(end, sizeof(*end), bytes, bytes_length * sizeof(*bytes)), "net_base_sending_end_write: end and bytes overlap (duty 2)");
+    net_base_check_(net_base_apart_(storage, storage_length * sizeof(*storage), bytes, bytes_length * sizeof(*bytes)), "net_base_sending_end_write: storage and bytes overlap (duty 2)");
+    return net_base_sending_end_write(end, storage, storage_length, bytes, bytes_length);
+}
+
+static inline void net_base_sending_end_close_checked_(struct net_base_sending_end *end) {
+    NET_BASE_POINTER_("net_base_sending_end_close", end, struct net_base_sending_end);
+    net_base_sending_end_close(end);
+}
+
+NET_BASE_MUST_USE static inline struct net_base_taken_acknowledgement net_base_sending_end_acknowledged_checked_(
+    struct net_base_sending_end *end, const uint8_t *storage, size_t storage_length,
+    const struct net_base_announcement *it, const struct net_base_held_run *blocks,
+    size_t blocks_length, bool is_empty, int64_t now) {
+    NET_BASE_POINTER_("net_base_sending_end_acknowledged", end, struct net_base_sending_end);
+    NET_BASE_SLICE_("net_base_sending_end_acknowledged", storage, uint8_t);
+    NET_BASE_POINTER_("net_base_sending_end_acknowledged", it, struct net_base_announcement);
+    NET_BASE_SLICE_("net_base_sending_end_acknowledged", blocks, struct net_base_held_run);
+    net_base_check_(net_base_apart_(end, sizeof(*end), storage, storage_length * sizeof(*storage)), "net_base_sending_end_acknowledged: end and storage overlap (duty 2)");
+    net_base_check_(net_base_apart_(end, sizeof(*end), it, sizeof(*it)), "net_base_sending_end_acknowledged: end and it overlap (duty 2)");
+    net_base_check_(net_base_apart_(end, sizeof(*end), blocks, blocks_length * sizeof(*blocks)), "net_base_sending_end_acknowledged: end and blocks overlap (duty 2)");
+    struct net_base_taken_acknowledgement result = net_base_sending_end_acknowledged(end, storage, storage_length, it, blocks, blocks_length, is_empty, now);
+    NET_BASE_ANSWERS_("net_base_sending_end_acknowledged", result.status != NET_BASE_ACKNOWLEDGED_REFUSED);
+    return result;
+}
+
+NET_BASE_MUST_USE static inline struct net_base_ended_timer net_base_sending_end_expired_checked_(
+    struct net_base_sending_end *end, const uint8_t *storage, size_t storage_length, int64_t now) {
+    NET_BASE_POINTER_("net_base_sending_end_expired", end, struct net_base_sending_end);
+    NET_BASE_SLICE_("net_base_sending_end_expired", storage, uint8_t);
+    net_base_check_(net_base_apart_(end, sizeof(*end), storage, storage_length * sizeof(*storage)), "net_base_sending_end_expired: end and storage overlap (duty 2)");
+    struct net_base_ended_timer result = net_base_sending_end_expired(end, storage, storage_length, now);
+    NET_BASE_ANSWERS_("net_base_sending_end_expired", result.status != NET_BASE_EXPIRED_REFUSED);
+    return result;
+}
+
+NET_BASE_MUST_USE static inline struct net_base_outgoing_segment net_base_sending_end_next_segment_checked_(
+    struct net_base_sending_end *end, const uint8_t *storage, size_t storage_length,
+    uint64_t congestion_window, int64_t now) {
+    NET_BASE_POINTER_("net_base_sending_end_next_segment", end, struct net_base_sending_end);
+    NET_BASE_SLICE_("net_base_sending_end_next_segment", storage, uint8_t);
+    net_base_check_(net_base_apart_(end, sizeof(*end), storage, storage_length * sizeof(*storage)), "net_base_sending_end_next_segment: end and storage overlap (duty 2)");
+    struct net_base_outgoing_segment result = net_base_sending_end_next_segment(end, storage, storage_length, congestion_window, now);
+    NET_BASE_ANSWERS_("net_base_sending_end_next_segment", result.status != NET_BASE_OUTGOING_REFUSED);
+    return result;
+}
+
+NET_BASE_MUST_USE static inline struct net_base_segment_parts net_base_sending_end_bytes_checked_(
+    const struct net_base_sending_end *end, size_t capacity, uint64_t position, uint64_t limit) {
+    NET_BASE_POINTER_("net_base_sending_end_bytes", end, struct net_base_sending_end);
+    return net_base_sending_end_bytes(end, capacity, position, limit);
+}
+
+NET_BASE_MUST_USE static inline bool net_base_sending_end_is_done_checked_(
+    const struct net_base_sending_end *end) {
+    NET_BASE_POINTER_("net_base_sending_end_is_done", end, struct net_base_sending_end);
+    return net_base_sending_end_is_done(end);
+}
+
+NET_BASE_MUST_USE static inline bool net_base_sending_end_expires_at_checked_(
+    const struct net_base_sending_end *end, int64_t *moment) {
+    NET_BASE_POINTER_("net_base_sending_end_expires_at", end, struct net_base_sending_end);
+    NET_BASE_POINTER_("net_base_sending_end_expires_at", moment, int64_t);
+    net_base_check_(net_base_apart_(end, sizeof(*end), moment, sizeof(*moment)), "net_base_sending_end_expires_at: end and moment overlap (duty 2)");
+    return net_base_sending_end_expires_at(end, moment);
+}
+
+NET_BASE_MUST_USE static inline bool net_base_sending_end_numbers_checked_(
+    const struct net_base_sending_end *end, struct net_base_sent_numbers *numbers) {
+    NET_BASE_POINTER_("net_base_sending_end_numbers", end, struct net_base_sending_end);
+    NET_BASE_POINTER_("net_base_sending_end_numbers", numbers, struct net_base_sent_numbers);
+    net_base_check_(net_base_apart_(end, sizeof(*end), numbers, sizeof(*numbers)), "net_base_sending_end_numbers: end and numbers overlap (duty 2)");
+    return net_base_sending_end_numbers(end, numbers);
+}
+
+NET_BASE_MUST_USE static inline uint64_t net_base_sending_end_acknowledgement_number_checked_(
+    const struct net_base_sending_end *end) {
+    NET_BASE_POINTER_("net_base_sending_end_acknowledgement_number", end, struct net_base_sending_end);
+    return net_base_sending_end_acknowledgement_number(end);
+}
+
+NET_BASE_MUST_USE static inline bool net_base_sending_end_is_recovering_checked_(
+    const struct net_base_sending_end *end) {
+    NET_BASE_POINTER_("net_base_sending_end_is_recovering", end, struct net_base_sending_end);
+    return net_base_sending_end_is_recovering(end);
+}
+
 static inline uint32_t net_base_rand_u32_checked_(uint64_t *state) {
     NET_BASE_POINTER_("net_base_rand_u32", state, uint64_t);
     return net_base_rand_u32(state);
@@ -1055,6 +1298,34 @@ NET_BASE_MUST_USE static inline bool net_base_sequence_number_position_checked_(
 #define net_base_parts_sum_checksum net_base_parts_sum_checksum_checked_
 #define net_base_parts_sum_is_valid net_base_parts_sum_is_valid_checked_
 #define net_base_parts_sum_write_checksum net_base_parts_sum_write_checksum_checked_
+#define net_base_receiving_end_init net_base_receiving_end_init_checked_
+#define net_base_receiving_end_is_sound net_base_receiving_end_is_sound_checked_
+#define net_base_receiving_end_open net_base_receiving_end_open_checked_
+#define net_base_receiving_end_classify net_base_receiving_end_classify_checked_
+#define net_base_receiving_end_arrived net_base_receiving_end_arrived_checked_
+#define net_base_receiving_end_answer net_base_receiving_end_answer_checked_
+#define net_base_receiving_end_is_due net_base_receiving_end_is_due_checked_
+#define net_base_receiving_end_is_wanted net_base_receiving_end_is_wanted_checked_
+#define net_base_receiving_end_announce net_base_receiving_end_announce_checked_
+#define net_base_receiving_end_acknowledgement net_base_receiving_end_acknowledgement_checked_
+#define net_base_receiving_end_read net_base_receiving_end_read_checked_
+#define net_base_sending_end_init net_base_sending_end_init_checked_
+#define net_base_sending_end_is_sound net_base_sending_end_is_sound_checked_
+#define net_base_sending_end_open net_base_sending_end_open_checked_
+#define net_base_sending_end_forget net_base_sending_end_forget_checked_
+#define net_base_sending_end_is_opening_due net_base_sending_end_is_opening_due_checked_
+#define net_base_sending_end_set_nagle_enabled net_base_sending_end_set_nagle_enabled_checked_
+#define net_base_sending_end_write net_base_sending_end_write_checked_
+#define net_base_sending_end_close net_base_sending_end_close_checked_
+#define net_base_sending_end_acknowledged net_base_sending_end_acknowledged_checked_
+#define net_base_sending_end_expired net_base_sending_end_expired_checked_
+#define net_base_sending_end_next_segment net_base_sending_end_next_segment_checked_
+#define net_base_sending_end_bytes net_base_sending_end_bytes_checked_
+#define net_base_sending_end_is_done net_base_sending_end_is_done_checked_
+#define net_base_sending_end_expires_at net_base_sending_end_expires_at_checked_
+#define net_base_sending_end_numbers net_base_sending_end_numbers_checked_
+#define net_base_sending_end_acknowledgement_number net_base_sending_end_acknowledgement_number_checked_
+#define net_base_sending_end_is_recovering net_base_sending_end_is_recovering_checked_
 #define net_base_rand_u32 net_base_rand_u32_checked_
 #define net_base_rand_source_port net_base_rand_source_port_checked_
 #define net_base_rand_below net_base_rand_below_checked_

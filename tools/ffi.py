@@ -35,7 +35,7 @@ ABI = ROOT / "c/abi.txt"
 # Modules whose sections come first: what the others refer to.
 FIRST = ["refusals", "ring", "split_ring", "results", "packets", "assembler", "fragments", "receiver", "sender", "scoreboard"]
 FIRST += ["finite_receiver", "finite_sender", "tcp", "advertised_window", "peer_window",
-          "retransmission", "parts_sum"]
+          "retransmission", "parts_sum", "receiving_end", "sending_end"]
 PAGE = ROOT / "docs/FFI.md"
 PAGE_BEGIN = "<!-- Written by tools/ffi.py from crates/net_ffi/src/lib.rt, up to the line END. -->"
 PAGE_END = "<!-- END -->"
@@ -44,6 +44,8 @@ END = "/* END */"
 WIDTH = 100
 C_TYPES = {"usize": "size_t", "bool": "bool"}
 C_TYPES |= {f"{sign}{bits}": f"{'u' * (sign == 'u')}int{bits}_t" for sign in "iu" for bits in (8, 16, 32, 64)}
+# The constants that arrays have as lengths.
+LENGTHS = dict(re.findall(r"const (\w+): usize = (\d+);", "".join(path.read_text() for path in EXPORTS.glob("src/*.rt"))))
 # The type of the numbers of all statuses, an alias of `u32`, and what says in C that a result isn't to be thrown away.
 STATUS, MUST_USE = "Status", "NET_BASE_MUST_USE"
 # The statuses that a call can answer, by the type of its result: an alias of `u32` whose comment names them in its first
@@ -119,9 +121,9 @@ def members_of(text):
 
 
 def plain_type(text):
-    """A type without lifetimes and paths, on one line."""
+    """A type without lifetimes and paths, on one line, with numbers as the lengths of arrays."""
     text = re.sub(r"<\s*'\w+\s*>|'\w+\s*", "", " ".join(text.split()))
-    return re.sub(r"\b(?:\w+::)+", "", text)
+    return re.sub(r"(?<=; )[A-Z_]+(?=\])", lambda it: LENGTHS[it[0]], re.sub(r"\b(?:\w+::)+", "", text))
 
 
 def closing(text, at):

@@ -13,12 +13,13 @@ FORBIDDEN = [
 ]
 # What an instruction takes off the stack pointer: a number, or registers of this number of bytes.
 TAKEN = [
-    (re.compile(r"sub[lq]?\s+\$(0x[0-9a-f]+),%rsp"), None),
+    (re.compile(r"sub[lq]?\s+\$(0x[0-9a-f]+),%[re]sp"), None),
     (re.compile(r"sub(?:\.w)?\s+sp,(?: sp,)? #(0x[0-9a-f]+|\d+)"), None),
     (re.compile(r"st[rp](?:\.w|d)?\s+[^\[]*\[sp, #-(\d+)\]!"), None),
     (re.compile(r"addi?\s+sp,sp,-(\d+)"), None),
     (re.compile(r"(?:push|stmdb\s+sp!,|stmfd\s+sp!,)\s*(?:\.w\s*)?(\{.*\})"), 4),
-    (re.compile(r"push[lq]?\s+(%\w+)"), 8),
+    (re.compile(r"push[lq]?\s+(%r\w+)"), 8),
+    (re.compile(r"pushl?\s+(%e|\$|-?0x|\()"), 4),
 ]
 CALL = re.compile(r"(?:blx?|b|b\.[nw]|b\w\w(?:\.[nw])?|callq?|jmpq?|jal|j|tail)\s+(?:ra,|zero,)?([0-9a-f]+)(?: <|$)")
 UNKNOWN = re.compile(r"(?:sub|add)(?:\.w)?\s+sp,(?:\s*sp,)?\s*(?!sp|fp, #)[a-z]")
@@ -69,7 +70,8 @@ def stack_bounds(objdump, program):
     found = functions(objdump, program)
     names = {at: name for at, name in found}
     by_address = {at: lines for (at, _), lines in found.items()}
-    is_x86 = any("%rsp" in line for lines in by_address.values() for line in lines)
+    text = " ".join(line for lines in by_address.values() for line in lines)
+    returns = 8 if "%rsp" in text else 4 if "%esp" in text else 0
     known = {}
 
     def depth(at):
@@ -77,7 +79,7 @@ def stack_bounds(objdump, program):
             known[at] = 0  # of a function of the C library that calls itself
             calls = {int(match[1], 16) for line in by_address[at] if (match := CALL.match(line))} - {at}
             deepest = max([depth(it) for it in calls if it in by_address], default=0)
-            known[at] = frame_of(by_address[at], names[at]) + deepest + 8 * is_x86
+            known[at] = frame_of(by_address[at], names[at]) + deepest + returns
         return known[at]
 
     # Equal functions are one, with several names.

@@ -10,6 +10,7 @@ import ffi
 from parts import nulls
 
 TABLE = pathlib.Path(__file__).resolve().parents[1] / "exports.txt"
+ARRAY = re.compile(r"\[(.+); \d+\]")
 TOKEN = re.compile(r'"[^"]*"|[\[\]{}]|[^\s\[\]{}"]+')
 ANY, SAME, EMPTY = "_", "=", ('""', ["["])
 HEAD = r"""/* Calls each export at the values of tools/exports.txt. Written by `python3 tools/ffi.py --tests`. */
@@ -135,10 +136,16 @@ class C:
     def value(self, tree, kind):
         if kind == "bool":
             return tree
+        if array := ARRAY.fullmatch(kind):
+            return "{" + ", ".join(self.value(part, array[1]) for part in tree[1:] or [self.zero(array[1])]) + "}"
         if kind in self.structs:
             fields = [(field, self.value(it, field.type)) for field, it in zip(self.fields(tree, kind), tree[1:])]
             return self.struct(kind, fields)
         return self.literal(self.table.number(tree, kind), kind)
+
+    def zero(self, kind):
+        """Zeros, as a tree."""
+        return ["{", *[self.zero(it.type) for it in self.structs[kind].members]] if kind in self.structs else "0"
 
     def fields(self, tree, kind):
         fields = self.structs[kind].members
@@ -159,7 +166,7 @@ class C:
         """Comparisons of what has a name with a value."""
         if tree in (ANY, *EMPTY):
             return []
-        if slice_of := re.fullmatch(r"\[(.+)\]", kind):
+        if slice_of := ARRAY.fullmatch(kind) or re.fullmatch(r"\[(.+)\]", kind):
             if isinstance(tree, str):
                 return [self.bytes_equal(name, tree)]
             return [it for at, part in enumerate(tree[1:]) for it in self.compared(f"{name}[{at}]", part, slice_of[1])]

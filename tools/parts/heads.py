@@ -329,8 +329,10 @@ class Export:
         lines += [line] if len(line) <= 100 else [head, *[f"    {it}," for it in parameters], f"){result}"]
         for word, name, clause in self.clauses():
             begin = f"{word} {name} {{" if name else f"{word} {{"
-            lines += textwrap.wrap(f"{begin} {clause} }}", 116, initial_indent="    ", subsequent_indent="        ", break_long_words=False,
-                                   break_on_hyphens=False)
+            # A record stays on a line: broken, `rt fmt` lays it out by fields.
+            whole = re.sub(r"\{[^{}]{,60}\}", lambda it: it[0].replace(" ", "\0"), f"{begin} {clause} }}")
+            lines += [it.replace("\0", " ") for it in textwrap.wrap(
+                whole, 99, initial_indent="    ", subsequent_indent="        ", break_long_words=False, break_on_hyphens=False)]
         lines.append("{")
         if self.tests:
             lines += [f"    if {' || '.join(it[1] for it in self.tests)} {{", f"        return {self.result.refusal};", "    }"]

@@ -21,14 +21,22 @@ from parts import heads
 USUAL = {"storage": 40, "capacity": 40, "slot_count": 5, "slots": 5, "runs": 6}
 OTHER_SLICE, ROOM = 7, 8
 # About which number a position is mostly drawn.
-RECEIVED = "now.finite_receiver_receiver.receiver.first + now.finite_receiver_receiver.receiver.count_read"
-RECEIVED += " + now.finite_receiver_receiver.receiver.place.length"
+NEXT = "now.{0}.receiver.first + now.{0}.receiver.count_read + now.{0}.receiver.place.length"
+RECEIVED = NEXT.format("finite_receiver_receiver")
 SENT = "now.finite_sender_sender.sender.first_unacknowledged"
 NEAR = {("receiver", "position"): RECEIVED, ("finite_receiver", "position"): RECEIVED,
+        ("receiving_end", "position"): NEXT.format("receiving_end_end.receiver"),
         ("finite_sender", "position"): SENT, ("finite_sender", "next"): SENT, ("tcp", "next"): "now.tcp_segment.seq",
+        ("advertised_window", "next"): "now.advertised_window_segment.seq",
         ("tcp", "window"): "4", ("fragments", "offset"): "0", ("fragments", "size"): "7"}
+NEAR |= {("sending_end", name): "now.sending_end_end.sender.sender.first_unacknowledged" for name in ("position", "limit")}
+NEAR |= {("sending_end", "it.ack"): "(below(2) ? now.sending_end_end.sender.sent : now.sending_end_end.sender.sender.first_unacknowledged)",
+         ("sending_end", "now"): "(uint64_t)now.sending_end_end.timer.ends_at"}
 NEAR |= {("scoreboard", name): "now.scoreboard_scoreboard.base" for name in ("start", "end", "next", "position", "limit")}
 NEAR |= {("scoreboard", "sent"): "now.scoreboard_scoreboard.base + 40"}
+# What a head is made now and then, since calls seldom do: a timer whose probe is due before the timeout passes.
+MADE = {"sending_end": ["now.sending_end_end.timer.reports = 1;", "now.sending_end_end.timer.probe_at = "
+                        "(int64_t)((uint64_t)now.sending_end_end.timer.ends_at - below(48));"]}
 # A length that decides only where head and runs aren't sound with it: rows of exports.txt have that.
 UNSOUND = {("net_base_fragments_differs", "storage")}
 # How many results a call reaches at least: a `bool` both, a status each, but what null alone is answered; other numbers
@@ -368,6 +376,11 @@ class Call:
             return f"({ffi.C_TYPES[kind]})near({near})"
         return "below(2)" if kind == "bool" else f"({ffi.C_TYPES[kind]})number()"
 
+    def redrawn(self, path, kind):
+        """The line that draws a number of what the call only looks at."""
+        near = NEAR.get((self.subject, path.removeprefix(f"now.{self.subject}_")))
+        return f"{path} = ({ffi.C_TYPES[kind]})near({near});" if near else spoiled(path, kind)
+
     def drawn(self, kind, name, value):
         """A static variable that is drawn before the call."""
         variable = f"{name}_{self.index}"
@@ -406,6 +419,20 @@ class Call:
                 words.append(f"now.{self.subject}_{member.name}, {size}" if "[" in member.type else str(size))
         return f"{sound.name}({', '.join(words)})", self.memory.each(head.removeprefix("now."), zeroed)
 
+    def runs_inside(self):
+        """Lines that make heads that have their runs inside hold as many as they can, and lines that say that they hold more."""
+        full, beyond = [], []
+        for member in self.item.members:
+            kind, head = ffi.core_type(member.type), f"now.{self.subject}_{member.name}"
+            for field in self.memory.library.structs[kind].members if kind in self.memory.library.structs else ():
+                if array := re.fullmatch(r"\[Run; (\d+)\]", field.type):
+                    held = next(self.memory.inside("AssemblerHead", head, kind))
+                    full += self.memory.each(head.removeprefix("now."), zeroed)
+                    full += [f"{held}.used = {array[1]};", f"{held}.first_start = 1 + below(8);", f"for (int i = 0; i < {array[1]}; i++) {{",
+                             f"    {head}.{field.name}[i].start = (size_t)(2 * i);", f"    {head}.{field.name}[i].end = (size_t)(2 * i + 1);", "}"]
+                    beyond += [f"{held}.used = {array[1]} + 1;"]
+        return full, beyond
+
     def least(self):
         """How many results are reached at least."""
         kind, answer = self.item.type, self.memory.library.answer(self.item.type)
@@ -426,16 +453,21 @@ class Call:
         tests = [] if self.item.name.endswith("_is_sound") else self.made_sound(sounds)
         sound = " && ".join(test for test, _ in tests) if tests and self.item.requires else "true"
         drawn = [line for _, own, _ in self.pointers.values() if (name := re.sub(r"^&?now\.", "", own)) not in self.memory.written
-                 for line in self.memory.each(name, spoiled)]
+                 for line in self.memory.each(name, self.redrawn)]
         drawn += [line for name in self.values for line in self.memory.each(name, spoiled)]
         prepare = [*["if (below(4) == 0) {" if drawn else "", *["    " + line for line in drawn], "}" if drawn else ""],
                    *choose, *self.before, *([f"if (!({sound})) {{", *["    " + it for it in own], "}"] if sound != "true" and own else [])]
+        full, beyond = self.runs_inside() if tests else ([], [])
+        prepare += ["if (below(64) == 0) {", *["    " + line for line in full], "}"] if full else []
         # What isn't sound is refused, unless the caller owes that it is.
         now_and_then = "" if self.item.requires else "below(4) != 0 && "
         for test, zero in tests:
             prepare += [f"if ({now_and_then}!{test}) {{", *["    " + line for line in zero], "}"]
         # Fewer runs than are used are refused.
         prepare += [f"if (below(16) == 0) {length} = below({length} + 1);" for length, _, is_of_runs in self.lengths if tests and is_of_runs]
+        prepare += ["if (below(64) == 0) {", *["    " + line for line in beyond], "}"] if beyond else []
+        made = MADE.get(self.subject, []) if tests else []
+        prepare += ["if (below(16) == 0) {", *["    " + line for line in made], "}"] if made else []
         hashes = [] if self.result == "void" else self.memory.fields(
             f"result_{index}", self.item.type, lambda path, kind: f"hash = hashed(hash, (uint64_t){path});")
         rows = [f"static size_t *const lengths_{index}[] = {{{', '.join(f'&{it}' for it, _, _ in self.lengths)}}};",

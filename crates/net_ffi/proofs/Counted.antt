@@ -9,14 +9,14 @@ use Rattle.net_ffi.specs.Retransmission.{given_or, bounds_of, timer_of, timer_fi
 use Rattle.net_ffi.specs.declared.retransmission.TimeoutBounds.{TimeoutBounds}
 use Rattle.net_ffi.specs.declared.retransmission.RetransmissionTimer.{RetransmissionTimer}
 
-given : (n d : ℕ) → 1 ≤ d → 1 ≤ given_or n d
+pub given : (n d : ℕ) → 1 ≤ d → 1 ≤ given_or n d
 given n d h = grind (arith, common_steps, h)
 
-either : (P : Timer → Type 0) (c : Bool) (x y : Timer) → P x → P y → P (if c then x else y)
+pub either : {A : Type 0} (P : A → Type 0) (c : Bool) (x y : A) → P x → P y → P (if c then x else y)
 either P true x y px py = px
 either P false x y px py = py
 
-after : (b : Bounds) (now : ℤ) (t : Timer) → 1 ≤ b.least → 1 ≤ t.timeout.timeout →
+pub after : (b : Bounds) (now : ℤ) (t : Timer) → 1 ≤ b.least → 1 ≤ t.timeout.timeout →
     1 ≤ (after_expiry b now t).timeout.timeout
 after b now t least own =
     let passed : 1 ≤ doubled b t.timeout.timeout = omega arith in

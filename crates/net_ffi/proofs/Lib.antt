@@ -1,1 +1,4 @@
 pub mod Counted
+pub mod ReceivingEnds
+pub mod SendingTimers
+pub mod SendingSteps

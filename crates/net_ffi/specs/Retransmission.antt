@@ -1,7 +1,8 @@
 -- The timeout and the timer of C, whose flags are numbers beside theirs.
 --     given_or n d      n, or d in place of 0
 --     rtt_of e, bounds_of b, timeout_of t, timer_of t      what those of C represent
---     numbers_of e, timeout_fields t, timer_fields t      those of C that represent these: 0 and 1 as flags, and 0 where there is nothing
+--     numbers_of e, timeout_fields t, timer_fields t      those of C that represent these: 0 and 1 as flags, and 0
+--                                                         where there is nothing
 --     due_of e      the number of what is due
 use Rattle.std.specs.Prelude.{ℕ, ℤ, pos, Option, Some, None, is_some, if◌then◌else◌, nat_eq, unwrap_or, not}
 use Rattle.net_tcp.specs.Estimate.{Estimate}

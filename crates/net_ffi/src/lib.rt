@@ -16,9 +16,9 @@
 //!
 //! # Duties
 //!
-//! Nothing checks these. A call that breaks one of the first four can touch any memory. The others are about answers, and
-//! the proofs assume them: a call that breaks one touches no other memory than it was passed, but may answer anything,
-//! or trap.
+//! Nothing checks these. A call that breaks one of the first four can touch any memory. The others are about answers,
+//! and the proofs assume them: a call that breaks one touches no other memory than it was passed, but may answer
+//! anything, or trap.
 //!
 //! 1. A pointer that isn't null is aligned, and valid: that of a slice, such as `data`, for as many elements as the
 //!    parameter after it says, here `data_length`, of at most `PTRDIFF_MAX` bytes together; any other for one value. If
@@ -27,26 +27,27 @@
 //! 2. What a call may write overlaps nothing else that it is passed.
 //! 3. Two calls that share memory aren't made at once, in threads or in an interrupt and what it interrupts, unless
 //!    both take it by `const`. So mask the interrupt around each call, with what copies its elements, and around what
-//!    reads fields. Calls of a ring of two counts, `net_base_split_ring_..`, share none. There each end alone stores its
-//!    own count, with release, once it has written or read elements; before that it loads the other's, with acquire.
+//!    reads fields. Calls of a ring of two counts, `net_base_split_ring_..`, share none. There each end alone stores
+//!    its own count, with release, once it has written or read elements; before that it loads the other's, with
+//!    acquire.
 //! 4. There is stack enough for a call.
 //! 5. A storage, its runs and its slots have the same lengths in each call on a head.
 //! 6. A head, its runs and its slots are written by calls of its own kind alone, those of a finite
 //!    receiver by `net_base_finite_receiver_..`, not its `place` by `net_base_ring_..` or its `held` by
 //!    `net_base_assembler_..`. The caller may set a head to zeros.
 //! 7. Where a comment says `Requires`, head and runs are sound, as a call whose name ends in `_is_sound` tests. What
-//!    calls of its own kind wrote, from a new head on, is sound, if each slot that `net_base_packets_take_slot` was given
-//!    was the first one.
+//!    calls of its own kind wrote, from a new head on, is sound, if each slot that `net_base_packets_take_slot` was
+//!    given was the first one.
 //!
 //! # Refusals
 //!
 //! All else that a call needs is tested, but that a taken slot is the first one. Nonsense in arguments, as a null
 //! pointer but to a slice of length 0, is refused before anything else. A refused call changes nothing. It returns
 //! `false` where it returns a `bool`, and one whose comment names no answer returns `true` where it is done; where it
-//! returns one of these alone or as the first field of a struct, the `NET_BASE_.._REFUSED` of a status, `NET_BASE_NONE` of a
-//! `size_t`, `UINT64_MAX` of a `uint64_t`; and 0 of another number, which is refused for null alone. A test whose failure
-//! makes a packet unsafe returns `true`, as its comment says. `NET_BASE_.._REFUSED` always means a refusal; the others
-//! can also be results of calls that are done.
+//! returns one of these alone or as the first field of a struct, the `NET_BASE_.._REFUSED` of a status,
+//! `NET_BASE_NONE` of a `size_t`, `UINT64_MAX` of a `uint64_t`; and 0 of another number, which is refused for null
+//! alone. A test whose failure makes a packet unsafe returns `true`, as its comment says. `NET_BASE_.._REFUSED`
+//! always means a refusal; the others can also be results of calls that are done.
 //!
 //! A `bool` answers a question, or that a call was done. A status says what became of a call that can end in more ways:
 //! what is done is 0, as in other libraries of C.
@@ -59,9 +60,11 @@ pub mod packets;
 pub mod parts_sum;
 pub mod rand;
 pub mod receiver;
+pub mod receiving_end;
 pub mod refusals;
 pub mod results;
 pub mod retransmission;
 pub mod ring;
+pub mod sending_end;
 pub mod sequence_number;
 pub mod time;

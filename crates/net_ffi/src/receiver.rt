@@ -8,6 +8,9 @@ use crate::refusals::refused_held_run;
 use net_assembler::Run;
 use net_receiver::{HeldRun, ReceiverHead};
 
+/// The most runs that an end of a stream stores: they are in its head.
+pub(crate) const RUNS: usize = 16;
+
 /// How many bytes of a segment were kept, and how many joined the queue.
 #[repr(C)]
 #[derive(Debug, Clone, Copy)]
@@ -22,7 +25,8 @@ pub struct KeptCounts {
 /// Returns whether the first missing position fits 64 bits.
 #[inline(always)]
 pub(crate) fn has_next(receiver: &ReceiverHead) -> bool
-    ensures { IsTrue result ↔ (receiver.now.first + receiver.now.count_read + receiver.now.place.length < 2 ^ 64) }
+    ensures { IsTrue result ↔ (receiver.now.first + receiver.now.count_read +
+        receiver.now.place.length < 2 ^ 64) }
 {
     match receiver.first.checked_add(receiver.count_read) {
         Some(read) => receiver.place.length as u64 <= u64::MAX - read,
@@ -32,7 +36,7 @@ pub(crate) fn has_next(receiver: &ReceiverHead) -> bool
 
 /// Returns whether the queue is in a storage of `capacity` bytes, and the first missing position fits 64 bits.
 #[inline(always)]
-fn is_readable(receiver: &ReceiverHead, capacity: usize) -> bool
+pub(crate) fn is_readable(receiver: &ReceiverHead, capacity: usize) -> bool
     ensures { IsTrue result ↔ IsReadable capacity receiver.now }
 {
     receiver.place.is_sound(capacity) && has_next(receiver)
@@ -69,8 +73,8 @@ pub extern "C" fn net_base_receiver_run_at(
     index: usize,
 ) -> HeldRun
     requires sound { HasRuns (length runs.now) receiver.now → HasSoundHeld receiver.now runs.now }
-    ensures run { HasRuns (length runs.now) receiver.now → result ≡ unwrap_or (slice_get (maximal_runs (held_at
-        receiver.now runs.now)) index) (0, 0) }
+    ensures run { HasRuns (length runs.now) receiver.now → result ≡ unwrap_or (slice_get
+        (maximal_runs (held_at receiver.now runs.now)) index) (0, 0) }
     ensures refused { (HasRuns (length runs.now) receiver.now → ⊥) → result ≡ (
       2 ^ 64 - 1,
       2

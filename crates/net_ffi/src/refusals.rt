@@ -22,19 +22,39 @@ pub type FragmentStatus = u32;
 pub type SizeStatus = u32;
 
 /// What became of a segment: `DONE`, `TOO_MANY_RUNS`, `OTHER_END` or `REFUSED`.
+///
+/// - `TOO_MANY_RUNS`: there would be more runs than there is room for. Nothing of it is kept.
+/// - `OTHER_END`: the stream can't end there. Nothing of it is kept.
 pub type SegmentStatus = u32;
 
 /// Whether a hole was looked for: `DONE` or `REFUSED`.
 pub type HoleStatus = u32;
 
-/// What to do with a segment that arrives: `TAKE`, `ACKNOWLEDGEMENT_ONLY`, `ANSWER`, `IGNORE`, `RESET`; `REFUSED` for null
-/// alone.
+/// What to do with a segment that arrives: `TAKE`, `ACKNOWLEDGEMENT_ONLY`, `ANSWER`, `IGNORE`, `RESET`; `REFUSED` for
+/// null alone.
 pub type ArrivalStatus = u32;
 
 /// What is due: `DONE`, `PROBE` or `TIMEOUT`; `REFUSED` for null alone.
 ///
 /// - `DONE`: nothing is due, and nothing changes.
 pub type ExpiryStatus = u32;
+
+/// What became of an acknowledgement: `DONE`, `OLD`, `ANSWER` or `REFUSED`.
+///
+/// - `DONE`: it was taken.
+/// - `ANSWER`: no peer sends it. Answer its segment, and take nothing of that (RFC 5961, section 5). Nothing changes.
+pub type AcknowledgedStatus = u32;
+
+/// What the timer's end means: `DONE`, `OVERDUE`, `PROBE`, `LOST` or `REFUSED`.
+///
+/// - `DONE`: the timer hasn't ended, or a probe is due and the peer reports nothing, so that it couldn't answer.
+/// - `PROBE`: the next segment is a probe of a shut window, or, with nothing in flight, has what was held back.
+pub type ExpiredStatus = u32;
+
+/// Whether a segment is to be sent: `DONE`, `NOTHING` or `REFUSED`.
+///
+/// - `DONE`: one is.
+pub type OutgoingStatus = u32;
 
 /// The call was done.
 pub const NET_BASE_DONE: Status = 0;
@@ -48,8 +68,8 @@ pub const NET_BASE_REFUSED: Status = 2;
 /// The fragment or the size reaches past the end of the buffer. Nothing changes.
 pub const NET_BASE_TOO_LONG: Status = 3;
 
-/// It contradicts the packet's size: another size is known, or a byte at that size or above has arrived, or the fragment
-/// reaches past a known size. Nothing changes.
+/// It contradicts the packet's size: another size is known, or a byte at that size or above has arrived, or the
+/// fragment reaches past a known size. Nothing changes.
 pub const NET_BASE_OTHER_SIZE: Status = 4;
 
 /// The stream can't end there. Nothing changes.
@@ -58,8 +78,8 @@ pub const NET_BASE_OTHER_END: Status = 5;
 /// Take what a segment acknowledges, its window, its bytes and its end.
 pub const NET_BASE_TAKE: Status = 6;
 
-/// Take what a segment acknowledges and its window, but not its bytes, and answer it: the own window is shut, and the peer
-/// asks whether it has opened.
+/// Take what a segment acknowledges and its window, but not its bytes, and answer it: the own window is shut, and the
+/// peer asks whether it has opened.
 pub const NET_BASE_ACKNOWLEDGEMENT_ONLY: Status = 7;
 
 /// Send an acknowledgement, and take nothing of a segment.
@@ -77,6 +97,19 @@ pub const NET_BASE_PROBE: Status = 11;
 /// The timeout has passed: all that was sent and isn't acknowledged is lost.
 pub const NET_BASE_TIMEOUT: Status = 12;
 
+/// No answer has come in time: what is overdue is lost, and if nothing of it may be sent, the next segment is a probe
+/// for an answer.
+pub const NET_BASE_OVERDUE: Status = 13;
+
+/// All that was sent is lost: let one segment be in flight.
+pub const NET_BASE_LOST: Status = 14;
+
+/// It says nothing, but the bytes of its segment may be new. Nothing changes.
+pub const NET_BASE_OLD: Status = 15;
+
+/// Nothing is to be sent now.
+pub const NET_BASE_NOTHING: Status = 16;
+
 /// States each number of this module: callers may be compiled with it.
 pub fn numbers()
     ensures done { NET_BASE_DONE ≡ 0 }
@@ -92,6 +125,10 @@ pub fn numbers()
     ensures reset { NET_BASE_RESET ≡ 10 }
     ensures probe { NET_BASE_PROBE ≡ 11 }
     ensures timeout { NET_BASE_TIMEOUT ≡ 12 }
+    ensures overdue { NET_BASE_OVERDUE ≡ 13 }
+    ensures lost { NET_BASE_LOST ≡ 14 }
+    ensures old { NET_BASE_OLD ≡ 15 }
+    ensures nothing { NET_BASE_NOTHING ≡ 16 }
 {}
 
 /// In place of a length, an index or a count: what was passed is nonsense, or there is none.
@@ -114,8 +151,8 @@ pub fn refused_span() -> Span
     }
 }
 
-/// The span of a refused call of a ring of two counts: the end's count stays. It isn't inlined, so that a call which isn't
-/// refused has no jump.
+/// The span of a refused call of a ring of two counts: the end's count stays. It isn't inlined, so that a call which
+/// isn't refused has no jump.
 #[inline(never)]
 pub fn refused_split_span(next: usize) -> SplitSpan
     ensures span { result.span ≡ nowhere }

@@ -17,7 +17,7 @@ use net_numbers::SentNumbers;
 use net_tcp::{Expiry, TimedSegment, TimerParts};
 
 /// What a timeout of 0 counts as, and a least one: 1 second.
-const FIRST_TIMEOUT: u64 = 1_000_000;
+pub(crate) const FIRST_TIMEOUT: u64 = 1_000_000;
 
 /// What a greatest timeout of 0 counts as: 60 seconds.
 const MOST_TIMEOUT: u64 = 60_000_000;
@@ -95,7 +95,7 @@ pub struct RetransmissionTimer {
 
 /// Returns a number, or another one in place of 0.
 #[inline(always)]
-fn given_or(number: u64, other: u64) -> u64
+pub(crate) fn given_or(number: u64, other: u64) -> u64
     ensures { result ≡ given_or number other }
 {
     if number == 0 { other } else { number }
@@ -103,7 +103,7 @@ fn given_or(number: u64, other: u64) -> u64
 
 /// Returns the bounds.
 #[inline(always)]
-fn bounds_from(bounds: &TimeoutBounds) -> net_tcp::TimeoutBounds
+pub(crate) fn bounds_from(bounds: &TimeoutBounds) -> net_tcp::TimeoutBounds
     ensures { result ≡ bounds_of bounds.now }
 {
     net_tcp::TimeoutBounds {
@@ -143,7 +143,11 @@ fn fields_of_timeout(
     timeout: Duration,
 ) -> RetransmissionTimeout
     ensures value { result ≡ timeout_fields (record { estimate = estimate; timeout = timeout }) }
-    ensures same { 1 ≤ timeout → timeout_of result ≡ record { estimate = estimate; timeout = timeout } }
+    ensures same { 1 ≤ timeout → timeout_of result ≡ record {
+      estimate = estimate;
+      timeout =
+          timeout;
+    } }
 {
     match estimate {
         Some(estimate) => {
@@ -167,7 +171,7 @@ fn fields_of_timeout(
 
 /// Returns the timer that the fields represent.
 #[inline(always)]
-fn timer_from(fields: &RetransmissionTimer) -> net_tcp::RetransmissionTimer
+pub(crate) fn timer_from(fields: &RetransmissionTimer) -> net_tcp::RetransmissionTimer
     ensures { result ≡ timer_of fields.now }
 {
     let ends_at = if fields.is_running == 0 {
@@ -247,7 +251,7 @@ struct Timing {
 
 /// Returns a flag's number.
 #[inline(always)]
-fn flag_of(flag: bool) -> u64
+pub(crate) fn flag_of(flag: bool) -> u64
     ensures value { result ≡ (if flag then 1 else 0) }
     ensures same { not (nat_eq result 0) ≡ flag }
 {
@@ -257,7 +261,11 @@ fn flag_of(flag: bool) -> u64
 /// Returns the fields of a moment that there may be.
 #[inline(always)]
 fn running_of(ends_at: Option<Instant>) -> Running
-    ensures value { result ≡ record { at = unwrap_or ends_at (pos 0); is_running = if is_some ends_at then 1 else 0 } }
+    ensures value { result ≡ record {
+      at = unwrap_or ends_at (pos 0);
+      is_running = if is_some
+          ends_at then 1 else 0;
+    } }
     ensures same { (if nat_eq result.is_running 0 then None else Some result.at) ≡ ends_at }
 {
     Running {
@@ -286,7 +294,7 @@ fn timing_of(timed: Option<TimedSegment>) -> Timing
 
 /// Returns the fields of a timer, which represent it.
 #[inline(always)]
-fn fields_of_timer(timer: net_tcp::RetransmissionTimer) -> RetransmissionTimer
+pub(crate) fn fields_of_timer(timer: net_tcp::RetransmissionTimer) -> RetransmissionTimer
     ensures value { result ≡ timer_fields timer }
     ensures same { 1 ≤ timer.timeout.timeout → timer_of result ≡ timer }
 {
@@ -323,8 +331,8 @@ fn number_of(expiry: Option<Expiry>) -> ExpiryStatus
     }
 }
 
-/// Makes `timer` a timer that doesn't run, with a timeout before any sample. In place of 0 it is 1 second, which the RFC
-/// has. `reports` says whether the peer reports blocks (SACK): if not, no probe is ever due.
+/// Makes `timer` a timer that doesn't run, with a timeout before any sample. In place of 0 it is 1 second, which the
+/// RFC has. `reports` says whether the peer reports blocks (SACK): if not, no probe is ever due.
 #[unsafe(no_mangle)]
 pub extern "C" fn net_base_retransmission_timer_init(
     timer: &mut RetransmissionTimer,
@@ -349,8 +357,8 @@ pub extern "C" fn net_base_retransmission_timer_timeout(timer: &RetransmissionTi
     given_or(timer.timeout.timeout, FIRST_TIMEOUT)
 }
 
-/// Starts the timer, unless it runs, where nothing is on the way: it expires the timeout from `now` on, at `INT64_MAX` if
-/// that is above it, and no probe is due.
+/// Starts the timer, unless it runs, where nothing is on the way: it expires the timeout from `now` on, at
+/// `INT64_MAX` if that is above it, and no probe is due.
 #[unsafe(no_mangle)]
 pub extern "C" fn net_base_retransmission_timer_start(timer: &mut RetransmissionTimer, now: i64)
     ensures { timer.new ≡ timer_fields (started now (timer_of timer.old)) }
@@ -370,8 +378,8 @@ pub extern "C" fn net_base_retransmission_timer_stop(timer: &mut RetransmissionT
     *timer = fields_of_timer(it);
 }
 
-/// Takes notice that the segment with the positions from `position` on and below `end` is sent `now`, and starts the timer,
-/// unless it runs. `numbers` are the sender's before that. Nothing changes if there are no positions.
+/// Takes notice that the segment with the positions from `position` on and below `end` is sent `now`, and starts the
+/// timer, unless it runs. `numbers` are the sender's before that. Nothing changes if there are no positions.
 ///
 /// If no segment is timed, one of which nothing was sent before is then. One that was timed is no longer if it is sent
 /// again: which of the copies an acknowledgement is for is not known (Karn).
@@ -408,7 +416,8 @@ pub extern "C" fn net_base_retransmission_timer_take_sample(
     bounds: &TimeoutBounds,
     now: i64,
 )
-    ensures state { timer.new ≡ timer_fields (with_sample (bounds_of bounds.now) now (timer_of timer.old)) }
+    ensures state { timer.new ≡ timer_fields (with_sample (bounds_of bounds.now) now (timer_of
+        timer.old)) }
     ensures counted { 1 ≤ timer.new.timeout.timeout }
 {
     let mut it = timer_from(timer);
@@ -445,9 +454,9 @@ pub extern "C" fn net_base_retransmission_timer_acknowledged(
 /// Takes notice that a block has reported what wasn't known: a timer that runs is started again. A peer that reports
 /// delays no acknowledgement.
 ///
-/// Call it once for an acknowledgement of which `net_base_scoreboard_report` took a block that had something new, so that
-/// the scoreboard isn't as it was before, after `net_base_retransmission_timer_acknowledged` if it acknowledges something
-/// new too.
+/// Call it once for an acknowledgement of which `net_base_scoreboard_report` took a block that had something new, so
+/// that the scoreboard isn't as it was before, after `net_base_retransmission_timer_acknowledged` if it acknowledges
+/// something new too.
 #[unsafe(no_mangle)]
 pub extern "C" fn net_base_retransmission_timer_reported(timer: &mut RetransmissionTimer, now: i64)
     ensures { timer.new ≡ timer_fields (after_report now (timer_of timer.old)) }
@@ -457,10 +466,10 @@ pub extern "C" fn net_base_retransmission_timer_reported(timer: &mut Retransmiss
     *timer = fields_of_timer(it);
 }
 
-/// Returns what is due: `NET_BASE_DONE` if nothing is, and then nothing changes; `NET_BASE_PROBE` where no answer has come:
-/// the next probe waits twice as long, and the timeout passes when it would have passed; and `NET_BASE_TIMEOUT` where that
-/// has: then it is doubled within the bounds, the timer starts again, no segment is timed any longer, and no probe is due
-/// until something new is acknowledged or reported.
+/// Returns what is due: `NET_BASE_DONE` if nothing is, and then nothing changes; `NET_BASE_PROBE` where no answer has
+/// come: the next probe waits twice as long, and the timeout passes when it would have passed; and `NET_BASE_TIMEOUT`
+/// where that has: then it is doubled within the bounds, the timer starts again, no segment is timed any longer, and
+/// no probe is due until something new is acknowledged or reported.
 #[unsafe(no_mangle)]
 pub extern "C" fn net_base_retransmission_timer_expire(
     timer: &mut RetransmissionTimer,

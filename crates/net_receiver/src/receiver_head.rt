@@ -609,7 +609,7 @@ impl ReceiverHead {
     /// # Requires
     ///
     /// Head and runs are sound, as `is_sound` tests, with a storage of some length.
-    pub(crate) fn duplicate_of(&self, runs: &[Run], pos: u64, end: u64) -> Option<(u64, u64)>
+    pub fn duplicate_of(&self, runs: &[Run], pos: u64, end: u64) -> Option<(u64, u64)>
         requires { HasSoundHeld self.now runs.now }
         ensures { TellsPart (came self.now.first (next_at self.now) (held_at self.now runs.now))
             pos end result }

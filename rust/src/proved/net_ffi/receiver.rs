@@ -3,6 +3,8 @@ use crate::proved::net_ffi::refusals::refused_held_run;
 use crate::proved::net_assembler::Run;
 use crate::proved::net_receiver::{HeldRun, ReceiverHead};
 
+pub(crate) const RUNS: usize = 16;
+
 #[repr(C)]
 #[derive(Debug, Clone, Copy)]
 pub struct KeptCounts {
@@ -19,7 +21,7 @@ pub(crate) fn has_next(receiver: &ReceiverHead) -> bool {
 }
 
 #[inline(always)]
-fn is_readable(receiver: &ReceiverHead, capacity: usize) -> bool {
+pub(crate) fn is_readable(receiver: &ReceiverHead, capacity: usize) -> bool {
     receiver.place.is_sound(capacity) && has_next(receiver)
 }
 

@@ -22,6 +22,12 @@ pub type ArrivalStatus = u32;
 
 pub type ExpiryStatus = u32;
 
+pub type AcknowledgedStatus = u32;
+
+pub type ExpiredStatus = u32;
+
+pub type OutgoingStatus = u32;
+
 pub const NET_BASE_DONE: Status = 0;
 
 pub const NET_BASE_TOO_MANY_RUNS: Status = 1;
@@ -47,6 +53,14 @@ pub const NET_BASE_RESET: Status = 10;
 pub const NET_BASE_PROBE: Status = 11;
 
 pub const NET_BASE_TIMEOUT: Status = 12;
+
+pub const NET_BASE_OVERDUE: Status = 13;
+
+pub const NET_BASE_LOST: Status = 14;
+
+pub const NET_BASE_OLD: Status = 15;
+
+pub const NET_BASE_NOTHING: Status = 16;
 
 pub fn numbers() {}
 

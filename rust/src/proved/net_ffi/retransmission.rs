@@ -4,7 +4,7 @@ use crate::proved::net_base::time::{Duration, Instant};
 use crate::proved::net_numbers::SentNumbers;
 use crate::proved::net_tcp::{Expiry, TimedSegment, TimerParts};
 
-const FIRST_TIMEOUT: u64 = 1_000_000;
+pub(crate) const FIRST_TIMEOUT: u64 = 1_000_000;
 
 const MOST_TIMEOUT: u64 = 60_000_000;
 
@@ -52,12 +52,12 @@ pub struct RetransmissionTimer {
 }
 
 #[inline(always)]
-fn given_or(number: u64, other: u64) -> u64 {
+pub(crate) fn given_or(number: u64, other: u64) -> u64 {
     if number == 0 { other } else { number }
 }
 
 #[inline(always)]
-fn bounds_from(bounds: &TimeoutBounds) -> crate::proved::net_tcp::TimeoutBounds {
+pub(crate) fn bounds_from(bounds: &TimeoutBounds) -> crate::proved::net_tcp::TimeoutBounds {
     crate::proved::net_tcp::TimeoutBounds {
         least: Duration::from_micros(given_or(bounds.least, FIRST_TIMEOUT)),
         most: Duration::from_micros(given_or(bounds.most, MOST_TIMEOUT)),
@@ -108,7 +108,7 @@ fn fields_of_timeout(
 }
 
 #[inline(always)]
-fn timer_from(fields: &RetransmissionTimer) -> crate::proved::net_tcp::RetransmissionTimer {
+pub(crate) fn timer_from(fields: &RetransmissionTimer) -> crate::proved::net_tcp::RetransmissionTimer {
     let ends_at = if fields.is_running == 0 {
         None
     } else {
@@ -174,7 +174,7 @@ struct Timing {
 }
 
 #[inline(always)]
-fn flag_of(flag: bool) -> u64 {
+pub(crate) fn flag_of(flag: bool) -> u64 {
     u64::from(flag)
 }
 
@@ -196,7 +196,7 @@ fn timing_of(timed: Option<TimedSegment>) -> Timing {
 }
 
 #[inline(always)]
-fn fields_of_timer(timer: crate::proved::net_tcp::RetransmissionTimer) -> RetransmissionTimer {
+pub(crate) fn fields_of_timer(timer: crate::proved::net_tcp::RetransmissionTimer) -> RetransmissionTimer {
     let parts = timer.parts();
     let running = running_of(parts.ends_at);
     let timing = timing_of(parts.timed);

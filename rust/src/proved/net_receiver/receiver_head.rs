@@ -421,7 +421,7 @@ impl ReceiverHead {
     /// # Requires
     ///
     /// Head and runs are sound, as `is_sound` tests, with a storage of some length.
-    pub(crate) fn duplicate_of(&self, runs: &[Run], pos: u64, end: u64) -> Option<(u64, u64)> {
+    pub fn duplicate_of(&self, runs: &[Run], pos: u64, end: u64) -> Option<(u64, u64)> {
         let next = self.next();
         let start = pos.max(self.first);
         let stop = end.min(next);

@@ -1,0 +1,35 @@
+-- The receiving end of C.
+--     waits_of e      what came twice and wasn't reported yet
+--     receiving_of e xs      what the head and a storage represent
+--     IsPlausibleEnd c e      what the exports test, where the storage has c bytes
+--     HasSoundEnd c e      the head is that of an end whose storage has c bytes
+--     fields_of list      the blocks of an acknowledgement, which are zeros where there is none
+use Rattle.std.specs.Prelude.{ℕ, Option, Some, None, List, map, nat_eq, if◌then◌else◌, unwrap_or}
+use Rattle.net_receiver.specs.FiniteHead.{finite_of, HasSoundFinite}
+use Rattle.net_ends.specs.Receiving.{Receiving, blocks_of}
+use Rattle.net_ffi.specs.ReceiverParts.{IsPlausible}
+use Rattle.net_ffi.specs.declared.receiving_end.ReceivingEnd.{ReceivingEnd}
+
+abbrev pub waits_of : ReceivingEnd → Option (ℕ × ℕ)
+waits_of e = if nat_eq e.has_duplicate 0 then None else Some e.duplicate
+
+abbrev pub receiving_of : ReceivingEnd → List ℕ → Receiving
+receiving_of e xs = record {
+  receiver = finite_of e.receiver xs e.runs;
+  edge = e.advertised.edge;
+  scale = e.scale;
+  size = e.segment_size;
+  newest = e.newest;
+  recent = e.recent;
+  duplicate = waits_of e;
+  unanswered = e.unanswered;
+}
+
+abbrev pub IsPlausibleEnd : ℕ → ReceivingEnd → Type 0
+IsPlausibleEnd c e = IsPlausible c 16 e.receiver.receiver
+
+abbrev pub HasSoundEnd : ℕ → ReceivingEnd → Type 0
+HasSoundEnd c e = HasSoundFinite e.receiver c e.runs
+
+abbrev pub fields_of : List (ℕ × ℕ) → List (ℕ × ℕ)
+fields_of list = map (λ b. unwrap_or b (0, 0)) (blocks_of list)

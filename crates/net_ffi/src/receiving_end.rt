@@ -1,0 +1,666 @@
+//! The receiving end of a stream as one machine: a receiver of a stream that ends, the window that it announces, when
+//! it acknowledges, and what an acknowledgement lists.
+//!
+//! A head of zeros is new, of a stream that begins at position 0, with segments of no bytes. All of an end is in its
+//! head but the bytes: at most 16 runs are held. A segment is classified, and arrives if it is to be taken;
+//! `net_base_receiving_end_answer` is for one that is only answered. While `net_base_receiving_end_is_due` an
+//! acknowledgement is sent at once. While `net_base_receiving_end_is_wanted` one is sent after the delay that the
+//! program has for it, unless a segment with bytes is sent before that and announces. The calls of a finite receiver
+//! that look at it may look at `receiver`: whether it is complete, whether all was read, what it acknowledges.
+ghost use Rattle.std.specs.Prelude.{◌≡◌, ◌↔◌, ◌+◌, ◌-◌, ◌<◌, ◌≤◌, ◌++◌, ◌&&◌, ◌||◌, ℕ, List, length, max, min};
+ghost use Rattle.std.specs.Prelude.{take, drop, nat_lt, nat_le, nat_eq, not, IsTrue, IsFalse, MatchResult, OnErr};
+ghost use Rattle.std.specs.Prelude.{if◌then◌else◌};
+ghost use Rattle.std.specs.Option.{option_to_list};
+ghost use Rattle.net_assembler.specs.RunLists.{IsCanonical};
+ghost use Rattle.net_ring.specs.Ring.{queue};
+ghost use Rattle.net_ring.specs.RingHead.{ring_at};
+ghost use Rattle.net_receiver.specs.Head.{HasSoundHeld};
+ghost use Rattle.net_receiver.specs.NewestRuns.{with_starts};
+ghost use Rattle.net_receiver.specs.Finite.{no_end, acknowledged, is_complete, finite_result};
+ghost use Rattle.net_receiver.specs.FiniteHead.{finite_storage_after, next_of};
+ghost use Rattle.net_tcp.specs.Windows.{IsArrival};
+ghost use Rattle.net_ends.specs.Receiving.{new_receiving, opened, opening_field, free_end, is_worth, field_of, promise};
+ghost use Rattle.net_ends.specs.Receiving.{listed, reported, arrival_result, after_event, Arrived};
+ghost use Rattle.net_ends.specs.Receiving.{Answered, Announced, Acknowledged, Took, WaitsAfter, adds, is_empty};
+ghost use Rattle.net_ends.specs.Receiving.{after_arrival};
+ghost use Rattle.net_ffi.specs.ReceiverParts.{IsReadable};
+ghost use Rattle.net_ffi.specs.Refusals.{no_number};
+ghost use Rattle.net_ffi.specs.Results.{status_of_finite};
+ghost use Rattle.net_ffi.specs.ReceivingEnds.{receiving_of, waits_of, IsPlausibleEnd, HasSoundEnd, fields_of};
+
+use crate::finite_receiver::has_number;
+use crate::receiver::{KeptCounts, RUNS, is_plausible, is_readable};
+use crate::refusals::{
+    ArrivalStatus, NET_BASE_ACKNOWLEDGEMENT_ONLY, NET_BASE_ANSWER, NET_BASE_DONE, NET_BASE_IGNORE,
+    NET_BASE_OTHER_END, NET_BASE_REFUSED, NET_BASE_RESET, NET_BASE_TAKE, NET_BASE_TOO_MANY_RUNS,
+    SegmentStatus, no_number,
+};
+use crate::results::number_of;
+use net_assembler::Run;
+use net_receiver::{FiniteError, FiniteReceiverHead, HeldRun, KeptBytes};
+use net_tcp::{AdvertisedWindow, Segment};
+
+/// The receiving end of a stream.
+#[repr(C)]
+#[derive(Debug, Clone, Copy)]
+pub struct ReceivingEnd {
+    /// The receiver.
+    pub receiver: FiniteReceiverHead,
+    /// The runs that it holds.
+    pub runs: [Run; RUNS],
+    /// What was announced.
+    pub advertised: AdvertisedWindow,
+    /// The position of the newest segment.
+    pub newest: u64,
+    /// The starts of the runs that were listed last.
+    pub recent: [u64; 4],
+    /// What came twice, and wasn't reported yet.
+    pub duplicate: HeldRun,
+    /// Not 0 if anything came twice, and wasn't reported yet.
+    pub has_duplicate: u32,
+    /// The most bytes of a segment.
+    pub segment_size: u16,
+    /// The scale of the windows.
+    pub scale: u8,
+    /// How many segments wait for an acknowledgement, 2 at most: it is due if as many do.
+    pub unanswered: u8,
+}
+
+/// What a segment without bytes tells the peer.
+#[repr(C)]
+#[derive(Debug, Clone, Copy)]
+pub struct Acknowledgement {
+    /// The first number that is missing.
+    pub next: u64,
+    /// What came twice since the last one, if anything did (RFC 2883), and then the newest runs that are held, the
+    /// newest first.
+    pub blocks: [HeldRun; 4],
+    /// How many blocks there are. The others are zeros.
+    pub block_count: usize,
+    /// The window, in units of the scale.
+    pub window: u16,
+}
+
+const NO_BLOCK: HeldRun = HeldRun { start: 0, end: 0 };
+
+impl ReceivingEnd {
+    /// Returns the end of a stream that begins at position `first`, at which nothing has arrived.
+    fn new(first: u64, segment_size: u16) -> Self
+        requires { first < no_end }
+        ensures state { (storage : List ℕ) →
+            receiving_of result storage ≡ new_receiving (length storage) first segment_size }
+        ensures sound { (capacity : ℕ) → HasSoundEnd capacity result }
+        ensures canonical { IsCanonical result.receiver.receiver.held }
+    {
+        ReceivingEnd {
+            receiver: FiniteReceiverHead::new(first),
+            runs: [Run { start: 0, end: 0 }; RUNS],
+            advertised: AdvertisedWindow::new(first),
+            newest: first,
+            recent: [0; 4],
+            duplicate: NO_BLOCK,
+            has_duplicate: 0,
+            segment_size,
+            scale: 0,
+            unanswered: 0,
+        }
+    }
+
+    /// Returns the number that an acknowledgement names, and the end of the free room, or the last position if that
+    /// doesn't fit 64 bits.
+    #[inline(always)]
+    fn free(&self, capacity: usize) -> (u64, u64)
+        requires { HasSoundEnd capacity self.now }
+        ensures value { (storage : List ℕ) → length storage ≡ capacity →
+            let s = (receiving_of self.now storage).receiver in
+            result ≡ (acknowledged s, free_end s) }
+        ensures order { result.0 ≤ result.1 }
+    {
+        let next = self.receiver.acknowledged();
+        match self.receiver.window_end(capacity) {
+            Some(end) => (next, end),
+            None => (next, u64::MAX),
+        }
+    }
+
+    /// Returns whether an update of the window is worth a segment.
+    fn is_update_due(&self, capacity: usize) -> bool
+        requires { HasSoundEnd capacity self.now }
+        ensures { (storage : List ℕ) → length storage ≡ capacity →
+            let e = receiving_of self.now storage in
+            result ≡ (not (is_complete e.receiver) && is_worth e) }
+    {
+        let (next, end) = self.free(capacity);
+        !self.receiver.is_complete()
+            && self
+                .advertised
+                .is_update_due(self.scale, next, end, capacity as u64, self.segment_size)
+    }
+
+    /// Returns the number and the window to announce, and promises that.
+    fn promise(&mut self, capacity: usize) -> (u64, u16)
+        requires { HasSoundEnd capacity self.old }
+        ensures value { (storage : List ℕ) → length storage ≡ capacity →
+            let e = receiving_of self.old storage in
+            result ≡ (acknowledged e.receiver, field_of e) }
+        ensures edge { (storage : List ℕ) → length storage ≡ capacity →
+            let e = receiving_of self.old storage in
+            self.new.advertised.edge ≡ max e.edge (promise e) }
+        ensures rest { self.new ≡ record self.old { advertised = self.new.advertised } }
+    {
+        let (next, end) = self.free(capacity);
+        let window = self
+            .advertised
+            .announce_in_steps(self.scale, next, end, capacity as u64, self.segment_size);
+        (next, window)
+    }
+
+    /// Takes notice that what waits for an acknowledgement has it, unless one is due.
+    fn answer_one(&mut self)
+        ensures { self.new ≡ record self.old {
+          unanswered = if nat_lt self.old.unanswered 2 then 0 else self.old.unanswered;
+        } }
+    {
+        if self.unanswered < 2 {
+            self.unanswered = 0;
+        }
+    }
+
+    /// Takes notice of what came before of a segment of `len` bytes at `pos`, if any of it did.
+    fn note_duplicate(&mut self, pos: u64, len: usize)
+        requires { HasSoundHeld self.old.receiver.receiver self.old.runs }
+        ensures twice { (storage : List ℕ) → HasSoundEnd (length storage) self.old →
+            WaitsAfter (receiving_of self.old storage) pos len (waits_of self.new) }
+        ensures rest { self.new ≡ record self.old {
+          duplicate = self.new.duplicate;
+          has_duplicate = self.new.has_duplicate;
+        } }
+    {
+        let end = pos.saturating_add(len as u64);
+        if let Some((start, end)) = self.receiver.receiver.duplicate_of(&self.runs, pos, end) {
+            self.duplicate = HeldRun { start, end };
+            self.has_duplicate = 1;
+        }
+    }
+
+    /// Counts a segment that waits for an acknowledgement, if it `is_next`, or else has one sent at once.
+    fn wait(&mut self, is_next: bool)
+        ensures { self.new ≡ record self.old {
+          unanswered = if is_next then min (self.old.unanswered + 1) 2 else 2;
+        } }
+    {
+        self.unanswered = if is_next {
+            self.unanswered.saturating_add(1).min(2)
+        } else {
+            2
+        };
+    }
+
+    /// Takes a segment, which changes nothing if it has neither a byte nor the end.
+    fn arrived(
+        &mut self,
+        storage: &mut [u8],
+        pos: u64,
+        bytes: &[u8],
+        is_last: bool,
+    ) -> Result<KeptBytes, FiniteError>
+        requires { HasSoundEnd (length storage.old) self.old }
+        ensures sound { HasSoundEnd (length storage.new) self.new }
+        ensures value { result ≡ arrival_result 16 (receiving_of self.old storage.old).receiver pos
+            bytes.now is_last }
+        ensures twice { WaitsAfter (receiving_of self.old storage.old) pos (length bytes.now)
+            (waits_of self.new) }
+        ensures step { receiving_of self.new storage.new ≡ after_event 16
+            (receiving_of self.old storage.old)
+            (Arrived pos bytes.now is_last (waits_of self.new)) }
+        ensures stored { storage.new ≡ (if is_empty bytes.now is_last then storage.old
+            else finite_storage_after self.old.receiver storage.old self.old.runs pos bytes.now
+            is_last) }
+        ensures canonical { IsCanonical self.old.receiver.receiver.held →
+            IsCanonical self.new.receiver.receiver.held }
+        ensures unchanged { OnErr result ((self.new.receiver ≡ self.old.receiver)
+            × (self.new.runs ≡ self.old.runs) × (storage.new ≡ storage.old)) }
+    {
+        if bytes.is_empty() && !is_last {
+            return Ok(KeptBytes { kept: 0, queued: 0 });
+        }
+        self.take(storage, pos, bytes, is_last)
+    }
+
+    /// Takes a segment that has a byte or the end.
+    fn take(
+        &mut self,
+        storage: &mut [u8],
+        pos: u64,
+        bytes: &[u8],
+        is_last: bool,
+    ) -> Result<KeptBytes, FiniteError>
+        requires { HasSoundEnd (length storage.old) self.old }
+        ensures sound { HasSoundEnd (length storage.new) self.new }
+        ensures value { result
+            ≡ finite_result 16 (receiving_of self.old storage.old).receiver pos bytes.now is_last }
+        ensures twice { WaitsAfter (receiving_of self.old storage.old) pos (length bytes.now)
+            (waits_of self.new) }
+        ensures step { receiving_of self.new storage.new
+            ≡ after_arrival 16 (receiving_of self.old storage.old) pos bytes.now is_last
+            (waits_of self.new) }
+        ensures stored { storage.new ≡ finite_storage_after self.old.receiver storage.old
+            self.old.runs pos bytes.now is_last }
+        ensures canonical { IsCanonical self.old.receiver.receiver.held →
+            IsCanonical self.new.receiver.receiver.held }
+        ensures unchanged { OnErr result ((self.new.receiver ≡ self.old.receiver)
+            × (self.new.runs ≡ self.old.runs) × (storage.new ≡ storage.old)) }
+    {
+        are_sixteen(self.runs);
+        self.note_duplicate(pos, bytes.len());
+        let held = self.receiver.receiver.held.used;
+        let kept = self
+            .receiver
+            .keep(storage, &mut self.runs, pos, bytes, is_last);
+        self.newest = pos;
+        self.wait(is_next(held, is_last, kept));
+        kept
+    }
+
+    /// Takes what came twice, if it is to be reported: an end in order lets go of what was held beyond it.
+    fn take_duplicate(&mut self) -> Option<HeldRun>
+        requires { next_of self.old.receiver < no_end }
+        ensures value { (storage : List ℕ) → HasSoundEnd (length storage) self.old →
+            option_to_list result ≡ reported (receiving_of self.old storage) }
+        ensures state { self.new ≡ record self.old { duplicate = (0, 0); has_duplicate = 0 } }
+    {
+        let part = self.duplicate;
+        let is_reported = self.has_duplicate != 0
+            && (part.end <= self.receiver.acknowledged() || !self.receiver.is_complete());
+        self.duplicate = NO_BLOCK;
+        self.has_duplicate = 0;
+        if is_reported { Some(part) } else { None }
+    }
+
+    /// Lists the newest runs, at most four, and returns how many.
+    fn list_runs(&mut self) -> ([HeldRun; 4], usize)
+        requires { HasSoundHeld self.old.receiver.receiver self.old.runs }
+        ensures value { (storage : List ℕ) → HasSoundEnd (length storage) self.old →
+            let list = listed (receiving_of self.old storage) in
+            (result.0 ≡ fields_of list) × (result.1 ≡ length list) }
+        ensures few { result.1 ≤ 4 }
+        ensures recent { (storage : List ℕ) → HasSoundEnd (length storage) self.old →
+            let e = receiving_of self.old storage in
+            self.new.recent ≡ with_starts e.recent (listed e) }
+        ensures rest { self.new ≡ record self.old { recent = self.new.recent } }
+    {
+        let mut runs = [NO_BLOCK; 4];
+        let count = self
+            .receiver
+            .receiver
+            .newest_runs(&self.runs, self.newest, &mut self.recent, &mut runs);
+        (runs, count)
+    }
+
+    /// Returns what a segment without bytes tells, and takes notice that it does.
+    fn acknowledgement(&mut self, capacity: usize) -> Acknowledgement
+        requires { HasSoundEnd capacity self.old }
+        ensures numbers { (storage : List ℕ) → length storage ≡ capacity →
+            let e = receiving_of self.old storage in
+            (result.next ≡ acknowledged e.receiver) × (result.window ≡ field_of e) }
+        ensures blocks { (storage : List ℕ) → length storage ≡ capacity →
+            let e = receiving_of self.old storage in let list = reported e ++ listed e in
+            (result.blocks ≡ fields_of list) × (result.block_count ≡ min (length list) 4) }
+        ensures step { (storage : List ℕ) → length storage ≡ capacity →
+            receiving_of self.new storage
+            ≡ after_event 16 (receiving_of self.old storage) Acknowledged }
+        ensures sound { HasSoundEnd capacity self.new }
+        ensures receiver { self.new.receiver ≡ self.old.receiver }
+    {
+        self.unanswered = 0;
+        let (next, window) = self.promise(capacity);
+        let duplicate = self.take_duplicate();
+        let (runs, count) = self.list_runs();
+        let (blocks, block_count) = in_front(duplicate, runs, count);
+        Acknowledgement {
+            next,
+            window,
+            blocks,
+            block_count,
+        }
+    }
+}
+
+/// Returns so many runs, at most four, with what came twice in front, if anything did, and how many these are then.
+fn in_front(duplicate: Option<HeldRun>, runs: [HeldRun; 4], count: usize) -> ([HeldRun; 4], usize)
+    requires { count ≤ 4 }
+    ensures { (list : List (ℕ × ℕ)) → runs ≡ fields_of list → count ≡ length list →
+        let all = option_to_list duplicate ++ list in
+        (result.0 ≡ fields_of all) × (result.1 ≡ min (length all) 4) }
+{
+    match duplicate {
+        Some(part) => (
+            [part, runs[0], runs[1], runs[2]],
+            count.saturating_add(1).min(4),
+        ),
+        None => (runs, count),
+    }
+}
+
+/// States how many runs an end has room for. It does nothing.
+#[inline(always)]
+fn are_sixteen(runs: [Run; RUNS])
+    ensures { length runs ≡ 16 }
+{
+    let _ = runs;
+}
+
+/// Returns whether a segment joined the queue where so many runs were held before, and the end wasn't in it.
+fn is_next(held: usize, is_last: bool, kept: Result<KeptBytes, FiniteError>) -> bool
+    ensures { result ≡ (nat_eq held 0 && not is_last && adds kept) }
+{
+    match kept {
+        Ok(kept) => held == 0 && !is_last && kept.queued > 0,
+        Err(_) => false,
+    }
+}
+
+/// Makes `end` that of a stream that begins at position `first`, at which nothing has arrived, and whose segments
+/// have at most `segment_size` bytes. It is sound with every storage.
+///
+/// It is refused if `first` is `u64::MAX`: false, and nothing changes.
+#[unsafe(no_mangle)]
+pub extern "C" fn net_base_receiving_end_init(
+    end: &mut ReceivingEnd,
+    first: u64,
+    segment_size: u16,
+) -> bool
+    ensures done { IsTrue result ↔ (first < no_end) }
+    ensures state { IsTrue result → (storage : List ℕ) →
+        receiving_of end.new storage ≡ new_receiving (length storage) first segment_size }
+    ensures sound { IsTrue result → (capacity : ℕ) → HasSoundEnd capacity end.new }
+    ensures canonical { IsTrue result → IsCanonical end.new.receiver.receiver.held }
+    ensures unchanged { IsFalse result → end.new ≡ end.old }
+{
+    if first == u64::MAX {
+        return false;
+    }
+    *end = ReceivingEnd::new(first, segment_size);
+    true
+}
+
+/// Returns whether this head is that of an end whose storage has `capacity` bytes: its receiver is sound with the runs.
+/// It looks at each held run, and at no byte.
+#[unsafe(no_mangle)]
+pub extern "C" fn net_base_receiving_end_is_sound(end: &ReceivingEnd, capacity: usize) -> bool
+    ensures { IsTrue result ↔ HasSoundEnd capacity end.now }
+{
+    end.receiver.is_sound(capacity, &end.runs)
+}
+
+/// Begins again with a stream that begins at position `first`, and whose windows have this scale. `capacity` is how
+/// many bytes the storage has. Writes to `window` what a SYN announces, which has no scale, and returns true.
+///
+/// It is refused if `first` is `u64::MAX`: false, and nothing changes.
+#[unsafe(no_mangle)]
+pub extern "C" fn net_base_receiving_end_open(
+    end: &mut ReceivingEnd,
+    capacity: usize,
+    first: u64,
+    scale: u8,
+    window: &mut u16,
+) -> bool
+    ensures done { IsTrue result ↔ (first < no_end) }
+    ensures window { IsTrue result → (storage : List ℕ) → length storage ≡ capacity →
+        window.new ≡ opening_field (receiving_of end.old storage) first }
+    ensures step { IsTrue result → (storage : List ℕ) → length storage ≡ capacity →
+        receiving_of end.new storage ≡ opened (receiving_of end.old storage) first scale }
+    ensures sound { IsTrue result → HasSoundEnd capacity end.new }
+    ensures canonical { IsTrue result → IsCanonical end.new.receiver.receiver.held }
+    ensures unchanged { IsFalse result → (end.new ≡ end.old) × (window.new ≡ window.old) }
+{
+    if first == u64::MAX {
+        return false;
+    }
+    *end = ReceivingEnd::new(first, end.segment_size);
+    end.scale = scale;
+    let (next, last) = end.free(capacity);
+    *window = end.advertised.announce(0, next, last);
+    true
+}
+
+/// Returns what to do with a segment, as `net_base_tcp_classify` says, in the window that was announced.
+///
+/// If the number after `next` doesn't fit 64 bits, as in no sound head: `NET_BASE_IGNORE`.
+#[unsafe(no_mangle)]
+pub extern "C" fn net_base_receiving_end_classify(
+    end: &ReceivingEnd,
+    segment: &Segment,
+) -> ArrivalStatus
+    ensures value { (storage : List ℕ) → HasSoundEnd (length storage) end.now →
+        let e = receiving_of end.now storage in
+        IsArrival NET_BASE_TAKE NET_BASE_ACKNOWLEDGEMENT_ONLY NET_BASE_ANSWER NET_BASE_RESET
+        NET_BASE_IGNORE (acknowledged e.receiver) (e.edge - acknowledged e.receiver)
+        segment.now result }
+    ensures refused { (next_of end.now.receiver < no_end → ⊥) → result ≡ NET_BASE_IGNORE }
+{
+    if !has_number(&end.receiver) {
+        return NET_BASE_IGNORE;
+    }
+    number_of(
+        end.advertised
+            .classify(end.receiver.acknowledged(), *segment),
+    )
+}
+
+/// Takes the bytes of a segment whose first byte is at `position`, and the end if it `is_last`, as
+/// `net_base_finite_receiver_segment` does, and writes to `counts` how many were kept. A segment out of order, one with
+/// the end, and one that isn't kept are answered at once: an acknowledgement is then due. Of the others each second one
+/// is. What of its bytes came before is reported by the next acknowledgement: what is below the first missing position,
+/// or else the first part that is held. One with neither bytes nor the end changes nothing, and its counts are 0.
+///
+/// Returns `NET_BASE_DONE`, or for a segment that isn't kept `NET_BASE_OTHER_END` or `NET_BASE_TOO_MANY_RUNS`, as
+/// `net_base_finite_receiver_segment` says: then of the receiver, the storage and `counts` nothing changes.
+///
+/// Returns `NET_BASE_REFUSED`, and nothing changes, if `receiver` isn't that of a storage of `storage.len()` bytes, if
+/// `next` doesn't fit 64 bits, or if more than 16 runs are used.
+///
+/// # Requires
+///
+/// The head is sound with the storage, as `net_base_receiving_end_is_sound` tests.
+#[unsafe(no_mangle)]
+pub extern "C" fn net_base_receiving_end_arrived(
+    end: &mut ReceivingEnd,
+    storage: &mut [u8],
+    position: u64,
+    bytes: &[u8],
+    is_last: bool,
+    counts: &mut KeptCounts,
+) -> SegmentStatus
+    requires sound { IsPlausibleEnd (length storage.old) end.old →
+        HasSoundEnd (length storage.old) end.old }
+    ensures result { IsPlausibleEnd (length storage.old) end.old →
+        MatchResult (arrival_result 16 (receiving_of end.old storage.old).receiver position
+        bytes.now is_last)
+        (λ k. (result ≡ NET_BASE_DONE) × (counts.new.kept ≡ k.kept)
+        × (counts.new.queued ≡ k.queued))
+        (λ e. (result ≡ status_of_finite e) × (counts.new ≡ counts.old)
+        × (end.new.receiver ≡ end.old.receiver) × (end.new.runs ≡ end.old.runs)
+        × (storage.new ≡ storage.old)) }
+    ensures twice { IsPlausibleEnd (length storage.old) end.old →
+        WaitsAfter (receiving_of end.old storage.old) position (length bytes.now)
+        (waits_of end.new) }
+    ensures step { IsPlausibleEnd (length storage.old) end.old →
+        receiving_of end.new storage.new ≡ after_event 16 (receiving_of end.old storage.old)
+        (Arrived position bytes.now is_last (waits_of end.new)) }
+    ensures stored { IsPlausibleEnd (length storage.old) end.old → storage.new ≡
+        (if is_empty bytes.now is_last then storage.old else finite_storage_after
+        end.old.receiver storage.old end.old.runs position bytes.now is_last) }
+    ensures sound { IsPlausibleEnd (length storage.old) end.old →
+        HasSoundEnd (length storage.new) end.new }
+    ensures canonical { IsCanonical end.old.receiver.receiver.held →
+        IsCanonical end.new.receiver.receiver.held }
+    ensures refused { (IsPlausibleEnd (length storage.old) end.old → ⊥) →
+        (result ≡ NET_BASE_REFUSED) × (end.new ≡ end.old) × (storage.new ≡ storage.old)
+        × (counts.new ≡ counts.old) }
+{
+    if !is_plausible(&end.receiver.receiver, storage.len(), RUNS) {
+        return NET_BASE_REFUSED;
+    }
+    match end.arrived(storage, position, bytes, is_last) {
+        Ok(it) => {
+            *counts = KeptCounts {
+                kept: it.kept,
+                queued: it.queued,
+            };
+            NET_BASE_DONE
+        }
+        Err(FiniteError::TooManyHoles) => NET_BASE_TOO_MANY_RUNS,
+        Err(FiniteError::OtherEnd) => NET_BASE_OTHER_END,
+    }
+}
+
+/// Has an acknowledgement sent at once.
+#[unsafe(no_mangle)]
+pub extern "C" fn net_base_receiving_end_answer(end: &mut ReceivingEnd)
+    ensures step { (storage : List ℕ) →
+        receiving_of end.new storage ≡ after_event 16 (receiving_of end.old storage) Answered }
+    ensures rest { end.new ≡ record end.old { unanswered = 2 } }
+{
+    end.unanswered = 2;
+}
+
+/// Returns whether an acknowledgement is to be sent at once.
+#[unsafe(no_mangle)]
+pub extern "C" fn net_base_receiving_end_is_due(end: &ReceivingEnd) -> bool
+    ensures { result ≡ nat_le 2 end.now.unanswered }
+{
+    end.unanswered >= 2
+}
+
+/// Returns whether an acknowledgement is to be sent before one waits, where the storage has `capacity` bytes: something
+/// came, or an update of the window is worth a segment. No update is, once all bytes and the end have arrived: nothing
+/// follows that needs room, and a peer that has closed its connection would answer it by a reset.
+///
+/// It is refused if `receiver` isn't that of a storage of `capacity` bytes, if `next` doesn't fit 64 bits, or if more
+/// than 16 runs are used: false.
+///
+/// # Requires
+///
+/// The head is sound with the storage, as `net_base_receiving_end_is_sound` tests.
+#[unsafe(no_mangle)]
+pub extern "C" fn net_base_receiving_end_is_wanted(end: &ReceivingEnd, capacity: usize) -> bool
+    requires sound { IsPlausibleEnd capacity end.now → HasSoundEnd capacity end.now }
+    ensures value { IsPlausibleEnd capacity end.now → (storage : List ℕ) →
+        length storage ≡ capacity → let e = receiving_of end.now storage in
+        result ≡ (nat_lt 0 e.unanswered || (not (is_complete e.receiver) && is_worth e)) }
+    ensures refused { (IsPlausibleEnd capacity end.now → ⊥) → IsFalse result }
+{
+    is_plausible(&end.receiver.receiver, capacity, RUNS)
+        && (end.unanswered > 0 || end.is_update_due(capacity))
+}
+
+/// Writes what a segment with bytes of its own tells, takes notice that it does, and returns true: the first number
+/// that is missing to `next`, and to `window` the window, in units of the scale. `capacity` is how many bytes the
+/// storage has. The window's edge is moved only if that is worth a segment. An acknowledgement that is due stays so,
+/// since it lists runs.
+///
+/// It is refused if `receiver` isn't that of a storage of `capacity` bytes, if `next` doesn't fit 64 bits, or if more
+/// than 16 runs are used: false, and nothing changes.
+///
+/// # Requires
+///
+/// The head is sound with the storage, as `net_base_receiving_end_is_sound` tests.
+#[unsafe(no_mangle)]
+pub extern "C" fn net_base_receiving_end_announce(
+    end: &mut ReceivingEnd,
+    capacity: usize,
+    next: &mut u64,
+    window: &mut u16,
+) -> bool
+    requires sound { IsPlausibleEnd capacity end.old → HasSoundEnd capacity end.old }
+    ensures done { IsTrue result ↔ IsPlausibleEnd capacity end.old }
+    ensures value { IsTrue result → (storage : List ℕ) → length storage ≡ capacity →
+        let e = receiving_of end.old storage in
+        (next.new ≡ acknowledged e.receiver) × (window.new ≡ field_of e) }
+    ensures step { IsTrue result → (storage : List ℕ) → length storage ≡ capacity →
+        receiving_of end.new storage ≡ after_event 16 (receiving_of end.old storage) Announced }
+    ensures sound { IsTrue result → HasSoundEnd capacity end.new }
+    ensures receiver { end.new.receiver ≡ end.old.receiver }
+    ensures unchanged { IsFalse result →
+        (end.new ≡ end.old) × (next.new ≡ next.old) × (window.new ≡ window.old) }
+{
+    if !is_plausible(&end.receiver.receiver, capacity, RUNS) {
+        return false;
+    }
+    end.answer_one();
+    let promise = end.promise(capacity);
+    *next = promise.0;
+    *window = promise.1;
+    true
+}
+
+/// Writes what a segment without bytes tells, takes notice that it does, and returns true. What came twice is told
+/// once. `capacity` is how many bytes the storage has.
+///
+/// It is refused if `receiver` isn't that of a storage of `capacity` bytes, if `next` doesn't fit 64 bits, or if more
+/// than 16 runs are used: false, and nothing changes.
+///
+/// # Requires
+///
+/// The head is sound with the storage, as `net_base_receiving_end_is_sound` tests.
+#[unsafe(no_mangle)]
+pub extern "C" fn net_base_receiving_end_acknowledgement(
+    end: &mut ReceivingEnd,
+    capacity: usize,
+    acknowledgement: &mut Acknowledgement,
+) -> bool
+    requires sound { IsPlausibleEnd capacity end.old → HasSoundEnd capacity end.old }
+    ensures done { IsTrue result ↔ IsPlausibleEnd capacity end.old }
+    ensures value { IsTrue result → (storage : List ℕ) → length storage ≡ capacity →
+        let e = receiving_of end.old storage in
+        (acknowledgement.new.next ≡ acknowledged e.receiver)
+        × (acknowledgement.new.window ≡ field_of e) }
+    ensures blocks { IsTrue result → (storage : List ℕ) → length storage ≡ capacity →
+        let e = receiving_of end.old storage in let list = reported e ++ listed e in
+        (acknowledgement.new.blocks ≡ fields_of list)
+        × (acknowledgement.new.block_count ≡ min (length list) 4) }
+    ensures step { IsTrue result → (storage : List ℕ) → length storage ≡ capacity →
+        receiving_of end.new storage
+        ≡ after_event 16 (receiving_of end.old storage) Acknowledged }
+    ensures sound { IsTrue result → HasSoundEnd capacity end.new }
+    ensures receiver { end.new.receiver ≡ end.old.receiver }
+    ensures unchanged { IsFalse result →
+        (end.new ≡ end.old) × (acknowledgement.new ≡ acknowledgement.old) }
+{
+    if !is_plausible(&end.receiver.receiver, capacity, RUNS) {
+        return false;
+    }
+    *acknowledgement = end.acknowledgement(capacity);
+    true
+}
+
+/// Moves bytes from the head of the queue to the beginning of `into`, and returns how many: as many as are queued and
+/// as `into` has room for. The rest of `into` stays as it is.
+///
+/// It is refused if `receiver.receiver.place` isn't that of a ring of `storage.len()` bytes, or if `next` doesn't fit
+/// 64 bits: `NET_BASE_NONE`, and nothing changes.
+#[unsafe(no_mangle)]
+pub extern "C" fn net_base_receiving_end_read(
+    end: &mut ReceivingEnd,
+    storage: &[u8],
+    into: &mut [u8],
+) -> usize
+    ensures count { IsReadable (length storage.now) end.old.receiver.receiver →
+        result ≡ min (length into.old) end.old.receiver.receiver.place.length }
+    ensures into { IsReadable (length storage.now) end.old.receiver.receiver →
+        let queued = queue (ring_at storage.now end.old.receiver.receiver.place) in
+        into.new ≡ take (length into.old) queued ++ drop (length queued) into.old }
+    ensures step { IsReadable (length storage.now) end.old.receiver.receiver →
+        HasSoundEnd (length storage.now) end.old → receiving_of end.new storage.now
+        ≡ after_event 16 (receiving_of end.old storage.now) (Took (length into.old)) }
+    ensures sound { IsReadable (length storage.now) end.old.receiver.receiver →
+        HasSoundEnd (length storage.now) end.old → HasSoundEnd (length storage.now) end.new }
+    ensures refused { (IsReadable (length storage.now) end.old.receiver.receiver → ⊥) →
+        (result ≡ no_number) × (end.new ≡ end.old) × (into.new ≡ into.old) }
+{
+    if !is_readable(&end.receiver.receiver, storage.len()) {
+        return no_number();
+    }
+    end.receiver.read(storage, into)
+}

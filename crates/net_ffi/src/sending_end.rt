@@ -1,0 +1,936 @@
+//! The sending end of a stream as one machine: a sender of a stream that ends, what the peer has reported, what is
+//! lost, the timer, and the peer's window.
+//!
+//! A head of zeros is new, of a stream that begins at position 0, whose first timeout is 1 second within the RFC's
+//! bounds. All of an end is in its head but the bytes: at most 16 runs are remembered of what was reported, enough for
+//! windows of up to 256 KiB on paths that reorder. `net_base_sending_end_write` alone writes into the storage; of the
+//! others each that is passed one needs only its length. Where the peer's SYN has come, `net_base_sending_end_open`
+//! begins with it. Each segment that is taken is acknowledged by `net_base_sending_end_acknowledged`. What is to be
+//! sent, `net_base_sending_end_next_segment` says, until it says that nothing is, and `net_base_sending_end_bytes`
+//! where it is. At the moment of `net_base_sending_end_expires_at` the timer is asked by
+//! `net_base_sending_end_expired`. Calls that look at a sender, a window or a timer may look at `sender`, `peer_window`
+//! and `timer`.
+ghost use Rattle.std.specs.Prelude.{◌≡◌, ◌↔◌, ◌+◌, ◌-◌, ◌<◌, ◌≤◌, ◌^◌, ◌==◌, ◌++◌, ◌||◌, ℕ, List, length, min};
+ghost use Rattle.std.specs.Prelude.{take, drop, nat_eq, slice_get, IsTrue, IsFalse, is_some, is_none, unwrap_or};
+ghost use Rattle.std.specs.Prelude.{Option, Some, None};
+ghost use Rattle.std.specs.Prelude.{if◌then◌else◌, true, false};
+ghost use Rattle.net_receiver.specs.Finite.{no_end};
+ghost use Rattle.net_receiver.specs.FiniteSender.{IsSoundFiniteSender, finite_room};
+ghost use Rattle.net_receiver.specs.Scoreboards.{IsSoundBoard};
+ghost use Rattle.net_recovery.specs.LossRecovery.{is_active};
+ghost use Rattle.net_tcp.specs.Retransmission.{expires_at, has_expired};
+ghost use Rattle.net_tcp.specs.Windows.{acknowledgement_number};
+ghost use Rattle.net_ends.specs.Ends.{new_end, after_event, Opened, Forgot, Enabled, Opening, Wrote, Shut, IsSegment};
+ghost use Rattle.net_ends.specs.Ends.{first};
+ghost use Rattle.net_ffi.specs.Refusals.{no_number};
+ghost use Rattle.net_ffi.specs.Retransmission.{given_or, bounds_of};
+ghost use Rattle.net_ffi.specs.SendingEnds.{recovery_of, recovery_fields, sending_of, stored, begun_at};
+ghost use Rattle.net_ffi.specs.SendingEnds.{IsSoundSending, AreBlocks};
+ghost use Rattle.net_ffi.specs.SendingEnds.{taken_fields, Hears, ended_fields, Looks, outgoing_fields, Chooses};
+
+use crate::receiver::RUNS;
+use crate::refusals::{
+    AcknowledgedStatus, ExpiredStatus, NET_BASE_ANSWER, NET_BASE_DONE, NET_BASE_LOST,
+    NET_BASE_NOTHING, NET_BASE_OLD, NET_BASE_OVERDUE, NET_BASE_PROBE, NET_BASE_REFUSED,
+    OutgoingStatus, no_number,
+};
+use crate::retransmission::{
+    FIRST_TIMEOUT, RetransmissionTimer, TimeoutBounds, bounds_from, fields_of_timer, flag_of,
+    given_or, timer_from,
+};
+use net_assembler::Run;
+use net_base::time::{Duration, Instant};
+use net_ends::{Acknowledged, BufferParts, Expired, Outgoing, SendingEndOver, SendingParts};
+use net_numbers::SentNumbers;
+use net_receiver::{FiniteSenderHead, HeldRun, ScoreboardHead};
+use net_recovery::RecoveryParts;
+use net_tcp::{Announcement, PeerWindow};
+
+mod head_sender;
+
+use head_sender::{HeadSender, accept, mark};
+
+/// How many blocks an acknowledgement has room for: TCP's options have room for four.
+const BLOCKS: usize = 4;
+
+/// How many segments above a position tell that it is lost, as long as nothing came twice.
+const DUPLICATES: usize = 3;
+
+/// What is lost; zeros are nothing.
+#[repr(C)]
+#[derive(Copy, Clone, Debug)]
+pub struct LossRecovery {
+    /// The recovery lasts until all positions below this one are acknowledged.
+    pub until: u64,
+    /// What is below this position and isn't reported is lost.
+    pub lost: u64,
+    /// What is lost below this position was sent again in this pass.
+    pub again: u64,
+    /// What is lost from this position on and below `resume` was sent again before this pass, which leaves it out.
+    pub turn: u64,
+    /// All that was sent again below this position was sent before what was sent again from there on.
+    pub resume: u64,
+    /// The number after the last one that was sent when `resume` was set.
+    pub sent: u64,
+    /// How many positions were sent again from `resume` on since then.
+    pub later: u64,
+    /// Where the probe begins that wasn't answered, if there is one.
+    pub probe: u64,
+    /// Not 0 while a probe wasn't answered.
+    pub has_probe: u64,
+    /// The number after the last one that was sent when the probe was.
+    pub asked: u64,
+    /// Not 0 if the peer doesn't report what has arrived.
+    pub is_blind: u64,
+    /// How many positions have arrived that it doesn't report.
+    pub unknown: u64,
+    /// Until all positions below this one are acknowledged, `duplicates` stays.
+    pub round: u64,
+    /// How many segments above a position tell that it is lost, if `has_duplicates` isn't 0; else 3 do.
+    pub duplicates: usize,
+    /// Not 0 once `duplicates` counts.
+    pub has_duplicates: usize,
+}
+
+/// Nothing is lost.
+const NO_LOSS: LossRecovery = LossRecovery {
+    until: 0,
+    lost: 0,
+    again: 0,
+    turn: 0,
+    resume: 0,
+    sent: 0,
+    later: 0,
+    probe: 0,
+    has_probe: 0,
+    asked: 0,
+    is_blind: 0,
+    unknown: 0,
+    round: 0,
+    duplicates: 0,
+    has_duplicates: 0,
+};
+
+/// The sending end of a stream.
+#[repr(C)]
+#[derive(Copy, Clone, Debug)]
+pub struct SendingEnd {
+    /// The sender.
+    pub sender: FiniteSenderHead,
+    /// What was reported.
+    pub scoreboard: ScoreboardHead,
+    /// The runs of what was reported.
+    pub runs: [Run; RUNS],
+    /// What is lost.
+    pub recovery: LossRecovery,
+    /// The timer.
+    pub timer: RetransmissionTimer,
+    /// The timeout before any sample. 0 counts as 1 second.
+    pub first_timeout: u64,
+    /// The bounds of the timeout.
+    pub bounds: TimeoutBounds,
+    /// The peer's window.
+    pub peer_window: PeerWindow,
+    /// The greatest window that the peer ever announced.
+    pub greatest_window: u64,
+    /// The window that it announced last.
+    pub last_window: u64,
+    /// The most bytes of a segment. 0 counts as 1.
+    pub segment_size: usize,
+    /// Not 0 if Nagle's rule is disabled.
+    pub no_delay: usize,
+    /// Not 0 once the peer has acknowledged anything, if only the own SYN.
+    pub is_open: u64,
+    /// Not 0 if the timeout has passed and nothing was sent since then.
+    pub is_window_probe_due: u64,
+    /// Not 0 if the next segment is a probe for an answer, if nothing else may be sent.
+    pub is_overdue: u64,
+}
+
+/// What an acknowledgement said.
+#[repr(C)]
+#[derive(Copy, Clone, Debug)]
+pub struct TakenAcknowledgement {
+    /// What became of it.
+    pub status: AcknowledgedStatus,
+    /// How many numbers it acknowledged that weren't before.
+    pub count: u64,
+    /// Whether a block of it reports what wasn't known.
+    pub reports: bool,
+    /// Whether it begins a recovery: then halve the congestion window.
+    pub begins: bool,
+}
+
+/// What the timer's end means.
+#[repr(C)]
+#[derive(Copy, Clone, Debug)]
+pub struct EndedTimer {
+    /// What it means.
+    pub status: ExpiredStatus,
+    /// Whether it begins a recovery: then halve the congestion window.
+    pub begins: bool,
+}
+
+/// A segment to send now.
+#[repr(C)]
+#[derive(Copy, Clone, Debug)]
+pub struct OutgoingSegment {
+    /// Whether there is one.
+    pub status: OutgoingStatus,
+    /// The position of its first byte, or of the end; 0 if there is none.
+    pub position: u64,
+    /// The number after its last one, that of the end among them; 0 if there is none.
+    pub end: u64,
+    /// Whether some of it was sent before.
+    pub is_again: bool,
+}
+
+/// Where the bytes of a segment are, in two parts, and whether it ends the stream.
+#[repr(C)]
+#[derive(Copy, Clone, Debug)]
+pub struct SegmentParts {
+    /// The index of the first byte; `NET_BASE_NONE` if the call was refused.
+    pub from: usize,
+    /// How many bytes are from there on.
+    pub count: usize,
+    /// The index of the bytes after these.
+    pub rest_from: usize,
+    /// How many bytes are from there on.
+    pub rest_count: usize,
+    /// Whether the segment ends the stream.
+    pub is_last: bool,
+}
+
+/// The acknowledgement of a refused call.
+#[inline(always)]
+pub fn refused_taken_acknowledgement() -> TakenAcknowledgement
+    ensures status { result.status ≡ NET_BASE_REFUSED }
+    ensures none { (result.count ≡ 0) × IsFalse result.reports × IsFalse result.begins }
+{
+    taken(NET_BASE_REFUSED)
+}
+
+/// The timer's end of a refused call.
+#[inline(always)]
+pub fn refused_ended_timer() -> EndedTimer
+    ensures status { result.status ≡ NET_BASE_REFUSED }
+    ensures none { IsFalse result.begins }
+{
+    ended(NET_BASE_REFUSED, false)
+}
+
+/// The segment of a refused call.
+#[inline(always)]
+pub fn refused_outgoing_segment() -> OutgoingSegment
+    ensures status { result.status ≡ NET_BASE_REFUSED }
+    ensures none { (result.position ≡ 0) × (result.end ≡ 0) × IsFalse result.is_again }
+{
+    no_segment(NET_BASE_REFUSED)
+}
+
+/// The parts of a refused call.
+#[inline(always)]
+pub fn refused_segment_parts() -> SegmentParts
+    ensures from { result.from ≡ no_number }
+    ensures none { (result.count ≡ 0) × (result.rest_from ≡ 0) × (result.rest_count ≡ 0) }
+    ensures end { IsFalse result.is_last }
+{
+    SegmentParts {
+        from: no_number(),
+        count: 0,
+        rest_from: 0,
+        rest_count: 0,
+        is_last: false,
+    }
+}
+
+/// Returns an acknowledgement that says nothing.
+#[inline(always)]
+fn taken(status: AcknowledgedStatus) -> TakenAcknowledgement
+    ensures { result ≡ record { status = status; count = 0; reports = false; begins = false } }
+{
+    TakenAcknowledgement {
+        status,
+        count: 0,
+        reports: false,
+        begins: false,
+    }
+}
+
+/// Returns what an acknowledgement said.
+#[inline(always)]
+fn fields_of_acknowledged(said: Acknowledged) -> TakenAcknowledgement
+    ensures { result ≡ taken_fields said }
+{
+    match said {
+        Acknowledged::Refused => taken(NET_BASE_ANSWER),
+        Acknowledged::Old => taken(NET_BASE_OLD),
+        Acknowledged::Taken {
+            new,
+            reports,
+            begins,
+        } => TakenAcknowledgement {
+            status: NET_BASE_DONE,
+            count: new,
+            reports,
+            begins,
+        },
+    }
+}
+
+/// Returns what the timer's end means, as one struct.
+#[inline(always)]
+fn ended(status: ExpiredStatus, begins: bool) -> EndedTimer
+    ensures { result ≡ record { status = status; begins = begins } }
+{
+    EndedTimer { status, begins }
+}
+
+/// Returns what the timer's end means.
+#[inline(always)]
+fn fields_of_expired(said: Expired) -> EndedTimer
+    ensures { result ≡ ended_fields said }
+{
+    match said {
+        Expired::No => ended(NET_BASE_DONE, false),
+        Expired::Overdue { begins } => ended(NET_BASE_OVERDUE, begins),
+        Expired::Probe => ended(NET_BASE_PROBE, false),
+        Expired::Lost => ended(NET_BASE_LOST, false),
+    }
+}
+
+/// Returns that there is no segment.
+#[inline(always)]
+fn no_segment(status: OutgoingStatus) -> OutgoingSegment
+    ensures { result ≡ record { status = status; position = 0; end = 0; is_again = false } }
+{
+    OutgoingSegment {
+        status,
+        position: 0,
+        end: 0,
+        is_again: false,
+    }
+}
+
+/// Returns the segment that is to be sent.
+#[inline(always)]
+fn fields_of_outgoing(it: Outgoing) -> OutgoingSegment
+    ensures { result ≡ outgoing_fields (Some it) }
+{
+    OutgoingSegment {
+        status: NET_BASE_DONE,
+        position: it.pos,
+        end: it.end,
+        is_again: it.is_again,
+    }
+}
+
+/// Returns the recovery that the fields represent.
+#[inline(always)]
+fn recovery_from(fields: &LossRecovery) -> net_recovery::LossRecovery
+    ensures { result ≡ recovery_of fields.now }
+{
+    let probe = if fields.has_probe == 0 {
+        None
+    } else {
+        Some(fields.probe)
+    };
+    let duplicates = if fields.has_duplicates == 0 {
+        DUPLICATES
+    } else {
+        fields.duplicates
+    };
+    net_recovery::LossRecovery::from_parts(RecoveryParts {
+        until: fields.until,
+        lost: fields.lost,
+        again: fields.again,
+        turn: fields.turn,
+        resume: fields.resume,
+        sent: fields.sent,
+        later: fields.later,
+        probe,
+        asked: fields.asked,
+        is_blind: fields.is_blind != 0,
+        unknown: fields.unknown,
+        duplicates,
+        round: fields.round,
+    })
+}
+
+/// Returns the fields of a position that there may be: 0 and 0 if there is none.
+#[inline(always)]
+fn fields_of_probe(probe: Option<u64>) -> (u64, u64)
+    ensures value { result ≡ (unwrap_or probe 0, if is_some probe then 1 else 0) }
+    ensures same { (if nat_eq result.1 0 then None else Some result.0) ≡ probe }
+{
+    match probe {
+        Some(at) => (at, 1),
+        None => (0, 0),
+    }
+}
+
+/// Returns the fields of a recovery, which represent it.
+#[inline(always)]
+fn fields_of_recovery(recovery: net_recovery::LossRecovery) -> LossRecovery
+    ensures value { result ≡ recovery_fields recovery }
+    ensures same { recovery_of result ≡ recovery }
+{
+    let parts = recovery.parts();
+    let (probe, has_probe) = fields_of_probe(parts.probe);
+    LossRecovery {
+        until: parts.until,
+        lost: parts.lost,
+        again: parts.again,
+        turn: parts.turn,
+        resume: parts.resume,
+        sent: parts.sent,
+        later: parts.later,
+        probe,
+        has_probe,
+        asked: parts.asked,
+        is_blind: flag_of(parts.is_blind),
+        unknown: parts.unknown,
+        round: parts.round,
+        duplicates: parts.duplicates,
+        has_duplicates: 1,
+    }
+}
+
+/// Returns a block, or none if there are fewer.
+#[inline(always)]
+fn block_at(blocks: &[HeldRun], at: usize) -> (u64, u64)
+    ensures { result ≡ unwrap_or (slice_get blocks.now at) (0, 0) }
+{
+    if at < blocks.len() {
+        let block = blocks[at];
+        (block.start, block.end)
+    } else {
+        (0, 0)
+    }
+}
+
+/// Returns blocks as pairs, and none after them.
+#[inline(always)]
+fn pairs_of(blocks: &[HeldRun]) -> [(u64, u64); BLOCKS]
+    requires { AreBlocks blocks.now }
+    ensures { take (length blocks.now) result ≡ blocks.now }
+{
+    [
+        block_at(blocks, 0),
+        block_at(blocks, 1),
+        block_at(blocks, 2),
+        block_at(blocks, 3),
+    ]
+}
+
+/// Returns whether the first number that isn't acknowledged fits 64 bits.
+#[inline(always)]
+fn has_first(sender: &FiniteSenderHead) -> bool
+    ensures { IsTrue result
+        ↔ (sender.now.sender.first_unacknowledged + sender.now.finished < 2 ^ 64) }
+{
+    sender.finished <= u64::MAX - sender.sender.first_unacknowledged
+}
+
+/// Returns the sender's numbers.
+#[inline(always)]
+fn numbers_from(sender: &FiniteSenderHead) -> SentNumbers
+    requires { sender.now.sender.first_unacknowledged + sender.now.finished < 2 ^ 64 }
+    ensures { result ≡ record {
+      first_unacknowledged = sender.now.sender.first_unacknowledged + sender.now.finished;
+      sent = sender.now.sent;
+    } }
+{
+    SentNumbers {
+        first_unacknowledged: sender.first_number(),
+        sent: sender.sent,
+    }
+}
+
+/// Returns a moment.
+#[inline(always)]
+fn moment(now: i64) -> Instant
+    ensures { result ≡ now }
+{
+    Instant::from_micros(now)
+}
+
+/// Returns whether the parts of an end over `capacity` bytes are sound.
+#[inline(always)]
+fn is_sound(end: &SendingEnd, capacity: usize) -> bool
+    ensures { IsTrue result ↔ IsSoundSending capacity end.now }
+{
+    end.sender.is_sound(capacity) && end.scoreboard.is_sound(&end.runs)
+}
+
+/// Returns the end that the fields and the storage represent.
+#[inline(always)]
+fn end_from<'a>(end: &SendingEnd, storage: &'a [u8]) -> SendingEndOver<HeadSender<'a>, RUNS>
+    requires { IsSoundSending (length storage.now) end.now }
+    ensures { result ≡ sending_of end.now storage.now }
+{
+    let runs = end.runs;
+    let buffer = BufferParts {
+        scoreboard: end.scoreboard,
+        runs,
+        recovery: recovery_from(&end.recovery),
+    };
+    let parts = SendingParts {
+        buffer,
+        timer: timer_from(&end.timer),
+        first_timeout: Duration::from_micros(given_or(end.first_timeout, FIRST_TIMEOUT)),
+        bounds: bounds_from(&end.bounds),
+        peer_window: end.peer_window,
+        greatest_window: end.greatest_window,
+        last_window: end.last_window,
+        segment_size: end.segment_size.max(1),
+        is_open: end.is_open != 0,
+        nagle: end.no_delay == 0,
+        is_window_probe_due: end.is_window_probe_due != 0,
+        is_overdue: end.is_overdue != 0,
+    };
+    SendingEndOver::from_parts(HeadSender::new(end.sender, storage), parts)
+}
+
+/// Stores what an end has learned: all but the sender, and what is set.
+#[inline(always)]
+fn put(end: &mut SendingEnd, it: SendingEndOver<HeadSender<'_>, RUNS>)
+    requires { 1 ≤ it.timer.timeout.timeout }
+    ensures sender { end.new.sender ≡ end.old.sender }
+    ensures scoreboard { IsSoundBoard end.new.scoreboard end.new.runs }
+    ensures state { (storage : List ℕ) →
+        sending_of end.new storage ≡ stored end.old storage it.entry }
+{
+    let (_sender, parts) = it.into_parts();
+    let runs = parts.buffer.runs;
+    end.scoreboard = parts.buffer.scoreboard;
+    end.runs = runs;
+    end.recovery = fields_of_recovery(parts.buffer.recovery);
+    end.timer = fields_of_timer(parts.timer);
+    end.peer_window = parts.peer_window;
+    end.greatest_window = parts.greatest_window;
+    end.last_window = parts.last_window;
+    end.is_open = flag_of(parts.is_open);
+    end.is_window_probe_due = flag_of(parts.is_window_probe_due);
+    end.is_overdue = flag_of(parts.is_overdue);
+}
+
+/// Returns the end of a stream that begins at position `first`, to which nothing was written.
+fn new_end(first: u64, first_timeout: u64, bounds: &TimeoutBounds) -> SendingEnd
+    requires { first < no_end }
+    ensures numbers { result ≡ begun_at first first_timeout bounds.now }
+    ensures state { (storage : List ℕ) → sending_of result storage
+        ≡ new_end (length storage) first (given_or first_timeout 1000000) (bounds_of bounds.now) }
+    ensures sound { (capacity : ℕ) → IsSoundSending capacity result }
+{
+    SendingEnd {
+        sender: FiniteSenderHead::new(first),
+        scoreboard: ScoreboardHead::new_at(first),
+        runs: [Run { start: 0, end: 0 }; RUNS],
+        recovery: NO_LOSS,
+        timer: fields_of_timer(net_tcp::RetransmissionTimer::new(
+            Duration::from_micros(first_timeout),
+            false,
+        )),
+        first_timeout,
+        bounds: *bounds,
+        peer_window: PeerWindow::new(),
+        greatest_window: 0,
+        last_window: 0,
+        segment_size: 0,
+        no_delay: 0,
+        is_open: 0,
+        is_window_probe_due: 0,
+        is_overdue: 0,
+    }
+}
+
+/// Makes `end` the end of a stream that begins at position `first`, to which nothing was written. `first_timeout` is
+/// that before any sample: 1 second for TCP (RFC 6298, 2.1), as which 0 counts.
+///
+/// It is refused if `first` is `u64::MAX`, since an end there would have no number after it: false, and nothing
+/// changes.
+#[unsafe(no_mangle)]
+pub extern "C" fn net_base_sending_end_init(
+    end: &mut SendingEnd,
+    first: u64,
+    first_timeout: u64,
+    bounds: &TimeoutBounds,
+) -> bool
+    ensures done { IsTrue result ↔ (first < no_end) }
+    ensures state { first < no_end → (storage : List ℕ) → sending_of end.new storage
+        ≡ new_end (length storage) first (given_or first_timeout 1000000) (bounds_of bounds.now) }
+    ensures sound { first < no_end → (capacity : ℕ) → IsSoundSending capacity end.new }
+    ensures numbers { first < no_end → end.new ≡ begun_at first first_timeout bounds.now }
+    ensures refused { IsFalse result → end.new ≡ end.old }
+{
+    if first == u64::MAX {
+        return false;
+    }
+    *end = new_end(first, first_timeout, bounds);
+    true
+}
+
+/// Returns whether the end is sound over a storage of `capacity` bytes, for any numbers: `sender` is that of a sender
+/// over as many, and `scoreboard` is sound with `runs`. It looks at each used run.
+#[unsafe(no_mangle)]
+pub extern "C" fn net_base_sending_end_is_sound(end: &SendingEnd, capacity: usize) -> bool
+    ensures { IsTrue result ↔ IsSoundSending capacity end.now }
+{
+    is_sound(end, capacity)
+}
+
+/// Begins with a peer, whose SYN announced a window (`it`), how many bytes a segment may have, and whether it reports
+/// blocks (SACK): one that doesn't couldn't answer a probe, and is sent none. What was written stays. It is done once,
+/// before anything is sent; a second time begins with another peer, and the timer runs if something is in flight.
+///
+/// It is refused if `end` isn't sound over `storage.len()` bytes: false, and nothing changes.
+#[unsafe(no_mangle)]
+pub extern "C" fn net_base_sending_end_open(
+    end: &mut SendingEnd,
+    storage: &[u8],
+    it: &Announcement,
+    segment_size: usize,
+    reports: bool,
+    now: i64,
+) -> bool
+    ensures done { IsTrue result ↔ IsSoundSending (length storage.now) end.old }
+    ensures state { IsTrue result → sending_of end.new storage.now
+        ≡ after_event (sending_of end.old storage.now)
+        (Opened it.now.seq it.now.ack it.now.window segment_size reports now) }
+    ensures sound { IsTrue result → IsSoundSending (length storage.now) end.new }
+    ensures refused { IsFalse result → end.new ≡ end.old }
+{
+    if !is_sound(end, storage.len()) {
+        return false;
+    }
+    let mut machine = end_from(end, storage);
+    machine.open(*it, segment_size, reports, moment(now));
+    put(end, machine);
+    end.segment_size = segment_size;
+    true
+}
+
+/// Begins again without a peer: the timer stops, unless something is in flight. What was written stays.
+///
+/// It is refused if `end` isn't sound over `storage.len()` bytes: false, and nothing changes.
+#[unsafe(no_mangle)]
+pub extern "C" fn net_base_sending_end_forget(
+    end: &mut SendingEnd,
+    storage: &[u8],
+    now: i64,
+) -> bool
+    ensures done { IsTrue result ↔ IsSoundSending (length storage.now) end.old }
+    ensures state { IsTrue result → sending_of end.new storage.now
+        ≡ after_event (sending_of end.old storage.now) (Forgot now) }
+    ensures sound { IsTrue result → IsSoundSending (length storage.now) end.new }
+    ensures refused { IsFalse result → end.new ≡ end.old }
+{
+    if !is_sound(end, storage.len()) {
+        return false;
+    }
+    let mut machine = end_from(end, storage);
+    machine.forget(moment(now));
+    put(end, machine);
+    true
+}
+
+/// Returns whether a SYN is to be sent now, the first one or one after a timeout, and starts the timer for the next.
+/// Ask it only until something is acknowledged, at which it doesn't look.
+///
+/// It is refused if `end` isn't sound over `storage.len()` bytes: false, and nothing changes.
+#[unsafe(no_mangle)]
+pub extern "C" fn net_base_sending_end_is_opening_due(
+    end: &mut SendingEnd,
+    storage: &[u8],
+    now: i64,
+) -> bool
+    ensures value { IsSoundSending (length storage.now) end.old →
+        let timer = (sending_of end.old storage.now).timer in
+        result ≡ (has_expired timer now || is_none (expires_at timer)) }
+    ensures state { IsSoundSending (length storage.now) end.old → sending_of end.new storage.now
+        ≡ after_event (sending_of end.old storage.now) (Opening now) }
+    ensures sound { IsSoundSending (length storage.now) end.old →
+        IsSoundSending (length storage.now) end.new }
+    ensures refused { (IsSoundSending (length storage.now) end.old → ⊥) →
+        IsFalse result × (end.new ≡ end.old) }
+{
+    if !is_sound(end, storage.len()) {
+        return false;
+    }
+    let mut machine = end_from(end, storage);
+    let is_due = machine.is_opening_due(moment(now));
+    put(end, machine);
+    is_due
+}
+
+/// Enables Nagle's rule (RFC 9293, 3.7.4), or disables it. While something that was sent isn't acknowledged, less than
+/// a whole segment waits by it, unless the stream is closed or the timer has ended. It is enabled at first.
+#[unsafe(no_mangle)]
+pub extern "C" fn net_base_sending_end_set_nagle_enabled(end: &mut SendingEnd, enabled: bool)
+    ensures state { (storage : List ℕ) → sending_of end.new storage
+        ≡ after_event (sending_of end.old storage) (Enabled enabled) }
+    ensures sound { (capacity : ℕ) → IsSoundSending capacity end.old →
+        IsSoundSending capacity end.new }
+{
+    end.no_delay = if enabled { 0 } else { 1 };
+}
+
+/// Enqueues the first of these bytes, as many as there is room for, and returns how many: `net_base_finite_sender_room`
+/// of `sender`.
+///
+/// It is refused if `sender` isn't that of a sender over `storage.len()` bytes: `NET_BASE_NONE`, and nothing changes.
+#[unsafe(no_mangle)]
+pub extern "C" fn net_base_sending_end_write(
+    end: &mut SendingEnd,
+    storage: &mut [u8],
+    bytes: &[u8],
+) -> usize
+    ensures count { IsSoundFiniteSender (length storage.old) end.old.sender → result
+        ≡ min (length bytes.now) (finite_room (sending_of end.old storage.old).sender) }
+    ensures state { IsSoundFiniteSender (length storage.old) end.old.sender →
+        sending_of end.new storage.new
+        ≡ after_event (sending_of end.old storage.old) (Wrote bytes.now) }
+    ensures sound { IsSoundSending (length storage.old) end.old →
+        IsSoundSending (length storage.old) end.new }
+    ensures refused { (IsSoundFiniteSender (length storage.old) end.old.sender → ⊥) →
+        (result ≡ no_number) × (end.new ≡ end.old) × (storage.new ≡ storage.old) }
+{
+    if !end.sender.is_sound(storage.len()) {
+        return no_number();
+    }
+    end.sender.write(storage, bytes)
+}
+
+/// Ends the stream after what was written. A second call changes nothing.
+#[unsafe(no_mangle)]
+pub extern "C" fn net_base_sending_end_close(end: &mut SendingEnd)
+    ensures state { (storage : List ℕ) → sending_of end.new storage
+        ≡ after_event (sending_of end.old storage) Shut }
+    ensures sound { (capacity : ℕ) → IsSoundSending capacity end.old →
+        IsSoundSending capacity end.new }
+{
+    end.sender.close();
+}
+
+/// Takes what a segment acknowledges and announces (`it`), and the blocks that it reports, as positions. It `is_empty`
+/// if it has no byte and no FIN. Whatever it says, the end stays sound.
+///
+/// A block counts that begins above the first number that isn't reported, has a number, and ends where something was
+/// sent and less than 2^32 above that one, if what is reported beyond that one is at most 16 runs then. Any other block
+/// says nothing.
+///
+/// It is refused if `end` isn't sound over `storage.len()` bytes, or if there are more than 4 blocks: `count` is 0,
+/// `reports` and `begins` are false, the status is `NET_BASE_REFUSED`, and nothing changes.
+#[unsafe(no_mangle)]
+pub extern "C" fn net_base_sending_end_acknowledged(
+    end: &mut SendingEnd,
+    storage: &[u8],
+    it: &Announcement,
+    blocks: &[HeldRun],
+    is_empty: bool,
+    now: i64,
+) -> TakenAcknowledgement
+    ensures value { IsSoundSending (length storage.now) end.old → AreBlocks blocks.now →
+        (said : Acknowledged) × (result ≡ taken_fields said)
+        × Hears (sending_of end.old storage.now) it.now.seq it.now.ack it.now.window blocks.now
+        is_empty now said (sending_of end.new storage.now) }
+    ensures sound { IsSoundSending (length storage.now) end.old →
+        IsSoundSending (length storage.now) end.new }
+    ensures refused { (IsSoundSending (length storage.now) end.old × AreBlocks blocks.now → ⊥) →
+        (result ≡ record { status = 2; count = 0; reports = false; begins = false })
+        × (end.new ≡ end.old) }
+{
+    if blocks.len() > BLOCKS || !is_sound(end, storage.len()) {
+        return refused_taken_acknowledgement();
+    }
+    let pairs = pairs_of(blocks);
+    let mut machine = end_from(end, storage);
+    let said = machine.acknowledged(*it, &pairs[..blocks.len()], is_empty, moment(now));
+    put(end, machine);
+    let _is_taken = accept(&mut end.sender, storage.len(), it.ack);
+    fields_of_acknowledged(said)
+}
+
+/// Returns whether the timer has ended, and what that means. If it has, it starts again, and
+/// `net_base_sending_end_next_segment` says what is then to be sent.
+///
+/// It is refused if `end` isn't sound over `storage.len()` bytes: `begins` is false, the status is `NET_BASE_REFUSED`,
+/// and nothing changes.
+#[unsafe(no_mangle)]
+pub extern "C" fn net_base_sending_end_expired(
+    end: &mut SendingEnd,
+    storage: &[u8],
+    now: i64,
+) -> EndedTimer
+    ensures value { IsSoundSending (length storage.now) end.old → (said : Expired)
+        × (result ≡ ended_fields said)
+        × Looks (sending_of end.old storage.now) now said (sending_of end.new storage.now) }
+    ensures sound { IsSoundSending (length storage.now) end.old →
+        IsSoundSending (length storage.now) end.new }
+    ensures refused { (IsSoundSending (length storage.now) end.old → ⊥) →
+        (result ≡ record { status = 2; begins = false }) × (end.new ≡ end.old) }
+{
+    if !is_sound(end, storage.len()) {
+        return refused_ended_timer();
+    }
+    let mut machine = end_from(end, storage);
+    let said = machine.expired(moment(now));
+    put(end, machine);
+    fields_of_expired(said)
+}
+
+/// Returns the segment that is to be sent now, and takes notice that it is: if the peer's window and the congestion
+/// window have room for one, or as a probe. What was never sent is held back if it is less than a segment, unless it is
+/// all that is left, or half of the greatest window that the peer announced (RFC 9293, 3.8.6.2.1), and Nagle's rule
+/// doesn't have it wait. Once the timer has ended, the next segment isn't held back. While anything that was written
+/// isn't acknowledged, the timer runs.
+///
+/// It is refused if `end` isn't sound over `storage.len()` bytes: `position` and `end` are 0, `is_again` is false, the
+/// status is `NET_BASE_REFUSED`, and nothing changes.
+#[unsafe(no_mangle)]
+pub extern "C" fn net_base_sending_end_next_segment(
+    end: &mut SendingEnd,
+    storage: &[u8],
+    congestion_window: u64,
+    now: i64,
+) -> OutgoingSegment
+    ensures value { IsSoundSending (length storage.now) end.old → (said : Option Outgoing)
+        × (result ≡ outgoing_fields said)
+        × Chooses (sending_of end.old storage.now) congestion_window now said
+        (sending_of end.new storage.now) }
+    ensures sound { IsSoundSending (length storage.now) end.old →
+        IsSoundSending (length storage.now) end.new }
+    ensures refused { (IsSoundSending (length storage.now) end.old → ⊥) →
+        (result ≡ record { status = 2; position = 0; end = 0; is_again = false })
+        × (end.new ≡ end.old) }
+{
+    if !is_sound(end, storage.len()) {
+        return refused_outgoing_segment();
+    }
+    let mut machine = end_from(end, storage);
+    let said = machine.next_segment(congestion_window, moment(now));
+    put(end, machine);
+    match said {
+        None => no_segment(NET_BASE_NOTHING),
+        Some(it) => {
+            mark(&mut end.sender, storage.len(), it.end);
+            fields_of_outgoing(it)
+        }
+    }
+}
+
+/// Returns where the bytes of a segment from `position` on are, whose numbers are below `limit`, in two parts, and
+/// whether the stream ends after them. Of a position that is acknowledged there are none.
+///
+/// It is refused if `sender` isn't that of a sender over `capacity` bytes: `from` is `NET_BASE_NONE`, `count`,
+/// `rest_from` and `rest_count` are 0, `is_last` is false.
+#[unsafe(no_mangle)]
+pub extern "C" fn net_base_sending_end_bytes(
+    end: &SendingEnd,
+    capacity: usize,
+    position: u64,
+    limit: u64,
+) -> SegmentParts
+    ensures within { IsSoundFiniteSender capacity end.now.sender → (result.from + result.count ≤
+        capacity) × (result.rest_from + result.rest_count ≤ capacity) }
+    ensures value { IsSoundFiniteSender capacity end.now.sender → (storage : List ℕ) →
+        length storage ≡ capacity → IsSegment (sending_of end.now storage).sender position limit
+        (take result.count (drop result.from storage)
+        ++ take result.rest_count (drop result.rest_from storage)) result.is_last }
+    ensures refused { (IsSoundFiniteSender capacity end.now.sender → ⊥) →
+        (result.from ≡ no_number) × (result.count ≡ 0) × (result.rest_from ≡ 0)
+        × (result.rest_count ≡ 0) × IsFalse result.is_last }
+{
+    if !end.sender.is_sound(capacity) {
+        return refused_segment_parts();
+    }
+    let (front, _ends) = end.sender.peek_at(capacity, position, limit);
+    let after = position + front.contiguous as u64;
+    let (back, is_last) = end.sender.peek_at(capacity, after, limit);
+    SegmentParts {
+        from: front.from,
+        count: front.contiguous,
+        rest_from: back.from,
+        rest_count: back.contiguous,
+        is_last,
+    }
+}
+
+/// Returns whether all that was written is acknowledged, and the end. Once it is so it stays so.
+#[unsafe(no_mangle)]
+pub extern "C" fn net_base_sending_end_is_done(end: &SendingEnd) -> bool
+    ensures { (storage : List ℕ) → result ≡ ((sending_of end.now storage).sender.finished == 1) }
+{
+    end.sender.is_closed_and_acknowledged()
+}
+
+/// Returns whether the timer runs, and writes to `moment` when `net_base_sending_end_expired` is to be asked, if it
+/// does.
+#[unsafe(no_mangle)]
+pub extern "C" fn net_base_sending_end_expires_at(end: &SendingEnd, moment: &mut i64) -> bool
+    ensures value { (storage : List ℕ) →
+        result ≡ is_some (expires_at (sending_of end.now storage).timer) }
+    ensures moment { (storage : List ℕ) →
+        moment.new ≡ unwrap_or (expires_at (sending_of end.now storage).timer) moment.old }
+{
+    match timer_from(&end.timer).expires_at() {
+        Some(at) => {
+            *moment = at.total_micros();
+            true
+        }
+        None => false,
+    }
+}
+
+/// Writes to `numbers` the first number that isn't acknowledged, near which those of an acknowledgement are, and the
+/// one after the last that was sent.
+///
+/// It is refused if the first doesn't fit 64 bits: false, and nothing changes.
+#[unsafe(no_mangle)]
+pub extern "C" fn net_base_sending_end_numbers(end: &SendingEnd, numbers: &mut SentNumbers) -> bool
+    ensures done { IsTrue result
+        ↔ (end.now.sender.sender.first_unacknowledged + end.now.sender.finished < 2 ^ 64) }
+    ensures value { IsTrue result → (storage : List ℕ) →
+        let e = sending_of end.now storage in
+        numbers.new ≡ record { first_unacknowledged = first e; sent = e.sender.sent } }
+    ensures refused { IsFalse result → numbers.new ≡ numbers.old }
+{
+    if !has_first(&end.sender) {
+        return false;
+    }
+    *numbers = numbers_from(&end.sender);
+    true
+}
+
+/// Returns the number of a segment without positions.
+///
+/// It is refused if the first number that isn't acknowledged doesn't fit 64 bits: `u64::MAX`.
+#[unsafe(no_mangle)]
+pub extern "C" fn net_base_sending_end_acknowledgement_number(end: &SendingEnd) -> u64
+    ensures value { end.now.sender.sender.first_unacknowledged + end.now.sender.finished < 2 ^ 64 →
+        (storage : List ℕ) → let e = sending_of end.now storage in
+        result ≡ acknowledgement_number e.peer (first e) e.sender.sent }
+    ensures refused { 2 ^ 64 ≤ end.now.sender.sender.first_unacknowledged
+        + end.now.sender.finished → result ≡ 2 ^ 64 - 1 }
+{
+    if !has_first(&end.sender) {
+        return u64::MAX;
+    }
+    end.peer_window
+        .acknowledgement_number(numbers_from(&end.sender))
+}
+
+/// Returns whether a recovery lasts.
+///
+/// It is refused if the first number that isn't acknowledged doesn't fit 64 bits: false.
+#[unsafe(no_mangle)]
+pub extern "C" fn net_base_sending_end_is_recovering(end: &SendingEnd) -> bool
+    ensures value { end.now.sender.sender.first_unacknowledged + end.now.sender.finished < 2 ^ 64 →
+        (storage : List ℕ) → let e = sending_of end.now storage in
+        result ≡ is_active e.recovery (first e) }
+    ensures refused { 2 ^ 64 ≤ end.now.sender.sender.first_unacknowledged
+        + end.now.sender.finished → IsFalse result }
+{
+    has_first(&end.sender) && recovery_from(&end.recovery).is_active(numbers_from(&end.sender))
+}
