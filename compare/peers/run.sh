@@ -7,9 +7,9 @@
 #     sh compare/peers/run.sh --goodput [WORD]         MB/s to Linux, beside Linux with Reno and with CUBIC: a table
 #     sh compare/peers/run.sh --runs [WORD]            what receivers refuse behind a queue that overflows: a table
 #
-# With a word only the cases or rows that have it are run. All packets stay in network namespaces that it makes. lwIP
-# is Debian's liblwip-dev, which it installs if it can. Status 1 if a case fails, and 2 if the machine has no lwIP or no
-# TUN device, or lends no namespace. TERM ends all of it.
+# With a word only the cases or rows that have it are run. All packets stay in network namespaces that it makes. lwIP,
+# which the first two want, is Debian's liblwip-dev, which it installs if it can. Status 1 if a case fails, and 2 if the
+# machine has no lwIP or no TUN device, or lends no namespace. TERM ends all of it.
 set -eu
 here=$(cd "$(dirname "$0")" && pwd)
 child= out=$(mktemp -d)
@@ -41,19 +41,22 @@ case "${1-}" in
 esac
 shift
 
-header=/usr/include/lwip/lwipopts.h
-if [ ! -e "$header" ] && [ "$(id -u)" = 0 ] && command -v apt-get > /dev/null; then
-    apt="guarded apt-get -qq -o DPkg::Lock::Timeout=120"
-    { $apt update && $apt install -y --no-install-recommends liblwip-dev; } > "$out/apt" 2>&1 || :
-fi
-[ -e "$header" ] || not_run "no lwIP: apt-get install -y liblwip-dev"
+with_lwip() {
+    header=/usr/include/lwip/lwipopts.h
+    if [ ! -e "$header" ] && [ "$(id -u)" = 0 ] && command -v apt-get > /dev/null; then
+        apt="guarded apt-get -qq -o DPkg::Lock::Timeout=120"
+        { $apt update && $apt install -y --no-install-recommends liblwip-dev; } > "$out/apt" 2>&1 || :
+    fi
+    [ -e "$header" ] || not_run "no lwIP: apt-get install -y liblwip-dev"
+    cc -O2 -Wall -Wextra -Werror -isystem /usr/include/lwip -o "$out/lwip" "$here/lwip.c" -llwip
+}
+case $call in sample | matrix) with_lwip ;; esac
 command -v ip > /dev/null || not_run "no command ip here: apt-get install -y iproute2"
 space="unshare --net"
 $space true 2> /dev/null || space="unshare --map-root-user --net"
 $space true 2> /dev/null || not_run "no right to make a network namespace here"
 $space ip tuntap add dev tun0 mode tun 2> /dev/null || not_run "no /dev/net/tun here, or no right to use it"
 
-cc -O2 -Wall -Wextra -Werror -isystem /usr/include/lwip -o "$out/lwip" "$here/lwip.c" -llwip
 export CARGO_PROFILE_RELEASE_OVERFLOW_CHECKS=true CARGO_PROFILE_RELEASE_LTO=false
 cd "$here/.."
 guarded cargo build --offline --quiet --release --package peers

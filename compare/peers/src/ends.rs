@@ -1,6 +1,7 @@
 //! The ends: the example's endpoint, Linux in a network namespace of its own, and lwIP as a program.
 use std::collections::VecDeque;
 use std::io::{self, Read, Write};
+use std::iter::from_fn;
 use std::net::{Ipv4Addr, Shutdown, TcpListener, TcpStream};
 use std::os::fd::{AsRawFd, FromRawFd, OwnedFd};
 use std::os::unix::net::{UnixDatagram, UnixStream};
@@ -79,8 +80,7 @@ impl<const N: usize> End for Example<N> {
 
     fn deliver(&mut self, packet: &[u8]) -> bool {
         if let Some((from, segment)) = Segment::parse(packet, self.endpoint.ends.here) {
-            self.endpoint.take(from, &segment, now());
-            self.endpoint.answer(&mut |packet| self.out.push_back(packet.to_vec()));
+            self.out.extend(self.endpoint.take(from, &segment, now()));
         }
         true
     }
@@ -97,11 +97,12 @@ impl<const N: usize> End for Example<N> {
     }
 
     fn close(&mut self) {
-        self.endpoint.close();
+        self.endpoint.sending.close();
     }
 
     fn turn(&mut self) {
-        self.endpoint.send(now(), &mut |packet| self.out.push_back(packet.to_vec()));
+        let now = now();
+        self.out.extend(from_fn(|| self.endpoint.next_packet(now)));
     }
 
     fn expires_at(&self) -> Option<Instant> {

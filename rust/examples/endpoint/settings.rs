@@ -45,6 +45,7 @@ pub struct Settings {
     pub rest: Duration,
     pub most: Duration,
     pub options: Options,
+    pub nagle: bool,
 }
 
 impl Settings {
@@ -89,9 +90,9 @@ impl Settings {
             options: Options {
                 gives_up: Duration::from_secs(gives_up),
                 keep_alive: Some(Duration::from_secs(keep_alive)).filter(|_| keep_alive > 0),
-                nagle: nagle == 1,
                 ..Options::default()
             },
+            nagle: nagle == 1,
         })
     }
 }

@@ -239,7 +239,7 @@ impl Model {
         assert_eq!(self.talk.endpoint.sending.write(&bytes) as i64, count);
         self.written += count;
         if self.below(50) == 0 {
-            self.talk.endpoint.close();
+            self.talk.endpoint.sending.close();
             self.closed = true;
         }
     }

@@ -25,8 +25,10 @@ struct End<const N: usize> {
 impl<const N: usize> End<N> {
     fn new(ends: Ends, listens: bool, path: (Fates, u32), len: usize, capacity: usize) -> Self {
         let mut rand = Rand::new(u64::from(path.1) + 100);
+        // One stream's numbers wrap soon, and are far from those of one that listens.
+        let initial = (rand.rand_u32() | 0xffff_0000) >> if listens { 2 } else { 0 };
         End {
-            endpoint: Endpoint::new(ends, listens, rand.rand_u32() | 0xffff_0000, capacity),
+            endpoint: Endpoint::new(ends, listens, initial, capacity),
             channel: Channel::new(path.0, path.1),
             text: (0..len).map(|_| rand.rand_u32() as u8).collect(),
             written: 0,
@@ -46,8 +48,7 @@ impl<const N: usize> End<N> {
         };
         for packet in packets {
             let (from, segment) = Segment::parse(packet, endpoint.ends.here).expect("sound");
-            endpoint.take(from, &segment, now);
-            endpoint.answer(&mut out);
+            endpoint.take(from, &segment, now).iter().for_each(|packet| out(packet));
         }
         let mut into = [0; 4096];
         let reads = reads_at.map_or(*written == text.len(), |at| at <= now);
@@ -57,9 +58,11 @@ impl<const N: usize> End<N> {
         }
         *written += endpoint.sending.write(&text[*written..]);
         if *written == text.len() {
-            endpoint.close();
+            endpoint.sending.close();
         }
-        endpoint.send(now, &mut out);
+        while let Some(packet) = endpoint.next_packet(now) {
+            out(&packet);
+        }
         from_fn(|| channel.arrived(now)).collect()
     }
 

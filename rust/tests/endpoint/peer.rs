@@ -194,7 +194,7 @@ impl<const N: usize> Talk<N> {
         let ends = Ends { here: HERE, there: if listens { ([0; 4], 0) } else { THERE } };
         let mut endpoint = Endpoint::new(ends, listens, INITIAL, capacity);
         // What is written is sent at once, and a test may wait for long.
-        endpoint.options.nagle = false;
+        endpoint.sending.set_nagle_enabled(false);
         endpoint.options.gives_up = Duration::from_secs(86_400);
         Talk { endpoint, now: Instant::from_secs(5) }
     }
@@ -205,7 +205,7 @@ impl<const N: usize> Talk<N> {
         assert_eq!(talk.say(&syn(options)), []);
         assert_eq!(talk.wait(0).len(), 1);
         assert_eq!(talk.say(&peer(0, 0)), []);
-        assert_eq!(talk.endpoint.state, State::Open);
+        assert_eq!(talk.endpoint.state, State::Established);
         // Now a window is announced that the SYN-ACK had no bits for.
         assert!(talk.wait(1_000).iter().all(|said| said.acked() == 0 && said.payload.is_empty()));
         talk
@@ -216,20 +216,18 @@ impl<const N: usize> Talk<N> {
         let bytes = packet.bytes();
         let (from, segment) = Segment::parse(&bytes, HERE).expect("a sound packet");
         assert_eq!(from, THERE);
-        self.endpoint.take(from, &segment, self.now);
-        let mut said = vec![];
-        self.endpoint.answer(&mut |bytes: &[u8]| said.push(Packet::read(bytes)));
-        said
+        let said = self.endpoint.take(from, &segment, self.now);
+        said.iter().map(|bytes| Packet::read(bytes)).collect()
     }
 
     /// Lets some microseconds pass, and returns what the endpoint sends then.
     pub fn wait(&mut self, micros: u64) -> Vec<Packet> {
         self.now += Duration::from_micros(micros);
         let mut said = vec![];
-        self.endpoint.send(self.now, &mut |bytes: &[u8]| {
+        while let Some(bytes) = self.endpoint.next_packet(self.now) {
             assert!(said.len() < 10_000, "it never stops");
-            said.push(Packet::read(bytes));
-        });
+            said.push(Packet::read(&bytes));
+        }
         said
     }
 
@@ -247,7 +245,7 @@ impl<const N: usize> Talk<N> {
             let before = self.endpoint.counts.timeouts;
             let (more, said) = self.expire();
             micros += more;
-            if self.endpoint.counts.timeouts > before || self.endpoint.state != State::Open {
+            if self.endpoint.counts.timeouts > before || self.endpoint.state != State::Established {
                 return (micros, said);
             }
         }

@@ -102,7 +102,7 @@ fn handshakes() {
     assert_eq!(talk.say(&syn(&[]).with(RST)), []);
     for unasked in [peer(0, 0), peer(0, 7).with(SYN)] {
         is_reset(&talk.say(&unasked), unasked.acknowledged);
-        assert_eq!((talk.endpoint.state, talk.wait(0)), (State::Listening, vec![]));
+        assert_eq!((talk.endpoint.state, talk.wait(0)), (State::Listen, vec![]));
     }
     talk.say(&syn(&[]));
     let answer = &talk.wait(0)[0];
@@ -111,11 +111,15 @@ fn handshakes() {
     assert_eq!(talk.expire(), (1_000_000, vec![answer.clone()]));
     for acked in [1, u32::MAX] {
         is_reset(&talk.say(&peer(0, acked)), peer(0, acked).acknowledged);
-        assert_eq!(talk.endpoint.state, State::Opening(true));
+        assert_eq!(talk.endpoint.state, State::SynReceived);
     }
     assert_eq!(talk.expire(), (2_000_000, vec![answer.clone()]));
+    let bytes = peer(0, 0).bytes();
+    let (_from, segment) = Segment::parse(&bytes, HERE).unwrap();
+    assert_eq!(talk.endpoint.take((THERE.0, 1), &segment, talk.now), None);
+    assert_eq!(talk.endpoint.state, State::SynReceived);
     talk.say(&peer(0, 0));
-    assert_eq!(talk.endpoint.state, State::Open);
+    assert_eq!(talk.endpoint.state, State::Established);
 
     let mut talk = Talk::<4>::new(false, 0x10_0000);
     let first = &talk.wait(0)[0];
@@ -129,10 +133,10 @@ fn handshakes() {
     is_reset(&talk.say(&other), INITIAL);
     is_reset(&talk.say(&Packet { flags: ACK, ..other.clone() }), INITIAL);
     for packet in [other.with(RST), Packet { flags: RST, ..answer.clone() }] {
-        assert_eq!((talk.say(&packet), talk.endpoint.state), (vec![], State::Opening(false)));
+        assert_eq!((talk.say(&packet), talk.endpoint.state), (vec![], State::SynSent));
     }
     assert_eq!(challenge(&talk.say(&answer), 0).at(), 0);
-    assert_eq!(talk.endpoint.state, State::Open);
+    assert_eq!(talk.endpoint.state, State::Established);
     // The window of a SYN has no scale.
     assert_eq!(talk.endpoint.sending.write(&[5; 1_000]), 1_000);
     assert_eq!(talk.wait(0)[0].payload, [5; 100]);
@@ -148,7 +152,7 @@ fn both_open_at_once() {
     assert_eq!((first.flags, first.number), (SYN, INITIAL));
     // The peer's SYN crosses the own one: it is acknowledged, with the own SYN once more.
     assert_eq!(talk.say(&syn(OPTIONS)), []);
-    assert_eq!(talk.endpoint.state, State::Opening(true));
+    assert_eq!(talk.endpoint.state, State::SynReceived);
     let answer = talk.wait(0).remove(0);
     assert_eq!((answer.flags, answer.number, answer.acked()), (SYN | ACK, INITIAL, 0));
     // The answer is lost: the SYN comes again, and so does the answer. It takes no other SYN for that.
@@ -158,7 +162,7 @@ fn both_open_at_once() {
     // So does the peer. Its SYN is a second one, and is answered; its next segment opens.
     challenge(&talk.say(&peer(u32::MAX, 0).with(SYN)), 0);
     assert_eq!(talk.say(&peer(0, 0).text(b"abc")), []);
-    assert_eq!((talk.endpoint.state, talk.read(9)), (State::Open, b"abc".to_vec()));
+    assert_eq!((talk.endpoint.state, talk.read(9)), (State::Established, b"abc".to_vec()));
     // A reset before that ends it: no one listened.
     let mut talk = Talk::<4>::new(false, 100);
     talk.wait(0);
@@ -177,14 +181,20 @@ fn who_listens_goes_on() {
         assert_eq!(talk.expire().0, 1_000_000);
         // Only at the next number.
         talk.say(&Packet { flags: RST, ..peer(9, 0) });
-        assert_eq!(talk.endpoint.state, State::Opening(true));
+        assert_eq!(talk.endpoint.state, State::SynReceived);
         talk.say(&Packet { flags: RST, ..peer(0, 0) });
-        assert_eq!((talk.endpoint.state, talk.wait(9_000_000)), (State::Listening, vec![]));
+        assert_eq!((talk.endpoint.state, talk.wait(200_000_000)), (State::Listen, vec![]));
     }
+    // What a former peer said of windows and blocks is forgotten.
     talk.say(&syn(OPTIONS));
+    talk.say(&Packet { flags: RST, ..peer(0, 0) });
+    talk.say(&syn(&[]).window(100));
     talk.wait(0);
-    talk.say(&peer(0, 0).text(b"abc"));
-    assert_eq!((talk.endpoint.state, talk.read(9)), (State::Open, b"abc".to_vec()));
+    talk.say(&peer(0, 0).text(b"abc").window(100));
+    assert_eq!((talk.endpoint.state, talk.read(9)), (State::Established, b"abc".to_vec()));
+    assert_eq!(talk.endpoint.sending.write(&[5; 1_000]), 1_000);
+    assert_eq!(talk.wait(0)[0].payload, [5; 100]);
+    assert_eq!(challenge(&talk.say(&peer(9, 0).text(b"x")), 3).options, []);
 }
 
 #[test]
@@ -208,13 +218,13 @@ fn resets_and_second_syns() {
     for (at, flags, answered, state) in [
         (10, RST, false, State::Reset),
         (10, RST | ACK, false, State::Reset),
-        (11, RST, true, State::Open),
-        (63, RST, true, State::Open),
-        (64, RST, false, State::Open),
-        (9, RST, false, State::Open),
-        (10, SYN, true, State::Open),
-        (10, SYN | ACK, true, State::Open),
-        (u32::MAX, SYN, true, State::Open),
+        (11, RST, true, State::Established),
+        (63, RST, true, State::Established),
+        (64, RST, false, State::Established),
+        (9, RST, false, State::Established),
+        (10, SYN, true, State::Established),
+        (10, SYN | ACK, true, State::Established),
+        (u32::MAX, SYN, true, State::Established),
         (10, SYN | RST, false, State::Reset),
     ] {
         let mut talk = Talk::<4>::open(64, OPTIONS);
@@ -287,6 +297,9 @@ fn each_second_segment_is_acknowledged() {
     challenge(&talk.say(&peer(6, 0).text(b"gh")), 10);
     assert_eq!(talk.say(&peer(10, 0).text(b"k")), []);
     challenge(&talk.wait(0), 11);
+    // One that the program asks for.
+    talk.endpoint.receiving.answer();
+    challenge(&talk.wait(0), 11);
     // An acknowledgement is never answered.
     assert_eq!((talk.say(&peer(11, 0)), talk.wait(0)), (vec![], vec![]));
 }
@@ -313,17 +326,23 @@ fn the_end() {
     challenge(&talk.say(&peer(0, 0).text(b"abc")), 7);
     assert_eq!(talk.read(9), b"abcdef");
     assert!(talk.endpoint.receiving.receiver().has_read_all());
+    // It comes alone, before its bytes: no update of a window follows that would acknowledge them.
+    let mut talk = Talk::<4>::open(64, OPTIONS);
+    challenge(&talk.say(&peer(3, 0).with(FIN)), 0);
+    let mut said = talk.say(&peer(0, 0).text(b"abc"));
+    said.extend(talk.wait(0));
+    challenge(&said, 4);
     let mut talk = Talk::<4>::open(1, OPTIONS);
     challenge(&talk.say(&peer(0, 0).text(b"a").with(FIN)), 2);
     // The acknowledgement of the endpoint's own FIN is acceptable, though nothing was read.
-    talk.endpoint.close();
+    talk.endpoint.sending.close();
     let fin = &talk.wait(0)[0];
     assert_eq!((fin.flags, fin.at(), fin.acked()), (FIN | ACK, 0, 2));
     assert_eq!((talk.say(&peer(2, 1)), talk.endpoint.is_closed()), (vec![], true));
     assert_eq!(talk.read(9), b"a");
     // A reset after both ends is no error.
     talk.say(&Packet { flags: RST, ..peer(2, 1) });
-    assert_eq!(talk.endpoint.state, State::Open);
+    assert_eq!(talk.endpoint.state, State::Established);
 }
 
 #[test]

@@ -188,6 +188,20 @@ fn losses_are_found_in_time() {
     assert_eq!(places(&talk.time_out().1), [(6_001, 1000)]);
 }
 
+/// A peer without blocks says by each third empty segment that one is lost, but not by one with its end.
+#[test]
+fn an_end_is_no_duplicate() {
+    for (flags, again) in [(0, vec![(0, 536)]), (FIN, vec![])] {
+        let mut talk = Talk::<4>::open(0x4_0000, &[]);
+        write(&mut talk, 0, 5 * 536);
+        assert_eq!(talk.wait(0).len(), 5);
+        for _time in 0..3 {
+            talk.say(&peer(if flags == FIN { 9 } else { 0 }, 0).with(flags));
+        }
+        assert_eq!(places(&talk.wait(0)), again);
+    }
+}
+
 #[test]
 fn congestion() {
     // Ten segments at first; one more for each that is acknowledged, two for two.
@@ -197,10 +211,38 @@ fn congestion() {
     assert_eq!(talk.wait(0).len(), 2);
     talk.say(&peer(0, 3001));
     assert_eq!(talk.wait(0).len(), 4);
+    // Not more than that for an acknowledgement of many.
+    talk.say(&peer(0, 8001));
+    assert_eq!(talk.wait(0).len(), 7);
+    let mut talk = self::talk(60_000);
+    assert_eq!(talk.wait(0).len(), 10);
     // After a timeout one segment, and slow start.
-    assert_eq!(places(&talk.time_out().1), [(3001, 1000)]);
-    talk.say(&peer(0, 4001));
-    assert_eq!(places(&talk.wait(0)), [(4001, 1000), (5001, 1000)]);
+    assert_eq!(places(&talk.time_out().1), [(1, 1000)]);
+    for acked in [1001, 2001, 3001, 4001, 5001] {
+        talk.say(&peer(0, acked));
+        assert_eq!(talk.wait(0).len(), 2);
+    }
+    // That ends above half of what was on the way: ten segments, and the probe.
+    talk.say(&peer(0, 6001));
+    assert_eq!(talk.wait(0).len(), 1);
+    // It is two segments at least, where less was on the way: three runs show that a byte is lost.
+    let mut talk = self::talk(0);
+    for at in 1..7 {
+        write(&mut talk, at, at + 1);
+        assert_eq!(talk.wait(0).len(), 1);
+    }
+    talk.say(&peer(0, 1).report(&[(6, 7), (4, 5), (2, 3)]));
+    assert!(places(&talk.wait(0)).contains(&(1, 1)));
+    talk.say(&peer(0, 7));
+    write(&mut talk, 7, 7_007);
+    assert_eq!(talk.wait(0).len(), 2);
+    // A buffer of less than a segment doesn't limit it.
+    let mut talk = Talk::<4>::open(100, OPTIONS);
+    for (from, to, acked) in [(0, 1, 1), (1, 2, 1), (2, 60, 1)] {
+        write(&mut talk, from, to);
+        assert_eq!(places(&talk.wait(0)), [(from as u32, to - from)]);
+        talk.say(&peer(0, acked));
+    }
     // A loss halves the window, once for all that is on the way; then it grows by a segment for each
     // window that is acknowledged, and the next loss halves it again.
     let mut talk = self::talk(60_000);
@@ -222,7 +264,7 @@ fn congestion() {
 #[test]
 fn the_own_end() {
     let mut talk = talk(1_000);
-    talk.endpoint.close();
+    talk.endpoint.sending.close();
     assert_eq!(talk.endpoint.sending.write(b"x"), 0);
     let said = talk.wait(0);
     assert_eq!(places(&said), [(1, 1000), (1001, 0)]);
@@ -236,7 +278,7 @@ fn the_own_end() {
     assert!(talk.endpoint.sending.is_done() && talk.endpoint.sending.expires_at().is_none());
     // It is sent again like text, and with the last bytes where the segment has room.
     let mut talk = self::talk(999);
-    talk.endpoint.close();
+    talk.endpoint.sending.close();
     let said = talk.wait(0);
     assert_eq!((places(&said), said[0].flags), (vec![(1, 999)], ACK | FIN));
     assert_eq!(places(&talk.time_out().1), [(1, 999)]);
@@ -245,7 +287,7 @@ fn the_own_end() {
     assert_eq!((places(&said), said[0].flags), (vec![(1000, 0)], ACK | FIN));
     // The window has no room for it.
     let mut talk = self::talk(1_000);
-    talk.endpoint.close();
+    talk.endpoint.sending.close();
     talk.say(&peer(0, 1).window(250));
     assert_eq!(places(&talk.wait(0)), [(1, 1000)]);
     talk.say(&peer(0, 1001).window(1));
@@ -256,7 +298,7 @@ fn the_own_end() {
 #[test]
 fn small_segments_wait() {
     let mut talk = talk(1);
-    talk.endpoint.options.nagle = true;
+    talk.endpoint.sending.set_nagle_enabled(true);
     // Nothing is on the way: it goes at once.
     assert_eq!(places(&talk.wait(0)), [(1, 1)]);
     write(&mut talk, 2, 1_001);
@@ -273,9 +315,9 @@ fn small_segments_wait() {
     let (_after, said) = talk.time_out();
     assert_eq!(said[0].at(), 1002);
     let mut talk = self::talk(1_500);
-    talk.endpoint.options.nagle = true;
+    talk.endpoint.sending.set_nagle_enabled(true);
     assert_eq!(places(&talk.wait(0)), [(1, 1000)]);
-    talk.endpoint.close();
+    talk.endpoint.sending.close();
     assert_eq!(places(&talk.wait(0)), [(1001, 500)]);
 }
 
@@ -310,6 +352,15 @@ fn a_peer_that_is_silent() {
         assert_eq!(places(&talk.time_out().1), [(1, 1)]);
         assert_eq!(talk.say(&peer(0, 1).window(0)), []);
     }
+    // What acknowledges something that was never sent doesn't.
+    let mut unsent = self::talk(5_000);
+    unsent.endpoint.options.gives_up = Options::default().gives_up;
+    assert_eq!(unsent.wait(0).len(), 5);
+    for _time in 0..9 {
+        unsent.wait(10_000_000);
+        assert_eq!(unsent.say(&peer(0, 5_002)).len(), 1);
+    }
+    assert_eq!(silence(&mut unsent), 10);
     // It is 60 s to the next probe, which is the first that isn't answered.
     assert_eq!(silence(&mut talk), 160);
     // Who listened does so again.
@@ -317,7 +368,14 @@ fn a_peer_that_is_silent() {
     talk.say(&syn(OPTIONS));
     talk.wait(0);
     talk.wait(180_000_000);
-    assert_eq!(talk.endpoint.state, State::Listening);
+    assert_eq!(talk.endpoint.state, State::Listen);
+    // One that has reset the connection isn't silent.
+    let mut talk = self::talk(5_000);
+    talk.endpoint.options.gives_up = Options::default().gives_up;
+    assert_eq!(talk.wait(0).len(), 5);
+    talk.say(&peer(0, 1).with(RST));
+    assert_eq!((talk.wait(0), talk.wait(100_000_000)), (vec![], vec![]));
+    assert_eq!(talk.endpoint.state, State::Reset);
     // All that was sent is answered: it waits for the peer for good, whichever end opened.
     let mut listener = Talk::<4>::open(100, OPTIONS);
     let mut opener = Talk::<4>::new(false, 100);
@@ -325,7 +383,7 @@ fn a_peer_that_is_silent() {
     opener.say(&peer(u32::MAX, 0).with(SYN));
     for talk in [&mut listener, &mut opener] {
         talk.endpoint.options.gives_up = Options::default().gives_up;
-        assert_eq!((talk.wait(999_000_000), talk.endpoint.state), (vec![], State::Open));
+        assert_eq!((talk.wait(999_000_000), talk.endpoint.state), (vec![], State::Established));
     }
 }
 
@@ -343,6 +401,17 @@ fn a_peer_that_is_asked() {
     }
     // No answer: it asks again, and then gives up.
     assert_eq!(silence(&mut talk), 10 + 100);
+    // It isn't asked while an answer is due anyway, nor once both ends have closed.
+    let mut talk = self::talk(1);
+    talk.endpoint.options.keep_alive = Some(Duration::from_secs(10));
+    talk.endpoint.sending.close();
+    let mut said = talk.wait(0);
+    for _time in 0..8 {
+        said.extend(talk.time_out().1);
+    }
+    assert!(places(&said).iter().all(|it| *it == (1, 1)));
+    talk.say(&peer(0, 3).with(FIN));
+    assert!(talk.endpoint.is_closed() && talk.endpoint.expires_at().is_none());
     // The peer's are answered.
     let mut talk = self::talk(0);
     assert_eq!(talk.say(&peer(u32::MAX, 1)).len(), 1);

@@ -14,7 +14,7 @@ fn words_that_are_taken() {
     assert_eq!(settings.most.secs(), 120);
     let options = settings.options;
     assert_eq!((options.gives_up.secs(), options.gives_up_opening.secs()), (100, 180));
-    assert!(options.keep_alive.is_none() && options.nagle);
+    assert!(options.keep_alive.is_none() && settings.nagle);
     let words = "out a b lost=10000 doubled=2 delayed=3 delay=4 seed=18446744073709551615 runs=4 \
                  capacity=1 rest=1000000 seconds=0 rate=9 queue=8 gives_up=7 keep_alive=6 nagle=0";
     let settings = parse(words).ok().unwrap();
@@ -25,7 +25,7 @@ fn words_that_are_taken() {
     assert_eq!((settings.rest.secs(), settings.most.secs()), (1, 0));
     assert_eq!((fates.rate, fates.queue, settings.options.gives_up.secs()), (9, 8, 7));
     assert_eq!(settings.options.keep_alive.map(|it| it.secs()), Some(6));
-    assert!(!settings.options.nagle);
+    assert!(!settings.nagle);
 }
 
 #[test]
