@@ -1,11 +1,10 @@
 #!/usr/bin/env python3
-"""SMOLTCP=path python3 compare/same_output.py [--keep FOLDER]
+"""SMOLTCP=path python3 compare/same_output.py
 
 Runs the program in `rust/examples/ported` over this crate and over smoltcp, and compares what they print; status 1 if
 it differs. smoltcp is a crate of the checkout's files, of which one is changed: what `rand.rs` has for its own crate
 alone is public. The program is the same but for the line of its Cargo.toml that names the crate.
 """
-import argparse
 import os
 import re
 import shutil
@@ -13,6 +12,9 @@ import subprocess
 import sys
 import tempfile
 from pathlib import Path
+
+sys.dont_write_bytecode = True
+import common
 
 CRATE = Path(__file__).resolve().parent.parent / "rust"
 PROGRAM = CRATE / "examples/ported"
@@ -74,10 +76,11 @@ def output(folder, target):
     return done.stdout.splitlines()
 
 
-def compare(folder):
+def compare(smoltcp, folder):
+    """Runs the program over both crates; ends with the first line that differs."""
     sides = {"net-base": f'smoltcp = {{ package = "net-base", path = "{CRATE}" }}'}
     sides["smoltcp"] = f'smoltcp = {{ path = "{folder / "original"}" }}'
-    smoltcp_crate(Path(os.environ["SMOLTCP"]) / "src", folder / "original")
+    smoltcp_crate(smoltcp / "src", folder / "original")
     printed = {}
     for name, line in sides.items():
         program(line, folder / f"over_{name}")
@@ -91,18 +94,6 @@ def compare(folder):
     print(f"{len(printed['smoltcp'])} lines, the same over both crates")
 
 
-def main():
-    parser = argparse.ArgumentParser(description=__doc__, formatter_class=argparse.RawDescriptionHelpFormatter)
-    parser.add_argument("--keep", type=Path, help="the folder for the crates, which stays")
-    arguments = parser.parse_args()
-    if not os.environ.get("SMOLTCP"):
-        sys.exit("SMOLTCP is not set: it names the folder of a checkout of smoltcp 0.14.0")
-    if arguments.keep:
-        compare(arguments.keep.resolve())
-    else:
-        with tempfile.TemporaryDirectory() as folder:
-            compare(Path(folder).resolve())
-
-
 if __name__ == "__main__":
-    main()
+    with tempfile.TemporaryDirectory() as temporary:
+        compare(common.need(["cargo"]), Path(temporary).resolve())

@@ -17,6 +17,7 @@ import tempfile
 from pathlib import Path
 
 sys.dont_write_bytecode = True
+import common
 import same_output
 
 MANIFEST = """[package]
@@ -58,10 +59,10 @@ def said(*words, **options):
 
 
 class Sizes:
-    def __init__(self, folder):
+    def __init__(self, smoltcp, folder):
         self.folder, self.kit = folder, os.environ.get("RUST_KIT") and Path(os.environ["RUST_KIT"]).resolve()
         sources = folder / "smoltcp"
-        same_output.smoltcp_crate(Path(os.environ["SMOLTCP"]) / "src", sources)
+        same_output.smoltcp_crate(smoltcp / "src", sources)
         manifest, root = sources / "Cargo.toml", sources / "src/lib.rs"
         manifest.write_text(manifest.read_text().replace(', features = ["std"]', ""))
         text = root.read_text().replace("extern crate alloc;\n", "")
@@ -133,7 +134,7 @@ class Sizes:
 
 def main():
     with tempfile.TemporaryDirectory() as folder:
-        sizes = Sizes(Path(folder))
+        sizes = Sizes(common.need(["cargo"]), Path(folder))
         sizes.programs("Three buffers", (EXAMPLES / "no_std/src/main.rs").read_text())
         print()
         sizes.programs("Receive path by `add` and `remove_front`", RECEIVE.read_text(), "--cfg apart")

@@ -1,12 +1,11 @@
 #!/usr/bin/env python3
-"""SMOLTCP=path python3 compare/smoltcp_tests.py [--keep FOLDER]
+"""SMOLTCP=path python3 compare/smoltcp_tests.py
 
 Runs smoltcp's own tests of `storage` and `time`, and the examples of its page on `phy`, over this crate. It copies the
 crate, appends to each of these files the test module of smoltcp's file of that name, makes the page's examples those of
 a module, and runs `cargo test` there. It prints what had to be replaced or added for them to compile, and how many
 passed; status 1 if one fails or they are not as many as the checkout has.
 """
-import argparse
 import os
 import re
 import shutil
@@ -14,6 +13,9 @@ import subprocess
 import sys
 import tempfile
 from pathlib import Path
+
+sys.dont_write_bytecode = True
+import common
 
 CRATE = Path(__file__).resolve().parent.parent / "rust"
 OVERLAY = CRATE.parent / "overlay"
@@ -79,15 +81,10 @@ def replaced(text, pattern, by, what, where, count=1):
 
 def show_fields(proved):
     """Shows the fields that the tests name, that of a packet queue's slots under smoltcp's name."""
-    for path, pairs in {
-        "net_ring/ring_buffer.rs": [
-            ("    storage: S,\n    head: RingHead,", "    pub(crate) storage: S,\n    pub(crate) head: RingHead,")],
-        "net_packets/packet_buffer.rs": [("    head: PacketsHead,", "    pub(crate) head: PacketsHead,")],
-    }.items():
-        text = (proved / path).read_text()
-        for old, new in pairs:
-            assert text.count(old) == 1, (path, old)
-            text = text.replace(old, new)
+    for path, field in [("net_ring/ring_buffer.rs", "storage: S,"), ("net_ring/ring_buffer.rs", "head: RingHead,"),
+                        ("net_packets/packet_buffer.rs", "head: PacketsHead,")]:
+        text, found = re.subn(rf"^    (?={field}$)", "    pub(crate) ", (proved / path).read_text(), flags=re.M)
+        assert found == 1, (path, field)
         (proved / path).write_text(text)
     for path in [*(proved / "net_packets").rglob("*.rs"), proved.parent / "extremes.rs"]:
         text = re.sub(r"\bhead(\s*)\.slots\b", r"head\1.metadata_ring", path.read_text())
@@ -160,14 +157,9 @@ def run(crate, what, count, words):
 
 
 def main():
-    parser = argparse.ArgumentParser(description=__doc__, formatter_class=argparse.RawDescriptionHelpFormatter)
-    parser.add_argument("--keep", type=Path, help="the folder for the copy, which stays")
-    arguments = parser.parse_args()
-    if not os.environ.get("SMOLTCP"):
-        sys.exit("SMOLTCP is not set: it names the folder of a checkout of smoltcp 0.14.0")
-    sources = Path(os.environ["SMOLTCP"]) / "src"
+    sources = common.need(["cargo"]) / "src"
     with tempfile.TemporaryDirectory() as folder:
-        crate = arguments.keep or Path(folder) / "net-base"
+        crate = Path(folder) / "net-base"
         count = prepare(sources, crate)
         examples = add_phy_page(sources, crate)
         run(crate, "tests", count, ["--lib", "--", "::test::"])
