@@ -5,15 +5,15 @@ use Rattle.std.proofs.Math.Seq.{drop-cons}
 use Rattle.std.proofs.lemmas.List.{drop_all, get_or-take, length-take-le, nil_from_length}
 use Rattle.std.proofs.lemmas.Bool.{cases_lt, lt-ltb, le-ltb, false≢true}
 use Rattle.std.proofs.lemmas.Bool.Decides.{nat_tests}
-use Rattle.std.specs.Prelude.{Some, None, IsTrue}
+use Rattle.std.specs.Prelude.{Some, None}
 use Rattle.std.specs.Int.{from_bool}
 use Rattle.net_assembler.specs.declared.assembler.head.AssemblerHead.{AssemblerHead}
-use Rattle.net_assembler.specs.Positions.{Positions, EndsHole, IsEnd, contains, first_missing, maximal_runs}
+use Rattle.net_assembler.specs.Positions.{EndsHole, IsEnd, contains, first_missing, maximal_runs}
 use Rattle.net_assembler.specs.Positions.{present_count, runs_shifted_up}
 use Rattle.net_assembler.specs.RunLists.{AreRuns, HasSoundRuns, IsRising, SplitsRuns, end_at, runs_of, set_of}
 use Rattle.net_assembler.specs.RunLists.{set_of_runs, start_at, used_runs}
 use Rattle.net_assembler.specs.Width.{shortfall}
-use Rattle.net_assembler.proofs.Runs.{in_runs, in_first, past_first, not_in_runs, rising_from, contains-set_of_runs}
+use Rattle.net_assembler.proofs.Runs.{in_runs, not_in_runs, rising_from, contains-set_of_runs}
 use Rattle.net_assembler.proofs.Joins.{apart, at_run, in_run_at, not_before, rest_rises, starts_rise}
 use Rattle.net_assembler.proofs.Sets.{either, first_missing-is}
 use Rattle.net_assembler.proofs.SoundHeads.{are_runs, end_of, length-runs_of, length-used_runs, maximal_runs-set_of}

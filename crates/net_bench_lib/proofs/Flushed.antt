@@ -7,7 +7,7 @@ use Rattle.net_bench_lib.specs.Text.{lines_of}
 use Rattle.net_bench_lib.specs.Transcript.{Transcript, ErrorOfInput}
 use Rattle.net_bench_lib.specs.declared.error.BenchError.{BenchError}
 use Rattle.net_bench_lib.specs.declared.error.BenchError.TheVariants.{ReadFailed, WriteFailed}
-use Rattle.net_bench_lib.proofs.KnownBytes.{AppendsPrefix-all, AppendsPrefix-kept}
+use Rattle.net_bench_lib.proofs.KnownBytes.{AppendsPrefix-kept}
 
 -- an input without a fault, of which all was written
 abbrev pub Ran : Transcript → Option (List ℕ) → Option (List ℕ) → Option (List ℕ) → Type 0

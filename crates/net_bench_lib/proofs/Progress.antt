@@ -18,11 +18,9 @@ use Rattle.net_bench_lib.specs.Text.{parts_of, lines_of, ended_lines, next_numbe
 use Rattle.net_bench_lib.specs.Transcript.{Rules, by_step, line_step, text_of, replies_of, first_fault, Transcript}
 use Rattle.net_bench_lib.specs.Transcript.{transcript, ErrorOfLines, ErrorOfInput}
 use Rattle.net_bench_lib.specs.Progress.{HasNoFeed, EndsLines, Advances, RunsLines}
-use Rattle.net_bench_lib.specs.Refusal.{IsRefusalOf, refusal_at}
 use Rattle.net_bench_lib.specs.declared.error.BenchError.{BenchError}
 use Rattle.net_bench_lib.specs.declared.error.BenchError.TheVariants.{LineTooLong, OutOfMemory, ReadFailed, WriteFailed}
 use Rattle.net_bench_lib.specs.declared.fault.Fault.TheVariants as faults
-use Rattle.net_bench_lib.specs.declared.fault.Refusal.{Refusal}
 use Rattle.net_bench_lib.specs.declared.fault.Refusal.TheVariants as refusals
 use Rattle.net_bench_lib.specs.declared.limits.TheConstants.{MAX_LINE}
 use Rattle.net_bench_lib.specs.Writer.{AppendsPrefix}

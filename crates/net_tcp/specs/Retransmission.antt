@@ -20,7 +20,7 @@
 --     Event, Connection, after_event, after_events      what happens to a connection, and what that leaves
 --     arms c e      whether that sets the moment at which the timeout passes
 use Rattle.std.specs.Prelude.{◌≡◌, ℕ, ℤ, ◌+◌, ◌-◌, ◌*◌, ◌/◌, ◌^◌, ◌<◌, ◌≤◌, min, max, Option, Some, None, is_none}
-use Rattle.std.specs.Prelude.{is_some, Bool, true, false, ◌&&◌, ◌||◌, nat_lt, nat_le, int_le, int_lt, IsTrue, IsFalse, if◌then◌else◌, List}
+use Rattle.std.specs.Prelude.{is_some, Bool, true, false, ◌&&◌, ◌||◌, nat_lt, nat_le, int_le, int_lt, IsTrue, if◌then◌else◌, List}
 use Rattle.std.specs.Prelude.{[], ◌∷◌, filter, map, pos as whole}
 use Rattle.net_base.specs.Time.{elapsed, moment_after}
 use Rattle.net_tcp.specs.Estimate.{Estimate}

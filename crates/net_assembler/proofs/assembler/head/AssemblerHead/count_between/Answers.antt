@@ -1,6 +1,5 @@
-use Rattle.std.proofs.Common.{◌≡◌, ◌∙◌, ◌-◌, ◌≤◌, arith, drop, refl}
-use Rattle.net_assembler.specs.Positions.{present_count}
-use Rattle.net_assembler.specs.RunLists.{set_of, used_runs}
+use Rattle.std.proofs.Common.{◌∙◌, ◌-◌, ◌≤◌, arith, refl}
+use Rattle.net_assembler.specs.RunLists.{used_runs}
 use Rattle.net_assembler.proofs.Searches.{before_split, few_split, next_overlap, no_overlap, overlap, overlap_set}
 use Rattle.net_assembler.proofs.Searches.{overlap_usize}
 use Rattle.net_assembler.proofs.Searches.{skipped_overlap}

@@ -1,4 +1,4 @@
-use Rattle.std.proofs.Common.{◌∙◌, arith}
+use Rattle.std.proofs.Common.{◌∙◌}
 use Rattle.net_assembler.proofs.Searches.{missing_is}
 use Rattle.net_assembler.proofs.assembler.head.AssemblerHead.first_missing.Goals as goal
 
