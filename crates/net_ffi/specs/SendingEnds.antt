@@ -4,12 +4,11 @@
 --     recovery_fields r, begun_at first timeout b      those of C that represent a recovery, and a new end
 --     IsSoundSending c e      what is true of an end over a storage of c bytes
 --     AreBlocks bs      an acknowledgement has room for as many
---     said_of r, expired_of r, outgoing_of r      the results of the calls, of what is returned in C
+--     taken_fields it, ended_fields it, outgoing_fields it      what is returned in C, of the results of the calls
 --     Hears, Looks, Chooses      what the calls return and leave
 use Rattle.std.specs.Prelude.{◌≡◌, ◌↔◌, ℕ, ℤ, ◌+◌, ◌-◌, ◌<◌, ◌≤◌, ◌==◌, max, Option, Some, None, is_some}
 use Rattle.std.specs.Prelude.{IfSome, IfNone, Bool, not, nat_eq, nat_lt, if◌then◌else◌, IsTrue, IsFalse, List, length}
-use Rattle.std.specs.Prelude.{unwrap_or}
-use Rattle.std.specs.Prelude.{replicate, false}
+use Rattle.std.specs.Prelude.{unwrap_or, replicate, false}
 use Rattle.std.specs.Option.{option_or}
 use Rattle.net_assembler.specs.Positions.{contains}
 use Rattle.net_receiver.specs.FiniteSender.{finite_sender_of, IsSoundFiniteSender, accepts}
@@ -20,12 +19,11 @@ use Rattle.net_recovery.specs.declared.loss_recovery.LossRecovery.{LossRecovery 
 use Rattle.net_tcp.specs.Retransmission.{has_ended, has_expired, new_timer}
 use Rattle.net_tcp.specs.Windows.{no_window}
 use Rattle.net_ends.specs.Acknowledgements.{reported_by, numbers_of, unsent_of, Recovers, expiry_of, after_wait}
-use Rattle.net_ends.specs.Acknowledgements.{is_sought}
-use Rattle.net_ends.specs.Acknowledgements.{after_segment}
+use Rattle.net_ends.specs.Acknowledgements.{is_sought, after_segment}
 use Rattle.net_ends.specs.Ends.{End, first, end, is_acceptable, new_of, reports_of, begins_of, kept, is_overdue}
-use Rattle.net_ends.specs.Ends.{has_timed_out}
-use Rattle.net_ends.specs.Ends.{timed_out, after_event, Heard, Looked, Sent, Rested, asks, hurries, is_worth, may_send}
-use Rattle.net_ends.specs.Ends.{AreHoles, open_to, found, due_of, range_of, IsProbed, probe_of, is_probe}
+use Rattle.net_ends.specs.Ends.{has_timed_out, timed_out, after_event, Heard, Looked, Sent, Rested, asks, hurries}
+use Rattle.net_ends.specs.Ends.{AreHoles, open_to, found, due_of, range_of, IsProbed, probe_of, is_probe, is_worth}
+use Rattle.net_ends.specs.Ends.{may_send}
 use Rattle.net_ends.specs.declared.sending_end.Acknowledged.{Acknowledged}
 use Rattle.net_ends.specs.declared.sending_end.Acknowledged.TheVariants.{Refused, Old, Taken}
 use Rattle.net_ends.specs.declared.sending_end.Expired.{Expired}
