@@ -59,8 +59,8 @@ ALONE = re.compile('|'.join([
     *(f'{name.replace("/", "::")}::.*' for names in given.UNERASED.values() for name in names if name != given.SCHEDULE),
     *(rf'{file.replace("/", "::")}::(?:\w+::)?{name}: not compiled' for file, names in given.UNCALLED.items() for name in names)]))
 # What isn't understood: a text of a number with a width; and of the program what calls a list or a text by hand, takes a part of an
-# array, lists texts, or drops a value of several variants; and of a receiving end an array of values, and a binding beside a guard.
-LEFT = re.compile('|'.join(['net_ends::receiving_end::(?:in_front: size of None|ReceivingEndOver::reported: returned: .*)',
+# array, lists texts, or drops a value of several variants; and of a receiving end a binding beside a guard.
+LEFT = re.compile('|'.join(['net_ends::receiving_end::ReceivingEndOver::reported: returned: .*',
     r'net_base::time::(?:duration::Duration|instant::Instant)::text: a width',
     r'net_bench_lib::program::tell: proved: Write\.write_fmt; .*', r'net_bench_lib::stream::fits: proved: Vec\.len; .*',
     r'net_bench_lib::stream::StreamSession::(?:command|next_schedule): compiled: drops .*', 'net_bench_lib::bench::run_lines: a part of .*',

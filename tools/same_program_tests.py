@@ -44,7 +44,7 @@ MEAN_ONE = [
     ('let c = go(a); go(b) + c', 'let d = go(a); let e = go(b); e + d'), ('s.m = a; s.n = b; s.m', '(*s).m = a; s.n = b; let c = s.m; c'),
     ('let mut c = 0; while c < a { go(c); c += 1; } c', 'let mut c = 0; loop { if !(c < a) { break; } let d = c; go(d); c = d + 1; } c'),
     ('for c in 0..a { go(c); } 0', 'for k in 0..a { let d = k; go(d); } 0'), ('match a { 0 => go(b), 1 => 7, _ => 8 }', 'if a == 0 { go(b) } else if a == 1 { 7 } else { 8 }'),
-    ('let mut c = (a, b); c.1 = 3; c.0 + c.1', 'let c = (a, 3); c.0 + c.1'), ('let c = &mut s.m; *c = a; 0', 's.m = a; 0'),
+    ('let mut c = (a, b); c.1 = 3; c.0 + c.1', 'let c = (a, 3); c.0 + c.1'), ('let c = [a, b]; c[..1].len() as u64', '1'), ('let c = &mut s.m; *c = a; 0', 's.m = a; 0'),
     ('let c = held(a); drop(c); go(b)', '{ let c = held(a); } go(b)'), ('let c = held(a); let d = held(b); 0', 'let d = held(a); let c = held(b); drop(d); 0'),
     ('let c = Some(held(a)); if let Some(d) = c { keep(d); } 0', 'if let Some(d) = Some(held(a)) { keep(d); } 0'), ('s.h = held(a); 0', 'let c = held(a); s.h = c; 0'),
 ]
@@ -56,7 +56,7 @@ MEAN_TWO = [
     ('let mut c = 0; while c < a { c += 1; go(c); } c', 'let mut c = 0; while c < a { go(c); c += 1; } c'),
     ('for c in 0..a { go(c); } 0', 'for c in 0..b { go(c); } 0'), ('for c in 0..a { go(c); } 0', 'for c in 1..a { go(c); } 0'), ('for c in xs.iter_mut() { change_one(c); } 0', '0'),
     ('for c in 0..a { go(c); if c > b { break; } } 0', 'for c in 0..a { go(c); } 0'), ('loop { if go(a) > b { return 1; } }', 'loop { if go(a) > b { return 2; } }'),
-    ('xs[0] = 1; 0', 'xs[1] = 1; 0'), ('let ys = &xs[1..]; ys.len() as u64', 'let ys = &xs[..1]; ys.len() as u64'), ('xs[a as usize] = 1; 0', 'xs[b as usize] = 1; 0'),
+    ('let c = [a, b]; c[..1].len() as u64', 'let c = [a, b]; c[..2].len() as u64'), ('xs[0] = 1; 0', 'xs[1] = 1; 0'), ('let ys = &xs[1..]; ys.len() as u64', 'let ys = &xs[..1]; ys.len() as u64'), ('xs[a as usize] = 1; 0', 'xs[b as usize] = 1; 0'),
     ('a as u8 as u64', 'a as u16 as u64'), ('(a as i64 >> 1) as u64', 'a >> 1'), ('!a', '!(a as u8) as u64'), ('(!0u8) as u64', '1'), ('((a as u8) << 3) as u64', '((a as u16) << 3) as u64'), ('(200u8 << 1) as u64', '400'),
     ('(a as u8).wrapping_add(1) as u64', '(a as u16).wrapping_add(1) as u8 as u64'), ('u64::MAX', 'u64::MIN'),
     ('match a { 0 => 1, 1 => 2, _ => 3 }', 'match a { 0 => 2, 1 => 1, _ => 3 }'), ('match a { 0 => 1, _ => 3 }', 'match a { 0 | 1 => 1, _ => 3 }'),
@@ -112,6 +112,9 @@ PLANTS = [
     ('net_assembler/assembler.rs', 'write!(f, "{}", self.data_size)', 'write!(f, "{}", self.hole_size)', 'ContigDisplay::fmt'),
     ('net_ffi/ring.rs', 'place.length > capacity', 'place.length >= capacity', 'net_base_ring_dequeue_one'),
     ('net_ffi/heads/ring.rs', 'place.enqueue(capacity, count);', 'place.dequeue(capacity, count);', 'net_base_ring_enqueue'),
+    ('net_ffi/sending_end.rs', '&pairs[..blocks.len()]', '&pairs[..blocks.len() / 2]', 'net_base_sending_end_acknowledged'),
+    ('net_ends/receiving_end.rs', 'blocks[0], blocks[1], blocks[2]', 'blocks[0], blocks[2], blocks[1]', 'in_front'),
+    ('net_ends/send_buffer.rs', 'self.scoreboard.reset_at(first);', 'self.scoreboard.reset_at(0);', 'SendBufferOver::reset_at'),
     ('net_bench_lib/text.rs', '.wrapping_mul(9)', '.wrapping_mul(8)', 'digit'),
     # Functions that Rust has alone.
     ('net_ring/managed.rs', 'impl<T> Storage<T> for Vec<T> {', 'trait Other { fn len(&self) -> usize; }\n'

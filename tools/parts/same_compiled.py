@@ -426,11 +426,13 @@ class CompiledSide(Side):
 
     @staticmethod
     def part(head, whole, ends):
-        """A slice of a range."""
+        """A slice of a range; of an array that is a local, what is before its end."""
         kind = re.search(r'<core::ops::(Range\w*)<', head)[1]
-        if ends[0] != 'agg' or whole[0] == 'ref' or 'core::vec::Vec' in head.split(' as ')[0] or kind not in ('Range', 'RangeFrom', 'RangeTo'):
+        is_local = whole[0] == 'ref' and kind == 'RangeTo' and re.match(r'<\[.*; \w+\] as ', head)
+        is_known = kind in ('Range', 'RangeFrom', 'RangeTo') and 'core::vec::Vec' not in head.split(' as ')[0]
+        if ends[0] != 'agg' or not is_known or whole[0] == 'ref' and not is_local:
             raise Unknown('a part of what is no slice, or a range that is made elsewhere')
         start = ends[2] if kind != 'RangeTo' else None
         end = length(whole) if kind == 'RangeFrom' else ends[-1]
-        begin = ('sp', whole) if start is None else pointer(whole, (('i', start),))
+        begin = whole if is_local else ('sp', whole) if start is None else pointer(whole, (('i', start),))
         return sliced(begin, end if start is None else operation('-', end, start))

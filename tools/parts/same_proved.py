@@ -21,6 +21,11 @@ def is_own(name):
     return name.split('::')[0] in (*given.CRATES, *given.PROGRAM)
 
 
+def plain(name):
+    """A function's name without what the type of its impl is made of."""
+    return re.sub(r'Over\+\w+Over[\w+]*(?=::)', 'Over', name.replace('fn::', ''))
+
+
 def bits(number):
     return 64 if number == 'size' else int(number)
 
@@ -38,8 +43,8 @@ class Proved:
         for name in self.all:                      # a trait's methods, as it declares them
             if name.endswith('+decl'):
                 self.order.setdefault(name.rpartition('::')[0], []).append(tail(name).removesuffix('+decl'))
-        kept = [name for name in self.all if '+' not in name.removesuffix('+H::new')]
-        self.functions = {name.replace('fn::', ''): name for name in kept}
+        kept = [name for name in self.all if '+' not in plain(name).removesuffix('+H::new')]
+        self.functions = {plain(name): name for name in kept}
         assert len(kept) == len(self.functions), 'two functions of a name'
         self.trivial, before = {'mem.drop', 'Vec.drop'}, None
         while before != len(self.trivial):         # drops that only drop
@@ -70,7 +75,7 @@ class Proved:
             bound = function['generics']['bounds'][place['Given']] if 'Given' in place else {'of': '?'}
             order = self.order.get(bound['of'], [])
             return f'?:{tail(bound["of"])}.{order[number] if number < len(order) else number}'
-        name = head['Fn'][0].replace('fn::', '')
+        name = plain(head['Fn'][0])
         if tail(name) == 'clone' and not is_own(name):
             return f'{name}, which can be refused'
         if name in self.impls or is_own(name):
@@ -214,13 +219,17 @@ class ProvedSide(Side):
             return int(kind == 'Bool'), 1
         if self.of(kind, 'Int'):
             return kind['Int'] // 8, kind['Int'] // 8
-        fields = self.shape(kind).get('Fields') if self.of(kind, 'Named') else None
-        if fields is None:
+        shape = self.shape(kind) if self.of(kind, 'Named') else {}
+        of_each = [shape['Fields']] if 'Fields' in shape else [[{'Int': 8}, *fields] for fields in shape.get('Variants', ())]
+        if not of_each:
             raise Unknown(f'size of {str(kind)[:40]}')
-        total, most = 0, 1
-        for size, align in map(self.size, fields):
-            total, most = -(-total // align) * align + size, max(most, align)
-        return -(-total // most) * most, most
+        most, longest = 1, 0
+        for fields in of_each:
+            total = 0
+            for size, align in map(self.size, fields):
+                total, most = -(-total // align) * align + size, max(most, align)
+            longest = max(longest, total)
+        return -(-longest // most) * most, most
 
     def needs_drop(self, kind):
         """Whether a value of a type has something to drop: of a type parameter, or memory."""
@@ -280,6 +289,8 @@ class ProvedSide(Side):
 
     def offset(self, base, by, of):
         """A pointer to an element: of bytes, to an index."""
+        if base[0] == 'ref' and not base[3]:       # of an array that is a local
+            of = of or (self.of(self.locals[base[2]], 'Array') or [None])[0]
         if by[:2] in (('op', '*'),):
             index = by[2] if by[3][0] in ('int', 'size') else by[3] if by[2][0] in ('int', 'size') else None
         elif by == ('size',) or by == ('int', 0):
