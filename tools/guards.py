@@ -8,18 +8,16 @@
 A function that can be called from outside and requires something begins with guards, `prove!(..)`, and is marked
 `#[track_caller]`, but for a list. It has a checked call, with its parameters and without preconditions: that returns if
 what a guard tests is false, and then calls the function. So it is proved only if the guards imply the preconditions; of
-a parameter of type `usize` it knows that it is one. They are a crate over copies of the libraries, as `rt check` or `rt
-lib` of a crate above them left them: otherwise those are proved first.
+a parameter of type `usize` it knows that it is one. They are a crate over the libraries that `rt ci` left proved.
 """
 import re
-import shutil
-import subprocess
 import sys
 import tempfile
 from pathlib import Path
 
 sys.dont_write_bytecode = True
 import erase
+import libraries
 from parts import erase_list as given
 
 TOP = '''//! Checked calls of the functions with guards.
@@ -161,19 +159,11 @@ def checked(title, header, signature, tests):
 
 def check(text):
     """What the check of this crate says, and its status."""
-    rows = [row for row in (erase.REPOSITORY / 'crates.txt').read_text().split('\n') if row.split(':')[0] in given.CRATES]
-    names = [row.split(':')[0] for row in rows]
     with tempfile.TemporaryDirectory() as folder:
-        crates = Path(folder) / 'crates'
-        for part in (Path(name) / part for name in names for part in ('src', 'specs', 'proofs', 'out/rlib')):
-            if (erase.REPOSITORY / 'crates' / part).is_dir():
-                shutil.copytree(erase.REPOSITORY / 'crates' / part, crates / part)
-        (crates.parent / 'crates.txt').write_text('\n'.join([*rows, f'checked: {" ".join(names)}', '']))
-        (crates / 'checked/src').mkdir(parents=True)
-        (crates / 'checked/src/lib.rt').write_text(text)
-        ran = subprocess.run(['rt', 'check'], cwd=crates / 'checked', text=True,
-                             stdout=subprocess.PIPE, stderr=subprocess.STDOUT)
-        return ran.stdout, ran.returncode
+        source = Path(folder, 'src/lib.rt')
+        source.parent.mkdir()
+        source.write_text(text)
+        return libraries.over([crate for crate in given.CRATES if crate != given.EXPORTS], 'check', 'checked', folder, Path(folder, 'kept'))
 
 
 def main(arguments):

@@ -21,19 +21,19 @@ if a function differs or isn't understood, 2 if there is no compiler.
 """
 import json
 import re
-import subprocess
 import sys
 import tempfile
 from pathlib import Path
 
 sys.dont_write_bytecode = True
+import libraries
 import widths
 from parts import erase_list as given
 from parts.same_compiled import NUMBERS, Compiled, CompiledSide
 from parts.same_proved import Proved, ProvedSide
 from parts.same_terms import FALSE, UNIT, Differ, Unknown, any_part, discriminant, holds_ref, is_test, mentions, met, negated, operation, shown
 
-REPOSITORY, SCHEDULE = widths.REPOSITORY, given.SCHEDULE.replace('/', '::')
+REPOSITORY, SCHEDULE, PROGRAM = widths.REPOSITORY, given.SCHEDULE.replace('/', '::'), 'toolchain/mir.json'
 # Rustc's word, and the one here. `from_micros` and its like are by hand.
 SAME = [(re.compile(pattern), text) for pattern, text in [
     (r'net_base::time::instant::Instant::(from_(?:micros|millis|secs))', r'time.\1'),
@@ -335,24 +335,9 @@ def compared(proved, rust, within):
     return found['same'], found['differ'], found['unknown']
 
 
-def exports(folder):
-    """Where the prover's program of the exports for C is. A static library keeps none, so they are built as another library too,
-    over those that `rt ci` left, which says that they are proved; what is checked stays in the folder for a next time."""
-    kit = Path(subprocess.run(['rt', 'doc'], check=True, capture_output=True, text=True).stdout.strip()).parent
-    used, made = re.search(rf'^{given.EXPORTS} staticlib: (.*)', (REPOSITORY / 'crates.txt').read_text(), re.M)[1].split(), folder / f'{given.EXPORTS}.rlib'
-    rlibs = {'std': kit / 'rlibs/std.rlib'} | {crate: kept(crate).parent.parent for crate in used}
-    words = [word for crate, rlib in rlibs.items() for word in ('--extern', f'{crate}={rlib}', '-L', f'dependency={rlib.parent}')]
-    logic = ['--antt-project', kit / 'rattle/logic/antt-project.json', '--logic-built', kit / 'logic_built', '--incremental', folder / 'incremental']
-    ran = subprocess.run(['rattle', 'build', '--crate-name', given.EXPORTS, 'src/lib.rt', *words, *logic, '--jobs', '2', '-o', made],
-                         cwd=REPOSITORY / 'crates' / given.EXPORTS, stdout=subprocess.PIPE, stderr=subprocess.STDOUT, text=True)
-    if ran.returncode:
-        sys.exit(f'same_program: {given.EXPORTS} is not built as a library:\n{ran.stdout[-3000:]}')
-    return made / 'toolchain/mir.json'
-
-
 def kept(crate):
     """Where the prover keeps a library's program."""
-    return REPOSITORY / f'crates/{crate}/out/rlib/{crate}.rlib/toolchain/mir.json'
+    return libraries.rlib(crate) / PROGRAM
 
 
 def compiled(root, kit, target):
@@ -374,7 +359,9 @@ def programs(arguments, temporary):
         sys.exit(f'{Path(sys.argv[0]).stem}: not compared: no proved library of {", ".join(missing)}: rt ci')
     kit = widths.kit_of(folders, temporary)
     library, example = compiled(REPOSITORY / 'rust', kit, temporary / 'target')
-    mirs = {crate: kept(crate) for crate in (*given.CRATES, *given.PROGRAM)} | {given.EXPORTS: exports(folder)}
+    made = folder / f'{given.EXPORTS}.rlib'
+    libraries.build_exports(folder, made)
+    mirs = {crate: kept(crate) for crate in (*given.CRATES, *given.PROGRAM)} | {given.EXPORTS: made / PROGRAM}
     of_example = [(within, example) for within in (SCHEDULE, *given.PROGRAM)]
     return {crate: Proved(json.loads(mir.read_text())) for crate, mir in mirs.items()}, [*((crate, library) for crate in given.CRATES), *of_example], kit
 
