@@ -1,6 +1,6 @@
 -- What a search finds in rising runs: the end, the next missing range, and how many positions of a range are present.
 use Rattle.std.proofs.Common.{◌≡◌, ℕ, zero, suc, ◌+◌, ◌-◌, ◌<◌, ◌≤◌, ◌^◌, max, min, true, false, List, [], ◌∷◌, length}
-use Rattle.std.proofs.Common.{Bool, drop, take, get_or, nat_lt, refl, sym, ap, subst, ◌∙◌, arith}
+use Rattle.std.proofs.Common.{drop, take, get_or, nat_lt, refl, sym, ap, subst, ◌∙◌, arith}
 use Rattle.std.proofs.Math.Seq.{drop-cons}
 use Rattle.std.proofs.lemmas.List.{drop_all, get_or-take, length-take-le, nil_from_length}
 use Rattle.std.proofs.lemmas.Bool.{cases_lt, lt-ltb, le-ltb, false≢true}
@@ -135,25 +135,6 @@ overlap_one low (r ∷ rs) p e h l =
     let some = h.1 in
     let alone : p < r.1 → in_runs rs p ≡ false = λ b. not_in_runs (r.1 + 1) rs p h.2 (omega (arith, b)) in
     grind (arith, nat_tests)
-
-one_or_none : (b : Bool) → from_bool b ≤ 1
-one_or_none true = omega arith
-one_or_none false = omega arith
-
-few_of : (rs : List (ℕ × ℕ)) (n p : ℕ) → AreRuns rs → overlap rs p (p + n) ≤ n
-few_of rs zero p h = let none = overlap_none rs p (p + 0) (omega arith) in omega (arith, none)
-few_of rs (suc n) p h =
-    let next : p + suc n ≡ p + 1 + n = omega arith in
-    let one = overlap_one 0 rs p (p + suc n) h (omega arith) in
-    let rest = few_of rs n (p + 1) h in
-    omega (arith, one, ap (overlap rs (p + 1)) next, rest, one_or_none (in_runs rs p))
-
-pub overlap_few : (rs : List (ℕ × ℕ)) (p e : ℕ) → AreRuns rs → overlap rs p e ≤ e - p
-overlap_few rs p e h = either (cases_lt p e)
-    (λ l.
-    let up : p + (e - p) ≡ e = omega (arith, l) in
-    omega (arith, ap (overlap rs p) up, few_of rs (e - p) p h))
-    (λ l. omega (arith, overlap_none rs p e l))
 
 present_of : (rs : List (ℕ × ℕ)) (n p : ℕ) → AreRuns rs → overlap rs p (p + n) ≡ present_count (set_of_runs rs) p n
 present_of rs zero p h = overlap_none rs p (p + 0) (omega arith)

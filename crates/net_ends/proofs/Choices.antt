@@ -6,7 +6,7 @@ use Rattle.std.specs.Prelude.{if◌then◌else◌}
 use Rattle.std.specs.Option.{option_or}
 use Rattle.std.proofs.lemmas.Bool.Decides.{nat_tests}
 use Rattle.net_recovery.specs.LossRecovery.{is_active}
-use Rattle.net_ends.specs.Ends.{End, asks, end, first, hurries, is_due, is_shut, is_worth, limit, open_to}
+use Rattle.net_ends.specs.Ends.{End, asks, end, first, hurries, is_due, is_worth, limit, open_to}
 use Rattle.net_ends.specs.Ends.{AreHoles, IsProbed, due_of, found, is_probe, probe_of}
 
 -- ---- the limit
@@ -27,22 +27,10 @@ within_limit e at (Some r) none is within =
     (within.0, omega (arith, bound, is, within.1), within.2)
 
 -- ---- what isn't held back
-left_of : (a b : Bool) → (a && b) ≡ true → a ≡ true
-left_of true b is = refl
-left_of false b is = cc
-
-either : (a b c d : Bool) → a ≡ true → (((a || b) || c) || d) ≡ true
-either true b c d is = refl
-either false b c d is = cc
-
 or_right : (a b c d : Bool) → b ≡ true → (((a || b) || c) || d) ≡ true
 or_right true b c d is = refl
 or_right false true c d is = refl
 or_right false false c d is = cc
-
-pub asks_due : (e : End) (from to : ℕ) → IsTrue (asks e) → IsTrue (is_due e from to)
-asks_due e from to is =
-    either e.probes e.overdue (nat_lt from e.sender.sent) (is_worth e from to) (left_of e.probes (is_shut e) is)
 
 pub overdue_due : (e : End) (o : Option (ℕ × ℕ)) → IsTrue e.overdue → IfSome o (λ r. IsTrue (is_due e r.0 r.1))
 overdue_due e None is = tt

@@ -1,10 +1,9 @@
 -- What is accepted or may be sent changes an end, and nothing else does.
-use Rattle.std.proofs.Common.{◌≡◌, ℕ, ℤ, ◌+◌, ◌<◌, ◌≤◌, false, true, arith, rules, ap, refl, subst, sym, inl, inr, ◌∙◌}
-use Rattle.std.specs.Prelude.{Bool, IsTrue, IsFalse, IfSome, Option, Some, None, is_some, is_none, min, not, ◌||◌, ◌&&◌}
+use Rattle.std.proofs.Common.{◌≡◌, ℕ, ℤ, ◌<◌, ◌≤◌, false, true, arith, rules, ap, refl, subst, sym, inl, inr, ◌∙◌}
+use Rattle.std.specs.Prelude.{Bool, IsTrue, IsFalse, Option, Some, None, is_some, is_none, not, ◌||◌, ◌&&◌}
 use Rattle.std.specs.Prelude.{nat_lt, nat_le, ◌⊎◌, if◌then◌else◌}
 use Rattle.net_tcp.specs.declared.retransmission_timer.Expiry.{Expiry}
 use Rattle.net_tcp.specs.declared.retransmission_timer.Expiry.TheVariants.{Probe, Timeout}
-use Rattle.net_ends.specs.Ends.{asks, end}
 use Rattle.std.proofs.lemmas.Bool.Decides.{nat_tests}
 use Rattle.net_receiver.specs.FiniteSender.{accepts, sender_after_command, Marks, Acknowledges}
 use Rattle.net_recovery.specs.declared.loss_recovery.LossRecovery.{LossRecovery}
@@ -77,23 +76,6 @@ may_is e from to some within low due = may_by from to (limit e) (first e) (is_du
 pub worth_is : (e : End) (from to : ℕ) → IsTrue (is_due e from to) → IsFalse (hurries e) → e.sender.sent ≤ from →
     IsTrue (is_worth e from to)
 worth_is e from to due calm new = worth_by (hurries e) (is_worth e from to) from e.sender.sent due calm new
-
-limit_is : (b : Bool) (x y : ℕ) → b ≡ false → (if b then x else y) ≡ y
-limit_is false x y is = refl
-limit_is true x y is = cc
-
--- what the buffer sends next is within the end's limit
-pub within_is : (e f : End) (o : Option (ℕ × ℕ)) (edge top most : ℕ) → f ≡ e → IsFalse (asks e) →
-    edge ≡ min f.peer.edge top →
-    top ≡ end f → IfSome o (λ r. (r.0 < r.1) × (r.1 ≤ edge) × (r.1 ≤ r.0 + most)) → IfSome o (λ r. first f ≤ r.0) →
-    IfSome o (λ r. (r.0 < r.1) × (r.1 ≤ limit e) × (first e ≤ r.0))
-within_is e f None edge top most same none at upto within after = tt
-within_is e f (Some r) edge top most same none at upto within after =
-    let bound : limit e ≡ min e.peer.edge (end e) = limit_is (asks e) (first e + 1) (min e.peer.edge (end e)) none in
-    let edges = ap (λ (x : End). x.peer.edge) same in
-    let ends = ap (λ (x : End). end x) same in
-    let firsts = ap (λ (x : End). first x) same in
-    (within.0, omega (arith, bound, edges, ends, at, upto, within.1), omega (arith, firsts, after))
 
 -- the timer has expired where it says what that means
 pub expires_is : (a b some : Bool) (r : Option Expiry) →

@@ -2,7 +2,7 @@
 use Rattle.std.proofs.Common.{IsErr, max, ◌&&◌, nat_le}
 use Rattle.std.proofs.lemmas.Bool.{and_parts, and_from, leb-true, le-leb}
 use Rattle.net_assembler.specs.Positions.{contains}
-use Rattle.net_assembler.specs.Positions.{bound_of, positions, shift_up}
+use Rattle.net_assembler.specs.Positions.{bound_of, positions}
 use Rattle.net_receiver.specs.{HasSoundHeld, next_at, held_at, top_at, top_of, limit_of, count_between, new_count}
 use Rattle.net_receiver.specs.{IsReadAt}
 use Rattle.net_receiver.proofs.Sets.{piece_at, next_joined, updated, lacks, lacking, updated_has, left_above}
@@ -268,11 +268,6 @@ held_within {h} s p there = (let o = offset_of s.held p there in omega (arith, o
 -- k bytes are read
 pub read_next : (c k : ℕ) (h : ReceiverHead) → k ≤ h.place.length → next_at (head_after_read c k h) ≡ next_at h
 read_next c k h few = omega arith
-
-pub read_top : (c k : ℕ) (h : ReceiverHead) (rs : List (ℕ × ℕ)) → k ≤ h.place.length →
-    top_at (head_after_read c k h) rs ≡ top_at h rs
-read_top c k h rs few = λ i. max (read_next c k h few i)
-    (bound_of (positions (shift_up (set_of h.held rs) (read_next c k h few i))))
 
 pub read_sound : {h : ReceiverHead} {c : ℕ} {rs : List (ℕ × ℕ)} → HasSoundParts h c rs → (k : ℕ) → k ≤ h.place.length →
     IsSoundPlace c (dequeued_place c k h.place) → HasSoundParts (head_after_read c k h) c rs

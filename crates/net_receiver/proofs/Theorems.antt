@@ -22,7 +22,7 @@ use Rattle.net_receiver.proofs.Words.{false_from_ne_true, ltb-true, ltb-false, P
 use Rattle.net_receiver.proofs.Words.{maximal_runs, lies_in, IsMaximalRun, positions, with_range, contains-nothing}
 use Rattle.net_receiver.proofs.Words.{same_positions, has, contains-positions, contains-with_range, positions_rise}
 use Rattle.net_receiver.proofs.Words.{rising_unique, CommandValue, ReplyValue, byte, queued, missing, is_held}
-use Rattle.net_receiver.proofs.Words.{state_from, SegmentReply, step, held_bytes, parts, Setting}
+use Rattle.net_receiver.proofs.Words.{state_from, SegmentReply, step, held_bytes, Setting}
 use Rattle.net_receiver.proofs.Words.{KeptState, fresh_kept, bytes_read, IsAccepted, HasRoom, fresh_receiver, setting}
 use Rattle.net_receiver.proofs.Words.{Refines, IsSound, domain, receiver_after_commands, receiver_replies}
 use Rattle.net_receiver.proofs.Words.{receiver_after_command, receiver_reply, HeldBytes, next_position, first_three}
@@ -79,10 +79,6 @@ held_none n spare s e = same_bytes _ _ (λ q.
     get-held_bytes s n spare q
     ∙ cond-false _ _ _ (and_right (nat_le n q) _ (ap (λ t. contains t (q - n)) e ∙ contains-nothing (q - n)))
     ∙ sym (fin.get-empty nat_cmp q))
-
-pub fresh_parts : (f : ℕ) (queue spare storage : List ℕ) (s : Positions) → queue ≡ [] → spare ≡ storage → s ≡ nothing →
-    parts f 0 queue spare s ≡ fresh_receiver f (length storage)
-fresh_parts f queue spare storage s e e' e'' = grind (arith, nat_tests, held_none)
 
 not_held : (p : ℕ) → fin.contains_key (fin.empty {X = ℕ} {R = nat_cmp}) p ≡ false
 not_held p = ap is_some (fin.get-empty nat_cmp p)

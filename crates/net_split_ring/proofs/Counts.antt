@@ -17,9 +17,6 @@ pub index_of_after : (c i k : ℕ) → IsCount c i → k ≤ c →
     index_of c (count_after c i k) ≡ index_after c (index_of c i) k
 index_of_after c i k is le = grind (arith, nat_tests)
 
-pub after_ahead : (c i j : ℕ) → IsCount c i → IsCount c j → count_after c i (ahead c i j) ≡ j
-after_ahead c i j is js = grind (arith, nat_tests)
-
 pub ahead_twice : (c i j k : ℕ) → IsCount c i → IsCount c j → IsCount c k → ahead c i j + ahead c j k ≤ c →
     ahead c i k ≡ ahead c i j + ahead c j k
 ahead_twice c i j k is js ks le = grind (arith, nat_tests)
