@@ -62,6 +62,7 @@ crate=$(ls -t "$target"/release/deps/libnet_base-*.rlib | head -n 1)
 rustc --edition 2021 --crate-type rlib --emit metadata -C panic=abort --extern "proved=$crate" \
     "$out/layouts.rs" -o "$out/layouts.rmeta"
 echo "layouts: $(grep -c 'offset_of!(' "$out/layouts.rs") fields of $(grep -c 'size_of::' "$out/layouts.rs") structs"
+[ "$(grep -c 'size_of::' "$out/layouts.rs")" = "$(grep -c '^struct net_base_.* {$' "$here/net_base.h")" ] || fail "not each struct"
 
 at="a warning of the header"
 for each in "$compiler" gcc clang; do
@@ -178,11 +179,21 @@ echo "hosted: as in hosted.stdout"
 
 at="tools/exports.txt"
 "$compiler" $flags -O1 $sanitizers -I "$here" "$out/exports.c" "$library" -o "$out/exports"
-"$out/exports" || fail "a value of tools/exports.txt"
+"$out/exports" > "$out/printed" || { cat "$out/printed"; fail "a value of tools/exports.txt"; }
+cat "$out/printed"
+# Each check of the program is made once, and what is wrong is told of: with an argument its last check doesn't hold.
+made=$("$compiler" $flags -E -I "$here" "$out/exports.c" | grep -c 'check((')
+[ "$(cat "$out/printed")" = "exports: $made checks passed" ] || fail "$made checks aren't made"
+"$out/exports" wrong > "$out/said" && fail "exports.c tells of nothing"
+grep -q "count < 2 is false" "$out/said"
 
 at="the sequence"
 "$compiler" $flags -O1 $sanitizers -I "$here" "$out/sequence.c" "$library" -o "$out/sequence"
-"$out/sequence" > "$out/printed"
+"$out/sequence" > "$out/printed" || { cat "$out/printed"; exit 1; }
+# With no calls it says of each result and of each length that nothing was reached.
+"$out/sequence" 0 > "$out/said" && fail "sequence.c tells of nothing"
+grep -oE '^static [a-z_0-9 ]+ result_|&[a-z_]+_length_[0-9]+' "$out/sequence.c" > "$out/wanted"
+[ "$(grep -c '^sequence: in 0' "$out/said")" = "$(grep -c . "$out/wanted")" ] || fail "sequence.c doesn't tell of all"
 cat "$out/printed"
 [ "${1:-}" != --record ] || sed -i "s/^$(getconf LONG_BIT) bits .*/$(getconf LONG_BIT) bits $(sed 's/.* //' "$out/printed")/" "$here/sequence.txt"
 grep -qE "bits $(sed 's/.* //' "$out/printed")$" "$here/sequence.txt" || fail "c/sequence.txt has another digest: run with --record if exports or structs are meant to differ"

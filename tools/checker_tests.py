@@ -400,7 +400,285 @@ def places():
     places.ROWLESS, places.guards.guarded, places.HISTORIES = kept, asked, histories
 
 
-CHECKERS = {"quotes": quotes, "edits": edits, "models": models, "growth": growth, "composition": composition, "places": places}
+# ---- ffi.py: a library of five exports, the rows of it, and the text that they must be in C.
+ROWS = """# Rows.
+const DONE 0
+const TOO_MANY_RUNS 1
+const REFUSED 2
+const NONE MAX
+let HELD = {7 {2 3}}
+ring_init {2 3} -> {0 0}
+ring_take {2 3} "abc" "--" 9 -> 2 = "ab"
+ring_take {MAX 1} "" 2*"x" 2^40 -> MAX = =
+board_add HELD [{0 5} {8 9}] 4 -> TOO_MANY_RUNS {7 {_ 4}} [{0 6} _]
+board_add HELD [{0 5}] 9 -> DONE {7 {_ 3}} =
+board_add HELD [] 9 -> REFUSED = =
+board_differs HELD "d" -> true
+board_differs HELD "" -> false
+board_span HELD MIN -> {2^32 {3 1}}
+"""
+IN_C = """
+_Static_assert(sizeof(enum net_base_room_status) == 4, "an enum isn't as wide as a number of the library");
+_Static_assert(NET_BASE_NONE == SIZE_MAX, "a number of net_base.h isn't that of the table");
+_Static_assert(NET_BASE_ROOM_DONE == 0, "a number of net_base.h isn't that of the table");
+_Static_assert(NET_BASE_ROOM_TOO_MANY_RUNS == 1, "a number of net_base.h isn't that of the table");
+_Static_assert(NET_BASE_ROOM_REFUSED == 2, "a number of net_base.h isn't that of the table");
+
+static bool board_is(
+    struct net_base_board it, uint64_t base, size_t held_read_at, size_t held_length) {
+    return it.base == base && it.held.read_at == held_read_at && it.held.length == held_length;
+}
+
+static void check_ring_init(void) {
+    {
+        struct net_base_ring place = {2, 3};
+        net_base_ring_init(&place);
+        CHECK(place.read_at == 0 && place.length == 0);
+    }
+    net_base_ring_init(NULL);
+}
+
+static void check_ring_take(void) {
+    {
+        struct net_base_ring place = {2, 3};
+        uint8_t into[] = "--";
+        CHECK(net_base_ring_take(&place, text("abc"), 3, into, 2, 9) == 2);
+        CHECK(place.read_at == 2 && place.length == 3 && memcmp(into, "ab", 2) == 0 && is_zero(&into[2], sizeof *into));
+    }
+#if SIZE_MAX > UINT32_MAX
+    {
+        struct net_base_ring place = {SIZE_MAX, 1};
+        uint8_t into[] = "xx";
+        CHECK(net_base_ring_take(&place, NULL, 0, into, 2, UINT64_C(1099511627776)) == SIZE_MAX);
+        CHECK(place.read_at == SIZE_MAX && place.length == 1 && memcmp(into, "xx", 2) == 0 && is_zero(&into[2], sizeof *into));
+    }
+#endif
+    {
+        uint8_t into[] = "--";
+        size_t refused = net_base_ring_take(NULL, text("abc"), 3, into, 2, 9);
+        CHECK(refused == NET_BASE_NONE);
+        CHECK(memcmp(into, "--", 2) == 0 && is_zero(&into[2], sizeof *into));
+    }
+    {
+        struct net_base_ring place = {2, 3};
+        uint8_t into[] = "--";
+        size_t refused = net_base_ring_take(&place, NULL, 3, into, 2, 9);
+        CHECK(refused == NET_BASE_NONE);
+        CHECK(place.read_at == 2 && place.length == 3 && memcmp(into, "--", 2) == 0 && is_zero(&into[2], sizeof *into));
+    }
+    {
+        struct net_base_ring place = {2, 3};
+        size_t refused = net_base_ring_take(&place, text("abc"), 3, NULL, 2, 9);
+        CHECK(refused == NET_BASE_NONE);
+        CHECK(place.read_at == 2 && place.length == 3);
+    }
+}
+
+static void check_board_add(void) {
+    {
+        struct net_base_board board = {7, {2, 3}};
+        struct net_base_run runs[3] = {{0, 5}, {8, 9}};
+        CHECK(net_base_board_add(&board, runs, 2, 4) == 1);
+        CHECK(board.base == 7 && board.held.length == 4 && runs[0].start == 0 && runs[0].end == 6 && is_zero(&runs[2], sizeof *runs));
+    }
+    {
+        struct net_base_board board = {7, {2, 3}};
+        struct net_base_run runs[2] = {{0, 5}};
+        CHECK(net_base_board_add(&board, runs, 1, 9) == 0);
+        CHECK(board.base == 7 && board.held.length == 3 && runs[0].start == 0 && runs[0].end == 5 && is_zero(&runs[1], sizeof *runs));
+    }
+    {
+        struct net_base_board board = {7, {2, 3}};
+        CHECK(net_base_board_add(&board, NULL, 0, 9) == 2);
+        CHECK(board.base == 7 && board.held.read_at == 2 && board.held.length == 3);
+    }
+    {
+        struct net_base_run runs[3] = {{0, 5}, {8, 9}};
+        enum net_base_room_status refused = net_base_board_add(NULL, runs, 2, 4);
+        CHECK(refused == NET_BASE_ROOM_REFUSED);
+        CHECK(runs[0].start == 0 && runs[0].end == 5 && runs[1].start == 8 && runs[1].end == 9 && is_zero(&runs[2], sizeof *runs));
+    }
+    {
+        struct net_base_board board = {7, {2, 3}};
+        enum net_base_room_status refused = net_base_board_add(&board, NULL, 2, 4);
+        CHECK(refused == NET_BASE_ROOM_REFUSED);
+        CHECK(board.base == 7 && board.held.read_at == 2 && board.held.length == 3);
+    }
+}
+
+static void check_board_differs(void) {
+    CHECK(net_base_board_differs(&(struct net_base_board){7, {2, 3}}, text("d"), 1) == true);
+    CHECK(net_base_board_differs(&(struct net_base_board){7, {2, 3}}, NULL, 0) == false);
+    {
+        bool refused = net_base_board_differs(NULL, text("d"), 1);
+        CHECK(refused == true);
+    }
+    {
+        bool refused = net_base_board_differs(&(struct net_base_board){7, {2, 3}}, NULL, 1);
+        CHECK(refused == true);
+    }
+}
+
+static void check_board_span(void) {
+    CHECK(board_is(net_base_board_span(&(struct net_base_board){7, {2, 3}}, INT64_MIN), UINT64_C(4294967296), 3, 1));
+    {
+        struct net_base_board refused = net_base_board_span(NULL, INT64_MIN);
+        CHECK(refused.base == UINT64_MAX && refused.length == 0);
+    }
+}
+
+static void check_exports(void) {
+    check_ring_init();
+    check_ring_take();
+    check_board_add();
+    check_board_differs();
+    check_board_span();
+}
+"""
+DECLARED = """
+enum NET_BASE_32_BITS net_base_room_status {
+    NET_BASE_ROOM_DONE = 0,
+    NET_BASE_ROOM_REFUSED = 2,
+};
+struct net_base_board {
+    uint64_t base;
+};
+/** Makes a ring. */
+void net_base_ring_init(struct net_base_ring *place) NET_BASE_LINK(ring_init);
+/** Takes. */
+NET_BASE_MUST_USE size_t net_base_ring_take(
+    int a, int b) NET_BASE_LINK(ring_take);
+/** Adds. */
+NET_BASE_MUST_USE enum net_base_room_status net_base_board_add(int a) NET_BASE_LINK(board_add);
+/** Says. It is refused if
+ * it isn't: true, as of others. */
+NET_BASE_MUST_USE bool net_base_board_differs(int a) NET_BASE_LINK(board_differs);
+/** Where `base` is 7. It is refused if it isn't: `base` is `UINT64_MAX`, and `length` is 0. */
+NET_BASE_MUST_USE struct net_base_board net_base_board_span(int a) NET_BASE_LINK(board_span);
+"""
+OF_NULL = {"net_base_ring_take": [("", "NET_BASE_NONE")], "net_base_board_add": [("", "NET_BASE_ROOM_REFUSED")],
+           "net_base_board_differs": [("", "true")], "net_base_board_span": [(".base", "UINT64_MAX"), (".length", "0")]}
+ROWS_WRONG = [
+    ("const REFUSED 2\n", "", ": no number of NET_BASE_REFUSED"), ("{2 3} -> {0 0}", "{2} -> {0 0}", ": ['{', '2'] is no RingHead"),
+    ('board_differs HELD "d" -> true\nboard_differs HELD "" -> false\n', "", ": no row of net_base_board_differs"),
+    ('board_differs HELD "" -> false\n', "", ": no row of net_base_board_differs returns false"),
+    ("board_add HELD [] 9 -> REFUSED = =\n", "", ": no row of net_base_board_add returns REFUSED"),
+    ('ring_take {MAX 1} "" 2*"x" 2^40 -> MAX = =\n', "", ": no row of net_base_ring_take returns MAX"),
+    ('-> 2 = "ab"', '-> 2 _ "ab"', ":8: `_` is only in what net_base_ring_take returns or leaves"),
+    ('-> 2 = "ab"', "-> 2 =", ":8: not the arguments, the result and what is left of net_base_ring_take"),
+    ("{2 3} -> {0 0}", "{2 3} 1 -> {0 0}", ":7: not the arguments, the result and what is left of net_base_ring_init"),
+    ("board_differs", "board_differ", ":13: no export net_base_board_differ"), ('"--" 9', '"--" 2^64', ": 2^64 is no usize"),
+]
+TEXTS = [  # A file, what it has and what it is given, and whether it is stale.
+    ("a.h", "int a;\n", "int a;\n", False), ("a.h", "int a;\n", "int a, b;\n", True), ("a.h", "int a;\n", "int  a;\n", True),
+    ("none.h", None, "", True), ("a.rt", "use a::{b};\nf(\n    a,\n)\n", "use a::b;\nf(a)\n", False),
+    ("a.rt", "f(a, b)\n", "f(a b)\n", True), ("a.rt", "f(a) // a\n", "f(a) // b\n", True), ("a.rt", "f(&a)\n", "f(a)\n", True),
+]
+# By sha256sum of `int f(void);`.
+ABIS = [("1 1\n2 2\n", "1 1\n2 53607e73921bbe7f\n"), ("1 1\n2 53607e73921bbe7f\n", "1 1\n2 53607e73921bbe7f\n"),
+        ("1 1\n2 53607e73921bbe7e\n", "ffi: structs or functions aren't those of interface 2: add a line with the next number alone to "
+         "abi.txt, or make 2 its last line's only word if no release has this number")]
+
+
+def exports():
+    import dataclasses
+    import types
+
+    import ffi
+    from parts import exports, heads, layouts, nulls, sequence
+
+    same("null alone", ffi.REFUSED_FOR_NULL, {"ArrivalStatus", "ExpiryStatus"})
+    library, put, Library = ffi.Library(ffi.EXPORTS), ffi.put, ffi.Library
+    ffi.Library, heads.written = lambda _: library, lambda: {"heads": ""}
+    for words, stale in (["--check"], (True, False)), (["--check"], (False, True)), (["--check"], (False, False)), ([], (False, False)):
+        asked = []
+        ffi.put = lambda files, only: asked.append(([pathlib.Path(it).name for it in files], only)) or stale[len(asked) - 1]
+        sys.argv[1:] = words
+        same((words, stale), said(ffi.main), (any(stale), []))
+        names = ["net_base.h", "abi.txt", "net_base.pc", "net_base_check.h", "shim.rs", "FFI.md"]
+        same(words, asked, [(["heads"], bool(words)), (names, bool(words))])
+    ffi.put, ffi.Library = put, Library
+    ffi.ANSWERS = {"RoomStatus": ["DONE", "TOO_MANY_RUNS", "REFUSED"]}
+    item = lambda kind, name, text, result="": ffi.Item(kind, name, [], ffi.members_of(text), result)
+    structs = {name: item("struct", name, text) for name, text in {
+        "RingHead": "pub read_at: usize, length: usize", "Run": "pub start: usize, pub end: usize",
+        "Board": "pub base: u64, held: RingHead"}.items()}
+    statuses = item("enum", "RoomStatus", "")
+    statuses.members = [ffi.Item("const", f"NET_BASE_{name}", []) for name in ffi.ANSWERS["RoomStatus"]]
+    calls = [item("fn", "net_base_ring_init", "place: &mut RingHead"),
+             item("fn", "net_base_ring_take", "place: &mut RingHead, storage: &[u8], into: &mut [u8], count: usize", "usize"),
+             item("fn", "net_base_board_add", "board: &mut Board, runs: &mut [Run], start: u64", "RoomStatus"),
+             item("fn", "net_base_board_differs", "board: &Board, data: &[u8]", "bool"),
+             item("fn", "net_base_board_span", "board: &Board, now: i64", "Board")]
+    calls[1].doc = ["It is refused if it isn't."]
+    library = Library.__new__(Library)
+    library.structs, library.done = structs, {*structs}
+    library.sections = [([], [statuses, ffi.Item("const", "NET_BASE_NONE", []), *calls], "a")]
+    source = "pub struct RingHead { }\npub struct Run { }\n"
+    with folder({"exports.txt": ROWS, "net_base.h": DECLARED, "net_ffi/src/a/b.rt": source, "heads.txt": ""}) as files:
+        exports.TABLE, nulls.HEADER, ffi.EXPORTS = files / "exports.txt", files / "net_base.h", files / "net_ffi"
+        heads.TABLE = files / "heads.txt"
+        same("nulls", nulls.refusals(), OF_NULL)
+        same("exports", exports.program(library), f"{exports.HEAD}{IN_C}{exports.TAIL}")
+        for old, new, wrong in ROWS_WRONG:
+            exports.TABLE.write_text(ROWS.replace(old, new, 1))
+            same((old, new), said(exports.program, library)[0], f"exports.txt{wrong}")
+        rows = [f'const _: () = assert!({rust} == %u);\\n", (unsigned){c}' for rust, c in [
+            ("size_of::<Board>()", "sizeof(struct net_base_board)"), ("offset_of!(Board, base)", "offsetof(struct net_base_board, base)"),
+            ("size_of::<a::b::RingHead>()", "sizeof(struct net_base_ring)"),
+            ("offset_of!(a::b::RingHead, read_at)", "offsetof(struct net_base_ring, read_at)"),
+            ("size_of::<a::b::Run>()", "sizeof(struct net_base_run)"),
+            ("offset_of!(a::b::Run, start)", "offsetof(struct net_base_run, start)"),
+            ("offset_of!(a::b::Run, end)", "offsetof(struct net_base_run, end)")]]
+        same("layouts", [it[12:-2] for it in layouts.program(library).split("\n") if "const _" in it], rows)
+        names = [it.name for it in calls]
+        for words, wrong in [("span", []), ("span other", ["net_base_board_other"]), ("span add", [*names, names[2]]), ("", names[-1:])]:
+            heads.TABLE.write_text(f"task A\ntask: ring_ init take\ntask: board_ add differs {words}\n")
+            index = ["- A", "  `net_base_ring_`: init, take", "  `net_base_board_`: add, differs, span"]
+            same(words, said(ffi.index_of, library)[0], f"ffi: not once in the index of heads.txt: {' '.join(wrong)}" if wrong else index)
+    with folder({"abi.txt": "", "a.rt": ""}) as ffi.ROOT:
+        ffi.ABI, path = ffi.ROOT / "abi.txt", ffi.ROOT / "a.rt"
+        for text, wanted in ABIS:
+            ffi.ABI.write_text(text)
+            same(text, said(ffi.abi, "/* a */\n#define NET_BASE_VERSION_MINOR 7\nint  f(void);\n/* b */\n")[0], wanted)
+        for name, old, new, stale in TEXTS:
+            file = ffi.ROOT / name
+            if old is not None:
+                file.write_text(old)
+            same((old, new), said(ffi.put, {file: new}, True), (stale, [f"{name}: stale, run python3 tools/ffi.py"] * stale))
+            same((old, new), said(ffi.put, {file: new}, False) + (file.read_text(),), (False, [], new if stale else old))
+        (ffi.ROOT / "src").mkdir()
+        (ffi.ROOT / "src/lib.rt").write_text("//! A.\n//!\n//! # Duties\n//!\n//! 1. Keep\n//!    it.\n")
+        path.write_text(f"a\n{ffi.PAGE_BEGIN}\nold\n{ffi.PAGE_END}\nb\n")
+        same("page", ffi.page(ffi.ROOT, path), f"a\n{ffi.PAGE_BEGIN}\n## Duties\n\n1. Keep it.\n{ffi.PAGE_END}\nb\n")
+        duty, requires = "/// # Requires\n", "    requires { a }\n"
+        for heading, clause in (duty, requires), ("", ""), (duty, ""), ("", requires):
+            path.write_text(f'/// A.\n{heading}#[unsafe(no_mangle)]\npub extern "C" fn net_base_a(x: u8)\n{clause}    ensures {{ a }}\n'
+                            '{\n}\npub struct A { }\npub extern "C" fn b()\n{\n}\n')
+            status, _ = said(lambda: [(it.kind, it.name, it.requires) for it in ffi.items_of(path)])
+            same((heading, clause), status, [("fn", "net_base_a", bool(clause))] if bool(heading) == bool(clause) else
+                 "ffi: net_base_a: a clause `requires` and a heading `# Requires` go together")
+    same("no struct", said(Library.need, library, [], ["&mut Other"])[0], "ffi: no #[repr(C)] struct Other")
+    taken = heads.Method([], ["&mut self", "count: usize"], "usize", [("", "count ≤ a")], [])
+    for row, change, wrong in [("take", {}, None), ("took", {}, "heads: ring: no method: took"), ("take = take -> out", {}, None),
+                               ("take", {"requires": [("", "IsNonsense self")]}, "heads: take: no test of IsNonsense place.now"),
+                               ("take", {"result": "Other"}, "heads: take: no way to return Other")]:
+        head = heads.Head("ring", "RingHead", "place", {}, {"take": dataclasses.replace(taken, **change)}, {}, [])
+        status, _ = said(heads.Export, head, row)
+        same((row, change), status if isinstance(status, str) else None, wrong)
+    sound = [f"HasSoundRuns self.old.{it} runs.now" for it in "ab"]
+    head.methods["take"] = dataclasses.replace(taken, requires=[("", it) for it in sound])
+    same("duties", heads.Export(head, "take").duties, [(f"place.old.{it} ≤ length runs.now", clause) for it, clause in zip(
+        ("a.used", "b.used"), (it.replace("self", "place") for it in sound))])
+    for kind, null, least in [("", [], 0), ("bool", [], 2), ("usize", [], 4), ("Board", [], 4), ("RoomStatus", [], 3),
+                              ("RoomStatus", ["RoomStatus"], 2)]:
+        ffi.REFUSED_FOR_NULL = null
+        call = types.SimpleNamespace(item=types.SimpleNamespace(type=kind), memory=types.SimpleNamespace(library=library))
+        same((kind, null), sequence.Call.least(call), least)
+
+
+CHECKERS = {"quotes": quotes, "edits": edits, "models": models, "growth": growth, "composition": composition, "places": places,
+            "exports": exports}
 
 if __name__ == "__main__":
     for name in sys.argv[1:] or CHECKERS:

@@ -33,7 +33,7 @@ HEADER = ROOT / "c/net_base.h"
 CONFIG = ROOT / "c/net_base.pc"
 ABI = ROOT / "c/abi.txt"
 # Modules whose sections come first: what the others refer to.
-FIRST = ["refusals", "ring", "split_ring", "results", "packets", "assembler", "fragments", "receiver", "sender", "scoreboard"]
+FIRST = ["refusals", "ring", "split_ring", "packets", "assembler", "fragments", "receiver", "scoreboard"]
 FIRST += ["finite_receiver", "finite_sender", "tcp", "advertised_window", "peer_window",
           "retransmission", "parts_sum", "receiving_end", "sending_end"]
 PAGE = ROOT / "docs/FFI.md"

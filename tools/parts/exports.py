@@ -2,6 +2,7 @@
 
 The first lines of exports.txt say what a row is. Each export has one, and so has each constant.
 """
+import collections
 import pathlib
 import re
 import sys
@@ -44,8 +45,13 @@ static const uint8_t *text(const char *bytes) {
 }
 """
 TAIL = r"""
-int main(void) {
+int main(int count, char **words) {
+    static const uint8_t bytes[] = {0, 0, 7};
+    (void)words;
+    CHECK(is_zero(bytes, 2) && !is_zero(bytes, 3));
     check_exports();
+    /* With an argument it must fail. */
+    CHECK(count < 2);
     printf("exports: %d checks passed\n", checks);
     return 0;
 }
@@ -56,11 +62,8 @@ def stop(line, message):
     sys.exit(f"exports.txt:{line}: {message}")
 
 
-class Row:
-    """A call of an export: its arguments, its result and what it leaves, as trees of texts and lists."""
-
-    def __init__(self, line, item, arguments, result, left):
-        self.line, self.item, self.arguments, self.result, self.left = line, item, arguments, result, left
+# A call of an export: its arguments, its result and what it leaves, as trees of texts and lists.
+Row = collections.namedtuple("Row", "item arguments result left")
 
 
 class Table:
@@ -76,8 +79,21 @@ class Table:
                      for it in ([item] if item.kind == "const" else item.members if item.kind == "enum" else [])}
         for name in sorted(constants - {f"NET_BASE_{name}" for name in self.numbers}):
             sys.exit(f"exports.txt: no number of {name}")
-        for name in [name for name, rows in self.rows.items() if not rows]:
-            sys.exit(f"exports.txt: no row of {name}")
+        for name, rows in self.rows.items():
+            if not rows:
+                sys.exit(f"exports.txt: no row of {name}")
+            returned = [row.result[1] if isinstance(row.result, list) else row.result for row in rows]
+            for answer in self.answers(self.exports[name]):
+                if answer not in returned:
+                    sys.exit(f"exports.txt: no row of {name} returns {answer}")
+
+    def answers(self, item):
+        """What rows return at least: each status but what null alone is answered, both of a `bool`, or else that a call is refused."""
+        if answer := self.library.answer(item.type):
+            names = ffi.ANSWERS[answer] if item.type == answer else ["REFUSED"]
+            return [it for it in names if it != "REFUSED" or answer not in ffi.REFUSED_FOR_NULL]
+        is_refused = item.type == "usize" and "It is refused if" in " ".join(item.doc)
+        return ["true", "false"] if item.type == "bool" else ["MAX"] * is_refused
 
     def take(self, line, text):
         if not text:
@@ -94,10 +110,12 @@ class Table:
             written = [member for member in item.members if member.type.startswith("&mut")]
             if len(arguments) != len(item.members) or len(after) != bool(item.type) + len(written):
                 stop(line, f"not the arguments, the result and what is left of {item.name}")
+            if ANY in after:
+                stop(line, f"`{ANY}` is only in what {item.name} returns or leaves")
             result = after.pop(0) if item.type else None
             now = dict(zip([member.name for member in item.members], arguments))
             left = {it.name: now[it.name] if value == SAME else value for it, value in zip(written, after)}
-            self.rows[item.name].append(Row(line, item, now, result, left))
+            self.rows[item.name].append(Row(item, now, result, left))
 
     def values(self, text):
         """The values of a text: a text each, or a list of values with its bracket before them."""
@@ -139,8 +157,7 @@ class C:
         if array := ARRAY.fullmatch(kind):
             return "{" + ", ".join(self.value(part, array[1]) for part in tree[1:] or [self.zero(array[1])]) + "}"
         if kind in self.structs:
-            fields = [(field, self.value(it, field.type)) for field, it in zip(self.fields(tree, kind), tree[1:])]
-            return self.struct(kind, fields)
+            return "{" + ", ".join(self.value(it, field.type) for field, it in zip(self.fields(tree, kind), tree[1:])) + "}"
         return self.literal(self.table.number(tree, kind), kind)
 
     def zero(self, kind):
@@ -168,7 +185,7 @@ class C:
             return []
         if slice_of := ARRAY.fullmatch(kind) or re.fullmatch(r"\[(.+)\]", kind):
             if isinstance(tree, str):
-                return [self.bytes_equal(name, tree)]
+                return [f"memcmp({name}, {tree}, {length_of(tree)}) == 0"]
             return [it for at, part in enumerate(tree[1:]) for it in self.compared(f"{name}[{at}]", part, slice_of[1])]
         if kind in self.structs:
             fields = zip(self.fields(tree, kind), tree[1:])
@@ -196,12 +213,6 @@ class C:
         if least < 0 and number - least < 100:
             return f"INT{bits}_MIN" + f" + {number - least}" * (number > least)
         return str(number) if abs(number) < 2**31 else f"{sign}INT64_C({number})"
-
-    def struct(self, kind, fields):
-        return "{" + ", ".join(value for _, value in fields) + "}"
-
-    def bytes_equal(self, name, text):
-        return f"memcmp({name}, {text}, {len(text) - 2}) == 0"
 
     def argument(self, member, tree):
         """The variable that an argument wants, and how it is passed."""
@@ -234,8 +245,7 @@ class C:
     def nulls(self, row):
         """The lines of calls with each pointer of a row null in turn: they are refused, and nothing changes."""
         return [line for it in row.item.members if it.type.startswith("&")
-                for line in self.lines(Row(row.line, row.item, row.arguments, None, {
-                    name: row.arguments[name] for name in row.left if name != it.name}), it)]
+                for line in self.lines(row._replace(left={name: row.arguments[name] for name in row.left if name != it.name}), it)]
 
     def lines(self, row, null=None):
         arguments = [([], f"NULL, {length_of(row.arguments[it.name]) or 1}" if "[" in it.type else "NULL") if it is null else
@@ -251,8 +261,6 @@ class C:
         elif row.item.type in self.structs:
             values = ", ".join(self.value(part, kind) for _, part, kind in self.numbers("it", row.item.type, row.result))
             lines.append(f"CHECK({is_name(row.item.type)}({call}, {values}));")
-        elif row.item.type == "bool":
-            lines.append(f"CHECK({'' if row.result == 'true' else '!'}{call});")
         else:
             lines.append(f"CHECK({call} == {self.value(row.result, row.item.type)});")
         left = self.left(row)

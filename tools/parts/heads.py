@@ -26,8 +26,6 @@ TESTS = [
      "`{c1}` isn't that of a ring of `{c0}` elements", True),
     (rf"AreCounts {TERM} {TERM}", "{all}", "!{c1}.is_sound({c0})",
      "the counts of `{c1}` aren't those of a ring of `{c0}` elements", True),
-    (rf"IsSoundHead {TERM} {TERM}", "{all}", "!{c1}.is_sound({c0})",
-     "`{c1}` isn't that of a sender over `{c0}` bytes", True),
     (rf"IsSoundHead {TERM} {TERM} {TERM}", "{all}", "!{c2}.is_sound({c0}, {c1})",
      "the numbers of `{c2}` aren't those of rings of `{c0}` slots and of `{c1}` bytes", True),
     (rf"IsSoundFiniteSender {TERM} {TERM}", "{all}", "!{c1}.is_sound({c0})",
@@ -37,21 +35,14 @@ TESTS = [
     (rf"next_of {TERM} < 2 \^ 64", "{all}", "!has_next(&{c0}.receiver)", "`next` doesn't fit 64 bits", True),
     (rf"IsSoundBoard {TERM} {TERM}", "{all}", "!{c0}.is_sound({c1})", "`{c0}` isn't sound with `{c1}`", True),
     (rf"RangeFits {TERM} {TERM}", "{all}", "!AssemblerHead::fits({c0}, {c1})", "`{c0} + {c1}` doesn't fit a `size_t`", True),
-    (rf"{TERM} \+ length {TERM} < 2 \^ 64", "{all}", "{c1}.len() as u64 > u64::MAX - {c0}",
-     "the segment doesn't end within 64 bits", True),
     (r"(sender\S*\.first_unacknowledged) \+ (\S+\.finished) < 2 \^ 64", "{all}", "{c1} > u64::MAX - {c0}",
      "the number doesn't fit 64 bits", True),
     (r"(sender\S*\.first_unacknowledged) \+ (\S+) \+ (\S+\.closed) < 2 \^ 64", "{all}",
      "{c1} as u64 > u64::MAX - {c0} || {c2} > u64::MAX - {c0} - {c1} as u64", "the number doesn't fit 64 bits", True),
-    (r"(sender\S*\.first_unacknowledged) \+ (\S+) < 2 \^ 64", "{all}", "{c1} as u64 > u64::MAX - {c0}",
-     "the position after the queue doesn't fit 64 bits", True),
-    (rf"{TERM} \+ {TERM} < 2 \^ 64", "{all}", "{c1} as u64 > u64::MAX - {c0}", "the segment doesn't end within 64 bits",
-     True),
     (r"(receiver\.\w+)\.first \+ \S+ \+ \S+ < 2 \^ 64", "{all}", "!has_next({c0})", "`next` doesn't fit 64 bits", True),
     (rf"count ≤ {TERM} - {TERM}", "{all}", "count > {c0} - {c1}", "fewer than `count` elements are free", True),
     (rf"count ≤ {TERM}", "{all}", "count > {c0}", "fewer than `count` elements are queued", True),
     (rf"{TERM} ≤ capacity", "{all}", "{c0} > capacity", "more than `capacity` elements are queued", True),
-    (r"next ≤ window_end", "{all}", "window_end < next", "`window_end` is below `next`", True),
     (rf"HasSoundRuns {TERM} {TERM}", "{0}.used ≤ length {1}", "{c0}.used > {c1}.len()", "`{f0}used` is above `{c1}.len()`",
      False),
     (rf"HasSoundParts (fragments\S+) {TERM} {TERM}", "IsPlausible (length {1}) (length {2}) {0}",
@@ -66,7 +57,7 @@ TESTS = [
     (rf"HasSoundHeld (receiver\.\w+\.receiver) {TERM}", "HasRuns (length {1}) {0}", "!has_runs(&{c0}, {c1}.len())",
      "`next` doesn't fit 64 bits, or `held.used` is above `{c1}.len()`", False),
 ]
-# Clauses of what a call leaves, which hold too where nothing changes; the last where the call counts no bytes.
+# Clauses of what a call leaves, which hold too where nothing changes.
 STAY = {"canonical", "exact", "others", "sends"}
 NONE = "NET_BASE_NONE"
 # Heads that are passed by value: numbers that a program has just loaded.
@@ -209,7 +200,6 @@ class Export:
         """A clause of the method with the export's names."""
         if self.head.name in self.head.uses:
             clause = re.sub(rf"(?<![\w.]){self.head.name}(?=[ )])", f"{self.head.name}_of", clause)
-        clause = clause.replace("FragmentError.", "")
         clause = re.sub(r"\bArrival\.(\w+)", lambda it: f"NET_BASE_{re.sub('(?<=[a-z])(?=[A-Z])', '_', it[1]).upper()}", clause)
         for old, new in self.head.names.items():
             clause = re.sub(rf"(?<![\w.]){old}\b", new, clause)
@@ -305,7 +295,7 @@ class Export:
 
     def guarded(self, name, clause, guard, is_done):
         """A clause after the test that the call isn't refused."""
-        if not guard or name in STAY and not self.is_new and (name, self.result.type) != ("sends", "usize"):
+        if not guard or name in STAY and not self.is_new:
             return clause
         if self.result.type == "bool" and re.match(r"Is(?:True|False) result →", clause):
             return clause
@@ -460,7 +450,6 @@ def comment_after(lines, at):
 OWN = {
     "Rattle.std.specs.Prelude": "◌≡◌ ◌≢◌ ◌↔◌ ◌≤◌ ◌<◌ ◌-◌ ◌+◌ ◌^◌ ◌++◌ ◌⊎◌ IsTrue IsFalse length unwrap_or if◌then◌else◌",
     "Rattle.net_ffi.specs.Refusals": "no_number nowhere",
-    "Rattle.net_base.specs.declared.storage.fragments.FragmentError.TheVariants": "TooLong OtherSize TooManyHoles",
     "Rattle.net_ffi.specs.Results": "done_or_many length_or_many done_or_error done_or_report_error IsStatus",
 }
 
@@ -518,7 +507,7 @@ CODE = {name: module for module, names in {
     "crate::results": "FrontLength Hole SegmentSpan front_length number_of run_of segment_span status_of status_of_fragment status_of_report",
     "crate::receiver": "has_next has_runs", "crate::finite_receiver": "has_number",
     "net_assembler": "AssemblerHead Run", "net_ring": "RingHead Span", "net_split_ring": "SplitCounts SplitSpan", "net_base::storage": "FragmentsHead",
-    "net_packets": "PacketSlot PacketsHead", "net_receiver": "FiniteReceiverHead FiniteSenderHead HeldRun ReceiverHead ReportError ScoreboardHead SenderHead",
+    "net_packets": "PacketSlot PacketsHead", "net_receiver": "FiniteReceiverHead FiniteSenderHead HeldRun ReceiverHead ReportError ScoreboardHead",
     "net_numbers": "SentNumbers", "net_tcp": "AdvertisedWindow Announcement PartsSum PeerWindow Segment",
 }.items() for name in names.split()}
 

@@ -218,8 +218,8 @@ int main(int count, char **words) {
     stack_of_calls(calls);
 #else
     digest_calls(calls);
-    /* Fewer calls don't reach all. */
-    if (calls >= 1000000 && say_unreached(calls)) return 1;
+    /* Fewer calls don't reach all, and none reaches nothing. */
+    if ((calls == 0 || calls >= 1000000) && say_unreached(calls)) return 1;
 #endif
     return 0;
 }
