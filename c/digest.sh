@@ -9,5 +9,5 @@ python3 "$here/../tools/libraries.py" "$out/libnet_ffi.a" ${1:+"$1"}
 python3 "$here/../tools/ffi.py" --sequence "$out/sequence.c"
 cc -O2 -DNET_BASE_PLAIN_NAMES -I "$here" "$out/sequence.c" "$out/libnet_ffi.a" -o "$out/sequence"
 "$out/sequence" > "$out/printed"
-grep -q "bits $(sed 's/.* //' "$out/printed")$" "$here/sequence.txt" ||
+grep -q "^$(getconf LONG_BIT) bits $(sed 's/.* //' "$out/printed")$" "$here/sequence.txt" ||
     { echo "digest.sh: the kit's library has another digest than c/sequence.txt: $(cat "$out/printed")"; exit 1; }

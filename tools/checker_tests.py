@@ -5,6 +5,8 @@ import contextlib
 import io
 import os
 import pathlib
+import shutil
+import subprocess
 import sys
 import tempfile
 
@@ -17,11 +19,31 @@ sys.path[:0] = [str(HERE), str(HERE.parent / "models")]
 def folder(files):
     """A folder with these files, in which `,` of a name divides two with the same text."""
     with tempfile.TemporaryDirectory() as name:
-        for path, text in files.items():
-            file = pathlib.Path(name, path)
-            file.parent.mkdir(parents=True, exist_ok=True)
-            file.write_text(text)
+        for paths, text in files.items():
+            for path in paths.split(","):
+                file = pathlib.Path(name, path)
+                file.parent.mkdir(parents=True, exist_ok=True)
+                file.write_text(text)
         yield pathlib.Path(name)
+
+
+def written(path, text):
+    """Writes a program of sh."""
+    path.parent.mkdir(parents=True, exist_ok=True)
+    path.write_text(f"#!/bin/sh\n{text}\n")
+    path.chmod(0o755)
+
+
+@contextlib.contextmanager
+def programs(texts):
+    """These programs of sh come before others of their names."""
+    before = os.environ["PATH"]
+    with tempfile.TemporaryDirectory() as place:
+        for name, text in texts.items():
+            written(pathlib.Path(place, name), text)
+        os.environ["PATH"] = f"{place}:{before}"
+        yield
+        os.environ["PATH"] = before
 
 
 def said(function, *arguments):
@@ -39,10 +61,10 @@ def same(what, got, wanted):
 
 
 def is_asserted(function, *arguments):
-    """Whether what a function asserts holds."""
+    """Whether what a function asserts holds, and the programs that it runs don't fail."""
     try:
         return bool(function(*arguments)) or True
-    except AssertionError:
+    except (AssertionError, subprocess.CalledProcessError):
         return False
 
 
@@ -133,7 +155,9 @@ EDITED = {
     "CONTRIBUTING.md": "| A body | `net_a/one` | `a::A::f` value |\n| B | `net_a/two` | `a::A::g` ensures |\n| C | `net_a/checked` | a test |\n"
                        "| D | `rust/long` | a test |\n",
     "crates/net_a/must-fail/one.edit": "file: src/a.rt\nold:     1\nnew:     2\n# twin:     1 + 0\n# no row: it counts\n",
-    "crates/net_a/must-fail/two.edit": "# row: b\nfile: src/a.rt\nold:     x\nnew:     y\n# twin:     z\nfile: src/b.rt\nold: b\nnew: c\n# twin: d\n",
+    "crates/net_a/must-fail/two.edit": "# row: new: b\nfile: src/a.rt\nold:     x\nnew:     y\n# twin:     z\n"
+                                       "file: src/b.rt\nold: b\nnew: c\n# twin: d\n"
+                                       "file: src/a.rt\nold: checked\nnew: tested\n# twin: tried\n",
     "crates/net_a/src/a.rt": "impl A {\n    fn f() {\n    1\n    }\n    #[inline]\n    fn g() {\n    x\n    }\n}\n#[test]\nfn checked() {}\n",
     "crates/net_a/src/b.rt": "b\n", "rust/tests/a/b.rs": "#[test]\nfn long() {}\n", "crates.txt": "",
 }
@@ -143,8 +167,10 @@ TABLES = [
                                                         "net_a/none: CONTRIBUTING.md names this edit, and there is none"]),
     ("crates/net_a/must-fail/one.edit", "# no row: it counts\n", "", ["net_a/one: it has no rows, and says not why"]),
     ("crates/net_a/must-fail/one.edit", "# no row: it counts\n", "# no row: \n", ["net_a/one: it has no rows, and says not why"]),
-    ("crates/net_a/must-fail/two.edit", "# row: b\n", "# row: b\n# no row: it counts\n", ["net_a/two: it has no rows, and says not why"]),
+    ("crates/net_a/must-fail/two.edit", "# row: new: b\n", "# row: new: b\n# no row: it counts\n",
+     ["net_a/two: it has no rows, and says not why"]),
     ("crates/net_a/src/a.rt", "#[test]\nfn checked", "fn checked", ["net_a/checked: CONTRIBUTING.md names this test, and there is none"]),
+    ("crates/net_a/src/a.rt", "fn checked(", "fn checked_all(", ["net_a/checked: CONTRIBUTING.md names this test, and there is none"]),
     ("rust/tests/a/b.rs", "long", "short", ["rust/long: CONTRIBUTING.md names this test, and there is none"]),
 ]
 F, G = "refused, as it must be: src/a.rt:3:5: error (`{}", "refused, as it must be: src/a.rt:5:5: error (`{}"
@@ -154,12 +180,15 @@ REFUSALS = [
     (F.format("returns-1-clause-va"), G.format("returns-2"), 0), (F.format("returns-1-clause-vo"), G.format("requires-2"), 2),
     ("refused, as it must be: proofs/a/A/f/Answers.antt:1:2: error: `value` no", G.format("ensures`)"), 0),
     ("refused, as it must be: proofs/a/A/f/Answers.antt:1:2: error: 3 declarations that depend on `other`", F.format("returns`)"), 2),
+    ("refused, as it must be: proofs/a/A/f/Answers.antt:1:2: error: 1 declarations that depend on `value`", G.format("requires-2`)"), 1),
+    ("refused, as it must be: src/b.rt:3:5: error (`returns-1-clause-value`)", G.format("returns`)"), 1),
     ("proved: src/a.rt:3:5: error (`returns-1-clause-value`)", "refused, as it must be: nothing", 2),
 ]
 
 
 def edits():
     import edits
+    import erase
 
     def at(files):
         edits.ROOT, edits.CRATES, edits.PAGE = files, files / "crates", files / "CONTRIBUTING.md"
@@ -170,39 +199,40 @@ def edits():
             same(new, said(edits.differing), (len(wanted), [*wanted, f"2 edits and 2 tests in rows, {len(wanted)} differ"]))
     with folder(EDITED) as files:
         at(files)
+        same("edits", [edits.edits_of(it) for it in (["net_b", "net_a"], ["net_b"])], [edits.edits_of([]), []])
         for one, two, wrong in REFUSALS:
             printed = f"must-fail net_a/one.edit: {one}\nmust-fail net_a/two.edit: {two}\n"
-            status, lines = said(edits.compare, edits.folders_of([]), printed)
+            status, lines = said(edits.compare, edits.edits_of([]), printed)
             same((one, two), (status, lines[-1]), (wrong, f"{2 - wrong} edits are refused by their clauses, {wrong} are not"))
             same((one, two), sum(" WANTED " in line for line in lines), wrong)
-        same("no row", said(edits.compare, edits.folders_of(["net_a"]), ""), (2, [
+        same("no row", said(edits.compare, edits.edits_of(["net_a"]), ""), (2, [
             "net_a/one: WANTED a::A::f value", "    nothing was said of it", "net_a/two: WANTED a::A::g ensures", "    nothing was said of it",
             "0 edits are refused by their clauses, 2 are not"]))
         two = files / "crates/net_a/must-fail/two.edit"
-        same("edited", edits.edited(files / "crates/net_a", two), {"src/a.rt": EDITED["crates/net_a/src/a.rt"].replace("    x", "    y"), "src/b.rt": "c\n"})
+        same("edited", edits.edited(files / "crates/net_a", two), {"src/a.rt": EDITED["crates/net_a/src/a.rt"].replace("    x", "    y")
+                                                                             .replace("checked", "tested"), "src/b.rt": "c\n"})
         same("twin", edits.edited(files / "crates/net_a", two, "# twin")["src/b.rt"], "d\n")
         kept, proved = edits.checked, lambda crate, texts, function: (0, f"fn net_a::{function}: proved")
         for checked, wrong, line in [(proved, 0, "net_a/two: its twin is proved"), (lambda *_: (0, ""), 2, "net_a/two: ITS TWIN IS NOT PROVED"),
+                                     (lambda *of: (0, proved("net_a", [], "a::A")[1]), 2, "net_a/two: ITS TWIN IS NOT PROVED"),
                                      (lambda *of: (1, proved(*of)[1] + "\na: error"), 2, "    a: error")]:
             edits.checked = checked
-            status, lines = said(edits.try_twins, edits.folders_of([]))
+            status, lines = said(edits.try_twins, edits.edits_of([]))
             same(line, (status, line in lines, lines[-1]), (wrong, True, f"{wrong} edits have no twin that is proved"))
         edits.checked = proved
         two.write_text(two.read_text().replace("# twin: d\n", "").replace("old: b", "old: e"))
-        same("no twin", said(edits.try_twins, edits.folders_of(["net_a"])), (1, [
+        same("no twin", said(edits.try_twins, edits.edits_of(["net_a"])), (1, [
             "net_a/one: its twin is proved", "net_a/two: HAS NO TWIN", "1 edits have no twin that is proved"]))
         edits.checked = kept
         rt = files / "bin/rt"
-        rt.parent.mkdir()
-        rt.write_text(f"#!/bin/sh\necho 'must-fail net_a/one.edit: {F.format('returns-clause-value`)')}'\necho \"$*\" >&2\n"
-                      "grep -qs 1\\ +\\ 0 src/a.rt && grep -q . ../../crates.txt ../net_b/a && echo fn net_a::a::A::f: proved\n")
-        rt.chmod(0o755)
-        os.environ["PATH"] = f"{rt.parent}:{os.environ['PATH']}"
+        written(rt, f"echo 'must-fail net_a/one.edit: {F.format('returns-clause-value`)')}'\necho \"$*\" >&2\n"
+                    "grep -qs 1\\ +\\ 0 src/a.rt && grep -q . ../../crates.txt ../net_b/a && echo fn net_a::$5: proved")
+        path, os.environ["PATH"] = os.environ["PATH"], f"{rt.parent}:{os.environ['PATH']}"
         (files / "crates.txt").write_text("net_a:\n")
         (files / "crates/net_b").mkdir()
         (files / "crates/net_b/a").write_text("b\n")
         printed = f"must-fail net_a/one.edit: {F.format('returns-clause-value`)')}\n"
-        same("must_fail", edits.must_fail(edits.folders_of(["net_a"])), printed + "must-fail net_a\n")
+        same("must_fail", edits.must_fail(edits.edits_of(["net_a"])), printed + "must-fail net_a\n")
         two.unlink()
         (files / "log").write_text(printed)
         of_one = ["net_a/one: a::A::f value", "1 edits are refused by their clauses, 0 are not"]
@@ -210,11 +240,14 @@ def edits():
         for words, wanted in [(["--table"], (1, ["net_a/two: CONTRIBUTING.md names this edit, and there is none",
                                                  "2 edits and 2 tests in rows, 1 differ"])),
                               (["--log", str(files / "log")], (0, of_one)), ([], (0, of_one)), (["net_a"], (0, of_one)),
+                              (["--twins", "net_b"], (0, ["0 edits have no twin that is proved"])),
+                              (["net_b"], (0, ["0 edits are refused by their clauses, 0 are not"])),
                               (["--twins"], (0, twin)), (["--twins", "net_a"], (0, twin))]:
             sys.argv[1:] = words
             same(words, said(edits.main), wanted)
+        same("the source", (files / "crates/net_a/src/a.rt").read_text(), EDITED["crates/net_a/src/a.rt"])
         (files / "log").write_text("")
-        rt.write_text("#!/bin/sh\n")
+        written(rt, "echo fn net_a::a::A::f: proved; exit 1")
         for words in ["--log", str(files / "log")], [], ["--twins"]:
             sys.argv[1:] = words
             same(words, said(edits.main)[0], 1)
@@ -233,9 +266,27 @@ def edits():
                     .replace("\nuse ", f"\n{edits.BEGINS}\nuse ")))
                 return of_wrong if texts else of_right
             edits.play = edits_play
-            status, lines = said(edits.try_rows, edits.folders_of([]))
+            status, lines = said(edits.try_rows, edits.edits_of([]))
             same(line, (status, lines[0], lines[-1]), (wrong, f"net_a/one: {line}", f"of 1 edits with rows {wrong} have others"))
-        edits.play = kept
+        edits.play, sys.argv[1:] = kept, ["--rows", "net_b"]
+        same("rows of one", said(edits.main), (0, ["of 0 edits with rows 0 have others"]))
+        sources, erased = erase.sources, erase.erased
+        erase.sources = given = lambda *_: [("net_a", "a.rt", "1"), ("net_b", "a.rt", "2")]
+        copy = files / "copy/rust"
+        copy.mkdir(parents=True)
+        (copy / "tests").symlink_to(files / "rust/tests")
+        written(files / "bin/cargo", "cat net_a")
+        for printed, refused, wanted in [
+            ("test result: ok", [], ""), ("no row a was made", [], ""), ("at gives a, not b\n", [], "gives a, not b"),
+            ("test result: FAILED", [], "test result: FAILED"), ("", [], "it doesn't compile"), ("no row a was made", ["no"], "no"),
+        ]:
+            erase.erased = lambda told: told.extend(refused) or {edits.ROOT / "rust" / crate: text for crate, _, text in erase.sources()}
+            for crate in "net_a", "net_b":
+                (copy / crate).write_text("")
+            same(printed, edits.play(copy, "net_a", {"src/a.rt": printed}, ["a 1 => ", "b => c"]), wanted)
+            same(printed, ((copy / "net_b").read_text(), (copy / "tests/rows/rows.txt").read_text()), ("2", "a 1 => \nb => c\n"))
+            same(printed, erase.sources, given)
+        erase.sources, erase.erased, os.environ["PATH"] = sources, erased, path
         same("no such text", said(edits.edited, files / "crates/net_a", two), (f"{two}: not in src/b.rt: e", []))
 
 
@@ -287,20 +338,22 @@ def growth():
         calls = {"assembler_add", "assembler_add_last"}
         for more, wrong in [("  a: pub struct Other<const N: usize> { }\n", ["Other"]),
                             ("  b::Loss: pub fn f<const N: usize>(&self)\n", ["Loss"]), ("  b: pub fn f<K, const N: usize>(a: &A<N>)\n", ["b"]),
-                            ("  b::Loss: pub fn f(a: usize)\n", [])]:
+                            ("  b::Loss: pub fn f(a: usize)\n", []), ("  a: pub struct A1<const N: usize> { }\n", ["A1"])]:
             (growth.HERE / "public_items.txt").write_text(ITEMS + more)
             same(more, growth.public_calls()[1], [f"{it}: has runs, and isn't in TYPES of growth.py" for it in wrong])
         for cases, out, wrong in [
             (["assembler_add"], {"a": "assembler: add_last drop / b: c"}, ["assembler_drop: LEFT_OUT has it, and there is no such call",
                                                                           "b_c: LEFT_OUT has it, and there is no such call"]),
             (["assembler_add", "assembler_add_last"], {"a": "assembler: add"}, ["assembler_add: has a case, and is in LEFT_OUT"]),
-            (["assembler_add", "assembler_add_last", "other"], {}, ["other: is no public call"]),
+            (["assembler_add", "assembler_add_last", "other", "assembler_adds"], {}, ["assembler_adds: is no public call",
+                                                                                      "other: is no public call"]),
         ]:
             growth.LEFT_OUT = out
             same((cases, out), growth.unclassed(cases, calls), wrong)
-        few, many = {"assembler_add": 10, "assembler_b": 2000, "assembler_c": 30}, {"assembler_add": 11, "assembler_b": 2100, "assembler_c": 900}
-        rows = growth.page_table(few, many, {"assembler_add": "looks", "assembler_b": "looks", "assembler_c": "passes"})
-        same("table", rows[2:], ["| `Assembler` | 2,000; 2,100 |  | 30; 900 |"])
+        few = {"assembler_add": 10, "assembler_b": 2000, "assembler_c": 30, "an_assembler_c": 40}
+        many = {"assembler_add": 2200, "assembler_b": 2100, "assembler_c": 900, "an_assembler_c": 1000}
+        rows = growth.page_table(few, many, dict(zip(few, ["looks", "looks", "passes", "passes"])))
+        same("table", rows[2:], ["| `Assembler` | 2,000; 2,200 |  | 30; 900 |"])
         growth.PAGE = growth.HERE / "page.md"
         growth.PAGE.write_text("a\n<!-- tools/growth.py: begin -->\n\nold\n\n<!-- tools/growth.py: end -->\nb\n")
         told = lambda row: [f"page.md: growth.py --write has another row: {row}"]
@@ -308,10 +361,10 @@ def growth():
         same("page", growth.PAGE.read_text(), f"a\n<!-- tools/growth.py: begin -->\n\n{rows[2]}\n\n<!-- tools/growth.py: end -->\nb\n")
         same("new", growth.differing(rows[2:], False), [])
         valgrind = growth.HERE / "bin/valgrind"
-        valgrind.parent.mkdir()
-        valgrind.write_text("#!/bin/sh\nfor word; do case $word in --callgrind-out-file=*) out=${word#*=};; esac; done\nprintf 'fn=a\\n5 9\\n"
-                            "cfn=growth::calls::add\\ncalls=2 0\\n7 100\\n8 1\\ncfn=other\\ncalls=1 0\\n9 50\\ncfn=growth::calls::add\\ncalls=2 3\\n7 20\\n' > $out\n")
-        valgrind.chmod(0o755)
+        grown = ("for word; do case $word in --callgrind-out-file=*) out=${word#*=};; esac; done\nprintf 'fn=a\\n5 9\\n"
+                 "cfn=growth::calls::add\\ncalls=2 0\\n7 100\\n8 1\\ncfn=other\\ncalls=1 0\\n9 50\\n"
+                 "cfn=growth::calls::add\\ncalls=2 3\\n7 20\\n' > $out\n")
+        written(valgrind, grown)
         path, os.environ["PATH"] = os.environ["PATH"], f"{valgrind.parent}:{os.environ['PATH']}"
         same("counts", growth.counts("a", 32, growth.HERE), {"add": 30})
         (growth.HERE / "growth/src").mkdir(parents=True)
@@ -322,6 +375,8 @@ def growth():
             ([], "passes", "_last", row, []), ([], "looks", "_last", row, ["assembler_add: grows 30.00 times"]),
             ([], "passes", "_l", row, ["assembler_add_last: no case in growth/src/main.rs makes it, and LEFT_OUT has no reason"]),
             ([], "passes", "_last", row.replace("900", "990"), []), ([], "passes", "_last", row.replace("900", "991"), told(row)),
+            ([], "passes", "_last", row.replace("900", "809"), told(row)), ([], "passes", "_last", row.replace("A", "B"), told(row)),
+            ([], "searches", "_last", "| `Assembler` | 11; 11 | 30; 900 |  |", ["assembler_add: grows 30.00 times"]),
         ]:
             case.write_text(f"        {kind} assembler_add {{ }}\n        looks assembler_add{last} {{ }}\n")
             growth.counted = lambda: [{"assembler_add": 30, f"assembler_add{last}": few} for few in [11]] + [{"assembler_add": 900, f"assembler_add{last}": 11}]
@@ -331,8 +386,22 @@ def growth():
             status, lines = said(growth.main)
             wrong = wrong + told("| `Assembler` | 30; 900 |  |  |") * (kind == "looks")
             same((words, kind, last), (status, lines[4:]), (1 if wrong else 0, [it for it in wrong if kind != "looks" or "grows" in it] + lines[5:] * (kind == "looks")))
-        same("cells", lines[2:4], ["| assembler_add | passes | 30 | 900 | 30.00 | 36 |", "| assembler_add_last | looks | 11 | 11 | 1.00 | 1.1 |"])
-        growth.counted, os.environ["PATH"] = counted, ""
+        same("cells", [lines[0], *lines[2:4]], ["| Call | Class | 32 runs | 1,024 | Ratio | At most |",
+                                               "| assembler_add | searches | 30 | 900 | 30.00 | 2.2 |",
+                                               "| assembler_add_last | looks | 11 | 11 | 1.00 | 1.1 |"])
+        (growth.HERE / "public_items.txt").write_text(f"{ITEMS}  a: pub struct Other<const N: usize> {{ }}\n")
+        case.write_text(case.read_text().replace("looks", "searches"))
+        same("other", said(growth.main)[1][4:7], ["Other: has runs, and isn't in TYPES of growth.py", "assembler_add: grows 30.00 times",
+                                                  "assembler_add_last: grows 1.00 times"])
+        growth.counted, manifest = counted, growth.HERE / "growth/Cargo.toml"
+        written(valgrind.parent / "cargo", "grep -q '= \"/.*/rust\"' Cargo.toml")
+        for crate, wanted in [("../../rust", [{"add": 30}] * 2),
+                              ("../rust", "growth/src/main.rs doesn't compile over the crate: a call of it has changed")]:
+            manifest.write_text(f'net-base = {{ path = "{crate}" }}\n')
+            same(crate, said(growth.counted), (wanted, []))
+        written(valgrind, f"{grown}exit 1")
+        same("it fails", is_asserted(growth.counts, "a", 32, growth.HERE), False)
+        os.environ["PATH"] = ""
         same("no valgrind", said(growth.main), (2, ["not run: valgrind isn't here"]))
         os.environ["PATH"] = path
         growth.PAGE.write_text(f"<!-- tools/growth.py: begin -->\n{rows[2]}\n<!-- tools/growth.py: end -->")
@@ -677,8 +746,356 @@ def exports():
         same((kind, null), sequence.Call.least(call), least)
 
 
-CHECKERS = {"quotes": quotes, "edits": edits, "models": models, "growth": growth, "composition": composition, "places": places,
-            "exports": exports}
+# ---- guards.py: a source, and the checked calls of it.
+GUARDED = """impl<T: Copy, const N: usize> RingOver<T, N> {
+    #[track_caller]
+    pub fn take(&mut self, count: usize, of: Map<u8, T>)
+        requires { count <= 3 }
+    {
+        prove!(count > MySelf, "none");
+        prove!(count <= Self::most(self.len()), "too many");
+        prove!(count <= N, "in any `usize`");
+        f()
+    }
+    pub fn new(size: usize) -> Self
+        requires { N >= 1 }
+    {
+        prove!(N >= 1, "no room");
+        f()
+    }
+    pub fn plain(&self) {
+        prove!(a, "in any `usize`");
+        f()
+    }
+    #[track_caller]
+    pub fn listed(&self)
+        requires { a }
+    {
+        g(); prove!(b < 3, "c");
+    }
+    fn own(&self)
+        requires { a }
+    {
+    }
+}
+impl Add for Time {
+    ghost can_add = { a };
+
+    fn add(self, other: Time) -> Time {
+        f()
+    }
+}
+pub fn last(other: IsSelf)
+    requires { a }
+{
+}
+"""
+CALLED = """pub fn call_0_ringover_take<T: Copy + Drop, const N: usize>(this: &mut RingOver<T, N>, count: usize, of: Map<u8, T>) {
+    is_usize(count);
+    if !(count > MySelf) {
+        return;
+    }
+    if !(count <= RingOver::<T, N>::most(this.len())) {
+        return;
+    }
+    let _ = this.take(count, of);
+}
+
+pub fn call_1_ringover_new<T: Copy + Drop, const N: usize>(size: usize) -> Option<RingOver<T, N>> {
+    is_usize(size);
+    if !(N >= 1) {
+        return None;
+    }
+    Some(RingOver::<T, N>::new(size))
+}
+
+pub fn call_2_time_add(this: Time, other: Time) {
+    let _ = this.add(other);
+}
+
+pub fn call_3_last(other: IsSelf) {
+    let _ = last(other);
+}
+"""
+
+
+def guards():
+    import erase
+    import guards
+
+    kept = erase.sources, guards.UNGUARDED, guards.check, guards.libraries.over
+    guards.UNGUARDED = {"RingOver::listed": ("", 'prove!(b < 3, "c");')}
+    for old, new, wrong in [("    #[track_caller]\n", "", "guards: RingOver::take has no #[track_caller]"),
+                            ("b < 3", "b < 4", "guards: RingOver::listed has other statements than the list"),
+                            ("fn listed", "fn unlisted", "guards: no such functions: {'RingOver::listed'}"), ("", "", None)]:
+        erase.sources = lambda: [("net_ring", "a.rt", GUARDED.replace(old, new, 1)), ("net_ffi", "a.rt", GUARDED)]
+        same(new, said(lambda: [*guards.guarded()] and None)[0], wrong)
+    same("called", said(guards.main, ["--print"]), (0, (guards.TOP + CALLED).splitlines()))
+    for test, weaker in [("a < b", ["a <= b"]), ("a > 0", ["a >= 0"]), ("a == b", ["a >= b"]), ("a <= b", ["a <= (b).saturating_add(1)"]),
+                         ("fits(a, b)", ["fits(a, b / 2)"]), ("a", [])]:
+        same(test, guards.weaker(test), ["true", *weaker])
+    one, two = "count > MySelf", "count <= Self::most(self.len())"
+    same("faulty", [it[3] for it in guards.faulty()], [
+        ["true", two], ["count >= MySelf", two], [one, "true"], [one, "count <= (Self::most(self.len())).saturating_add(1)"],
+        [one, "count <= Self::most(self.len() / 2)"], ["true"]])
+    refused = [f"fn checked::call_{k}_ringover_{name}: no proof of `{name}-requires`" for k, name in enumerate(["take"] * 5 + ["new"])]
+    unseen = True, ["not refused: RingOver::new ['true']", "5 of 6 weaker guards are refused"]
+    for words, lines, status, wanted in [
+        (["--faults"], refused, 1, (False, ["6 of 6 weaker guards are refused"])), (["--faults"], refused[:5], 0, unseen),
+        (["--faults"], [*refused[:5], refused[5].replace("new-", "take-")], 1, unseen),
+        ([], [], 0, (0, ["the guards of 4 functions test enough"])), ([], ["no proof"], 3, (3, ["no proof"])),
+    ]:
+        guards.check = lambda text: ("\n".join(lines), status)
+        same((words, lines), said(guards.main, words), wanted)
+    erase.sources, guards.UNGUARDED, guards.check, _ = kept
+    guards.libraries.over = lambda *of: ([*of[:3], pathlib.Path(of[3], "src/lib.rt").read_text()], 3)
+    same("check", guards.check("text\n"), ([[it for it in guards.given.CRATES if it != "net_ffi"], "check", "checked", "text\n"], 3))
+    guards.libraries.over = kept[3]
+
+
+# ---- libraries.py: what `rattle` is run with, and where.
+def libraries():
+    import libraries
+
+    with programs({"rt": "echo /kit/page", "rattle": 'echo "${PWD##*/}" $*; exit $(cat status)'}), folder(
+            {"crates.txt": "net_a: b\nnet_ffi staticlib: net_a net_b\n", "crates/net_ffi/status": "3", "crates/net_a/out/rlib/net_a.rlib/a": "",
+             "out/a": ""}) as libraries.REPOSITORY:
+        build = libraries.build_exports, pathlib.Path("kept"), pathlib.Path("made.a"), "--crate-type", "staticlib"
+        same("missing", said(*build), ("libraries: no proved library of net_b: rt ci", []))
+        (libraries.REPOSITORY / "crates/net_b/out/rlib/net_b.rlib").mkdir(parents=True)
+        at = {"std": "/kit/rlibs"} | {it: f"{libraries.REPOSITORY}/crates/{it}/out/rlib" for it in ("net_a", "net_b")}
+        over = " ".join(f"--extern {name}={place}/{name}.rlib -L dependency={place}" for name, place in at.items())
+        same("words", said(*build)[0], f"libraries: net_ffi is not built:\nnet_ffi build --crate-name net_ffi src/lib.rt {over} --antt-project "
+             "/kit/rattle/logic/antt-project.json --logic-built /kit/logic_built --incremental kept/incremental --jobs 2 "
+             "--crate-type staticlib -o made.a\n")
+        (libraries.REPOSITORY / "crates/net_ffi/status").write_text("0")
+        same("built", said(*build), (None, []))
+
+
+# ---- faults.py: of a line the faulty ones that may be written in its place.
+LINES = {
+    "of_line": [
+        ("    if a < b {", ["    if (crate::m(@) != (a < b)) {", "    if (if crate::m(@) { a <= b } else { a < b }) {"]),
+        ("    a = b + 1;", ["    a = (b + 1 + crate::mi(@));", "    if !crate::m(@) { a = b + 1; }"]),
+        ("    self.a.clear();", ["    if !crate::m(@) { self.a.clear(); }"]), ("    self.a", ["    (self.a + crate::mi(@))"]),
+        ("    assert!(a, \"b\");", ["    if !crate::m(@) { assert!(a, \"b\"); }"]), ("    if let Some(a) = b {", []), ("    // if a {", []),
+        ("    const A: u8 = 1 + 2;", []), ("    let a = b * c - d;", []), ("impl A<B> for C {", []),
+    ],
+    "of_shim": [
+        ("    heads::f(a, b, c)", [f"    if proved::m(@) {{ heads::f({it}) }} else {{ heads::f(a, b, c) }}" for it in (
+            "a.wrapping_add(1), b, c", "b, a, c", "a, b.wrapping_add(1), c", "a, b, &c[..c.len().saturating_sub(1)]")]),
+        ("    let Some(c) = slice(c, c_length) else { return 0 };", [
+            *[f"    let Some(c) = slice(c, c_length) else {{ return if proved::m(@) {{ {it} }} else {{ 0 }} }};"
+              for it in ("true", "u64::MAX", "usize::MAX")],
+            "    let Some(c) = slice(c, if proved::m(@) { d_length } else { c_length }) else { return 0 };"]),
+    ],
+    "of_glue": [
+        ("    if pointer.is_null() {", ["    if proved::m(@) != (pointer.is_null()) {", "    if !proved::m(@) && pointer.is_null() {",
+                                        "    if pointer.is_null() || proved::m(@) && (pointer as usize) < 65536 {"]),
+        ("    a = from_raw_parts_mut(pointer, length);", [
+            f"    a = from_raw_parts_mut(pointer, if proved::m(@) {{ length.min({it}) }} else {{ length }});"
+            for it in ("0xffff", "0xffff_ffff")]),
+        ("fn trap() -> ! {", ["fn trap() -> ! { if proved::m(@) { loop {} }"]),
+    ],
+    "of_class": [("    if (a)", ["    if (fault(@) != (a))", "    if (fault(@) || (a))"]),
+                 ("f(size, 1)", ["f(size + fault(@), 1)", "f(size - fault(@), 1)"])],
+}
+
+
+def faults():
+    import argparse
+    import faults
+
+    types = {"a": "u64", "b": "u64", "c": "[", "c_length": "usize", "d_length": "usize"}
+    for name, rows in LINES.items():
+        for line, wanted in rows:
+            same(line, [text for _, text in getattr(faults, name)(line, *[types] * (name == "of_shim"))], wanted)
+    with folder({"a/src/lib.rs": "const fn a() {\n    if a {\n}\nfn b() {\n    if a {\n", "c/src/lib.rs": "fn trap() -> ! {\n",
+                 "a.rs": "a\nb"}) as files:
+        a, c, file = files / "a/src/lib.rs", files / "c/src/lib.rs", files / "a.rs"
+        sites = [(a, 4, "negated", "    if (crate::m(@) != (a)) {"), (c, 0, "goes on", "fn trap() -> ! { if proved::m(@) { loop {} }")]
+        same("sites", faults.sites([a, c], 1), sites)
+        asked = lambda *words: argparse.Namespace(words=words, sample=None, seed=1)
+        same("drawn", (faults.drawn(sites, asked("c/src", "none"), files), faults.drawn(sites, asked(), files)), (sites[1:], sites))
+        for span, wanted in [('{"file_name": "a.rs", "line_start": 2, "line_end": 2}', ([0, 2], "built\n")),
+                             ("", "faults: it doesn't compile: e")]:
+            build = (f"""grep -q wrong a.rs || exec echo built; echo '{{"reason": "compiler-message", "message": {{"level": "error","""
+                     f""""rendered": "e", "children": [], "spans": [{span}]}}}}'; exit 1""")
+            found = [(file, 0, "k", "right @"), (file, 1, "k", "wrong @"), (c, 0, "k", "right @")]
+            planted = []
+            status, _ = said(lambda: planted.extend(faults.planted(files, [file, c], found, [["sh", "-c", build]], None)))
+            same(span, tuple(planted) or status, wanted)
+            same(span, not span or (file.read_text(), c.read_text()), not span or ("right 0\nb", "right 2\n"))
+            file.write_text("a\nb")
+        programs = [("one", ["true"], files, b""), ("two", ["sh", "-c", "echo $FAULT; [ $FAULT != 3 ]"], files, b"")]
+        same("by status", [faults.seen_by(programs, it) for it in (1, 3)], ["", "two"])
+        same("by text", [faults.seen_by([programs[0], (*programs[1][:3], b"1\n")], it) for it in (1, 2)], ["", "two"])
+        seconds, faults.SECONDS = faults.SECONDS, 0
+        same("by time", faults.seen_by([("slow", ["sleep", "9"], files, b"")], 1), "slow")
+        faults.SECONDS = seconds
+    kept = faults.ROOT, faults.KNOWN, faults.of_rust
+    with folder({"rust/src/lib.rs": "a\nb\nc", "rust/src/none.rs": "d", "c/a": "", "known": "seed: 7\n"}) as faults.ROOT:
+        faults.KNOWN, sys.argv[1:] = faults.ROOT / "known", []
+        for known, program, dead, wanted in [
+            ("", "[ $FAULT != 0 ]", [], (True, [*[f"rust/src/lib.rs:{it}: NOT SEEN: k: {'abc'[it - 1]}" for it in (2, 3)],
+                                                "3 tried: 2 by nothing, 1 by p"])),
+            ("b", "[ $FAULT != 0 ]", [], (True, ["rust/src/lib.rs:3: NOT SEEN: k: c", "3 tried: 1 by p, 1 by known, 1 by nothing"])),
+            ("b", "[ $FAULT = 1 ] || [ $FAULT = 3 ]", [], (False, ["3 tried: 2 by p, 1 by known"])),
+            ("", "false", [], ("faults: without a fault p fails", [])),
+            ("", "true", ["none.rs"], ("faults: no fault compiles of none.rs", [])),
+        ]:
+            faults.KNOWN.write_text(f"seed: 7\nrust/src/lib.rs k: {known or 'd'}: why\n")
+            faults.of_rust = lambda room, options: (
+                [(room / "rust/src" / name, line, "k", "t") for line, name in enumerate(["lib.rs"] * 3 + dead)], [0, 1, 2],
+                [("p", ["sh", "-c", program], room, b"")])
+            status, lines = said(faults.main)
+            same((known, program), (status, [line.rpartition("of 3, ")[2] for line in lines]), wanted)
+    faults.ROOT, faults.KNOWN, faults.of_rust = kept
+
+
+# ---- std_calls.py: calls of rustc's MIR, and what of them the page has to have.
+MIR = "".join(f"    _1 = {call} -> [return: bb1]; // scope 0 at src/proved/a.rs:1:1\n" for call in (
+    "core::slice::<impl [u8]>::len(move _2)", "core::num::<impl u32>::pow(_2)", "core::str::<impl str>::len(_2)", "<Time as Add>::add(_2)",
+    "<Time as Own>::own(_2)", "core::cmp::min::<usize>(_2, _3)", "move Option::<u8>::take(_2)", "Vec::<u8>::new()",
+    "std::string::String::new()", "crate::proved::f(_2)", "core::panicking::panic(_2)", "core::fmt::Formatter::<'_>::write_str(_2)",
+    "<A as core::ops::Index<u8>>::index(_2)")) + "    _1 = core::mem::swap(_2) -> [return: bb1]; // scope 0 at src/other.rs:1:1\n"
+LISTED = [f"  - `{of}`: `{call}`" for of, call in [
+    ("Add", "add"), ("Formatter", "write_str"), ("Option", "take"), ("String", "new"), ("Vec", "new"), ("cmp", "min"), ("numbers", "pow"),
+    ("slice", "len"), ("str", "len")]]
+
+
+def std_calls():
+    import std_calls
+
+    kept, it = std_calls.REPOSITORY, std_calls.widths
+    stubbed = it.rustc, it.kit_of, it.mir_of
+    it.rustc, it.kit_of, it.mir_of = lambda *_, **__: None, lambda *_: None, lambda *_: MIR
+    with folder({"rust/src/proved/a.rs": "pub trait Own {}\n", "crates/net_a/a": "", "docs/TRUST.md": "",
+                 "crates.txt": "net_a: hex # memchr\nnet_b: net_a zeta\n"}) as std_calls.REPOSITORY:
+        lines, crates = "\n".join(LISTED), "(`hex`, `zeta`)"
+        for words, page, status in [(["--check"], f":\n{lines}\n- {crates}", 0), (["--check"], f":\n  - `A`: `a`\n{lines}\n- {crates}", 1),
+                                    (["--check"], f":\n{lines}\n- ", 1), (["--check"], crates, 1), ([], "", 0)]:
+            (std_calls.REPOSITORY / "docs/TRUST.md").write_text(page)
+            same(page, said(std_calls.main, words), (status, [*LISTED, crates]))
+    std_calls.REPOSITORY, (it.rustc, it.kit_of, it.mir_of) = kept, stubbed
+
+
+# ---- release.py: the archive of a tag in a repository of its own.
+def release():
+    import release
+    import tarfile
+
+    # Those of a hook name another repository.
+    for name in [it for it in os.environ if it.startswith("GIT_")]:
+        del os.environ[name]
+    kept = release.ROOT, release.ASSETS, release.BUILD, release.run.compilers
+    git = "git -c user.name=a -c user.email=a -c init.defaultBranch=a"
+    made = "c/net_base.h c/net_base_check.h c/net_base.hpp c/net_base.pc LICENSE"
+    with programs({"cargo": "mkdir -p $CARGO_TARGET_DIR/$5/$3 && echo $RUSTC > $CARGO_TARGET_DIR/$5/$3/libnet_base.a"}), folder(
+            dict.fromkeys(made.split(), "libdir=/target/release\n")) as release.ROOT:
+        subprocess.run(["sh", "-ec", f"{git} init -q; {git} add .; GIT_COMMITTER_DATE='@77 +0000' {git} commit -qm a; {git} tag v1\n"
+                                     f"echo later > LICENSE; {git} commit -qam b"], cwd=release.ROOT, check=True)
+        release.ASSETS, release.BUILD = release.ROOT / "c/assets", release.ROOT / "c/assets/build"
+        for given, status in [({"t": "r"}, 0), ({}, 2)]:
+            release.run.compilers, sys.argv[1:] = lambda *_: given, ["v1", "t"]
+            ended, lines = said(release.main)
+            same(given, (ended, [line.split()[1] for line in lines]), (status, ["net_base-v1-t.tar.gz"]))
+        path = release.ASSETS / "net_base-v1-t.tar.gz"
+        with tarfile.open(path) as archive:
+            packed = {it.name: (it.mtime, archive.extractfile(it).read()) for it in archive}
+        texts = {"libnet_base.a": b"r\n", "net_base.pc": b"libdir=\n"}
+        same("packed", packed, {f"net_base-v1-t/{name}": (77, texts.get(name, b"libdir=/target/release\n"))
+                                for name in ("libnet_base.a", *made.replace("c/", "").split())})
+        same("moment", int.from_bytes(path.read_bytes()[4:8], "little"), 77)
+        same("trees", len(subprocess.check_output(["git", "worktree", "list"], cwd=release.ROOT).splitlines()), 1)
+    release.ROOT, release.ASSETS, release.BUILD, release.run.compilers = kept
+
+
+# ---- small_stack.sh, c/digest.sh and .ci/run, over programs and steps of their own.
+def ran(words, **environment):
+    """The status and the lines of a program."""
+    done = subprocess.run(["sh", *words], env=os.environ | environment, stdout=subprocess.PIPE, stderr=subprocess.STDOUT, text=True)
+    return done.returncode, done.stdout.splitlines()
+
+
+def stack():
+    bench, tests = "ulimit -s; echo $*; cat", "[ $1 != --list ] || { echo one: test; exit; }; [ $(ulimit -s) = 256 ] && [ $1 = one ]"
+    for program, test, wanted in [
+        (bench, tests, (0, "small stack: 1 program, 1 tests, 256 KiB")),
+        (bench, f"{tests} && false", (1, "small_stack.sh: one of a_tests_tests failed with 256 KiB of stack")),
+        (f"{bench}; exit 3", tests, (1, "small_stack.sh: net_bench ended with status 3 with 256 KiB of stack")),
+        (f"{bench}; echo", tests, (1, "small_stack.sh: net_bench writes something else with 256 KiB of stack")),
+    ]:
+        with folder({"tools/small_stack.sh": (HERE / "small_stack.sh").read_text(), "crates/net_bench/args": "a\nb\n",
+                     "crates/net_bench/stdin": "in\n", "crates/net_bench/stdout": "256\na b\nin\n"}) as files:
+            for place, text in ("net_bench/out/net_bench", program), ("a_tests/out/a_tests_tests", test):
+                written(files / "crates" / place, text)
+            status, lines = ran([files / "tools/small_stack.sh"])
+            same((program, test), (status, lines[-1]), wanted)
+
+
+def digest():
+    other = "digest.sh: the kit's library has another digest than c/sequence.txt: sequence: digest "
+    with programs({"cc": '[ -f "$6" ] && cp "$5" "$8" && chmod +x "$8"'}), folder({
+            "c/digest.sh": (HERE.parent / "c/digest.sh").read_text(), "c/sequence.txt": "64 bits 12ab\n32 bits 34cd\n",
+            "tools/ffi.py,tools/libraries.py": ""}) as files:
+        for build, python, printed, wanted in [
+            ("", "", "12ab", (0, [])), ("", "", "2ab", (1, [f"{other}2ab"])), ("", "", "12ax", (1, [f"{other}12ax"])), ("", "", "34cd", (1, [f"{other}34cd"])),
+            ("sys.exit('bad')", "", "12ab", (1, ["bad"])), ("", "sys.exit(1)", "12ab", (1, [])),
+        ]:
+            source = f"import sys\nopen(sys.argv[2], 'w').write('#!/bin/sh\\necho sequence: digest {printed}\\n')\n{python}\n"
+            (files / "tools/ffi.py").write_text(source)
+            (files / "tools/libraries.py").write_text(f"import sys\n{build}\nassert sys.argv[2:] == ['kept']\nopen(sys.argv[1], 'w')\n")
+            same((build, python, printed), ran([files / "c/digest.sh", "kept"]), wanted)
+
+
+STEPS = """
+good   |           |      | echo fine                      | h
+bad    |           |      | echo broken >&2; exit 3        | mend
+killed |           |      | kill -9 $$                     | h
+two    |           |      | exit 2                         | h
+said   |           |      | echo not run: a; exit 1        | h
+lacks  | sh nosuch |      | true                           | h
+after  |           | bad  | true                           | h
+once   |           |      | mkdir "$T/once"                | h
+then   |           | once | true                           | h
+part   |           |      | echo not run: no part; exit 2  | h
+end    |           |      | true                           | h
+"""
+
+
+def gate():
+    for name in "check_quotes", "edits", "faults", "growth", "guards", "places", "std_calls":
+        same(f"{name}: its status", (HERE / f"{name}.py").read_text().splitlines()[-1].startswith("    sys.exit(main("), True)
+    text = (HERE.parent / ".ci/run").read_text()
+    before, _, rest = text.partition('STEPS = """')
+    text = f'{before}STEPS = """{STEPS}"""\nQUICK = ("good", "end")\n{rest.partition(chr(10) + "QUICK = ")[2].partition(chr(10))[2]}'
+    with folder({"a/repo/.ci/run,b/repo/.ci/run": text} | {"tmp/a": ""}) as files:
+        def gated(*words, place="a"):
+            return ran([files / place / "repo/.ci/run", *words], TMPDIR=str(files / "tmp"))
+
+        for words, status, failed, part, count in [
+            (["good"], 0, "none", "none", (1, 0)), ([], 1, "bad", "none", (1, 1)), (["bad"], 1, "bad", "none", (0, 1)),
+            (["--keep-going"], 1, "bad, killed, two, said", "lacks, after, part", (4, 4)), (["lacks"], 2, "none", "lacks", (0, 0)),
+            (["--from", "part"], 0, "none", "part", (1, 0)), (["--quick"], 0, "none", "none", (2, 0)),
+            (["then"], 0, "none", "none", (1, 0)), (["once"], 1, "once", "none", (0, 1)), (["then"], 2, "none", "then", (0, 0)),
+        ]:
+            ended, lines = gated(*words)
+            end = f"{count[0]} passed, {count[1]} failed"
+            same(words, (ended, lines[-2:]), (status, [f"failed: {failed}; not whole here: {part}", end]))
+            same(words, [it in lines for it in ("broken", "    what to do: mend", "    again: .ci/run bad")], ["bad" in failed] * 3)
+            same(words, "not run: no nosuch" in lines, "lacks" in part)
+        names = " ".join(row.split()[0] for row in STEPS.strip().split("\n"))
+        same("no step", gated("good", "other"), (1, [f"run: no step other: there are {names}"]))
+        one, two = [pathlib.Path(gated("--list", place=it)[1][-1].split()[2].rstrip(":")) for it in "ab"]
+        same("folders", (one == two, one.parent, one.is_dir()), (False, files / "tmp", True))
+        same("clean", (gated("--clean"), one.exists()), ((0, []), False))
+        one.symlink_to(two)
+        same("another's", gated("good"), (1, [f"run: {one} is another user's: let TMPDIR name another place for it"]))
+
+
+CHECKERS = {it.__name__: it for it in (
+    quotes, edits, models, growth, composition, places, exports, guards, libraries, faults, std_calls, release, stack, digest, gate)}
 
 if __name__ == "__main__":
     for name in sys.argv[1:] or CHECKERS:

@@ -59,10 +59,10 @@ def name_of(edit):
 def differing():
     """Prints each edit that no row has, and each row whose edit or test isn't there; returns how many."""
     clauses, tests = table()
-    there = {name_of(it) for it in CRATES.glob("*/must-fail/*.edit")}
+    there = {name_of(it) for it in edits_of([])}
     wrong = [f"{it}: no row of {PAGE.name} has this edit" for it in sorted(there - set(clauses))]
     wrong += [f"{it}: {PAGE.name} names this edit, and there is none" for it in sorted(set(clauses) - there)]
-    wrong += [f"{name_of(it)}: it has no rows, and says not why" for it in sorted(CRATES.glob("*/must-fail/*.edit"))
+    wrong += [f"{name_of(it)}: it has no rows, and says not why" for it in edits_of([])
               if bool(rows_of(it)) == bool(re.search(r"^# no row: \w", it.read_text(), re.M))]
     for crate, name in tests:
         files = (CRATES.parent / "rust/tests").rglob("*.rs") if crate == "rust" else (CRATES / crate / "src").rglob("*.rt")
@@ -123,22 +123,23 @@ def is_refused_by(told, texts, function, clause):
     return name == function.rpartition("::")[2] and fits
 
 
-def folders_of(crates):
-    """The folders of these crates, or of all that have edits."""
-    return [CRATES / it for it in crates] or sorted(it.parent for it in CRATES.glob("*/must-fail"))
+def edits_of(crates):
+    """The edits of these crates, or of all."""
+    return [it for crate in crates or ["*"] for it in sorted(CRATES.glob(f"{crate}/must-fail/*.edit"))]
 
 
-def must_fail(folders):
-    """What `rt must-fail` prints for these crates."""
-    ran = subprocess.run(["rt", "must-fail", *[it.name for it in folders]], cwd=ROOT, capture_output=True, text=True)
+def must_fail(edits):
+    """What `rt must-fail` prints for the crates of these edits."""
+    words = ["rt", "must-fail", *sorted({it.parent.parent.name for it in edits})]
+    ran = subprocess.run(words, cwd=ROOT, capture_output=True, text=True)
     return ran.stdout + ran.stderr
 
 
-def compare(folders, printed):
+def compare(edits, printed):
     """Prints each edit that has no clause, or that is refused by something else; returns how many."""
     told = dict(re.findall(r"must-fail (\S+)\.edit: (.*)", printed))
     clauses, right, wrong = table()[0], 0, 0
-    for edit in [it for folder in folders for it in sorted(folder.glob("must-fail/*.edit"))]:
+    for edit in edits:
         name = name_of(edit)
         said = told.get(name, "nothing was said of it")
         wanted = clauses.get(name, ())
@@ -170,10 +171,10 @@ def checked(crate, texts, function):
         return ran.returncode, ran.stdout + ran.stderr
 
 
-def try_twins(folders):
+def try_twins(edits):
     """Checks the twin of each edit; returns how many edits have none, or one that isn't proved."""
     wrong = 0
-    for edit in [it for folder in folders for it in sorted(folder.glob("must-fail/*.edit"))]:
+    for edit in edits:
         folder, name, text = edit.parent.parent, name_of(edit), edit.read_text()
         if text.count("\n# twin:") != text.count("\nnew:"):
             wrong += 1
@@ -225,7 +226,7 @@ def play(copy, crate, texts, rows):
     return "" if re.search(r"no row .* was made|test result: ok", said) else told[0] if told else said or "it doesn't compile"
 
 
-def try_rows(folders):
+def try_rows(edits):
     """Plays the rows of each edit that has some; returns how many edits have rows that aren't as they say."""
     wrong = 0
     with tempfile.TemporaryDirectory() as room:
@@ -233,7 +234,7 @@ def try_rows(folders):
         shutil.copytree(ROOT / "rust", copy, ignore=shutil.ignore_patterns("target"))
         test = copy / "tests/rows/main.rs"
         test.write_text(re.sub(r"assert_eq!(?=\(.*, \*?repl)", "begins!", test.read_text()).replace("\nuse ", f"\n{BEGINS}\nuse ", 1))
-        edits = [it for folder in folders for it in sorted(folder.glob("must-fail/*.edit")) if rows_of(it)]
+        edits = [it for it in edits if rows_of(it)]
         # All over the right text first, which is compiled once.
         right = {it for it in edits if not play(copy, it.parent.parent.name, {}, rows_of(it))}
         for edit in edits:
@@ -249,13 +250,13 @@ def main():
     if sys.argv[1:2] == ["--table"]:
         return 1 if differing() else 0
     if sys.argv[1:2] == ["--log"]:
-        return 1 if compare(folders_of([]), pathlib.Path(sys.argv[2]).read_text()) else 0
+        return 1 if compare(edits_of([]), pathlib.Path(sys.argv[2]).read_text()) else 0
     if sys.argv[1:2] == ["--twins"]:
-        return 1 if try_twins(folders_of(sys.argv[2:])) else 0
+        return 1 if try_twins(edits_of(sys.argv[2:])) else 0
     if sys.argv[1:2] == ["--rows"]:
-        return 1 if try_rows(folders_of(sys.argv[2:])) else 0
-    folders = folders_of(sys.argv[1:])
-    return 1 if compare(folders, must_fail(folders)) else 0
+        return 1 if try_rows(edits_of(sys.argv[2:])) else 0
+    edits = edits_of(sys.argv[1:])
+    return 1 if compare(edits, must_fail(edits) if edits else "") else 0
 
 
 if __name__ == "__main__":

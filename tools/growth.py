@@ -5,9 +5,9 @@ How the instructions of each call that a packet reaches grow with the runs that 
 table: counts them by callgrind at 32 and at 1,024, and prints a table. That of docs/PERFORMANCE.md has of each type
 and class the most that a call takes: `--write` writes it there. Each case of growth/src/main.rs has a class, that of
 the worst case: a call looks at some runs, searches them, or passes them once. One that passed them for each of them
-would grow 1,024 times. Status 1 if a call grows more than its class allows, if a public call of the types that have
-runs, and of the others of `TYPES`, has no case, and no reason in `LEFT_OUT`, if a case or a reason has no call, or if
-a number of the page is off by more than a tenth.
+would grow 1,024 times. Status 1 if a call grows more than its class allows, or no more than a call of a better one, if
+a public call of the types that have runs, and of the others of `TYPES`, has no case, and no reason in `LEFT_OUT`, if a
+case or a reason has no call, or if a number of the page is off by more than a tenth.
 """
 import argparse
 import itertools
@@ -22,6 +22,8 @@ from pathlib import Path
 FEW, MANY = 32, 1024
 # How many times more instructions a call may take with 32 times as many runs.
 MOST = {"looks": 1.1, "searches": 2.2, "passes": 36}
+# How many times more it has to take, since its class would else be a better one; and calls whose case isn't their worst.
+LEAST, BETTER = {"looks": 0, "searches": 1, "passes": 2.2}, {"sending_end_next_segment"}
 # What the calls of a type, or of a module, begin with in growth/src/main.rs: then comes the method's name, and the case.
 TYPES = {
     "assembler": "Assembler", "scoreboard": "Scoreboard", "recovery": "LossRecovery", "receiver": "ReceiverOver",
@@ -97,10 +99,9 @@ def page_table(few, many, classes):
     """The table of the page: of each type and class the most instructions that a call takes at each number of runs."""
     rows = ["| Calls of | look at some | search | pass once |", "|---|---:|---:|---:|"]
     for prefix, name in TYPES.items():
-        of = {call: classes[call] for call in few if re.match(rf"{prefix}_", call)}
         cells = []
         for kind in MOST:
-            calls = [call for call in of if of[call] == kind]
+            calls = [it for it in few if it.startswith(f"{prefix}_") and classes[it] == kind]
             cells.append(f"{max(few[it] for it in calls):,.0f}; {max(many[it] for it in calls):,.0f}" if calls else "")
         rows.append(f"| `{name}` | {' | '.join(cells)} |")
     return rows
@@ -172,7 +173,7 @@ def main():
     for call, kind in classes.items():
         ratio = many[call] / few[call]
         print(f"| {call} | {kind} | {few[call]:,.0f} | {many[call]:,.0f} | {ratio:.2f} | {MOST[kind]} |")
-        if ratio > MOST[kind]:
+        if ratio > MOST[kind] or ratio <= LEAST[kind] and call not in BETTER:
             bad.append(f"{call}: grows {ratio:.2f} times")
     bad += differing(page_table(few, many, classes), arguments.write)
     for line in bad:

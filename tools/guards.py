@@ -144,7 +144,7 @@ def checked(title, header, signature, tests):
     if passed and passed[0].endswith('self'):
         parameters[0] = f'this: {passed[0][:-4]}{owner}{arguments}'
         passed, called = passed[1:], f'this.{name}'
-    generics = ', '.join(part if re.search('^const |Drop', part) else part + (' + ' if ':' in part else ': ') + 'Drop'
+    generics = ', '.join(part if part.startswith('const ') else part + (' + ' if ':' in part else ': ') + 'Drop'
                          for part in parts(outer) + parts(inner))
     tests = [re.sub(r'\bself\b', 'this', re.sub(r'\bSelf\b', path, test)) for test in tests]
     lengths = [part.split(':')[0] for part in parameters if part.endswith(': usize')]

@@ -1,13 +1,13 @@
 #!/bin/sh
-# Runs the programs and the tests with little stack: sh tools/small_stack.sh [KIB]
+# Runs the program and the tests with little stack: sh tools/small_stack.sh
 #
 # It runs net_bench, as `rt ci` or `rt run` built it, on the words and the input that are stored beside its sources,
-# under `ulimit -s KIB`, 256 if it is left out. A program that takes more stack than that is ended by a signal. What it
-# writes must be what is stored. Then it runs each test of the crates of tests, as `rt ci` or `rt test` built them.
+# under `ulimit -s 256`. A program that takes more stack than that many KiB is ended by a signal. What it writes must be
+# what is stored. Then it runs each test of the crates of tests, as `rt ci` or `rt test` built them.
 set -eu
 
 root=$(cd "$(dirname "$0")/.." && pwd)
-kib=${1:-256}
+kib=256
 out=$(mktemp -d)
 trap 'rm -rf "$out"' EXIT
 
@@ -16,24 +16,18 @@ fail() {
     exit 1
 }
 
-for name in net_bench; do
-    crate=$root/crates/$name
-    program=$crate/out/$name
-    [ -x "$program" ] || fail "there is no $program: rt ci, or rt run in crates/$name"
-    set --
-    if [ -f "$crate/args" ]; then
-        # One word a line, and none has a space.
-        set -- $(cat "$crate/args")
-    fi
-    status=0
-    (
-        ulimit -c 0
-        ulimit -s "$kib"
-        exec "$program" "$@"
-    ) < "$crate/stdin" > "$out/$name" 2> "$out/errors" || status=$?
-    [ "$status" = 0 ] || fail "$name ended with status $status with $kib KiB of stack"
-    cmp "$crate/stdout" "$out/$name" || fail "$name writes something else with $kib KiB of stack"
-done
+crate=$root/crates/net_bench
+program=$crate/out/net_bench
+[ -x "$program" ] || fail "there is no $program: rt ci, or rt run in crates/net_bench"
+status=0
+(
+    ulimit -c 0
+    ulimit -s "$kib"
+    # One word a line, and none has a space.
+    exec "$program" $(cat "$crate/args")
+) < "$crate/stdin" > "$out/net_bench" 2> "$out/errors" || status=$?
+[ "$status" = 0 ] || fail "net_bench ended with status $status with $kib KiB of stack"
+cmp "$crate/stdout" "$out/net_bench" || fail "net_bench writes something else with $kib KiB of stack"
 
 count=0
 for tests in "$root"/crates/*_tests/out/*_tests_tests; do
