@@ -8,7 +8,6 @@ what smoltcp printed are compared (`expected.txt`, which --record writes), and t
 RUST_KIT names the folder that `sh rust/targets.sh FOLDER` fills: a compiler for ARMv7, if `rustc` is none.
 """
 import argparse
-import fcntl
 import hashlib
 import os
 import re
@@ -134,7 +133,7 @@ class Tests:
     def overlay(self, *words, nobody=False, **options):
         user = "import locale, os; os.geteuid() or os.setuid(65534); " if nobody else ""
         words = [sys.executable, "-B", "-c", f"{self.start}{user}overlay.main()", *map(str, words)]
-        return subprocess.run(words, cwd=self.folder / "net-base/overlay", capture_output=True, text=True, **options)
+        return subprocess.run(words, cwd=self.folder / "net-base/overlay", capture_output=True, text=True, timeout=600, **options)
 
     def made(self, *words):
         done = self.overlay(*words)
@@ -257,11 +256,16 @@ class Tests:
         if tree(original) != before:
             stop("--undo doesn't give back what was there after a stash")
         shutil.rmtree(original)
-        held = os.open(checkout, os.O_RDONLY)
-        fcntl.flock(held, fcntl.LOCK_EX)
-        for words in [[checkout], [checkout, "--undo"], [checkout, "--into", self.folder / "none"]]:
-            self.refused("another overlay command is at work", words)
-        os.close(held)
+        # Who copies lets others copy: one more is refused for the overlay that is there.
+        for how, of_copies in [("EX", "another overlay command is at work"), ("SH", "has an overlay already")]:
+            text = f"import fcntl, pathlib, overlay; overlay.lock(pathlib.Path({str(checkout)!r}), fcntl.LOCK_{how}); input('held')"
+            words = [sys.executable, "-B", "-c", text]
+            with subprocess.Popen(words, cwd=HERE, stdin=subprocess.PIPE, stdout=subprocess.PIPE) as other:
+                other.stdout.read(4)
+                for words in [[checkout], [checkout, "--undo"], [checkout, "--undo", "--dry-run"]]:
+                    self.refused("another overlay command is at work", words)
+                self.refused(of_copies, [checkout, "--into", self.folder / "none"])
+                other.communicate(b"\n")
         self.made(checkout, "--undo")
 
     def interruptions(self):

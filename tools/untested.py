@@ -28,6 +28,8 @@ A law counts only if a caller can use it: a proved function of another crate tha
 that README.md or docs/PROVED.md cites, after the word "law" or as the head of an item, and that none calls; of the others
 `--laws` says how many none calls.
 
+Listed too is each test of the Cargo crate that asserts nothing itself, but for those of `ASSERTED`.
+
 Ends with status 1 if there is something to list.
 """
 import collections
@@ -337,6 +339,23 @@ def unused_laws():
     return missing, f"{len(every)} laws, {len(set(every) - called)} that no other crate calls; of {len(cited)} cited names {len(missing)}"
 
 
+# Tests whose assertions are in the functions that they call, or that only have to compile.
+ASSERTED = {
+    "fuzz.rs": "random_segments", "path.rs": "texts_arrive both_open_at_once late_readers", "types.rs": "threads",
+    "long_inputs.rs": "long_inputs lines_of_every_length which_line_is_bad",
+    "split_ring.rs": "old_counts_show_less_room_and_fewer_elements",
+}
+
+
+def tests_that_assert_nothing():
+    """A line for each test of the Cargo crate without an assertion in its body."""
+    for file in sorted([*RUST.glob("tests/**/*.rs"), *RUST.glob("src/**/*.rs")]):
+        text = re.sub(r"//.*", "", file.read_text())
+        for _, name, body in re.findall(r"^( *)#\[test\]\n(?: *#.*\n)* *fn (\w+)(.*?)^\1\}$", text, re.M | re.S):
+            if not re.search(r"\bassert(_eq|_ne)?!", body) and name not in ASSERTED.get(file.name, "").split():
+                yield f"rust: test {name} of {file.name} asserts nothing"
+
+
 def main():
     if sys.argv[1:] == ["--laws"]:
         missing, count = unused_laws()
@@ -346,6 +365,7 @@ def main():
     of_crate, named_there = of_rust()
     missing = [f"{it[0]}: {'::'.join(filter(None, it[1:]))}" for it in calls if it not in named]
     missing += [f"rust: {it.removeprefix('::')}" for it in of_crate if it not in named_there] + unused_laws()[0]
+    missing += tests_that_assert_nothing()
     count = len(calls) + len(of_crate)
     print(*missing, f"{count} public functions and methods, {len(missing)} that no test or example names", sep="\n")
     return 1 if missing else 0

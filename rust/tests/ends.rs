@@ -405,6 +405,12 @@ fn a_full_window_and_an_end() {
     assert_eq!((it.next, it.window, end.announce()), (4, 0, (4, 0)));
     assert_eq!(end.read_with(|bytes| (1, bytes.len())), (1, 3));
     assert_eq!((end.read(&mut [0; 3]), end.is_wanted()), (2, false));
+    // Room for a segment is worth an update, and one byte less isn't.
+    let mut end = ReceivingEnd::<4>::empty_at(vec![0; 40], 0, 8);
+    assert_eq!((end.open(0, 0), end.arrived(0, &[7; 20], false).is_ok()), (40, true));
+    assert_eq!((end.acknowledgement().window, end.is_wanted()), (20, false));
+    assert_eq!((end.read(&mut [0; 7]), end.is_wanted()), (7, false));
+    assert_eq!((end.read(&mut [0; 1]), end.is_wanted()), (1, true));
 }
 
 /// Both ends over a path that loses, doubles and reorders.
@@ -497,7 +503,8 @@ fn what_came_twice_is_reported_once() {
 /// What a stream has sent, told by what a connection knows: no clock, no window of a peer.
 #[test]
 fn a_send_buffer() {
-    assert_eq!(SendBuffer::<2>::new_at(vec![0; 8], 7).window(), 8);
+    let buffer = SendBuffer::<2>::new_at(vec![0; 8], 7);
+    assert_eq!((buffer.window(), buffer.numbers_end()), (8, 7));
     let mut buffer = SendBufferOver::<_, 2>::over_at([0; 8], 7);
     buffer.expect_reports(true);
     assert_eq!((buffer.window(), buffer.write(b"abcd")), (8, 4));
@@ -519,8 +526,10 @@ fn a_send_buffer() {
     assert_eq!(buffer.next(12, 10, 2), Some((7, 9)));
     assert_eq!(buffer.acknowledge(12, &[], 2, true, true), Some((false, false)));
     assert!(buffer.is_done());
-    assert!(format!("{buffer:?}").starts_with("SendBuffer { numbers: SentNumbers {"));
     buffer.reset_at(5);
+    let text =
+        "SendBuffer { numbers: SentNumbers { first_unacknowledged: 5, sent: 5 }, window: 8, .. }";
+    assert_eq!(format!("{buffer:?}"), text);
     assert_eq!((buffer.numbers_end(), buffer.window(), buffer.is_recovering()), (5, 8, false));
 }
 
@@ -537,6 +546,24 @@ fn an_end_begins_again() {
     let it = Announcement { seq: 0, ack: 1_000, window: 50 };
     end.open(it, 10, true, Instant::ZERO);
     assert_eq!(ranges(&mut end, Instant::ZERO), [(1_000, 1_003)]);
+    assert_eq!(
+        format!("{end:?}"),
+        "SendingEnd { numbers: SentNumbers { first_unacknowledged: 1000, sent: 1003 }, window: 57, \
+         expires_at: Some(Instant { micros: 1000000 }), .. }"
+    );
+}
+
+/// The first timeout and the greatest one are those that an end is made with.
+#[test]
+fn timeouts_of_an_end() {
+    let bounds = TimeoutBounds { most: Duration::from_secs(5), ..TimeoutBounds::default() };
+    let mut end = SendingEnd::<4>::new_at(vec![0; 4], 10, Duration::from_secs(3), bounds);
+    end.open(Announcement { seq: 0, ack: 10, window: 50 }, 10, false, Instant::ZERO);
+    assert_eq!((end.write(b"abc"), ranges(&mut end, Instant::ZERO).len()), (3, 1));
+    let passed = Instant::from_secs(3);
+    assert_eq!((end.expires_at(), end.expired(passed)), (Some(passed), Expired::Lost));
+    assert_eq!(ranges(&mut end, passed).len(), 1);
+    assert_eq!(end.expires_at(), Some(Instant::from_secs(8)));
 }
 
 /// The rules of a sending end know its sender by these numbers.

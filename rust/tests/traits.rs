@@ -101,6 +101,8 @@ fn scoreboards() {
     assert!(one != other);
     assert_eq!(other.report(8, 9, 20), Ok(()));
     assert!(one == other);
+    assert_eq!(other.report(12, 14, 20), Ok(()));
+    assert!(one != other);
     one.acknowledge(20);
     other.acknowledge(21);
     assert!(one != other);
@@ -140,6 +142,10 @@ fn machines() {
     assert_eq!(AdvertisedWindow::default(), AdvertisedWindow::new(0));
     assert_eq!(PartsSum::default().with(b"ab"), PartsSum::new().with(b"ab"));
     assert_ne!(PeerWindow::of(Announcement { seq: 1, ack: 2, window: 3 }), PeerWindow::default());
+    assert_eq!(
+        (PeerWindow::default(), LossRecovery::default()),
+        (PeerWindow::new(), LossRecovery::new())
+    );
     assert_ne!(Transmission::Once(Instant::ZERO), Transmission::Repeated);
     assert_eq!(
         RetransmissionTimeout::default(),
@@ -217,10 +223,14 @@ fn counts() {
         assembler.add(0, 2).is_ok() && assembler.add(5, 1).is_ok() && assembler.add(9, 1).is_ok()
     );
     assert_eq!((counted(assembler.iter_data()), counted(assembler.holes())), (3, 2));
+    let texts = format!("{:?} {:?}", assembler.iter_data(), assembler.holes());
+    assert_eq!(texts, "[(0, 2), (5, 6), (9, 10)] [(2, 5), (6, 9)]");
     let mut storage = [0; 16];
     let mut receiver = Receiver::<4>::empty(&mut storage[..]);
     assert!(receiver.segment(2, b"c").is_ok() && receiver.segment(5, b"f").is_ok());
-    assert_eq!(counted(receiver.held()), 2);
+    assert_eq!((counted(receiver.held()), counted(receiver.holes())), (2, 2));
+    let texts = format!("{:?} {:?}", receiver.held(), receiver.holes());
+    assert_eq!(texts, "[(2, 3), (5, 6)] [(0, 2), (3, 5)]");
     assert_eq!(receiver.newest_runs(5, &mut [0; 3]).count(), 2);
     assert_eq!(receiver.newest_runs(5, &mut [0; 1]).count(), 1);
 }
@@ -273,6 +283,8 @@ mod streams {
             assert_eq!(result.map_err(|error| error.kind()), at_end.map_or(Ok(0), Err));
         }
         assert_eq!(reader.read(&mut []).unwrap(), 0); // nothing is asked for: std's rule
+        let consume = std::panic::AssertUnwindSafe(|| reader.consume(1));
+        assert!(std::panic::catch_unwind(consume).is_err());
     }
 
     #[test]
@@ -314,6 +326,7 @@ mod streams {
         assert_eq!(refusal(receiver.read_to_string(&mut text)), ErrorKind::WouldBlock);
         assert_eq!(refusal(io::copy(&mut receiver, &mut copied)), ErrorKind::WouldBlock);
         assert_eq!(refusal(receiver.read_exact(&mut [0])), ErrorKind::WouldBlock);
+        assert_eq!(refusal(receiver.fill_buf().map(<[u8]>::len)), ErrorKind::WouldBlock);
         assert!(receiver.keep(15, b"00", false).is_ok() && !receiver.has_read_all());
         assert_eq!(receiver.read_to_string(&mut text).unwrap(), 3);
         assert_eq!((&text[..], receiver.has_read_all()), ("GET /pay?sum=1000\n", true));
@@ -332,6 +345,7 @@ mod streams {
         assert!(ring.write_all(b"abc").is_ok() && ring.flush().is_ok());
         assert_eq!(refusal(ring.write_all(b"de")), ErrorKind::WouldBlock);
         assert_eq!(ring.write(b"").unwrap(), 0);
+        assert!(ring.flush().is_ok()); // nothing is waited for
         assert_eq!(ring.as_slices(), (&b"abcd"[..], &b""[..]));
         assert_eq!(RingOver::over([0u8; 0]).write(b"a").unwrap(), 0); // never, and not only for now
         let (mut one, mut other) = ([0; 4], [0; 4]);
@@ -357,7 +371,12 @@ mod streams {
         let mut last = Sender::new_at(&mut one[..], u64::MAX - 1);
         assert_eq!((last.write(b"abc"), Write::write(&mut last, b"b").unwrap()), (1, 0));
         assert_eq!(refusal(last.write_all(b"b")), ErrorKind::WriteZero);
-        let mut last = FiniteSender::new_at(&mut other[..], u64::MAX - 1);
-        assert_eq!(Write::write(&mut last, b"b").unwrap(), 0);
+        let mut last = FiniteSender::new_at(&mut other[..], u64::MAX - 2);
+        assert_eq!((last.write(b"abc"), Write::write(&mut last, b"b").unwrap()), (1, 0));
+        // Nor is there storage.
+        let (mut sender, mut finite) =
+            (Sender::new(&mut [][..]), FiniteSender::new_at(&mut [][..], 0));
+        assert_eq!(Write::write(&mut sender, b"a").unwrap(), 0);
+        assert_eq!(Write::write(&mut finite, b"a").unwrap(), 0);
     }
 }

@@ -19,7 +19,7 @@ use net_base::receiver::{Kept, KeptBytes, Receiver, ReceiverOver};
 use net_base::scoreboard::{ReportError, Scoreboard};
 use net_base::sender::{Sender, SenderOver};
 use net_base::sequence_number::{Numbering, SequenceNumber};
-use net_base::storage::fragment_table::AcceptError;
+use net_base::storage::fragment_table::{AcceptError, FragmentSlot};
 use net_base::storage::{
     Assembler, Empty, FragmentBuffer, FragmentError, FragmentsOver, Full, PacketBuffer,
     PacketMetadata, PacketsOver, RingBuffer, RingOver, Storage, TooManyHolesError,
@@ -90,6 +90,19 @@ fn texts_of_what_stores() {
         debug(&fragments),
         "FragmentBuffer { capacity: 16, total_size: None, expires_at: Instant { micros: 5000000 } }"
     );
+    let mut fragments = FragmentBuffer::new(&mut bytes[..], Instant::from_secs(7));
+    assert_eq!(fragments.set_total_size(9), Ok(()));
+    assert_eq!(
+        debug(&fragments),
+        "FragmentBuffer { capacity: 16, total_size: Some(9), expires_at: Instant { micros: 7000000 } }"
+    );
+    let mut slot = FragmentSlot::<char, _, 2>::over([0; 4]);
+    slot.begin('k', Instant::from_secs(5));
+    assert_eq!(
+        debug(slot),
+        "FragmentSlot { key: Some('k'), buffer: FragmentBuffer { capacity: 4, total_size: None, expires_at: \
+         Instant { micros: 5000000 } } }"
+    );
     let mut queue = PacketBuffer::new(&mut slots[..], &mut bytes[..]);
     assert!(queue.enqueue(5, 1u8).is_ok());
     assert_eq!(
@@ -101,6 +114,10 @@ fn texts_of_what_stores() {
     assert_eq!(
         debug(&receiver),
         "FiniteReceiver { next: 100, len: 0, window: 16, held: [(103, 104)], end: Some(104) }"
+    );
+    assert_eq!(
+        debug(ReceivingEndOver::<_, 2>::over_at([0; 4], 7, 2)),
+        "ReceivingEnd { receiver: FiniteReceiver { next: 7, len: 0, window: 4, held: [], end: None }, .. }"
     );
     let mut scoreboard = Scoreboard::<2>::empty();
     scoreboard.acknowledge(10);

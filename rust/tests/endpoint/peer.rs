@@ -49,7 +49,7 @@ pub fn sealed(mut bytes: Vec<u8>) -> Vec<u8> {
         let part = if from == 0 {
             bytes[..20].into()
         } else {
-            pseudo_header(THERE.0, HERE.0, &bytes[20..])
+            pseudo_header(THERE.0, bytes[16..20].try_into().unwrap(), &bytes[20..])
         };
         let checksum = !sum(&part);
         bytes[at..at + 2].copy_from_slice(&checksum.to_be_bytes());

@@ -60,10 +60,15 @@ fn options() {
     // An unknown one is passed over, a scale above 14 is 14, and nothing is read after the end.
     assert_eq!(parsed(&[99, 3, 7, 3, 3, 77, 4, 2]), (None, Some(14), true));
     assert_eq!(parsed(&[1, 1, 1, 0, 2, 4, 1, 1]), (None, None, false));
-    // Lengths of 0 and 1, and one beyond the header, end the list.
+    // One that has two bytes is none of three. Lengths of 0 and 1, and one beyond the header, end the list.
+    assert_eq!(parsed(&[4, 3, 1, 1]), (None, None, false));
     for len in [0, 1, 6] {
         assert_eq!(parsed(&[4, 2, 9, len, 2, 4, 1, 1]), (None, None, true));
     }
+    let words = (1..9u32).flat_map(u32::to_be_bytes);
+    let bytes = syn(&[1, 1, 5, 34].into_iter().chain(words).collect::<Vec<_>>()).bytes();
+    let blocks = Segment::parse(&bytes, HERE).unwrap().1.blocks;
+    assert_eq!(blocks, [(1, 2), (3, 4), (5, 6), (7, 8)].map(Some));
 }
 
 #[test]
@@ -81,7 +86,7 @@ fn packets_that_are_not_the_connection_s() {
     assert!(!is_taken(0, 0x65) && !is_taken(0, 0x46) && !is_taken(9, 17));
     assert!(!is_taken(19, 3) && !is_taken(22, 0) && !is_taken(23, 0));
     // A length beyond the packet, and headers shorter than 20 bytes or longer than the segment.
-    assert!(!is_taken(3, 45) && !is_taken(3, 19) && !is_taken(3, 39));
+    assert!([45, 19, 20, 39].iter().all(|len| !is_taken(3, *len)));
     assert!((0..16).all(|words| is_taken(32, words << 4) == (words == 5 || words == 6)));
 }
 
