@@ -111,7 +111,8 @@ if command -v pkg-config > /dev/null; then
     ln -s "$target" "$out/place/target"
     words=$(PKG_CONFIG_PATH="$out/place" pkg-config --cflags --libs net_base)
     "$compiler" -c -I "$here" "$out/plain.c" -o "$out/plain.o"
-    "$compiler" "$out/plain.o" $words -o "$out/plain"
+    # It escapes a folder's spaces for the shell.
+    eval '"$compiler" "$out/plain.o"' "$words" '-o "$out/plain"'
     "$out/plain"
 fi
 

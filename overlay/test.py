@@ -321,6 +321,8 @@ class Tests:
     def armv7(self, ours):
         """The same texts on 32 bits, if there is a compiler and an emulator."""
         target = "armv7-unknown-linux-gnueabihf"
+        if not shutil.which(COMPILER):
+            return print(f"ARMv7: not run: no {COMPILER}")
         words = [COMPILER, "--print", "target-libdir", "--target", target]
         library = Path(subprocess.run(words, capture_output=True, text=True).stdout.strip() or "none")
         for what, is_there in [
