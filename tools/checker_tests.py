@@ -3,16 +3,19 @@
 python3 tools/checker_tests.py [CHECKER]"""
 import contextlib
 import io
+import json
 import os
 import pathlib
 import shutil
 import subprocess
 import sys
 import tempfile
+import types
 
 sys.dont_write_bytecode = True
 HERE = pathlib.Path(__file__).resolve().parent
 sys.path[:0] = [str(HERE), str(HERE.parent / "models")]
+PATH = os.environ["PATH"]
 
 
 @contextlib.contextmanager
@@ -46,6 +49,14 @@ def programs(texts):
         os.environ["PATH"] = before
 
 
+def install(files, name, text):
+    """Puts a program of sh where such are looked for first. Returns its file."""
+    file = files / "bin" / name
+    written(file, text)
+    os.environ["PATH"] = f"{file.parent}:{PATH}"
+    return file
+
+
 def said(function, *arguments):
     """What a function returns, or ends the script with, and the lines that it prints."""
     with contextlib.redirect_stdout(io.StringIO()) as out, contextlib.redirect_stderr(out):
@@ -70,40 +81,66 @@ def is_asserted(function, *arguments):
 
 # ---- check_quotes.py: a repository, and of each change of a file of it the lines that it must print.
 QUOTED = {
-    "README.md": "# A\n\n```rust\n#![tactic(auto)]\n\n    let a = take(1);\n    let b = 2;\n```\n\n`take`, `take_`, `_ke`, `Vec`, `tidy`.\n"
+    "README.md": "# A\n\n```rust\n#![tactic(auto)]\n\n    let a = take(1);\n    let b = 2;\n```\n\n`take`, `take_`, `_ke`, `Vec`, `nat`.\n"
                  "`c.part.ensures`, `Rattle.net_a.specs.A`, `Rattle.net_a.specs.B`, `specs/A.antt`, 3 lines, `lib.rt`.\n"
                  "Clause `value` of `take`; clauses `small` and `value` of `net_a::take`; `take`, clause `small`.\n",
     "rust/README.md": "`net_a/src/lib.rt`\n", "CONTRIBUTING.md": "Clause `small`.\n", "docs/B.md": "`AMake`\n", "crates/net_a/CALLING.md": "",
     "docs/TRUST.md": "This repository declares\nnone. One `unsafe impl`. Proofs by hand of [one functions](a).\n",
     "crates/net_a/src/lib.rt": "/// Takes.\n///\n/// ```rust\n/// let a = take(1);\n/// ```\n///\n/// ```\n/// nothing();\n/// ```\n#[inline]\n"
                                "pub fn take(x: u8) -> u8\n    requires small { x < 3 }\n    ensures value { let y = 1 in\n        { result } }\n"
-                               "    ensures { x ≡ x }\n{\n    x\n}\n\nimpl Make for A {\n    fn other();\n}\nunsafe impl Make for B {}\nlet Vec;\nfn take_one(antt: u8, rt: u8, a_ke: u8) {}\n",
+                               "    ensures { x ≡ x }\n{\n    |y| ensures inner { y } { x }\n}\n\nimpl Make for A {\n    fn other();\n}\n"
+                               "unsafe impl Make for B {}\nlet Vec;\nfn take_one(antt: u8, rt: u8, a_ke: u8) {}\n",
     "crates/net_a/specs/A.antt": "-- a\n-- b\n-- c\n", "crates/net_a/specs/Lib.antt": "pub use Rattle.net_b.specs.B\n",
-    "crates/net_a/proofs/take/Proof.antt": "c.part.ensures-1\nc.part.ensures\n", "crates/net_a/src/out/a.rt": "",
-    "docs/PROVED.md": "> Each is one, and\n> more.\n\n- `sum`: the sum is one; it stays so. Clause `small` of `take` says more.\n  - `take`: what it likes.\n",
+    "crates/net_a/proofs/take/Proof.antt": "c.part.ensures-1\nc.part.ensures\n", "crates/net_a/src/out/a.rt": "fn built() {}\n",
+    "docs/PROVED.md": "> Each is one, and\n> more.\n\n- `sum`: the sum is one; it stays\n  so. Clause `small` of `take` says more.\n"
+                      "  - `take`: what it likes.\n",
     "crates/net_a/src/laws.rt": "/// States that the sum is one (`one`, `two`); and that it stays\n/// so.\n///\n/// So each is one, and more.\n#[inline]\npub fn sum()\n{}\n",
     "crates/net_examples/src/lib.rt": "fn example() {\n        let a = take(1);\n        let b = 2;\n}\n", "crates.txt": "", "models/a.py": "",
+    "crates/net_a/proofs/A.antt": "-\n-\n-\n-\n", "rust/target/a.rs": "nowhere", "tools/check_quotes.py": "nowhere",
+    "tools/checker_tests.py": "nowhere",
 }
 QUOTES = [
     ("README.md", "let b = 2;", "let b = 3;", ["README.md:4: is in no source: ['let a = take(1);']"]),
     ("README.md", "    let b = 2;\n```", "  let b = 2;\n```", ["README.md:4: is in no source: ['  let a = take(1);']"]),
     ("README.md", "    let a = take(1);\n    let b = 2;\n", "", ["README.md:4: is in no source: []"]),
-    ("README.md", "`take_`", "`take_o`, `Vek_`", ["README.md:10: no source has the name take_o", "README.md:10: no source has the name Vek_"]),
+    ("README.md", "`take_`", "`take_o`, `Vek_`, `ake_`",
+     [f"README.md:10: no source has the name {it}" for it in ("take_o", "Vek_", "ake_")]),
     ("README.md", "`_ke`", "`_ko`, `x.none`", ["README.md:10: no source has the name _ko", "README.md:10: no source has the name none"]),
     ("README.md", "c.part.ensures", "c.part.small", ["README.md:11: no proof has the name c.part.small"]),
-    ("README.md", "c.part.ensures", "c.part", []),
-    ("README.md", "specs.B`", "specs.Lib`, `Rattle.net_a.specs.C`", ["README.md:11: no source has the name C",
-                                                                      "README.md:11: there is no module Rattle.net_a.specs.C"]),
+    ("README.md", "c.part.ensures", "c.part`, `c.part.ensures-1", []),
+    ("README.md", "specs.B`", "specs.Lib`, `Rattle.net_a.specs.C`, `Rattle.net_a.specs.Rattle`", [
+        "README.md:11: no source has the name C",
+        *(f"README.md:11: there is no module Rattle.net_a.specs.{it}" for it in ("C", "Rattle"))]),
     ("README.md", "3 lines", "4 lines", ["README.md:11: specs/A.antt hasn't 4 lines"]),
-    ("README.md", "`lib.rt`", "`take.rt`, `src/A.antt`", ["README.md:11: there is no file take.rt", "README.md:11: there is no file src/A.antt"]),
+    ("README.md", "`lib.rt`", "`take.rt`, `src/A.antt`, `take/Proof.antt`, `a.rt`", [
+        f"README.md:11: there is no file {it}" for it in ("take.rt", "src/A.antt", "take/Proof.antt", "a.rt")]),
+    ("docs/B.md", "AMake", "built`, `a.svg",
+     [f"docs/B.md:1: no source has the name {it}" for it in ("built", "svg")] + ["docs/B.md:1: there is no file a.svg"]),
+    ("docs/B.md", "`AMake`\n", "- a\n  ```rust\n  no(`nowhere`);\n  ```\n", ["docs/B.md:3: is in no source: ['no(`nowhere`);']"]),
+    ("crates/net_a/CALLING.md", "", "```rust\n            let b = 2;\n```\n", []),
+    ("crates/net_a/CALLING.md", "", "```rust\nlet b = 2\n```\n\n```rust\nb = 2;\n```\n", [
+        f"crates/net_a/CALLING.md:{it}" for it in ("2: is in no source: ['let b = 2']", "6: is in no source: ['b = 2;']")]),
     ("README.md", "Clause `value`", "Clause `other`", ["README.md:12: take has no clause other", "README.md:12: no function has a clause other"]),
     ("README.md", "`small` and `value` of", "`take`,\n`value` of", ["README.md:12: take has no clause take",
                                                                    "README.md:12: no function has a clause take"]),
     ("README.md", "`take`, clause `small`", "`example`, clause `small`", ["README.md:12: example has no clause small"]),
     ("README.md", "`take`, clause `small`", "`Vec`, clause `small`", []),
+    ("README.md", "`small` and `value` of", "`take` or\n`value` of", ["README.md:12: take has no clause take",
+                                                                    "README.md:12: no function has a clause take"]),
+    ("README.md", "`take`, clause `small`", "`take`, clause `inner`",
+     ["README.md:12: take has no clause inner", "README.md:12: no function has a clause inner"]),
+    ("crates/net_a/src/laws.rt", "/// So each", "//! So each", []),
+    ("crates/net_a/src/lib.rt", "pub fn take(", "pub const unsafe fn take(", []),
+    ("crates/net_a/src/lib.rt", "    fn other();", "    fn take();", []),
+    ("crates/net_a/src/lib.rt", "ensures value {", "ensures* value {", []),
+    ("crates/net_a/src/lib.rt", "let Vec;", "/// ```rust,a\n/// let b = 2;\n/// ```\n/// ```rust\n/// let b = 3;\n/// ```\n"
+                                            "pub trait Vec {}", [
+        "crates/net_a/src/lib.rt:25: an example that doesn't name Vec", "crates/net_a/src/lib.rt:28: is in no example: ['let b = 3;']"]),
     ("docs/PROVED.md", "and\n> more", "and\n> less", ["docs/PROVED.md:1: no comment says: Each is one, and less."]),
-    ("docs/PROVED.md", "it stays so", "it always stays so", ["docs/PROVED.md:4: no comment of sum says: it always stays so"]),
-    ("docs/PROVED.md", "the sum is one; it stays so. ", "", []),
+    ("docs/PROVED.md", "it stays\n", "it always stays\n", ["docs/PROVED.md:4: no comment of sum says: it always stays so"]),
+    ("docs/PROVED.md", "the sum is one; it stays\n  so. ", "", []),
+    ("docs/PROVED.md", "`sum`: the sum", "`sum`, `take`: no sum", ["docs/PROVED.md:4: no comment of sum, take says: no sum is one"]),
+    ("README.md", "# A\n", "# A\n\n> Each is none.\n", ["README.md:3: no comment says: Each is none."]),
     ("crates/net_a/src/laws.rt", "the sum is", "the sum may be", ["docs/PROVED.md:4: no comment of sum says: the sum is one"]),
     ("CONTRIBUTING.md", "`small`", "`large`", ["CONTRIBUTING.md:1: no function has a clause large", "CONTRIBUTING.md:1: no source has the name large"]),
     ("docs/B.md", "AMake", "BMade", ["docs/B.md:1: no source has the name BMade"]),
@@ -120,8 +157,9 @@ QUOTES = [
                                                                    ("take has no clause", "no function has a clause", "no source has the name") * 2]),
     ("crates/net_a/src/lib.rt", "unsafe impl Make for B", "impl Make for B", [
         "docs/TRUST.md:1: the crates have 0 of what is counted by: (\\w+) `unsafe impl`", "docs/TRUST.md:2: no source has the name unsafe"]),
-    ("crates/net_a/src/lib.rt", "let Vec;", "let Vec;\nunsafe extern \"C\" {\n", [
-        "docs/TRUST.md:1: the crates have 1 of what is counted by: This repository declares (\\w+)\\."]),
+    ("crates/net_a/src/lib.rt", "let Vec;", "let Vec;\nunsafe extern \"C\" {\nextern {\n    unsafe impl Make for C {}\n", [
+        "docs/TRUST.md:1: the crates have 2 of what is counted by: This repository declares (\\w+)\\.",
+        "docs/TRUST.md:1: the crates have 2 of what is counted by: (\\w+) `unsafe impl`"]),
     ("docs/TRUST.md", "Proofs by hand of [one functions]", "Proofs by hand of [ten functions]", [
         "docs/TRUST.md:1: the crates have 1 of what is counted by: Proofs by hand of \\[(\\w+) functions\\]"]),
     ("docs/TRUST.md", "One `unsafe impl`", "Many", ["docs/TRUST.md:1: the crates have 1 of what is counted by: (\\w+) `unsafe impl`"]),
@@ -131,9 +169,35 @@ QUOTES = [
 ]
 
 
+# Of `a` are 2, 1 and 1 lines of A.antt, and of B.antt 2 of `other`, 2 of `One` and 1 of `last`; of `b` are 1, 2 and 2 of B.antt.
+DEFINED = {
+    "docs/TRUST.md": "| a | `first`, `second` and `third` in `A.antt`, `last` in `B.antt` | 9 |\n| b | `own` in `B.antt` | 5 |\n",
+    "crates/net_a/specs/A.antt": "use Rattle.net_b.specs.B.{other as another, One}\n\n-- A.\nfirst : A\n-- B.\nfirst = another x.fifth\n\n"
+                                 "second = One\n\nthird = 1\n\nfifth = 2\n",
+    "crates/net_b/specs/B.antt": "module _ where\n  other = 1\n\n  module _ where\n    deep = other\n\ndata Kind : Type where\n"
+                                 "  One : Kind\n\nown = deep\n\nlast = 3\n",
+}
+
+
+def definitions():
+    import definitions
+
+    for a, b, wanted in [(9, 5, []), (8, 5, ["a: 9 lines of definitions, and not 8"]), (9, 6, ["b: 5 lines of definitions, and not 6"])]:
+        page = DEFINED["docs/TRUST.md"].replace("| 9", f"| {a}").replace("| 5", f"| {b}")
+        with folder(DEFINED | {"docs/TRUST.md": page}) as definitions.ROOT:
+            definitions.specs.cache_clear()
+            same((a, b), [*definitions.miscounted()], wanted)
+            sys.argv[1:] = ["b"]
+            same("printed", said(definitions.main)[1], ["---- crates/net_b/specs/B.antt: 5 lines", "module _ where", "  other = 1",
+                                                        "  module _ where", "    deep = other", "own = deep", "==== b: 5 lines", ""])
+            sys.argv[1:] = ["a", "b"]
+            same("of none", said(definitions.main)[1], [])
+
+
 def quotes():
     import check_quotes
 
+    definitions()
     kept = check_quotes.definitions.miscounted
     for counted in [], ["a row has 3 lines"]:
         check_quotes.definitions.miscounted = lambda: counted
@@ -321,7 +385,7 @@ def models():
         make.worked.tests_of_smoltcp = kept
 
 
-# ---- growth.py, composition.py, places.py, regenerate
+# ---- growth.py, composition.py, places.py
 ITEMS = """  a: pub struct Assembler<const N: usize> { }
   a: pub type Short<'a, const N: usize> = A<N>;
   a: pub struct Short<'a, const N: usize> { }
@@ -403,7 +467,7 @@ def growth():
         same("it fails", is_asserted(growth.counts, "a", 32, growth.HERE), False)
         os.environ["PATH"] = ""
         same("no valgrind", said(growth.main), (2, ["not run: valgrind isn't here"]))
-        os.environ["PATH"] = path
+        os.environ["PATH"] = PATH
         growth.PAGE.write_text(f"<!-- tools/growth.py: begin -->\n{rows[2]}\n<!-- tools/growth.py: end -->")
         same("more", growth.differing([*rows[2:], "more"], False), told("more"))
         same("fewer", growth.differing([], False), told("none"))
@@ -414,23 +478,30 @@ def composition():
     import composition
 
     kept, composition.LOOPS = composition.LOOPS, {"the runs": "m::a m::b"}
-    right = ("impl A {\n    pub fn a() {\n        for x in y {}\n    }\n    // for c in d\n    fn c(f: for_all) {\n        format(x.map(|a| a))\n    }\n}\n"
+    right = ("impl A {\n    pub fn a() {\n        for x in y {}\n    }\n    fn c(f: for_all) {\n        // c.any(d)\n"
+             "        format(x.map(|a| a))\n    }\n}\n"
              "pub(crate) const fn b() {\n    'out: loop {}\n}\n")
     for old, new, wrong in [
-        ("format(", "while a < b {}(", ["c"]), ("format(", "x.iter().any(", ["c"]), ("format(", "loop {}", ["c"]), ("x.map(", "x.fold(", ["c"]),
+        ("format(", "while a < b {}(", ["c"]), ("format(", "x.iter().any(", ["c"]), ("format(", "loop {}", ["c"]),
+        *((".map(", f".{it}(", ["c"]) for it in ("all", "fold", "for_each")),
         ("fn a()", "fn other()", ["other", "a: LOOPS has it, and it has no loop"]),
     ]:
         lines = [f"m::{it}" if " " in it else f"m::{it}: has a loop: use a call of net_assembler, or name it in LOOPS with its reason" for it in wrong]
         same((old, new), composition.differing([("m", right.replace(old, new, 1))])[0], sorted(lines))
+    same("the sources", len(found := dict(composition.sources())) > 30, True)
+    same("the crates", sorted({it.partition("::")[0] for it in found}), ["net_base", "net_ends", "net_receiver", "net_recovery", "net_tcp"])
+    same("status", said(composition.main)[0], 1)
     composition.LOOPS = kept
-    same("the sources", len(dict(composition.sources())) > 30, True)
+    same("status", said(composition.main)[0], 0)
 
 
 def places():
     import places
 
-    history = "data Call : Type where\n  Clear : Call\n  Add : ℕ → Call\n\nmodule _ where\n  Makes Clear g h = a\n  Makes (Add n) g h = b\n"
-    specs = "-- a\npub record Adds (a : ℕ) : Type 0 where\n    pub call : Makes (Add a) q r\n\npub record Other : Type 0 where\n    pub a : ℕ\n"
+    history = ("data Call : Type where\n  Clear : Call\n  Add : ℕ → Call\n\nmodule _ where\n  Makes Clear g h = a\n"
+               "  Makes (Add n) g h = b\n  -- Clear empties.\n  log_after Clear = b\n")
+    specs = ("-- a\npub record Adds (a : ℕ) : Type 0 where\n    pub call : Makes (Add a) q r\n\npub record Other : Type 0 where\n"
+             "    pub a : MakesAny\n\nunfoldable pub Tells : A\nTells = Makes (Add a) q r\n")
     source = ("impl<T> RingOver<T> {\n    pub fn clear(&mut self)\n        ensures call { Makes Clear a b }\n    {\n        a()\n    }\n"
               "    pub fn add(&mut self, n: u8)\n        requires { a }\n        ensures { Adds a }\n    {\n        b()\n    }\n"
               "    pub fn read_allocated(&mut self) {\n        a()\n    }\n    pub fn len(&self) {\n        a()\n    }\n    fn own(&mut self) {\n        a()\n    }\n}\n"
@@ -440,31 +511,37 @@ def places():
         ("Adds a", "Other a", [no_call("add")]), ("fn len(&self", "fn len(&mut self", [no_call("len")]),
         ("    fn own", "    pub fn own", [no_call("own")]), ("Makes Clear", "Makes Nothing", ["RingOver: no clause makes the call Clear of the history"]),
         ("fn read_allocated", "fn read", [no_call("read"), "RingOver::read_allocated: NO_CALLS has it, and there is no such method"]),
-        ("impl Other", "impl Trait for RingOver", [no_call("f")]),
+        ("impl Other {\n    pub ", "impl Trait for RingOver {\n    ", [no_call("f")]), ("impl Other", "impl Ring", []),
+        ("Adds a", "Tells a", []),
+        ("ensures call", "requires call", [no_call("clear")]),
     ]:
         same((old, new), [*places.without_history("RingOver", history, specs, [source.replace(old, new)])], wrong)
-    same("guards", places.unguarded([("a", "", "", []), ("b", "", "", ["x < 3"])]), ["a: requires something, and no guard tests it"])
-    kept, places.ROWLESS = places.ROWLESS, {"b": "Listed"}
-    items = "  a: pub struct Named { }\n+ a: pub trait Listed\n  exports: pub struct Head\n"
+    kept, places.ROWLESS = places.ROWLESS, {"b": "Listed Too"}
+    items = ("  a: pub struct Named { }\n+ a: pub trait Listed\n+ a: pub trait Too\n  exports: pub struct Head\n"
+             "  exports::a: pub struct Head\n")
     for more, rows, wrong in [
-        ("", "use a::Named;", []), ("", "Name", ["Named: no file of rust/tests/rows names it, and ROWLESS has no reason"]),
+        ("", "use a::Named;", []), ("", "NamedAs", ["Named: no file of rust/tests/rows names it, and ROWLESS has no reason"]),
         ("", "Named Listed", ["Listed: ROWLESS has it, and it has rows, or is no type"]),
-        ("- b: pub enum New { A }\n", "Named", ["New: no file of rust/tests/rows names it, and ROWLESS has no reason"]),
+        *((f"- b::c: #[must_use] pub {it} New {{ A }}\n", "Named", ["New: no file of rust/tests/rows names it, and ROWLESS has no reason"])
+          for it in ("enum", "type", "union")),
     ]:
         same((more, rows), places.without_rows(items + more, rows), wrong)
-    same("no type", places.without_rows("", ""), ["Listed: ROWLESS has it, and it has rows, or is no type"])
+    same("no type", places.without_rows("", ""), [f"{it}: ROWLESS has it, and it has rows, or is no type" for it in ("Listed", "Too")])
     asked, places.guards.guarded, histories, places.HISTORIES = places.guards.guarded, lambda: asks, places.HISTORIES, {"net_a": "RingOver"}
     files = {"crates/net_a/specs/AHistory.antt": history, "crates/net_a/specs/A.antt": specs, "crates/net_a/src/a/b.rt": source,
              "rust/tests/rows/a.rs": "Named", "tools/public_items.txt": items}
     end = "1 histories, {} guarded calls: {} places are missing"
     for more, asks, wrong in [
-        ({}, [], []), ({}, [("a", "", "", [])], ["a: requires something, and no guard tests it"]),
+        ({}, [], []), ({}, [("b", "", "", ["x < 3"]), ("a", "", "", [])], ["a: requires something, and no guard tests it"]),
         ({"rust/tests/rows/a.rs": ""}, [], ["Named: no file of rust/tests/rows names it, and ROWLESS has no reason"]),
         ({"crates/net_b/specs/BHistory.antt": history}, [], [
             f"net_b: HISTORIES hasn't its type: no clause makes the call {it} of the history" for it in ("Add", "Clear")]),
-        ({"crates/net_a/src/a/b.rt": source.replace("Makes Clear", "Is Clear")}, [], [no_call("clear")]),
+        ({"crates/net_a/src/a/b.rt": source.replace("{ Makes Clear a b }", "{ a } // Makes Clear")}, [], [
+            no_call("clear"), "RingOver: no clause makes the call Clear of the history"]),
+        ({"crates/net_a/specs/AHistory.antt": None, "crates/net_a/src/a/b.rt": source.replace("  fn own", "  pub fn own")}, [],
+         [no_call("own")]),
     ]:
-        with folder(files | more) as places.ROOT:
+        with folder({name: text for name, text in (files | more).items() if text is not None}) as places.ROOT:
             same(more, said(places.main), (bool(wrong), [*wrong, end.format(len(asks), len(wrong))]))
     places.ROWLESS, places.guards.guarded, places.HISTORIES = kept, asked, histories
 
@@ -1094,8 +1171,240 @@ def gate():
         same("another's", gated("good"), (1, [f"run: {one} is another user's: let TMPDIR name another place for it"]))
 
 
+# ---- untested.py: a repository whose calls are all made, and of each change of a file of it what it must list. What rustc says is
+# in rust/said, if the calls are marked.
+def warning(name, file="tests/a.rs", code="deprecated"):
+    return json.dumps({"message": {"message": f"use of `a`: {name}", "code": {"code": code}, "spans": [{"file_name": file}]}}) + "\n"
+
+
+MADE = {
+    "README.md": "Law `sum`, laws `most` and `net_a::laws::third`.\n\n```\nlaw `fourth`\n```\n", "docs/PROVED.md": "- `own`: it.\n",
+    "crates/net_a/src/lib.rt": "pub mod a;\npub mod laws;\nmod hidden;\npub use hidden::{Shown,\n    free_too};\n",
+    "crates/net_a/src/a.rt": "pub struct Cell<F: Fn(u8) -> u8> {\n    head: CellHead,\n}\npub struct CellHead;\nimpl CellHead {\n"
+                             "    pub fn put(&mut self) {\n        a()\n    }\n}\n"
+                             "impl<F: Fn(u8) -> u8> Cell<F> {\n    pub fn new() -> Cell<F>\n        ensures { a; }\n    {\n        a()\n"
+                             "    }\n    pub fn put<G: Fn(u8) -> (u8, u8)>(&mut self) {\n        a()\n    }\n"
+                             "    fn own(&self) {\n        crate::laws::fourth()\n    }\n}\npub trait Plays {\n    fn play(&self);\n}\n"
+                             "impl Plays for Cell {\n    fn play(&self) {\n        a()\n    }\n}\n"
+                             "pub trait Asks {\n    fn ask(&self);\n}\npub fn free() {\n    a()\n}\npub fn nothing() {\n"
+                             "    laws::sum();\n}\n",
+    "crates/net_a/src/hidden.rt": "/// It is.\n///\n/// ```\n/// use net_a::Shown;\n/// it.show();\n/// it.put();\n/// ```\n"
+                                  "pub struct Shown;\nimpl Shown {\n    pub fn show(&self) {\n        a()\n    }\n"
+                                  "    pub fn put(&mut self) {\n        a()\n    }\n}\npub fn free_too() {\n    a()\n}\n"
+                                  "pub fn unreached() {\n    a()\n}\n",
+    "crates/net_a/src/laws.rt": "pub fn sum() {}\npub fn most() {}\npub fn third() {}\nfn inner() {}\npub fn fourth() {}\n",
+    "crates/net_a/src/tests.rt": "fn test() {\n    net_a::free_too();\n}\n",
+    "crates/net_b/src/lib.rt": "use net_a::laws::{sum, most as least};\n\nfn f() {\n    sum();\n    least();\n    net_a::laws::third();\n"
+                               "}\n",
+    "crates/net_a_tests/src/lib.rt": "use net_a::a::{free, Cell};\ntype Short = Cell<A>;\n\nfn test() {\n    free();\n"
+                                     "    let c = Short::new();\n    c.put();\n    c.play();\n}\n",
+    "rust/src/lib.rs": "pub mod a;\nmod proved;\npub use crate::proved::b as b;\n",
+    "rust/src/proved/b.rs": "pub fn passed() {\n    a()\n}\n",
+    "rust/src/a.rs": "pub struct Item;\nstruct Hidden;\nimpl Item {\n    /// ```\n    /// it.shown(it.used());\n    /// ```\n"
+                     "    pub fn shown(&self) {\n        a()\n    }\n"
+                     "    /// Is used.\n    pub fn used(&self, other: Item) {\n        a()\n    }\n    pub fn taken(&self, it: Hidden) {\n"
+                     "        a()\n    }\n}\n",
+    "rust/said": warning("Item::used") + warning("::passed", "examples/a.rs"), "rust/tests/a.rs": "",
+}
+TEST, ONE, LAW = "crates/net_a_tests/src/lib.rt", "crates/net_a/src/hidden.rt", "net_a: law {} is cited, and no other crate calls it"
+CALLS = [
+    (TEST, "    free();", "    // free();", ["net_a: free"]), (TEST, "    free();", '    "free()";', ["net_a: free"]),
+    (TEST, "    free();", "    ghost a = { free() };", ["net_a: free"]), (TEST, "{free, Cell}", "Cell", ["net_a: free"]),
+    (TEST, "fn test", "fn free() {}\nfn test", ["net_a: free"]), (TEST, "Short::new", "Other::new", ["net_a: Cell::new"]),
+    (TEST, "Short = Cell", "Short = Other", ["net_a: Cell::new"]),
+    (TEST, "c.put();", "c.put;", ["net_a: Cell::put", "net_a: CellHead::put"]),
+    (TEST, "c.play();", "", ["net_a: Cell::play", "net_a: Plays::play"]),
+    ("crates/net_a/src/a.rt", "head:", "other:", ["net_a: CellHead::put"]),
+    (ONE, "/// it.show();\n/// it.put();\n/// ```", "/// it.put();\n/// ```\n/// it.show();", ["net_a: Shown::show"]),
+    ("rust/said", warning("Item::used"), "", ["rust: Item::used"]), ("rust/said", "tests/a.rs", "src/a.rs", ["rust: Item::used"]),
+    ("rust/said", '"deprecated"', '"other"', ["rust: Item::used"]), ("rust/said", "examples/a.rs", "b.rs", ["rust: passed"]),
+    ("rust/src/a.rs", "it.shown(", "it.other(", ["rust: Item::shown"]),
+    ("crates/net_b/src/lib.rt", "    sum();", "", [LAW.format("sum")]), ("crates/net_b/src/lib.rt", "least();", "", [LAW.format("most")]),
+    ("crates/net_b/src/lib.rt", "laws::third", "third", [LAW.format("third")]), ("README.md", "`sum`", "`fourth`", [LAW.format("fourth")]),
+    ("docs/PROVED.md", "`own`", "`fourth`", [LAW.format("fourth")]), ("README.md", "`sum`", "`inner`", []),
+    ("crates/net_c/src/laws.rt", None, "pub fn sum() {}\n", ["net_c: law sum is cited, and no other crate calls it"]),
+]
+
+
+def untested():
+    import untested
+
+    for path, old, new, wanted in [("README.md", "", "", []), *CALLS]:
+        with folder(MADE | {path: MADE[path].replace(old, new, 1) if old is not None else new}) as untested.ROOT:
+            untested.CRATES, untested.RUST = untested.ROOT / "crates", untested.ROOT / "rust"
+            install(untested.ROOT, "cargo", "grep -q '^#.deprecated(note = \"Item::used\").  *pub fn used' src/a.rs || exit 1\n"
+                                            "case $* in *--tests*--examples*--all-features*) cat said;; esac\n")
+            sys.argv[1:] = []
+            status, lines = said(untested.main)
+            same((path, new), (status, sorted(lines[:-1]), lines[-1]), (
+                bool(wanted), wanted, f"12 public functions and methods, {len(wanted)} that no test or example names"))
+            sys.argv[1:] = ["--laws"]
+            laws = [it for it in wanted if " law " in it]
+            same((path, new), said(untested.main)[0], bool(laws))
+            if not old:
+                status, lines = said(untested.main)
+                same(path, lines[-1], f"{4 + len(laws)} laws, {1 + len(laws)} that no other crate calls; of 3 cited names {len(laws)}")
+            install(untested.ROOT, "cargo", "exit 1\n")
+            sys.argv[1:] = []
+            same("cargo fails", "doesn't compile" in said(untested.main)[0], True)
+
+
+# ---- public_items.py: pages of a crate with all features and with none, by a cargo that copies them, and what differs from the list.
+def implemented(name, where=""):
+    return f'<h3 class="code-header">impl&lt;A&gt; {name}Item&lt;A&gt;{where and f"""<div class="where">where {where}</div>"""}</h3>'
+
+
+def method(name, words):
+    return f'<section id="method.{name}" class="method"><a class="src">no</a><h4 class="code-header">{words}</h4></section>'
+
+
+FREE = '<pre class="rust item-decl"><code>pub fn less()</code></pre>'
+STRUCT = ('<code>no</code><pre class="rust item-decl"><code>pub struct Item&lt;A&gt; { }</code></pre>'
+          + method("take", "pub const fn <a>take</a>(&amp;self)") + method("own", "pub fn <a>own</a>( &amp;self, )")
+          + implemented("Copy for ") + implemented("Clone for ", "A: Clone") + implemented("Eq for ", "A: Eq") + implemented("")
+          + "".join(implemented(f"{it} for ") for it in ("Freeze", "UnsafeUnpin", "StructuralPartialEq"))
+          + '<h2 id="blanket-implementations">' + implemented("Any for "))
+ITEM, SOURCE = "all/a/struct.Item.html", "rust/src/a.rs"
+SHOWN = {
+    "all/index.html": "", "none/index.html": "", ITEM: STRUCT, "none/a/struct.Item.html": STRUCT, "none/a/fn.less.html": FREE,
+    "all/a/type.Short.html": '<a class="struct" href="struct.Item.html">', "all/b/struct.Item.html": "Redirecting to",
+    "rust/src/lib.rs": "#![no_std]\n", "rust/src/b.rs": "impl Short {\n    pub fn take() {\n    }\n}\n",
+    SOURCE: "impl<A> Item<A> {\n    pub const fn take(&self) {\n    }\n    fn inner() {\n    }\n}\nimpl Item {\n    pub fn own(&self) {\n"
+            "    }\n}\n",
+    "tools/public_items.txt": "rustdoc 1.1\n#![no_std]\n  a: impl<A> Clone + Eq for Item<A> where A: _\n  a: impl<A> Copy for Item<A>\n"
+                              "- a: pub fn less()\n  a: pub struct Item<A> { }\n"
+                              "  a::Item: pub const fn take(&self)\n  a::Item: pub fn own(&self)\n  mod net_base\n",
+}
+LACKS = [
+    (ITEM, 'id="method.take"', 'id="method.other"', ["struct.Item.html has no take", "type.Short.html has no take"]),
+    (ITEM, 'id="method.own"', 'id="tymethod.own"',
+     ["+- a::Item: pub fn own(&self)", "-  a::Item: pub fn own(&self)", "struct.Item.html has no own"]),
+    (SOURCE, "pub const fn take", "pub const fn lost", ["struct.Item.html has no lost"]),
+    (SOURCE, "pub fn own", "pub fn lost", ["struct.Item.html has no lost"]),
+    ("rust/src/lib.rs", "no_std", "std", ["+#![std]", "-#![no_std]"]),
+    ("all/a/fn.less.html", None, FREE, ["+  a: pub fn less()", "-- a: pub fn less()"]),
+    ("all/a/fn.more.html", None, FREE.replace("less", "more"), ["++ a: pub fn more()"]),
+]
+
+
+def items():
+    import public_items
+
+    for path, old, new, wanted in [(SOURCE, "", "", []), *LACKS]:
+        with folder(SHOWN | {path: SHOWN[path].replace(old, new) if old is not None else new}) as public_items.ROOT:
+            public_items.LIST = public_items.ROOT / "tools/public_items.txt"
+            install(public_items.ROOT, "rustdoc", "echo rustdoc 1.2\n")
+            install(public_items.ROOT, "cargo", '[ "$RUSTDOCFLAGS" = "-D rustdoc::broken_intra_doc_links" ] || exit 1\n'
+                    'case $* in *--all-features*) from=all;; *--no-default-features*) from=none;; esac\n'
+                    'for folder; do :; done\nmkdir -p $folder/doc\ncp -r ../$from $folder/doc/net_base\n')
+            said_of, was = [it for it in wanted if " has no " not in it], public_items.LIST.read_text()
+            end = [it for it in wanted if it not in said_of] or ["3 methods, each on the page of its type"]
+            status, lines = said(public_items.main, "--check")
+            lines = [it for it in lines if not it.startswith(("@@", "---", "+++"))]
+            same((path, new), (status, sorted(lines[: -len(end)]), lines[-len(end) :]), (
+                bool(wanted), said_of or ["8 public items, as listed"], end))
+            same("not written", public_items.LIST.read_text(), was)
+            said(public_items.main, "--write")
+            written = public_items.LIST.read_text().splitlines()
+            same("written", said(public_items.main, "--check")[1][0], f"{len(written) - 1} public items, as listed")
+
+
+# ---- pages_run.py: pages whose commands write in $LOG where they are run, and with which words, and end with the status that the first is.
+PAGED = {
+    "README.md": "`sh a.sh 0\nprose`, `sh`, `see a.sh 0`, `sh a.sh 0 slow`, `sh a.sh 0 proves it`, `sh a.sh 9 never`.\n\n"
+                 "    sh a.sh 0 block    # A comment.\n"
+                 "    no a.sh 0\n\n    sh a.sh 0 a#b\n\nThen\n\n    cd rust\n    sh ../a.sh 0 in\n    sh ../a.sh 0 too\n\n"
+                 "```\n`sh a.sh 0 fenced`\n```\n`sh a.sh 0 slower`, `sh a.sh 0 slower`\n\n```\nmore\n```\n",
+    "rust/README.md": "`sh ../a.sh 0 below` and `sh rust/../a.sh 0 above`.\n",
+    "a.sh": 'echo "${PWD##*/}${CARGO_TARGET_DIR} $2" >> $LOG\nexit $1\n',
+    "docs/FFI.md": "A.\n\n    other\n\nA.\n\n    #include <b>\n\n    int b;\n\nB.\n\n    sh -c 'grep int my.c >> $LOG'\n", "log": "",
+}
+RUN = "net-base block|net-base a#b|rust in|rust too|net-base prose|net-base slower|rust below|net-base above|int b;".split("|")
+ALL = [*RUN[:5], "net-base slow", "net-base proves", *RUN[5:]]
+COMMANDS = [
+    ("README.md", "", "", [], 0, RUN, []), ("README.md", "", "", ["--proved"], 0, ["net-base proves"], []),
+    ("README.md", "", "", ["--all"], 0, ALL, []),
+    ("README.md", "0 block", "1 block; sh a.sh 0 more", [], 1, RUN, ["README.md: sh a.sh 1 block; sh a.sh 0 more: status 1"]),
+    ("README.md", "0 block", "2 block", [], 1, RUN, ["README.md: sh a.sh 2 block: status 2"]),
+    ("README.md", "0 block", "127 block", [], 2, RUN,
+     ["not run, for want of a program, whose package has its name: README.md: sh a.sh 127 block: status 127"]),
+    ("README.md", "0 in", "1 in", [], 1, RUN[:3] + RUN[4:], ["README.md: cd rust &&", "sh ../a.sh 1 in &&", "sh ../a.sh 0 too: status 1"]),
+    ("README.md", "sh a.sh 9 never", "other", [], 1, RUN, ["sh a.sh 9 ..: on no page"]),
+    ("README.md", "0 proves it", "9 it", [], 1, RUN, ["sh a.sh 0 proves ..: on no page"]),
+    ("a.sh", "exit", "[ $2 = slow ] && exit 2; exit", ["--all"], 0, ALL, []),
+    ("a.sh", "exit", "[ $2 = slow ] && exit 1; exit", ["--all"], 1, ALL, ["README.md: sh a.sh 0 slow: status 1"]),
+]
+
+
+def pages():
+    import pages_run
+
+    kept = pages_run.PAGES, pages_run.SLOW, pages_run.ELSEWHERE
+    pages_run.PAGES = {"README.md": ".", "rust/README.md": "rust", "docs/FFI.md": "."}
+    pages_run.SLOW = {"sh a.sh 0 slow": "it is slow", "sh a.sh 0 proves ..": pages_run.PROVES}
+    pages_run.ELSEWHERE = {"sh a.sh 9 ..": "it is never run"}
+    os.environ["CARGO_TARGET_DIR"] = "target"
+    for path, old, new, words, status, runs, wanted in COMMANDS:
+        with folder(PAGED | {path: PAGED[path].replace(old, new, 1)}) as pages_run.ROOT:
+            os.environ["LOG"] = f"{pages_run.ROOT}/log"
+            names = "\\0".join(it for it in PAGED if it != "log")
+            install(pages_run.ROOT, "git", f"case $* in *--cached*--others*--exclude-standard*) printf '{names}\\0';; esac\n")
+            sys.argv[1:] = words
+            got, lines = said(pages_run.main)
+            count = {"": 8, "--proved": 1, "--all": 10}["".join(words)]
+            same((new, words), (got, [it for it in lines if it]), (status, [*wanted, f"{count} commands of 3 pages run"]))
+            same((new, words), (pages_run.ROOT / "log").read_text().splitlines(), runs)
+    pages_run.PAGES, pages_run.SLOW, pages_run.ELSEWHERE = kept
+    del os.environ["CARGO_TARGET_DIR"]
+
+
+# ---- regenerate: what changes before a run, its words, the steps that it must run, and its status.
+RESTEPS = "one | sh one.sh | in one.sh | out.txt\ntwo | sh two.sh | out.txt | two.txt\n"
+REGENERATED = {"one.sh": "echo one >> log\ncat in/deep/a > out.txt\n", "two.sh": "echo two >> log\ncat out.txt > two.txt\n",
+               "in/deep/a": "1\n", "log": "", "status": " M tools/heads.txt\n?? a b\n", "diff": "+  a: pub fn f()\n"}
+RERUNS = [
+    ({}, [], "one two", 0), ({}, [], "", 0), ({"in/deep/a": "2\n"}, [], "one two", 0),
+    ({"in/deep/out/a": "", "in/target/a": "", "in/__pycache__/a": ""}, [], "", 0),
+    ({"two.txt": ""}, [], "two", 0), ({}, ["--all"], "one two", 0), ({}, ["two"], "", 0), ({}, ["two", "--all"], "two", 0),
+    ({}, ["three"], "", 2), ({}, ["one", "three"], "", 2),
+    ({"in/deep/a": "3\n"}, ["two"], "", 0), ({"one.sh": "echo one >> log\nexit 3\n"}, [], "one", 3), ({}, [], "one", 3),
+    ({"one.sh": REGENERATED["one.sh"]}, [], "one two", 0),
+]
+BY_HAND = [
+    ([], "", []), (["tools/public_items.txt", "rust/CHANGELOG.md"], "", []),
+    (["tools/public_items.txt"], "+  a::A: pub const fn f()\n++ b: pub fn g()\n-  a: pub fn h()\n+  a: pub struct I\n", [
+        *(f"{it}: .ci/run untested, places and growth say what it lacks" for it in ("a::A: pub const fn f", "b: pub fn g")),
+        "rust/CHANGELOG.md: what a user must write otherwise, since tools/public_items.txt changed"]),
+    (["tools/heads.txt"], "", ["tools/exports.txt: values worked by hand, and docs/FFI.md where it names the exports of a task"]),
+    (["tools/heads.txt", "tools/exports.txt"], "", []),
+    (["c/abi.txt"], "", ["rust/CHANGELOG.md, and the version in rust/Cargo.toml: the interface for C has another number"]),
+]
+
+
+def regenerate():
+    script = types.ModuleType("regenerate")
+    script.__file__ = str(HERE / "regenerate")
+    exec((HERE / "regenerate").read_text(), vars(script))
+    for changed, lines, wanted in BY_HAND:
+        same((changed, lines), script.left(changed, lines), wanted)
+    script.STEPS = RESTEPS
+    with folder(REGENERATED) as script.ROOT:
+        install(script.ROOT, "git", "case $1 in rev-parse) echo record;; *) cat $1;; esac\n")
+        for changes, words, wanted, code in RERUNS:
+            for path, text in changes.items():
+                (script.ROOT / path).parent.mkdir(parents=True, exist_ok=True)
+                (script.ROOT / path).write_text(text)
+            (script.ROOT / "log").write_text("")
+            sys.argv[1:] = words
+            status, lines = said(script.main)
+            same((changes, words), (status, (script.ROOT / "log").read_text().split()), (code, wanted.split()))
+        same("said", lines[-6:], ["changed since the last commit:", "    tools/heads.txt", "    a b", "left by hand:",
+                                  "    a: pub fn f: .ci/run untested, places and growth say what it lacks", f"    {BY_HAND[3][2][0]}"])
+
+
 CHECKERS = {it.__name__: it for it in (
-    quotes, edits, models, growth, composition, places, exports, guards, libraries, faults, std_calls, release, stack, digest, gate)}
+    quotes, edits, models, growth, composition, places, exports, guards, libraries, faults, std_calls, release, stack, digest, gate, untested, items,
+    pages, regenerate)}
 
 if __name__ == "__main__":
     for name in sys.argv[1:] or CHECKERS:

@@ -53,7 +53,11 @@ def sources():
             yield "::".join([crate, *parts]), path.read_text()
 
 
-if __name__ == "__main__":
+def main():
     wrong, found = differing(sources())
     print("\n".join([*wrong, f"{len(found)} functions above net_assembler have a loop, {len(wrong)} differ from the table"]))
-    sys.exit(1 if wrong else 0)
+    return 1 if wrong else 0
+
+
+if __name__ == "__main__":
+    sys.exit(main())

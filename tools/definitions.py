@@ -87,8 +87,7 @@ def rows():
             path = next(ROOT.glob("crates/*/specs/" + file))
             it = specs(path.parent.parent.name, path.stem)
             for name in re.findall(r"`(\w+)`", names):
-                if name in it.blocks:
-                    follow(it, name, seen)
+                follow(it, name, seen)
         yield subject, seen, int(count)
 
 

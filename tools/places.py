@@ -34,11 +34,6 @@ ROWLESS = {
 }
 
 
-def words(names):
-    """All words of a table's lists, or its keys."""
-    return {word for it in names.values() for word in it.split()}
-
-
 def without_history(subject, history, specs, sources):
     """A line for each method of a type with a history that says no call of it, and for each call that none says."""
     cites = {"Makes"} | {name for it in specs.split("\n\n") if re.search(r"\bMakes\b", it)
@@ -61,17 +56,12 @@ def without_history(subject, history, specs, sources):
     yield from (f"{it}: NO_CALLS has it, and there is no such method" for it in sorted(own - methods))
 
 
-def unguarded(functions):
-    """A line for each function that requires something and tests nothing."""
-    return [f"{name}: requires something, and no guard tests it" for name, _, _, tests in functions if not tests]
-
-
 def without_rows(items, rows):
     """A line for each public type that no file of the rows names, and for each of `ROWLESS` that isn't so."""
     kind = r"^. ([\w:]*): (?:#\[.*?\] )*pub (?:struct|enum|trait|type|union) (\w+)"
     types = {name for path, name in re.findall(kind, items, re.M)
              if not path.startswith("exports")}
-    named, listed = set(re.findall(r"\w+", rows)), words(ROWLESS)
+    named, listed = set(re.findall(r"\w+", rows)), {word for it in ROWLESS.values() for word in it.split()}
     wrong = [f"{it}: no file of rust/tests/rows names it, and ROWLESS has no reason" for it in types - named - listed]
     return sorted(wrong + [f"{it}: ROWLESS has it, and it has rows, or is no type" for it in listed - (types - named)])
 
@@ -85,7 +75,7 @@ def main():
         subject = HISTORIES.get(crate, f"{crate}: HISTORIES hasn't its type")
         wrong += without_history(subject, history, "\n\n".join(specs.values()), sources)
     functions = [*guards.guarded()]
-    wrong += unguarded(functions)
+    wrong += [f"{name}: requires something, and no guard tests it" for name, _, _, tests in functions if not tests]
     rows = "\n".join(path.read_text() for path in sorted((ROOT / "rust/tests/rows").glob("*.rs")))
     wrong += without_rows((ROOT / "tools/public_items.txt").read_text(), rows)
     print("\n".join([*wrong, f"{len(HISTORIES)} histories, {len(functions)} guarded calls: {len(wrong)} places are missing"]))

@@ -42,23 +42,10 @@ import sys
 import tempfile
 
 from ffi import closing
-from parts import erase_list
 
 ROOT = pathlib.Path(__file__).resolve().parent.parent
 CRATES = ROOT / "crates"
 RUST = ROOT / "rust"
-
-
-def renamed():
-    """The names that calls have in the Cargo crate alone, each with the one that it has here."""
-    names = {}
-    for old, new, _files in erase_list.REPLACED:
-        here, there = re.findall(r"\bfn (\w+)", old), re.findall(r"\bfn (\w+)", new)
-        names.update((rust, rattle) for rattle, rust in zip(here, there) if rattle != rust)
-    return names
-
-
-RENAMED = renamed()
 
 
 def source(file):
@@ -141,7 +128,7 @@ class Library:
     """The public types and calls of libraries, each by the file that is its root."""
 
     def __init__(self, roots):
-        self.crate_of, self.alias, self.heads, self.calls = {}, {}, {}, {}
+        self.types, self.alias, self.heads, self.calls = set(), {}, {}, {}
         self.implementors, self.implemented, self.places = collections.defaultdict(set), set(), {}
         for root in roots:
             files = [it for it in sorted(root.parent.rglob(f"*{root.suffix}")) if not is_test(it)]
@@ -154,7 +141,7 @@ class Library:
         for it in re.findall(r"^pub use ([^;]*);", text, re.M):
             names |= set(re.findall(r"\w+", it))
         folder = file.parent if file.stem in ("lib", "mod") else file.with_suffix("")
-        modules = [folder / it for it in re.findall(r"^pub mod (\w+);", text, re.M) if it != "laws"]
+        modules = [folder / it for it in re.findall(r"^pub mod (\w+);", text, re.M)]
         paths = re.findall(r"^pub use crate::([a-z_:]+) as", text, re.M)
         modules += [RUST / "src" / it.replace("::", "/") for it in paths]
         for module in modules:
@@ -171,7 +158,7 @@ class Library:
             for kind, name, rest in types:
                 if name in names:
                     own[name] = kind
-                    self.crate_of[name] = crate, file
+                    self.types.add(name)
                     target = re.search(r"= *(\w+)", rest) if kind == "type" else None
                     if target:
                         self.alias[name] = target[1]
@@ -212,12 +199,11 @@ class Library:
 def named_in(file, text, library):
     """What one file of tests or examples names."""
     text = without_aliases(code(text))
-    other = RENAMED if file.suffix == ".rs" else {}
     types = {library.alias.get(it, it) for it in re.findall(r"\w+", text)}
     helpers, brought = {fn.name for fn in functions(text)}, words_of_uses(text)
-    paths = {(of, other.get(name, name)) for it, name in re.findall(r"(\w+)(?:::<[^()]*?>)?::(\w+)\b", text)
+    paths = {(of, name) for it, name in re.findall(r"(\w+)(?:::<[^()]*?>)?::(\w+)\b", text)
              for of in (it, library.alias.get(it, it))}
-    methods = {other.get(it, it) for it in re.findall(r"\.(\w+)\s*(?=\(|::<)", text)}
+    methods = set(re.findall(r"\.(\w+)\s*(?=\(|::<)", text))
     own = {(it[3], fn.name) for it in blocks(text) for fn in functions(text[it[0] : it[1]])}
     for call in library.calls:
         subject, name = call[1:]
@@ -257,7 +243,7 @@ def of_rust():
     """The public calls of the Cargo crate, and those that its tests and examples name."""
     library, named = Library([RUST / "src/lib.rs"]), set()
     hidden = {name for file in RUST.glob("src/**/*.rs") for name in re.findall(r"struct (\w+)", source(file))}
-    hidden -= library.crate_of.keys()
+    hidden -= library.types
     places = {it: at for it, at in library.places.items() if not library.is_left_to_users(it[0])
               and not hidden & set(re.findall(r"\w+", library.calls["rust", *it].params))}
     with tempfile.TemporaryDirectory() as folder:
