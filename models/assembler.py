@@ -230,23 +230,17 @@ def call(random, assembler, span, step):
     return name, []
 
 
-def add(cases, assembler, name, numbers):
-    cases.add(name, numbers, getattr(assembler, name)(*numbers), assembler.show())
-
-
 def draw(random, cases, lines):
     """So many lines of assemblers of 1, 4, 32 and 100 runs. Half of them are filled first."""
-    until = len(cases.lines) + lines
-    while len(cases.lines) < until:
+    for _ in cases.until(lines):
         most = random.of([1, 4, 4, 32, 32, 100])
         step = 3 + random.below(9) if random.below(4) else 3 + random.of_digits(53)
         span = step * (most + 2)
-        assembler = Assembler(most)
-        cases.begin(f"assembler {most}", assembler.show())
+        assembler = cases.subject("assembler", Assembler, most)
         if random.one_in(2):
             for numbers in slots(random, most, step):
-                add(cases, assembler, random.of(ADDING), numbers)
+                cases.call(assembler, random.of(ADDING), numbers)
                 if random.one_in(8):
-                    add(cases, assembler, "text", [random.of_digits(8)])
+                    cases.call(assembler, "text", [random.of_digits(8)])
         for _ in range(20 + random.below(30)):
-            add(cases, assembler, *call(random, assembler, span, step))
+            cases.call(assembler, *call(random, assembler, span, step))

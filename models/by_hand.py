@@ -70,17 +70,16 @@ def of_fragments(it):
 
 
 def of_scoreboard(it):
-    return fields("Scoreboard", first_unreported=it.front(it.runs),
+    return fields("Scoreboard", first_unreported=it.front(),
                   reported=listed(f"({start}, {end})" for start, end in it.beyond(it.runs)))
 
 
-def block(cases, line, subject, call, text, first=()):
+def block(cases, subject, call, text, first=()):
     """Calls of a subject, each followed by its text: those given, then drawn ones."""
-    cases.begin(line, subject.show())
     cases.add("debug", [], text(subject), subject.show())
     for number in range(CALLS):
         name, numbers = first[number] if number < len(first) else call(subject)
-        cases.add(name, numbers, getattr(subject, name)(*numbers), subject.show())
+        cases.call(subject, name, numbers)
         cases.add("debug", [], text(subject), subject.show())
 
 
@@ -91,7 +90,7 @@ def drawn():
     def one_of(names, numbers):
         def call(it):
             name = random.of(names)
-            return name, numbers(it, name)
+            return name, numbers(random, it, name)
         return call
 
     def of_a_receiver(pair):
@@ -103,27 +102,22 @@ def drawn():
     for size in SIZES:
         last = [("enqueue_unallocated", [max(0, size - 1)]), ("enqueue_one", [8]), ("dequeue_allocated", [max(0, size - 1)]),
                 ("dequeue_one", [9])]
-        block(cases, f"ring {size} 7", ring.Bytes(size, 7), one_of(
-            ring.OFTEN, lambda it, name: [ring.number(random, it, name, kind) for kind in ring.CALLS[name]]),
-              of_ring, last)
-        block(cases, f"packets 5 {size} 7", packets.Packets(5, size, 7), one_of(
+        block(cases, cases.subject("ring", ring.Bytes, size, 7), one_of(ring.OFTEN, ring.numbers_of), of_ring, last)
+        block(cases, cases.subject("packets", packets.Packets, 5, size, 7), one_of(
             packets.COMING + packets.LEAVING + ["peek", "last_mut"],
-            lambda it, name: packets.numbers_of(random, it, name, size // 3)), of_packets)
-        block(cases, f"receiver {size} 4 {FIRST}", receiver.Pair(size, 4, FIRST), of_a_receiver, lambda it: of_receiver(it.now))
-        block(cases, f"ending {size} 4 {FIRST}", ending.Ending(size, 4, FIRST), one_of(
-            ending.CALLS, lambda it, name: ending.numbers_of(random, it, name)), of_ending)
-        block(cases, f"sender {size} {FIRST}", sender.Sender(size, FIRST), one_of(
-            ["write", "write", "peek_at", "acknowledge", "mark_sent"],
-            lambda it, name: sender.numbers_of(random, it, name)), of_sender)
-        block(cases, f"closing {size} {FIRST}", closing.Closing(size, FIRST), one_of(
-            closing.CALLS, lambda it, name: closing.numbers_of(random, it, name)), of_closing)
-        block(cases, f"fragments {size} 4 {FIRST}", fragments.Buffer(size, 4, FIRST), one_of(
-            fragments.CALLS, lambda it, name: fragments.numbers_of(random, it, name)), of_fragments)
+            lambda random, it, name: packets.numbers_of(random, it, name, size // 3)), of_packets)
+        block(cases, cases.subject("receiver", receiver.Pair, size, 4, FIRST), of_a_receiver, lambda it: of_receiver(it.now))
+        block(cases, cases.subject("ending", ending.Ending, size, 4, FIRST), one_of(ending.CALLS, ending.numbers_of), of_ending)
+        block(cases, cases.subject("sender", sender.Sender, size, FIRST), one_of(
+            ["write", "write", "peek_at", "acknowledge", "mark_sent"], sender.numbers_of), of_sender)
+        block(cases, cases.subject("closing", closing.Closing, size, FIRST), one_of(closing.CALLS, closing.numbers_of), of_closing)
+        block(cases, cases.subject("fragments", fragments.Buffer, size, 4, FIRST), one_of(fragments.CALLS, fragments.numbers_of),
+              of_fragments)
     for most in [1, 4, 32]:
-        block(cases, f"assembler {most}", assembler.Assembler(most),
+        block(cases, cases.subject("assembler", assembler.Assembler, most),
               lambda it: assembler.call(random, it, 6 * most, 4), of_assembler)
         apart = [("report", [FIRST + at, FIRST + at + 1, drawing.TOP]) for at in range(1, 12, 2)]
-        block(cases, f"scoreboard {most} {FIRST}", scoreboard.Scoreboard(most, FIRST), one_of(
-            scoreboard.CALLS, lambda it, name: scoreboard.numbers_of(random, it, name)), of_scoreboard, apart)
+        block(cases, cases.subject("scoreboard", scoreboard.Scoreboard, most, FIRST),
+              one_of(scoreboard.CALLS, scoreboard.numbers_of), of_scoreboard, apart)
     cases.worked = len(cases.lines)
     return [block for blocks in cases.blocks().values() for block in blocks]

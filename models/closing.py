@@ -34,7 +34,7 @@ class Closing:
         counted from the first; how many bytes are queued; 0, 1 once it is closed, and 2 once the end is acknowledged; the
         digest of the queue."""
         bytes_, first = self.bytes, self.bytes.first
-        digest = show_digest(mix(START, bytes_.part(0, bytes_.count)))
+        digest = show_digest(mix(START, bytes_.queue()))
         return (f"{bytes_.first_unacknowledged + self.finished - first} {self.numbers_end() - first} "
                 f"{self.sent - first} {bytes_.count} {self.closed + self.finished} {digest}")
 
@@ -119,12 +119,7 @@ def numbers_of(random, closing, name):
 
 def draw(random, cases, lines):
     """So many lines of senders of 0 to 40 bytes."""
-    until = len(cases.lines) + lines
-    while len(cases.lines) < until:
+    for _ in cases.until(lines):
         first = random.of([0, TOP - 1 - random.below(12), random.of_digits(63, "closing")])
-        closing = Closing(random.of([0, 1, 2, 5, 8, 40]), first)
-        cases.begin(f"closing {closing.bytes.capacity} {first}", closing.show())
-        for _ in range(12 + random.below(24)):
-            name = random.name(CALLS)
-            numbers = numbers_of(random, closing, name)
-            cases.add(name, numbers, getattr(closing, name)(*numbers), closing.show())
+        closing = cases.subject("closing", Closing, random.of([0, 1, 2, 5, 8, 40]), first)
+        cases.draw(random, closing, 12 + random.below(24), CALLS, numbers_of)

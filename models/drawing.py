@@ -90,9 +90,33 @@ class Cases:
             self.news.append(0)
         self.note(line, f"|{state}")
 
+    def subject(self, name, of, *numbers):
+        """A new subject, with which a block begins."""
+        it = of(*numbers)
+        self.begin(" ".join([name, *map(str, numbers)]), it.show())
+        return it
+
     def add(self, name, numbers, reply, state=""):
         """A call, with what it gives and what can be seen then."""
         self.note(" ".join([name, *map(str, numbers)]), f"{reply}|{state}")
+
+    def call(self, subject, name, numbers):
+        """A call of a subject. One that has parts makes its calls by `call`."""
+        reply = subject.call(name, numbers) if hasattr(subject, "call") else getattr(subject, name)(*numbers)
+        self.add(name, numbers, reply, subject.show())
+
+    def draw(self, random, subject, count, names, numbers_of, first=()):
+        """So many drawn calls of a subject; the first of them are those that are given."""
+        for at in range(count):
+            name = random.name(names)
+            name, numbers = first[at] if at < len(first) else (name, numbers_of(random, subject, name))
+            self.call(subject, name, numbers)
+
+    def until(self, lines):
+        """Turns until there are so many lines more."""
+        end = len(self.lines) + lines
+        while len(self.lines) < end:
+            yield
 
     def note(self, line, reply):
         self.lines.append(line)

@@ -158,13 +158,8 @@ CALLS = ["keep"] * 10 + ["read"] * 3 + ["remove"] + ["can_end"] * 3 + ["window_e
 
 def draw(random, cases, lines):
     """So many lines of receivers of 0 to 40 bytes."""
-    until = len(cases.lines) + lines
-    while len(cases.lines) < until:
+    for _ in cases.until(lines):
         capacity, most = random.of([0, 1, 2, 3, 5, 8, 12, 40]), random.of(SIZES)
         first = random.of([0, TOP - 1 - random.below(40), random.of_digits(63, "ending")])
-        ending = Ending(capacity, most, first)
-        cases.begin(f"ending {capacity} {most} {first}", ending.show())
-        for _ in range(10 + random.below(24)):
-            name = random.name(CALLS)
-            numbers = numbers_of(random, ending, name)
-            cases.add(name, numbers, getattr(ending, name)(*numbers), ending.show())
+        ending = cases.subject("ending", Ending, capacity, most, first)
+        cases.draw(random, ending, 10 + random.below(24), CALLS, numbers_of)

@@ -1,6 +1,6 @@
 """Packets that arrive in fragments: bytes, the positions that arrived in at most N runs, a size once it is known, and a
 deadline."""
-from assembler import with_range
+from assembler import front_of, with_range
 from branches import Count, Order, Size, Test
 from showing import pattern, show_bytes, truth
 
@@ -86,8 +86,7 @@ class Buffer:
     def assemble(self):
         if not UNKNOWN(self.total is not None):
             return "none"
-        came = self.runs[0][1] if self.runs and self.runs[0][0] == 0 else 0
-        if not COMPLETE(came >= self.total):
+        if not COMPLETE(front_of(self.runs) >= self.total):
             return "none"
         EMPTY(self.total == 0)
         return show_bytes(self.bytes[:self.total])
@@ -120,7 +119,7 @@ def fragment(random, buffer):
     if buffer.runs and random.one_in(2):
         start = max(0, random.of(random.of(buffer.runs)) - 1 + random.below(3))
     if random.one_in(3):
-        start = buffer.runs[0][1] if buffer.runs and buffer.runs[0][0] == 0 else 0
+        start = front_of(buffer.runs)
     return [start, random.below(capacity // 3 + 3), random.below(1000)]
 
 
@@ -149,13 +148,8 @@ CALLS = ["add"] * 9 + ["overlaps"] * 3 + ["differs"] * 3 + ["assemble"] * 4 + ["
 
 def draw(random, cases, lines):
     """So many lines of buffers of 0 to 63 bytes."""
-    until = len(cases.lines) + lines
-    while len(cases.lines) < until:
+    for _ in cases.until(lines):
         capacity, most = random.of_digits(6) if random.one_in(2) else random.below(12), random.of(SIZES)
-        buffer = Buffer(capacity, most, moment(random))
-        cases.begin(f"fragments {capacity} {most} {buffer.expires_at}", buffer.show())
-        calls = [("add", [start, 1, start]) for start in range(1, capacity, 2)][:most + 1] if random.one_in(3) else []
-        for _ in range(12 + random.below(20)):
-            name = random.name(CALLS)
-            name, numbers = calls.pop() if calls else (name, numbers_of(random, buffer, name))
-            cases.add(name, numbers, getattr(buffer, name)(*numbers), buffer.show())
+        buffer = cases.subject("fragments", Buffer, capacity, most, moment(random))
+        apart = [("add", [start, 1, start]) for start in range(1, capacity, 2)][most::-1] if random.one_in(3) else []
+        cases.draw(random, buffer, 12 + random.below(20), CALLS, numbers_of, apart)

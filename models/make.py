@@ -54,7 +54,7 @@ def text_of(blocks):
 def seen(blocks):
     """Rows of the program. A line feed is `;` in them, a byte that isn't seen has a backslash, and nothing is shown."""
     plain = str.maketrans({"\\": "\\\\", "\r": "\\r", "\t": "\\t", "\0": "\\0"})
-    return [([line.translate(plain) for line in lines[1:]], [reply.removesuffix("|").translate(plain) for reply in replies[1:]])
+    return [([line.translate(plain) for line in lines[1:]], [reply.translate(plain) for reply in replies[1:]])
             for lines, replies in blocks]
 
 

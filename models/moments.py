@@ -96,12 +96,24 @@ def nanos(secs, below):
     return (secs * 1_000_000_000 + below) // 1_000
 
 
+def sums(of, is_one, least, most):
+    """The calls that add a length to what `of` makes, or take one off."""
+    return {
+        "can_add": lambda a, b: truth(is_one(a + b)),
+        "can_sub": lambda a, b: truth(is_one(a - b)),
+        **dict.fromkeys(("add", "add_assign"), lambda a, b: of(a + b)),
+        **dict.fromkeys(("sub", "sub_assign"), lambda a, b: of(a - b)),
+        "checked_add": lambda a, b: of(a + b),
+        "checked_sub": lambda a, b: of(a - b),
+        "saturating_add": lambda a, b: of(nearest(a + b, least, most)),
+        "saturating_sub": lambda a, b: of(nearest(a - b, least, most)),
+    }
+
+
 # Of a moment and another one.
 MOMENTS = {
-    "from_micros": lambda a: moment(a),
-    "from_micros_const": lambda a: moment(a),
-    "from_millis": lambda a: moment(a * 1_000),
-    "from_millis_const": lambda a: moment(a * 1_000),
+    **dict.fromkeys(("from_micros", "from_micros_const"), moment),
+    **dict.fromkeys(("from_millis", "from_millis_const"), lambda a: moment(a * 1_000)),
     "from_secs": lambda a: moment(a * 1_000_000),
     "ZERO": lambda: moment(0),
     "fits_millis": lambda a: truth(is_moment(a * 1_000)),
@@ -110,18 +122,7 @@ MOMENTS = {
     "cmp": lambda a, b: cmp("moments", a, b),
 }
 # Of a moment and a length.
-MOVES = {
-    "can_add": lambda a, b: truth(is_moment(a + b)),
-    "can_sub": lambda a, b: truth(is_moment(a - b)),
-    "add": lambda a, b: moment(a + b),
-    "add_assign": lambda a, b: moment(a + b),
-    "sub": lambda a, b: moment(a - b),
-    "sub_assign": lambda a, b: moment(a - b),
-    "checked_add": lambda a, b: moment(a + b),
-    "checked_sub": lambda a, b: moment(a - b),
-    "saturating_add": lambda a, b: moment(nearest(a + b, FIRST, LAST)),
-    "saturating_sub": lambda a, b: moment(nearest(a - b, FIRST, LAST)),
-}
+MOVES = sums(moment, is_moment, FIRST, LAST)
 # Of a length, and of two.
 LENGTHS = {
     "from_micros": lambda a: length(a),
@@ -132,34 +133,19 @@ LENGTHS = {
     "default": lambda: length(0),
     "fits_millis": lambda a: truth(is_length(a * 1_000)),
     "fits_secs": lambda a: truth(is_length(a * 1_000_000)),
-    "can_add": lambda a, b: truth(is_length(a + b)),
-    "can_sub": lambda a, b: truth(is_length(a - b)),
-    "add": lambda a, b: length(a + b),
-    "add_assign": lambda a, b: length(a + b),
-    "sub": lambda a, b: length(a - b),
-    "sub_assign": lambda a, b: length(a - b),
-    "checked_add": lambda a, b: length(a + b),
-    "checked_sub": lambda a, b: length(a - b),
-    "saturating_add": lambda a, b: length(nearest(a + b, 0, TOP)),
-    "saturating_sub": lambda a, b: length(nearest(a - b, 0, TOP)),
+    **sums(length, is_length, 0, TOP),
     "cmp": lambda a, b: cmp("lengths", a, b),
 }
 # Of a length and a number of 32 bits.
 FACTORS = {
     "can_mul": lambda a, k: truth(is_length(a * k)),
-    "mul": lambda a, k: length(a * k),
-    "mul_assign": lambda a, k: length(a * k),
-    "checked_mul": lambda a, k: length(a * k),
+    **dict.fromkeys(("mul", "mul_assign", "checked_mul"), lambda a, k: length(a * k)),
     "saturating_mul": lambda a, k: length(nearest(a * k, 0, TOP)),
-    "div": quotient,
-    "div_assign": quotient,
-    "checked_div": quotient,
+    **dict.fromkeys(("div", "div_assign", "checked_div"), quotient),
 }
 SHIFTS = {
-    "shl": lambda a, k: shifted(a, k, True),
-    "shl_assign": lambda a, k: shifted(a, k, True),
-    "shr": lambda a, k: shifted(a, k, False),
-    "shr_assign": lambda a, k: shifted(a, k, False),
+    **dict.fromkeys(("shl", "shl_assign"), lambda a, k: shifted(a, k, True)),
+    **dict.fromkeys(("shr", "shr_assign"), lambda a, k: shifted(a, k, False)),
 }
 # Of seconds and nanoseconds beyond them.
 CORES = {

@@ -73,15 +73,19 @@ class Packets:
         self.storage[begin:begin + len(written)] = written
         return shown
 
+    def free(self):
+        """How many free bytes are contiguous, and how many are at the storage's beginning."""
+        held = self.held()
+        begin = (self.at + held) % self.capacity if held else 0
+        row = min(self.capacity - held, self.capacity - begin)
+        return row, self.capacity - held - row
+
     def gap_for(self, size):
         """The gap before a packet of this size, or None if it is refused."""
-        held = self.held()
-        window = self.capacity - held
-        begin = (self.at + held) % self.capacity if held else 0
-        row = min(window, self.capacity - begin)
+        row, rest = self.free()
         if FITS_CONTIGUOUS.least(size, row) == size:
             gap = 0
-        elif FITS_REST.least(size, window - row) == size:
+        elif FITS_REST.least(size, rest) == size:
             gap = row
         else:
             return None
@@ -105,11 +109,11 @@ class Packets:
     def last(self):
         return self.bytes_of(len(self.packets) - 1)
 
-    def place(self, size, header, seed):
-        return self.lend(self.last(), seed) if self.put("place", size, header) else "full"
+    def place(self, size, header, seed, name="place"):
+        return self.lend(self.last(), seed) if self.put(name, size, header) else "full"
 
     def enqueue(self, size, header, seed):
-        return self.lend(self.last(), seed) if self.put("enqueue", size, header) else "full"
+        return self.place(size, header, seed, "enqueue")
 
     def push_slice(self, size, header, seed):
         if not self.put("push_slice", size, header):
@@ -152,17 +156,14 @@ class Packets:
         begin, end = self.bytes_of(0)
         return f"{self.packets[0][0]} {show_bytes(self.storage[begin:end])}"
 
-    def take(self, seed):
-        if not self.first("take"):
+    def take(self, seed, name="take"):
+        if not self.first(name):
             return "empty"
         part = self.bytes_of(0)
         return f"{self.leave()} {self.lend(part, seed)}"
 
     def dequeue(self, seed):
-        if not self.first("dequeue"):
-            return "empty"
-        part = self.bytes_of(0)
-        return f"{self.leave()} {self.lend(part, seed)}"
+        return self.take(seed, "dequeue")
 
     def dequeue_with(self, header, seed, takes):
         if not self.first("dequeue_with"):
@@ -196,12 +197,9 @@ LEAVING = ["take", "dequeue", "dequeue_with", "pop_slice"]
 
 
 def size_of(random, queue, usual):
-    held = queue.held()
-    window = queue.capacity - held
-    begin = (queue.at + held) % queue.capacity if held else 0
-    row = min(window, queue.capacity - begin)
     if random.one_in(3):
-        return random.about([row, window - row, window], 11)
+        row, rest = queue.free()
+        return random.about([row, rest, row + rest], 11)
     return random.below(usual + 1)
 
 
@@ -226,8 +224,7 @@ def numbers_of(random, queue, name, usual):
 def draw(random, cases, lines):
     """So many lines of packet queues of 0 to 63 slots and 0 to 4,095 bytes. A fourth of them lend the last packet, which not
     every language can."""
-    until = len(cases.lines) + lines
-    while len(cases.lines) < until:
+    for _ in cases.until(lines):
         slots = random.of_digits(6) if random.one_in(2) else random.below(5)
         count, seed = random.of_digits(12), random.below(1000)
         usual = random.of([0, count // 8, count // 4, count // 3, count // 2])
@@ -235,8 +232,7 @@ def draw(random, cases, lines):
         if many:
             slots, count = 16 + random.below(48), max(64, count)
             usual = count // 64
-        queue = Packets(slots, count, seed)
-        cases.begin(f"packets {slots} {count} {seed}", queue.show())
+        queue = cases.subject("packets", Packets, slots, count, seed)
         others = ["peek"] * (9 if many else 2) + random.of([["last_mut", "last_mut"], [], [], []]) + ["reset"]
         for turn in range(70 if many else 30 + random.below(50)):
             fills = random.below(8) < (8 if many and turn < 50 else 5)
@@ -244,4 +240,4 @@ def draw(random, cases, lines):
             if random.one_in(6):
                 name = random.of(others)
             numbers = numbers_of(random, queue, name, usual)
-            cases.add(name, numbers, queue.call(name, numbers), queue.show())
+            cases.call(queue, name, numbers)

@@ -371,14 +371,12 @@ OWN = ["duplicate_of", "parts_of", "differs", "holes", "first_unread", "plan"]
 
 def draw_own(random, cases, lines):
     """So many lines of a call that came after the others, which keep their cases."""
-    until = len(cases.lines) + lines
-    while len(cases.lines) < until:
+    for _ in cases.until(lines):
         capacity = 8 + random.below(60)
-        pair = Pair(capacity, 4, random.of([0, 1 << 32, TOP - capacity // 2]))
-        cases.begin(f"receiver {capacity} 4 {pair.now.first}", pair.show())
+        pair = cases.subject("receiver", Pair, capacity, 4, random.of([0, 1 << 32, TOP - capacity // 2]))
         last = [pair.now.first, 1, 0]
         for number in range(random.of([0, 4])):
-            add(cases, pair, "segment", [min(TOP - 2, pair.now.next + 2 + 4 * number), 2, random.below(40)])
+            cases.call(pair, "segment", [min(TOP - 2, pair.now.next + 2 + 4 * number), 2, random.below(40)])
         for _ in range(20):
             now, name = pair.now, random.of(["segment"] * 4 + ["read", *OWN])
             if name == "segment":
@@ -398,7 +396,7 @@ def draw_own(random, cases, lines):
                 numbers = [position(random, now, 6), random.below(18)]
             else:
                 numbers = []
-            add(cases, pair, name, numbers)
+            cases.call(pair, name, numbers)
 
 
 def call(random, now, step):
@@ -443,11 +441,11 @@ def filled(random, cases, pair, step):
         if pos + size > TOP:
             return
         if random.one_in(4):
-            add(cases, pair, "execute", [0, pos, size, seed])
+            cases.call(pair, "execute", [0, pos, size, seed])
         else:
-            add(cases, pair, "segment", [pos, size, seed])
+            cases.call(pair, "segment", [pos, size, seed])
         if random.one_in(10):
-            add(cases, pair, "execute", [2, 0, 0, 0])
+            cases.call(pair, "execute", [2, 0, 0, 0])
 
 
 def first_position(random):
@@ -466,13 +464,13 @@ def mirrored(random, cases, pair, step):
     segments = [segment_of(random, pair.now, step) for _ in range(1 + random.below(5))]
     for order in (segments, segments[::-1] if random.one_in(2) else segments[1:]):
         for numbers in order:
-            add(cases, pair, "segment", numbers)
-        add(cases, pair, "swap", [])
+            cases.call(pair, "segment", numbers)
+        cases.call(pair, "swap", [])
     for numbers in segments:
-        add(cases, pair, "segment", numbers)
+        cases.call(pair, "segment", numbers)
         if random.one_in(3):
-            add(cases, pair, "same_state", [])
-    add(cases, pair, "same_state", [])
+            cases.call(pair, "same_state", [])
+    cases.call(pair, "same_state", [])
 
 
 def twins(random, cases, pair):
@@ -486,30 +484,24 @@ def twins(random, cases, pair):
     rest = [now.capacity - count, 1 + random.below(read)]
     seeds = [random.below(40) for _ in range(4)]
     for last in seeds[2:]:
-        add(cases, pair, "segment", [pair.now.first, count, seeds[0]])
-        add(cases, pair, "read", [read, 0])
-        add(cases, pair, "segment", [pair.now.next, rest[0], seeds[1]])
-        add(cases, pair, "segment", [pair.now.next, rest[1], last])
-        add(cases, pair, "swap", [])
-    add(cases, pair, "same_state", [])
-
-
-def add(cases, pair, name, numbers):
-    cases.add(name, numbers, getattr(pair, name)(*numbers), pair.show())
+        cases.call(pair, "segment", [pair.now.first, count, seeds[0]])
+        cases.call(pair, "read", [read, 0])
+        cases.call(pair, "segment", [pair.now.next, rest[0], seeds[1]])
+        cases.call(pair, "segment", [pair.now.next, rest[1], last])
+        cases.call(pair, "swap", [])
+    cases.call(pair, "same_state", [])
 
 
 def draw(random, cases, lines):
     """So many lines of receivers of 1, 4 and 32 held runs and 0 to 4,095 bytes. A third is filled first."""
-    until = len(cases.lines) + lines
-    while len(cases.lines) < until:
+    for _ in cases.until(lines):
         most = random.of([1, 4, 4, 32, 32])
         capacity = random.of_digits(12) if random.one_in(2) else random.below(120)
         step = 3 + random.below(7) if random.below(3) else 3 + random.below(capacity // most + 1)
         first = first_position(random)
         if first + capacity > TOP and random.one_in(2):
             first = TOP - capacity
-        pair = Pair(capacity, most, first)
-        cases.begin(f"receiver {capacity} {most} {first}", pair.show())
+        pair = cases.subject("receiver", Pair, capacity, most, first)
         if random.one_in(5):
             twins(random, cases, pair)
         if random.one_in(3):
@@ -518,9 +510,9 @@ def draw(random, cases, lines):
             mirrored(random, cases, pair, step)
         for _ in range(10 + random.below(30)):
             name, numbers = call(random, pair.now, step)
-            add(cases, pair, name, numbers)
+            cases.call(pair, name, numbers)
             if name == "segment" and len(pair.now.held) > 1:
-                add(cases, pair, "newest_runs", [numbers[0], 1 + random.below(MOST_LISTED)])
+                cases.call(pair, "newest_runs", [numbers[0], 1 + random.below(MOST_LISTED)])
 
 
 def number_reply(name, numbers):

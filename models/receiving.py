@@ -142,20 +142,14 @@ def numbers_of(random, it, name):
     return []
 
 
-def add(cases, it, name, numbers):
-    cases.add(name, numbers, it.call(name, numbers), it.show())
-
-
 def draw(random, cases, lines):
     """So many lines of receivers of 1 to 40 bytes."""
-    until = len(cases.lines) + lines
-    while len(cases.lines) < until:
+    for _ in cases.until(lines):
         first = random.of([0, 100, 100, TOP - 1 - random.below(50), random.of_digits(63, "receiving")])
         numbers = [random.of([1, 5, 12, 40]), random.of(SIZES), first, random.of([0, 1, 4, 10, 1000])]
-        it = Receiving(*numbers)
-        cases.begin(" ".join(["receiving", *map(str, numbers)]), it.show())
+        it = cases.subject("receiving", Receiving, *numbers)
         for step in range(6 + random.below(12)):
             if random.one_in(10) or step == 0:
-                add(cases, it, "open", [first if step == 0 else random.of_digits(20), random.of([0, 0, 1, 2])])
+                cases.call(it, "open", [first if step == 0 else random.of_digits(20), random.of([0, 0, 1, 2])])
             name = random.of(CALLS)
-            add(cases, it, name, numbers_of(random, it, name))
+            cases.call(it, name, numbers_of(random, it, name))

@@ -245,13 +245,8 @@ def lost_again(first, size, more):
 
 def draw(random, cases, lines):
     """So many lines of senders whose scoreboards have 4 or 32 runs."""
-    until = len(cases.lines) + lines
-    while len(cases.lines) < until:
+    for _ in cases.until(lines):
         most, size = random.of([4, 32]), random.below(7)
-        it = Recovery(most, random.of([0, 2 ** 32, TOP - 40 - random.below(90)]), size)
-        cases.begin(f"recovery {most} {it.first} {size}", it.show())
+        it = cases.subject("recovery", Recovery, most, random.of([0, 2 ** 32, TOP - 40 - random.below(90)]), size)
         calls = lost_again(it.first, size, random.below(2)) if size > 1 and it.first + 16 * size < TOP else []
-        for _ in range(14 + random.below(20)):
-            name = random.of(CALLS)
-            name, numbers = calls.pop(0) if calls else (name, numbers_of(random, it, name))
-            cases.add(name, numbers, getattr(it, name)(*numbers), it.show())
+        cases.draw(random, it, 14 + random.below(20), CALLS, numbers_of, calls)

@@ -74,7 +74,7 @@ class Ring:
     def see(self, part):
         return [self.storage[index] for index in part]
 
-    def write(self, part, elements):
+    def put(self, part, elements):
         for index, element in zip(part, elements):
             self.storage[index] = element
 
@@ -113,7 +113,7 @@ class Bytes(Ring):
     def lend(self, part, seed):
         """What a part that is lent shows; then it is written over."""
         shown = show_bytes(self.see(part))
-        self.write(part, pattern(len(part), seed))
+        self.put(part, pattern(len(part), seed))
         return shown
 
     def exchange(self, part, byte):
@@ -174,7 +174,7 @@ class Bytes(Ring):
         self.begin()
         part = self.part(self.count, WITH_IN_SIZE(self.contiguous_window()))
         lent = show_lent(self.see(part))
-        self.write(part, pattern(len(part), seed))
+        self.put(part, pattern(len(part), seed))
         count = WITH_IN.least(min(size, len(part)), len(part))
         self.count += count
         return f"{count} {lent}"
@@ -182,7 +182,7 @@ class Bytes(Ring):
     def dequeue_many_with(self, size, seed):
         part = self.part(0, WITH_OUT_SIZE(self.contiguous_queued()))
         lent = show_lent(self.see(part))
-        self.write(part, pattern(len(part), seed))
+        self.put(part, pattern(len(part), seed))
         count = WITH_OUT.least(min(size, len(part)), len(part))
         self.take(count)
         return f"{count} {lent}"
@@ -191,7 +191,7 @@ class Bytes(Ring):
         self.begin()
         count = SLICE_IN_SIZE(SLICE_IN.least(size, self.window))
         SLICE_IN_WRAPS(count > self.contiguous_window())
-        self.write(self.part(self.count, count), pattern(size, seed))
+        self.put(self.part(self.count, count), pattern(size, seed))
         self.count += count
         return str(count)
 
@@ -240,7 +240,7 @@ class Bytes(Ring):
         if count > 0:
             part = self.part(self.count + offset, count)
             ROUND["write_unallocated"](part[0] + count > self.capacity)
-            self.write(part, pattern(size, seed))
+            self.put(part, pattern(size, seed))
         return str(count)
 
     def read_allocated(self, offset, size, seed):
@@ -274,7 +274,7 @@ class Bytes(Ring):
     def push_one(self, byte):
         if not PUSHED(self.window > 0):
             return "full"
-        self.write(self.part(self.count, 1), [byte & 0xff])
+        self.put(self.part(self.count, 1), [byte & 0xff])
         self.count += 1
         return "ok"
 
@@ -331,15 +331,13 @@ def number(random, ring, name, kind):
     return min(random.about(limits, digits), 6000) if name in COPIES else random.about(limits, digits)
 
 
+def numbers_of(random, ring, name):
+    return [number(random, ring, name, kind) for kind in CALLS[name]]
+
+
 def draw(random, cases, lines):
     """So many lines of rings of 0 to 4,096 bytes."""
-    until = len(cases.lines) + lines
-    while len(cases.lines) < until:
+    for _ in cases.until(lines):
         capacity = random.below(20) if random.one_in(3) else min(random.of_digits(13), 4096)
-        seed = random.below(1000)
-        ring = Bytes(capacity, seed)
-        cases.begin(f"ring {capacity} {seed}", ring.show())
-        for _ in range(12 + random.below(16)):
-            name = random.name(OFTEN)
-            numbers = [number(random, ring, name, kind) for kind in CALLS[name]]
-            cases.add(name, numbers, ring.call(name, numbers), ring.show())
+        ring = cases.subject("ring", Bytes, capacity, random.below(1000))
+        cases.draw(random, ring, 12 + random.below(16), OFTEN, numbers_of)

@@ -1,5 +1,5 @@
 """Scoreboards: the positions of a stream that were reported to its sender, the holes, and what is lost (RFC 6675, 4)."""
-from assembler import with_range
+from assembler import front_of, with_range
 from branches import Count, Order, Size, Test
 from drawing import TOP
 from showing import START, mix, show_digest, truth
@@ -32,8 +32,8 @@ class Scoreboard:
     def __init__(self, most, first):
         self.most, self.first, self.runs = most, FIRST(first), with_range([], 0, first)
 
-    def front(self, runs):
-        return runs[0][1] if runs and runs[0][0] == 0 else 0
+    def front(self):
+        return front_of(self.runs)
 
     def beyond(self, runs):
         return [run for run in runs if run[0] > 0]
@@ -45,7 +45,7 @@ class Scoreboard:
         RUNS[self.most](len(beyond))
         highest = self.runs[-1][1] if self.runs else 0
         digest = show_digest(mix(START, [end for run in beyond for end in run]))
-        return (f"{self.front(self.runs) - self.first} {highest - self.first} {len(beyond)} "
+        return (f"{self.front() - self.first} {highest - self.first} {len(beyond)} "
                 f"{sum(end - start for start, end in beyond)} {digest}")
 
     def report(self, start, end, sent):
@@ -53,20 +53,20 @@ class Scoreboard:
         SENT.least(end, sent)
         if not start < end <= sent:
             return truth(False)
-        front = self.front(self.runs)
+        front = self.front()
         START_OF.least(start, front)
         runs = with_range(self.runs, start, end)
         if FAR(start > front and end - front >= 1 << 32):
             return truth(False)
         if REFUSED[self.most](start > front and len(self.beyond(runs)) > self.most):
             return "refused"
-        MOVES(self.front(runs) > front)
+        MOVES(front_of(runs) > front)
         self.runs = runs
         return truth(True)
 
     def report_block(self, initial, start, end, sent):
         """The block of the positions near to the first one that wasn't reported which have these numbers."""
-        front = self.front(self.runs)
+        front = self.front()
         ahead = [(number - initial - front) % 2 ** 32 for number in (start, end)]
         start, end = [front + it if it < 2 ** 31 else front + it - 2 ** 32 for it in ahead]
         if not NEAR(0 <= min(start, end) and max(start, end) <= TOP):
@@ -75,7 +75,7 @@ class Scoreboard:
         return self.report(start, end, sent) if start > front else truth(False)
 
     def acknowledge(self, pos):
-        NEXT.least(pos, self.front(self.runs))
+        NEXT.least(pos, self.front())
         NEXT_IN(any(start <= pos <= end for start, end in self.beyond(self.runs)))
         HIGH.least(pos, self.runs[-1][1] if self.runs else 0)
         self.runs = with_range(self.runs, 0, pos)
@@ -156,15 +156,10 @@ CALLS += ["lost_below"] * 3 + ["next_lost"] * 3
 
 def draw(random, cases, lines):
     """So many lines of scoreboards of 1, 4 and 32 runs."""
-    until = len(cases.lines) + lines
-    while len(cases.lines) < until:
+    for _ in cases.until(lines):
         most = random.of(SIZES)
         first = random.of([0, 0, TOP - random.below(60), random.of_digits(64, "scoreboard")])
-        board = Scoreboard(most, first)
-        cases.begin(f"scoreboard {most} {first}", board.show())
+        board = cases.subject("scoreboard", Scoreboard, most, first)
         starts = range(first + 1, min(TOP - 1, first + 4 * most + 6), 3) if random.one_in(2) else []
-        calls = [("report", [start, start + 1, TOP]) for start in random.shuffled(starts)]
-        for _ in range(16 + random.below(40)):
-            name = random.name(CALLS)
-            name, numbers = calls.pop() if calls else (name, numbers_of(random, board, name))
-            cases.add(name, numbers, getattr(board, name)(*numbers), board.show())
+        apart = [("report", [start, start + 1, TOP]) for start in random.shuffled(starts)[::-1]]
+        cases.draw(random, board, 16 + random.below(40), CALLS, numbers_of, apart)

@@ -1,6 +1,7 @@
 """Senders of one stream: a queue of bytes that are not acknowledged, over a storage."""
 from branches import Order, Size, Test
 from drawing import TOP
+from ring import Ring
 from showing import START, mix, pattern, show_bytes, show_digest, truth
 
 CAPACITY = Size("sender: capacity", 12)
@@ -22,47 +23,30 @@ MARKED = Order("sender: mark_sent, position and mark")
 MARKED_ABOVE = Order("sender: mark_sent, position and end")
 
 
-class Sender:
+class Sender(Ring):
     def __init__(self, capacity, first, last=TOP):
         """`last`: the greatest position after the queue."""
-        self.storage, self.at, self.count = pattern(CAPACITY(capacity), 0), 0, 0
+        super().__init__(pattern(CAPACITY(capacity), 0))
         self.first, self.first_unacknowledged, self.last = FIRST(first), first, last
-
-    @property
-    def capacity(self):
-        return len(self.storage)
 
     @property
     def end(self):
         return self.first_unacknowledged + self.count
 
     def room(self):
-        free = self.capacity - self.count
-        NEAR_LAST(self.last - self.end < free)
-        return min(free, self.last - self.end)
-
-    def index(self, offset):
-        return (self.at + offset) % self.capacity if self.capacity else 0
-
-    def part(self, offset, count):
-        start = self.index(offset)
-        return self.storage[start : start + count] + self.storage[: max(0, start + count - self.capacity)]
+        NEAR_LAST(self.last - self.end < self.window)
+        return min(self.window, self.last - self.end)
 
     def show(self):
         WRAPS(self.at + self.count > self.capacity)
-        digest = show_digest(mix(START, self.part(0, self.count)))
+        digest = show_digest(mix(START, self.queue()))
         return (f"{self.first_unacknowledged - self.first} {self.end - self.first} {self.count} {self.room()} "
                 f"{truth(self.count == 0)} {digest}")
 
-    def call(self, name, numbers):
-        return getattr(self, name)(*numbers)
-
     def write(self, size, seed):
-        if self.count == 0:
-            self.at = 0
+        self.rewind()
         count = WRITE_SIZE(WRITE.least(size, self.room()))
-        for k, byte in enumerate(pattern(size, seed)[:count]):
-            self.storage[self.index(self.count + k)] = byte
+        self.put(self.part(self.count, count), pattern(size, seed))
         self.count += count
         return str(count)
 
@@ -75,7 +59,7 @@ class Sender:
         count = PEEK_MOST.least(most, self.count - offset)
         to_end = self.capacity - self.index(offset)
         PEEK_CUT(count > to_end)
-        return show_bytes(self.part(offset, min(count, to_end)))
+        return show_bytes(self.see(self.part(offset, min(count, to_end))))
 
     def acknowledge(self, pos):
         ABOVE.least(pos, self.end)
@@ -90,8 +74,8 @@ class Sender:
         ACKNOWLEDGED.least(pos, self.first_unacknowledged)
         if not self.first_unacknowledged <= pos <= most:
             return "refused"
-        count = pos - self.first_unacknowledged
-        self.at, self.count, self.first_unacknowledged = self.index(count), self.count - count, pos
+        self.take(pos - self.first_unacknowledged)
+        self.first_unacknowledged = pos
         return "done"
 
     def mark_sent(self, sent, pos):
@@ -137,12 +121,7 @@ def first_position(random, capacity):
 
 def draw(random, cases, lines):
     """So many lines of senders of 0 to 4,095 bytes."""
-    until = len(cases.lines) + lines
-    while len(cases.lines) < until:
+    for _ in cases.until(lines):
         capacity = random.of_digits(12) if random.one_in(2) else random.below(20)
-        sender = Sender(capacity, first_position(random, capacity))
-        cases.begin(f"sender {capacity} {sender.first}", sender.show())
-        for _ in range(12 + random.below(24)):
-            name = random.name(CALLS)
-            numbers = numbers_of(random, sender, name)
-            cases.add(name, numbers, sender.call(name, numbers), sender.show())
+        sender = cases.subject("sender", Sender, capacity, first_position(random, capacity))
+        cases.draw(random, sender, 12 + random.below(24), CALLS, numbers_of)

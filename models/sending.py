@@ -75,7 +75,7 @@ class Sending:
     def part(self, pos, end):
         """How many bytes of both parts, their digest, and whether the stream ends after them."""
         queue, count = self.queue.bytes, max(0, min(end, self.queue.bytes.end) - pos)
-        data = queue.part(pos - queue.first_unacknowledged, count) if queue.first_unacknowledged <= pos and count else b""
+        data = queue.see(queue.part(pos - queue.first_unacknowledged, count)) if queue.first_unacknowledged <= pos and count else b""
         ends = self.queue.closed and not self.queue.finished and pos + len(data) == queue.end < end
         return f"{len(data)} {show_digest(mix(START, data))} {truth(ends)}"
 
@@ -165,7 +165,7 @@ class Sending:
             self.timer.reported(now)
 
     def front(self):
-        return self.recovery.board.front(self.recovery.board.runs)
+        return self.recovery.board.front()
 
     def report(self, start, end):
         """Whether a block says something new."""
@@ -294,35 +294,29 @@ def numbers_of(random, it, name, now, peer):
     return [now] if name == "forget" else then + [random.below(2)] * (name == "set_nagle_enabled")
 
 
-def add(cases, it, name, numbers):
-    cases.add(name, numbers, it.call(name, numbers), it.show())
-
-
 def open_(random, cases, it, now, peer):
     """A peer, whose own SYN is sent, and again, as often as not."""
     size = random.of([1, 2, 5, 10])
-    add(cases, it, "open", [peer, it.first, random.of([0, size, 3 * size, 100]), size, int(random.below(4) > 0), now])
+    cases.call(it, "open", [peer, it.first, random.of([0, size, 3 * size, 100]), size, int(random.below(4) > 0), now])
     for _ in range(random.of([0, 0, 0, 2])):
-        add(cases, it, "is_opening_due", [now])
+        cases.call(it, "is_opening_due", [now])
         now += random.of([1_000_000, random.below(900_000)])
     return now
 
 
 def draw(random, cases, lines):
     """So many lines of senders of 8 to 60 bytes, each with a peer whose clock goes on."""
-    until = len(cases.lines) + lines
-    while len(cases.lines) < until:
+    for _ in cases.until(lines):
         first = random.of([0, 10, 10, 2 ** 32 - 20, TOP - 1 - random.below(60)])
         least = random.of([200_000, 1_000_000])
         numbers = [random.of([8, 20]), random.of(SIZES), first, 1_000_000, least, 60_000_000, 200_000]
-        it, peer = Sending(*numbers), 1
-        cases.begin(" ".join(["sending", *map(str, numbers)]), it.show())
+        it, peer = cases.subject("sending", Sending, *numbers), 1
         now = open_(random, cases, it, random.below(1000), 0)
         for step in range(6 + random.below(10)):
             name = "write" if step == 0 else random.of(CALLS)
             if name == "expired" and it.timer.expiry is not None:
                 now = max(now, it.timer.expiry - random.of([0, 0, 0, 1]))
-            add(cases, it, name, numbers_of(random, it, name, now, peer))
+            cases.call(it, name, numbers_of(random, it, name, now, peer))
             if name == "forget":
                 now = open_(random, cases, it, now, peer)
             now, peer = now + random.of([0, 10_000, random.of_digits(19)]), peer + random.below(2)

@@ -63,15 +63,11 @@ class Cells(Ring):
 
 
 def draw_cells(random, cases, lines):
-    until = len(cases.lines) + lines
-    while len(cases.lines) < until:
+    for _ in cases.until(lines):
         capacity = random.of_digits(10) if random.one_in(2) else random.below(12)
-        ring = Cells(capacity)
-        cases.begin(f"cells {capacity}", ring.show())
-        for _ in range(10 + random.below(40)):
-            name = random.name(["enqueue_one"] * 4 + ["dequeue_one"] * 4 + ["reset", "clear"])
-            numbers = [random.word()] if name.endswith("one") else []
-            cases.add(name, numbers, getattr(ring, name)(*numbers), ring.show())
+        ring = cases.subject("cells", Cells, capacity)
+        cases.draw(random, ring, 10 + random.below(40), ["enqueue_one"] * 4 + ["dequeue_one"] * 4 + ["reset", "clear"],
+                   lambda random, _, name: [random.word()] if name.endswith("one") else [])
 
 
 class Storage:
@@ -115,11 +111,9 @@ class Storage:
 
 
 def draw_storage(random, cases, lines):
-    until = len(cases.lines) + lines
-    while len(cases.lines) < until:
+    for _ in cases.until(lines):
         count, seed = random.of_digits(12), random.below(1000)
-        storage = Storage(count, seed)
-        cases.begin(f"storage {count} {seed}", storage.show())
+        storage = cases.subject("storage", Storage, count, seed)
         for _ in range(5 + random.below(12)):
             name = random.name(["as_mut_slice", "part", "part", "part_mut", "part_mut", "element", "element_mut"])
             start, end = (random.offset([count], 12) for _ in range(2))
@@ -128,7 +122,7 @@ def draw_storage(random, cases, lines):
             numbers = {"as_mut_slice": [random.below(1000)], "part": [start, end],
                        "part_mut": [start, end, random.below(1000)],
                        "element": [start], "element_mut": [start, random.below(256)]}[name]
-            cases.add(name, numbers, getattr(storage, name)(*numbers), storage.show())
+            cases.call(storage, name, numbers)
 
 
 def word_after(state):
@@ -140,6 +134,9 @@ def word_after(state):
 class Generator:
     def __init__(self, seed):
         self.state = SEED(seed)
+
+    def show(self):
+        return ""
 
     def rand_u32(self):
         self.state, word = word_after(self.state)
@@ -171,17 +168,15 @@ def port_after(state):
 
 def draw_generator(random, cases, lines):
     """Generators of any seed, at times of one whose first draw is about the last reserved port."""
-    until = len(cases.lines) + lines
-    while len(cases.lines) < until:
+    for _ in cases.until(lines):
         seed = random.wide() if random.one_in(4) else random.of_digits(64, "seed")
         close = random.one_in(6)
         while close and not 1022 <= port_after(seed) <= 1026:
             seed = random.word()
-        rand = Generator(seed)
-        cases.begin(f"rand {seed}")
+        rand = cases.subject("rand", Generator, seed)
         for turn in range(3 + random.below(8)):
             name = random.name(["rand_u32", "rand_u16", "rand_source_port", "below"])
             if close and turn == 0:
                 name = "rand_source_port"
             numbers = [max(1, random.of_digits(32, "bound"))] if name == "below" else []
-            cases.add(name, numbers, getattr(rand, name)(*numbers))
+            cases.call(rand, name, numbers)

@@ -174,23 +174,21 @@ def numbers_of(random, timer, name, sender):
 
 def draw(random, cases, lines):
     """So many lines of timers, each of a sender whose clock goes on."""
-    until = len(cases.lines) + lines
-    while len(cases.lines) < until:
+    for _ in cases.until(lines):
         numbers = [random.of_digits(40), random.of_digits(24), random.of_digits(40), random.of_digits(24)]
         numbers.append(0 if random.one_in(5) else 1)
-        timer = Timer(*numbers)
-        cases.begin(" ".join(["timer", *map(str, numbers)]), timer.show())
+        timer = cases.subject("timer", Timer, *numbers)
         first = sent = random.of_digits(64)
         now = random.of([0, random.of_digits(50), END - random.of_digits(30)])
         # Some peers have delayed nothing yet.
         for _ in range(8 if random.one_in(5) else 0):
             for name, numbers in ("sent", [sent, sent + 1, sent, sent, now]), ("acknowledged", [sent, sent + 1, sent + 1, now]):
-                cases.add(name, numbers, getattr(timer, name)(*numbers), timer.show())
+                cases.call(timer, name, numbers)
             first = sent = sent + 1
         for _ in range(10 + random.below(30)):
             name = random.name(CALLS)
             numbers = numbers_of(random, timer, name, (first, sent, now))
-            cases.add(name, numbers, getattr(timer, name)(*numbers), timer.show())
+            cases.call(timer, name, numbers)
             if name == "sent":
                 sent = max(sent, numbers[1])
             if name == "acknowledged" and numbers[2] <= sent:

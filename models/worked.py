@@ -16,6 +16,7 @@ import moments
 import packets
 import receiver
 import receiving
+import recovery
 import ring
 import scoreboard
 import sender
@@ -260,13 +261,14 @@ SENDERS = [
 RECEIVERS = [
     (100, 0, "segment 10 3 1: 3; newest_runs 10 3: 1 10-13; segment 20 3 2: 3; newest_runs 20 3: 2 20-23 10-13; "
              "segment 30 3 3: 3; newest_runs 30 3: 3 30-33 20-23 10-13; segment 40 3 4: 3; newest_runs 40 3: 3 40-43 30-33 20-23; "
+             "plan 50 1 0 1: refused 1 1; "
              "segment 21 1 5: 1; newest_runs 21 3: 3 20-23 40-43 30-33; newest_runs 0 6: 4 20-23 40-43 30-33 10-13; "
              "newest_runs 12 1: 1 10-13; newest_runs 0 6: 4 10-13 40-43 30-33 20-23; segment 23 8 6: 8; "
              "newest_runs 23 2: 2 20-33 10-13; newest_runs 0 6: 3 20-33 10-13 40-43; newest_runs 0 0: 0; "
              "newest_runs 41 2: 2 40-43 20-33; newest_runs 5 2: 2 40-43 20-33; newest_runs 5 3: 3 40-43 20-33 10-13; "
              "segment 0 10 7: 10; newest_runs 0 6: 2 40-43 20-33; window_end: 100; read 5 0: 5; window_end: 105"),
-    (20, 100, "segment 100 4 1: 4; read 2 0: 2; segment 110 3 2: 3; segment 115 2 3: 2; count_new 100 4: 0; count_new 102 2: 0; "
-              "count_new 103 3: 2; count_new 104 6: 6; count_new 104 18: 13; count_new 100 999: 13; count_new 110 3: 0; "
+    (20, 100, "segment 100 4 1: 4; read 2 0: 2; duplicate_of 100 2: 0 2; segment 110 3 2: 3; segment 115 2 3: 2; "
+              "count_new 100 4: 0; count_new 102 2: 0; count_new 103 3: 2; count_new 104 6: 6; count_new 104 18: 13; count_new 100 999: 13; count_new 110 3: 0; "
               "count_new 109 5: 2; count_new 112 4: 2; count_new 121 1: 1; count_new 122 9: 0; count_new 0 18446744073709551615: 13; "
               "count_new 1 18446744073709551615: 13; count_new 117 0: 0"),
     (16, 100, "segment 104 1 1: 1; segment 102 1 2: 1; segment 108 2 3: 2; newest_runs 108 2: 2 8-10 2-3; "
@@ -299,7 +301,8 @@ PAIRS = [
 ]
 
 # Numbers of 32 bits: own one, that of position 0, where the stream is, and the position that it has there.
-POSITIONS = [(1, 2 ** 32 - 2, 0, "3"), (1, 2 ** 32 - 2, 2 ** 32, str(2 ** 32 + 3)), (2 ** 32 - 3, 2 ** 32 - 2, 0, "none")]
+POSITIONS = [(1, 2 ** 32 - 2, 0, "3"), (1, 2 ** 32 - 2, 2 ** 32, str(2 ** 32 + 3)), (2 ** 32 - 3, 2 ** 32 - 2, 0, "none"),
+             (2 ** 31, 0, 2 ** 32, str(2 ** 31))]
 
 # Calls of sequence numbers on either side of where they go round.
 NUMBERS = [("at", [2 ** 32 - 2, 3], "1"), ("add", [2 ** 32 - 2, 3], "1"), ("eq", [2 ** 32 - 2, 1], "0 1 1"),
@@ -378,230 +381,94 @@ DRAWS = [(0, "below 2147483648: 1"), (0, "below 4294967295: 2"), (0, "below 1431
 
 # A name, the words of a mode, its lines, and what is written, with how it ends.
 RUNS = [
-    ("a_ring_in_and_out",
-     "ring 4",
-     "w 616263;r 2;w 646566;r 9;r 1;",
-     "took 3;read 6162;took 3;read 63646566;read -;= Ok"),
-    ("a_full_ring_takes_a_part",
-     "ring 4",
-     "w 616263;w 646566;r 9;",
-     "took 3;took 1;read 61626364;= Ok"),
-    ("a_ring_of_no_bytes",
-     "ring 0",
-     "w 61;r 1;",
-     "took 0;read -;= Ok"),
-    ("no_input",
-     "ring 8",
-     "",
-     "= Ok"),
-    ("the_largest_ring",
-     "ring 65536",
-     "w 61;r 2;",
-     "took 1;read 61;= Ok"),
-    ("test_buffer_dequeue_slice",
-     "ring 12",
-     "w 6162636465666768696a6b6c;r 8;w 61626364;r 8;r 1;",
+    ("a_ring_in_and_out", "ring 4", "w 616263;r 2;w 646566;r 9;r 1;", "took 3;read 6162;took 3;read 63646566;read -;= Ok"),
+    ("a_full_ring_takes_a_part", "ring 4", "w 616263;w 646566;r 9;", "took 3;took 1;read 61626364;= Ok"),
+    ("a_ring_of_no_bytes", "ring 0", "w 61;r 1;", "took 0;read -;= Ok"),
+    ("no_input", "ring 8", "", "= Ok"),
+    ("the_largest_ring", "ring 65536", "w 61;r 2;", "took 1;read 61;= Ok"),
+    ("test_buffer_dequeue_slice", "ring 12", "w 6162636465666768696a6b6c;r 8;w 61626364;r 8;r 1;",
      "took 12;read 6162636465666768;took 4;read 696a6b6c61626364;read -;= Ok"),
-    ("upper_case_digits",
-     "ring 8",
-     "w 4a4B;r 2;",
-     "took 2;read 4a4b;= Ok"),
-    ("no_bytes",
-     "ring 8",
-     "w -;r 0;r 18446744073709551615;",
-     "took 0;read -;read -;= Ok"),
-    ("a_last_line_without_a_line_feed",
-     "ring 8",
-     "w 6162",
-     "took 2;= Ok"),
-    ("a_bad_command",
-     "ring 8",
-     "w 61;x 1;w 62;",
-     "took 1;= line 2: bad command"),
-    ("an_odd_digit_without_a_line_feed",
-     "ring 8",
-     "w 61;w 616",
-     "took 1;= line 2: bad command"),
-    ("an_empty_line",
-     "ring 8",
-     "w 61;;r 1;",
-     "took 1;= line 2: bad command"),
-    ("test_shrink_next_hole",
-     "asm 4",
-     "a 100 10;a 50 10;a 40 30;p;",
-     "ok;ok;ok;[ (40) 30 (30) 10 ];= Ok"),
-    ("test_add_then_remove_front_at_front_touch",
-     "asm 4",
-     "a 50 10;t 0 50;p;f;",
-     "ok;front 60;[ ];front 0;= Ok"),
-    ("test_add_then_remove_front_at_front_full",
-     "asm 4",
-     "a 10 3;a 20 3;a 30 3;a 40 3;a 1 3;t 1 3;t 0 3;p;",
+    ("upper_case_digits", "ring 8", "w 4a4B;r 2;", "took 2;read 4a4b;= Ok"),
+    ("no_bytes", "ring 8", "w -;r 0;r 18446744073709551615;", "took 0;read -;read -;= Ok"),
+    ("a_last_line_without_a_line_feed", "ring 8", "w 6162", "took 2;= Ok"),
+    ("a_bad_command", "ring 8", "w 61;x 1;w 62;", "took 1;= line 2: bad command"),
+    ("an_odd_digit_without_a_line_feed", "ring 8", "w 61;w 616", "took 1;= line 2: bad command"),
+    ("an_empty_line", "ring 8", "w 61;;r 1;", "took 1;= line 2: bad command"),
+    ("test_shrink_next_hole", "asm 4", "a 100 10;a 50 10;a 40 30;p;", "ok;ok;ok;[ (40) 30 (30) 10 ];= Ok"),
+    ("test_add_then_remove_front_at_front_touch", "asm 4", "a 50 10;t 0 50;p;f;", "ok;front 60;[ ];front 0;= Ok"),
+    ("test_add_then_remove_front_at_front_full", "asm 4", "a 10 3;a 20 3;a 30 3;a 40 3;a 1 3;t 1 3;t 0 3;p;",
      "ok;ok;ok;ok;refused too many holes;refused too many holes;front 3;[ (7) 3 (7) 3 (7) 3 (7) 3 ];= Ok"),
-    ("a_full_front_is_counted",
-     "asm 4",
-     "a 0 2;a 10 1;a 20 1;a 30 1;t 40 1;t 40 0;p;",
+    ("a_full_front_is_counted", "asm 4", "a 0 2;a 10 1;a 20 1;a 30 1;t 40 1;t 40 0;p;",
      "ok;ok;ok;ok;refused too many holes;front 2;[ (8) 1 (9) 1 (9) 1 ];= Ok"),
-    ("ranges_at_the_highest_positions",
-     "asm 4",
+    ("ranges_at_the_highest_positions", "asm 4",
      "a 18446744073709551615 0;a 18446744073709551614 1;p;t 0 18446744073709551615;p;a 18446744073709551615 1;",
      "ok;ok;[ (18446744073709551614) 1 ];front 18446744073709551615;[ ];= line 6: range too long"),
-    ("five_runs_of_thirty_two",
-     "asm 32",
-     "a 10 3;a 20 3;a 30 3;a 40 3;a 1 3;p",
-     "ok;ok;ok;ok;ok;[ (1) 3 (6) 3 (7) 3 (7) 3 (7) 3 ];= Ok"),
-    ("thirty_two_runs",
-     "asm 32",
-     "".join(f"a {10 * number} 3;" for number in range(1, 33)) + "a 1 3;t 0 3;f;a 0 320;p;f;p;",
+    ("five_runs_of_thirty_two", "asm 32", "a 10 3;a 20 3;a 30 3;a 40 3;a 1 3;p", "ok;ok;ok;ok;ok;[ (1) 3 (6) 3 (7) 3 (7) 3 (7) 3 ];= Ok"),
+    ("thirty_two_runs", "asm 32", "".join(f"a {10 * number} 3;" for number in range(1, 33)) + "a 1 3;t 0 3;f;a 0 320;p;f;p;",
      "ok;" * 32 + "refused too many holes;front 3;front 0;ok;[ 320 ];front 320;[ ];= Ok"),
-    ("a_number_beyond_the_greatest",
-     "asm 4",
-     "f;a 18446744073709551616 1;",
-     "front 0;= line 2: bad command"),
-    ("no_input_of_an_assembler",
-     "asm 4",
-     "",
-     "= Ok"),
-    ("bytes_are_read_in_parts",
-     "stream 16 4",
-     "s 0 68656c6c6f;r 3;?;",
+    ("a_number_beyond_the_greatest", "asm 4", "f;a 18446744073709551616 1;", "front 0;= line 2: bad command"),
+    ("no_input_of_an_assembler", "asm 4", "", "= Ok"),
+    ("bytes_are_read_in_parts", "stream 16 4", "s 0 68656c6c6f;r 3;?;",
      "kept 5 queued 5 sack -;read 68656c;next 5 queued 2 window 14 held -;= Ok"),
-    ("the_last_byte_of_each_position",
-     "stream 16 4",
-     "s 2 4141;s 3 4242;s 0 4343;r 5;",
+    ("the_last_byte_of_each_position", "stream 16 4", "s 2 4141;s 3 4242;s 0 4343;r 5;",
      "kept 2 queued 0 sack 2-4;kept 2 queued 0 sack 2-5;kept 2 queued 5 sack -;read 4343414242;= Ok"),
-    ("queued_bytes_stay",
-     "stream 16 4",
-     "s 0 6162;s 0 78787a;r 9;",
-     "kept 2 queued 2 sack -;kept 1 queued 1 sack -;read 61627a;= Ok"),
-    ("a_fifth_run_is_refused",
-     "stream 64 4",
-     "s 10 010101;s 20 020202;s 30 030303;s 40 040404;s 50 01;s 13 01;s 0 616263;?;",
-     "kept 3 queued 0 sack 10-13;kept 3 queued 0 sack 10-13,20-23;kept 3 queued 0 sack 10-13,20-23,30-33;kept 3 queued 0 sack 10-13,20-23,30-33;refused too many holes;kept 1 queued 0 sack 10-14,20-23,30-33;kept 3 queued 3 sack 10-14,20-23,30-33;next 3 queued 3 window 61 held 10-14,20-23,30-33,40-43;= Ok"),
-    ("a_full_window",
-     "stream 4 4",
-     "s 0 6162636465;s 4 65;r 2;s 4 656667;r 4;s 8 6a;s 6 6869;r 9;",
-     "kept 4 queued 4 sack -;kept 0 queued 0 sack -;read 6162;kept 2 queued 2 sack -;read 63646566;kept 1 queued 0 sack 8-9;kept 2 queued 3 sack -;read 68696a;= Ok"),
-    ("a_segment_beyond_the_window",
-     "stream 16 4",
-     "s 18446744073709551614 01;s 18446744073709551614 0102;",
+    ("queued_bytes_stay", "stream 16 4", "s 0 6162;s 0 78787a;r 9;", "kept 2 queued 2 sack -;kept 1 queued 1 sack -;read 61627a;= Ok"),
+    ("a_fifth_run_is_refused", "stream 64 4", "s 10 010101;s 20 020202;s 30 030303;s 40 040404;s 50 01;s 13 01;s 0 616263;?;",
+     "kept 3 queued 0 sack 10-13;kept 3 queued 0 sack 10-13,20-23;kept 3 queued 0 sack 10-13,20-23,30-33;"
+     "kept 3 queued 0 sack 10-13,20-23,30-33;refused too many holes;kept 1 queued 0 sack 10-14,20-23,30-33;"
+     "kept 3 queued 3 sack 10-14,20-23,30-33;next 3 queued 3 window 61 held 10-14,20-23,30-33,40-43;= Ok"),
+    ("a_full_window", "stream 4 4", "s 0 6162636465;s 4 65;r 2;s 4 656667;r 4;s 8 6a;s 6 6869;r 9;",
+     "kept 4 queued 4 sack -;kept 0 queued 0 sack -;read 6162;kept 2 queued 2 sack -;read 63646566;kept 1 queued 0 sack 8-9;"
+     "kept 2 queued 3 sack -;read 68696a;= Ok"),
+    ("a_segment_beyond_the_window", "stream 16 4", "s 18446744073709551614 01;s 18446744073709551614 0102;",
      "kept 0 queued 0 sack -;= line 2: range too long"),
-    ("runs_of_a_byte_up_to_the_windows_end",
-     "stream 64 4",
-     "s 2 01;s 4 01;s 6 01;s 8 01;s 10 01;s 62 01;s 1 02;s 0 03;s 10 04;?;",
-     "kept 1 queued 0 sack 2-3;kept 1 queued 0 sack 2-3,4-5;kept 1 queued 0 sack 2-3,4-5,6-7;kept 1 queued 0 sack 2-3,4-5,6-7;refused too many holes;refused too many holes;kept 1 queued 0 sack 1-3,4-5,6-7;kept 1 queued 3 sack 4-5,6-7,8-9;kept 1 queued 0 sack 4-5,6-7,8-9;next 3 queued 3 window 61 held 4-5,6-7,8-9,10-11;= Ok"),
-    ("segments_that_disagree",
-     "stream 8 4",
-     "s 4 6161;s 3 626262;s 5 6363636363;s 0 64646464;s 0 7a;r 8;",
-     "kept 2 queued 0 sack 4-6;kept 3 queued 0 sack 3-6;kept 3 queued 0 sack 3-8;kept 4 queued 8 sack -;kept 0 queued 0 sack -;read 6464646462636363;= Ok"),
-    ("no_storage",
-     "stream 0 4",
-     "s 0 61;r 1;?;",
-     "kept 0 queued 0 sack -;read -;next 0 queued 0 window 0 held -;= Ok"),
-    ("a_stream_that_begins_at_1000",
-     "stream 8 4 1000",
-     "s 998 61626364;?;s 1004 78;s 0 61;r 9;",
-     "kept 2 queued 2 sack -;next 1002 queued 2 window 6 held -;kept 1 queued 0 sack 1004-1005;kept 0 queued 0 sack 1004-1005;read 6364;= Ok"),
-    ("a_stream_that_begins_below_the_last_position",
-     "stream 8 4 18446744073709551614",
+    ("runs_of_a_byte_up_to_the_windows_end", "stream 64 4", "s 2 01;s 4 01;s 6 01;s 8 01;s 10 01;s 62 01;s 1 02;s 0 03;s 10 04;?;",
+     "kept 1 queued 0 sack 2-3;kept 1 queued 0 sack 2-3,4-5;kept 1 queued 0 sack 2-3,4-5,6-7;kept 1 queued 0 sack 2-3,4-5,6-7;"
+     "refused too many holes;refused too many holes;kept 1 queued 0 sack 1-3,4-5,6-7;kept 1 queued 3 sack 4-5,6-7,8-9;"
+     "kept 1 queued 0 sack 4-5,6-7,8-9;next 3 queued 3 window 61 held 4-5,6-7,8-9,10-11;= Ok"),
+    ("segments_that_disagree", "stream 8 4", "s 4 6161;s 3 626262;s 5 6363636363;s 0 64646464;s 0 7a;r 8;",
+     "kept 2 queued 0 sack 4-6;kept 3 queued 0 sack 3-6;kept 3 queued 0 sack 3-8;kept 4 queued 8 sack -;kept 0 queued 0 sack -;"
+     "read 6464646462636363;= Ok"),
+    ("no_storage", "stream 0 4", "s 0 61;r 1;?;", "kept 0 queued 0 sack -;read -;next 0 queued 0 window 0 held -;= Ok"),
+    ("a_stream_that_begins_at_1000", "stream 8 4 1000", "s 998 61626364;?;s 1004 78;s 0 61;r 9;",
+     "kept 2 queued 2 sack -;next 1002 queued 2 window 6 held -;kept 1 queued 0 sack 1004-1005;kept 0 queued 0 sack 1004-1005;read 6364;"
+     "= Ok"),
+    ("a_stream_that_begins_below_the_last_position", "stream 8 4 18446744073709551614",
      "s 18446744073709551614 61;?;s 18446744073709551615 -;s 18446744073709551615 62;",
      "kept 1 queued 1 sack -;next 18446744073709551615 queued 1 window 7 held -;kept 0 queued 0 sack -;= line 4: range too long"),
-    ("five_runs_are_held",
-     "stream 65536 32",
-     "s 1 61;s 3 61;s 5 61;s 7 61;s 9 61;",
-     "kept 1 queued 0 sack 1-2;kept 1 queued 0 sack 1-2,3-4;kept 1 queued 0 sack 1-2,3-4,5-6;kept 1 queued 0 sack 1-2,3-4,5-6;kept 1 queued 0 sack 1-2,3-4,5-6;= Ok"),
-    ("bytes_in_another_order",
-     "stream 16 4",
-     "s 0 61;s 1 62;s 2 63;--;s 2 63;s 0 6162;",
+    ("five_runs_are_held", "stream 65536 32", "s 1 61;s 3 61;s 5 61;s 7 61;s 9 61;",
+     "kept 1 queued 0 sack 1-2;kept 1 queued 0 sack 1-2,3-4;kept 1 queued 0 sack 1-2,3-4,5-6;kept 1 queued 0 sack 1-2,3-4,5-6;"
+     "kept 1 queued 0 sack 1-2,3-4,5-6;= Ok"),
+    ("bytes_in_another_order", "stream 16 4", "s 0 61;s 1 62;s 2 63;--;s 2 63;s 0 6162;",
      "kept 1 queued 1 sack -;kept 1 queued 1 sack -;kept 1 queued 1 sack -;kept 1 queued 0 sack 2-3;kept 2 queued 3 sack -;same;= Ok"),
-    ("a_third_schedule",
-     "stream 16 4",
-     "s 0 61;s 1 62;s 2 63;--;s 2 63;s 0 6162;--;",
-     "kept 1 queued 1 sack -;kept 1 queued 1 sack -;kept 1 queued 1 sack -;kept 1 queued 0 sack 2-3;kept 2 queued 3 sack -;= line 7: too many schedules"),
-    ("another_byte",
-     "stream 16 4",
-     "s 0 6162;--;s 0 6163;",
-     "kept 2 queued 2 sack -;kept 2 queued 2 sack -;differs;= Ok"),
-    ("another_count_of_bytes_read",
-     "stream 16 4",
-     "s 0 61;r 1;--;s 0 61;",
+    ("a_third_schedule", "stream 16 4", "s 0 61;s 1 62;s 2 63;--;s 2 63;s 0 6162;--;",
+     "kept 1 queued 1 sack -;kept 1 queued 1 sack -;kept 1 queued 1 sack -;kept 1 queued 0 sack 2-3;kept 2 queued 3 sack -;"
+     "= line 7: too many schedules"),
+    ("another_byte", "stream 16 4", "s 0 6162;--;s 0 6163;", "kept 2 queued 2 sack -;kept 2 queued 2 sack -;differs;= Ok"),
+    ("another_count_of_bytes_read", "stream 16 4", "s 0 61;r 1;--;s 0 61;",
      "kept 1 queued 1 sack -;read 61;kept 1 queued 1 sack -;differs;= Ok"),
-    ("another_byte_that_is_held",
-     "stream 16 4",
-     "s 2 41;--;s 2 42;",
-     "kept 1 queued 0 sack 2-3;kept 1 queued 0 sack 2-3;same;= Ok"),
-    ("two_fresh_receivers",
-     "stream 16 4",
-     "--;",
-     "same;= Ok"),
-    ("a_bad_command_of_a_second_schedule",
-     "stream 16 4",
-     "--;q;",
-     "= line 2: bad command"),
-    ("a_second_schedule_without_lines",
-     "stream 16 4",
-     "s 0 61;--;",
-     "kept 1 queued 1 sack -;differs;= Ok"),
-    ("a_bad_command_before_a_third_schedule",
-     "stream 16 4",
-     "--;q;--;",
-     "= line 2: bad command"),
-    ("a_third_schedule_before_a_bad_command",
-     "stream 16 4",
-     "--;--;q;",
-     "= line 2: too many schedules"),
-    ("two_schedules_that_begin_at_1000",
-     "stream 8 4 1000",
-     "s 1000 61;--;s 1000 61;",
+    ("another_byte_that_is_held", "stream 16 4", "s 2 41;--;s 2 42;", "kept 1 queued 0 sack 2-3;kept 1 queued 0 sack 2-3;same;= Ok"),
+    ("two_fresh_receivers", "stream 16 4", "--;", "same;= Ok"),
+    ("a_bad_command_of_a_second_schedule", "stream 16 4", "--;q;", "= line 2: bad command"),
+    ("a_second_schedule_without_lines", "stream 16 4", "s 0 61;--;", "kept 1 queued 1 sack -;differs;= Ok"),
+    ("a_bad_command_before_a_third_schedule", "stream 16 4", "--;q;--;", "= line 2: bad command"),
+    ("a_third_schedule_before_a_bad_command", "stream 16 4", "--;--;q;", "= line 2: too many schedules"),
+    ("two_schedules_that_begin_at_1000", "stream 8 4 1000", "s 1000 61;--;s 1000 61;",
      "kept 1 queued 1 sack -;kept 1 queued 1 sack -;same;= Ok"),
-    ("a_full_second_schedule",
-     "stream 4 4",
-     "--;s 0 6162636465;",
-     "kept 4 queued 4 sack -;differs;= Ok"),
-    ("digits_of_both_cases",
-     "ring 8",
-     "w -;w aBcDeF09;w Ff;r 9",
-     "took 0;took 4;took 1;read abcdef09ff;= Ok"),
-    ("a_read_of_the_largest_ring",
-     "ring 65536",
-     "r 1",
-     "read -;= Ok"),
-    ("no_hex_digit",
-     "ring 8",
-     "w 6G61",
-     "= line 1: bad command"),
-    ("the_front_of_nothing",
-     "asm 4",
-     "f;",
-     "front 0;= Ok"),
-    ("no_input_of_thirty_two_runs",
-     "asm 32",
-     "",
-     "= Ok"),
-    ("an_empty_twelfth_line",
-     "asm 4",
-     "f;f;f;f;f;f;f;f;f;f;f;;f;",
+    ("a_full_second_schedule", "stream 4 4", "--;s 0 6162636465;", "kept 4 queued 4 sack -;differs;= Ok"),
+    ("digits_of_both_cases", "ring 8", "w -;w aBcDeF09;w Ff;r 9", "took 0;took 4;took 1;read abcdef09ff;= Ok"),
+    ("a_read_of_the_largest_ring", "ring 65536", "r 1", "read -;= Ok"),
+    ("no_hex_digit", "ring 8", "w 6G61", "= line 1: bad command"),
+    ("the_front_of_nothing", "asm 4", "f;", "front 0;= Ok"),
+    ("no_input_of_thirty_two_runs", "asm 32", "", "= Ok"),
+    ("an_empty_twelfth_line", "asm 4", "f;f;f;f;f;f;f;f;f;f;f;;f;",
      "front 0;front 0;front 0;front 0;front 0;front 0;front 0;front 0;front 0;front 0;front 0;= line 12: bad command"),
-    ("a_read_of_nothing",
-     "stream 16 4",
-     "s 2 4141;r 9;s 0 4242;r 9;?;",
+    ("a_read_of_nothing", "stream 16 4", "s 2 4141;r 9;s 0 4242;r 9;?;",
      "kept 2 queued 0 sack 2-4;read -;kept 2 queued 4 sack -;read 42424141;next 4 queued 0 window 16 held -;= Ok"),
-    ("a_read_of_an_empty_stream",
-     "stream 8 4",
-     "r 1;",
-     "read -;= Ok"),
-    ("no_input_of_a_stream",
-     "stream 8 32 5",
-     "",
-     "= Ok"),
-    ("a_bad_command_of_a_stream",
-     "stream 8 4",
-     "q",
-     "= line 1: bad command"),
-    ("a_third_schedule_of_thirty_two_runs",
-     "stream 16 32 0",
-     "--;--;",
-     "= line 2: too many schedules"),
+    ("a_read_of_an_empty_stream", "stream 8 4", "r 1;", "read -;= Ok"),
+    ("no_input_of_a_stream", "stream 8 32 5", "", "= Ok"),
+    ("a_bad_command_of_a_stream", "stream 8 4", "q", "= line 1: bad command"),
+    ("a_third_schedule_of_thirty_two_runs", "stream 16 32 0", "--;--;", "= line 2: too many schedules"),
 ]
 
 # Lines that are no line of a mode.
@@ -788,6 +655,8 @@ TCP = [
     ("announce_in_steps", [0, 255, 0, 1 << 20, 1 << 20, 1460], "64 1048576"),
     ("announce_in_steps", [100, 0, 100, 150, 100, 50], "50 150"), ("announce_in_steps", [100, 0, 100, 149, 100, 50], "0 100"),
     ("peer_update", [200, 10, 100, 100, 150, 10, 120, 30], "1 150"),
+    # No number is above the last one.
+    ("peer_update", [0, 0, 0, 2 ** 64 - 2, 2 ** 64 - 1, 1, 2 ** 64 - 1, 5], f"1 {2 ** 64 - 1}"),
     # An older number counts only with a new acknowledgement, whether the sender has taken that already or not.
     ("peer_update", [200, 10, 100, 100, 150, 9, 120, 30], "1 150"),
     ("peer_update", [200, 10, 100, 120, 150, 9, 120, 30], "1 150"),
@@ -839,6 +708,8 @@ TIMERS = [
     "sent 5 6 3 5 7500000: done|4000000 7650000 3 0; "
     # Both are due: the timeout has passed.
     "expire 12000000: timeout|8000000 20000000 - 1",
+    # A clock that went back gives a sample of no time.
+    "sent 0 1 0 0 10000000: done|1000000 11000000 0; take_sample 0: done|1000000 11000000 -",
     # The last moment.
     "start 9223372036853775807: done|1000000 9223372036854775807 -; stop: done; start 9223372036853775808: done|1000000 "
     "9223372036854775807 -; expire 9223372036854775806: none; expire 9223372036854775807: timeout|2000000 9223372036854775807 -",
@@ -930,44 +801,38 @@ def agree(name, found, begins):
         raise SystemExit(f"worked row, {name}: expected {begins}, and the model gives {found}")
 
 
-def play(cases, first, subject, rows):
-    state = subject.show if hasattr(subject, "show") else str
-    cases.begin(first, state())
-    for name, numbers, begins in rows_of(rows) if isinstance(rows, str) else rows:
-        reply = answer(first, subject, name, numbers)
-        agree(f"{first}, {name} {numbers}", f"{reply}|{state()}", begins)
-        cases.add(name, numbers, reply, state())
+def play(cases, name, of, numbers, rows):
+    subject, first = cases.subject(name, of, *numbers), f"{name} {numbers}"
+    for call, words, begins in rows_of(rows) if isinstance(rows, str) else rows:
+        reply = answer(first, subject, call, words)
+        agree(f"{first}, {call} {words}", f"{reply}|{subject.show()}", begins)
+        cases.add(call, words, reply, subject.show())
+    return subject
 
 
 def add(cases):
     for _, capacity, text in RINGS:
-        subject = ring.Bytes(capacity, 0)
-        play(cases, f"ring {capacity} 0", subject, text)
+        play(cases, "ring", ring.Bytes, [capacity, 0], text)
     for _, storage, text in [*QUEUED, *UNALLOCATED]:
-        subject = ring.Bytes(len(storage), 0)
-        play(cases, f"ring {len(storage)} 0", subject, seeded(text))
+        play(cases, "ring", ring.Bytes, [len(storage), 0], seeded(text))
     for slots, count, rows in [*((*row[1:3], seeded(row[3])) for row in PACKETS), *MORE_PACKETS]:
-        subject = packets.Packets(slots, count, 0)
-        play(cases, f"packets {slots} {count} 0", subject, rows)
+        play(cases, "packets", packets.Packets, [slots, count, 0], rows)
     for _, most, text, runs in ASSEMBLERS:
-        subject = assembler.Assembler(most)
         fill = "; ".join(f"add {10 * number} 3: ok" for number in range(1, most + 1))
-        text = text.replace("FILL", fill)
-        play(cases, f"assembler {most}", subject, text)
+        subject = play(cases, "assembler", assembler.Assembler, [most], text.replace("FILL", fill))
         agree(text, subject.runs, str(runs))
+    play(cases, "assembler", assembler.Assembler, [1], "add 5 1: ok; add_counted 0 1: refused|0 0 1; clear: done; add 0 2: ok; "
+         "contains 0: 1; run_at 4294967296: none; hole_at 4294967296: none")
     add_ranges(cases)
     add_shown(cases)
     for capacity, first, text in RECEIVERS:
-        subject = receiver.Pair(capacity, 4, first)
-        play(cases, f"receiver {capacity} 4 {first}", subject, text)
-    for capacity, first, text in SENDERS:
-        subject = sender.Sender(capacity, first)
-        play(cases, f"sender {capacity} {first}", subject, text)
+        play(cases, "receiver", receiver.Pair, [capacity, 4, first], text)
+    for *numbers, text in SENDERS:
+        play(cases, "sender", sender.Sender, numbers, text)
     add_schedules(cases)
     add_pairs(cases)
-    for seed, text in DRAWS:
-        subject = small.Generator(seed)
-        play(cases, f"rand {seed}", subject, text)
+    for *numbers, text in DRAWS:
+        play(cases, "rand", small.Generator, numbers, text)
     add_values(cases)
     add_lines(cases)
     add_ends(cases)
@@ -975,22 +840,16 @@ def add(cases):
 
 def add_ends(cases):
     """What a TCP, or whoever joins fragments, needs beside queues."""
-    for capacity, most, expires_at, text in FRAGMENTS:
-        subject = fragments.Buffer(capacity, most, expires_at)
-        play(cases, f"fragments {capacity} {most} {expires_at}", subject, text)
-    for most, first, text in SCOREBOARDS:
-        subject = scoreboard.Scoreboard(most, first)
-        play(cases, f"scoreboard {most} {first}", subject, text)
-    for capacity, most, first, text in ENDINGS:
-        subject = ending.Ending(capacity, most, first)
-        play(cases, f"ending {capacity} {most} {first}", subject, text)
-    for capacity, first, text in CLOSINGS:
-        subject = closing.Closing(capacity, first)
-        play(cases, f"closing {capacity} {first}", subject, text)
+    for name, of, rows in (("fragments", fragments.Buffer, FRAGMENTS), ("scoreboard", scoreboard.Scoreboard, SCOREBOARDS),
+                           ("ending", ending.Ending, ENDINGS), ("closing", closing.Closing, CLOSINGS)):
+        for *numbers, text in rows:
+            play(cases, name, of, numbers, text)
+    # What came twice doubles the threshold once a round trip, up to 1024.
+    play(cases, "recovery", recovery.Recovery, [4, 0, 1], "; ".join(
+        f"send {k} {k + 1}: done; duplicated: done|0 1 {min(3 << k + 1, 1024)}; acknowledge {k + 1}: done" for k in range(10)))
     for reports, texts in ((1, [*TIMERS, PROMPT_TIMER]), (0, SILENT_TIMERS)):
         for text in texts:
-            subject = timer.Timer(1_000_000, 1_000_000, 60_000_000, 200_000, reports)
-            play(cases, f"timer 1000000 1000000 60000000 200000 {reports}", subject, text)
+            play(cases, "timer", timer.Timer, [1_000_000, 1_000_000, 60_000_000, 200_000, reports], text)
     cases.begin("tcp")
     for name, numbers, reply in TCP:
         found = answer("tcp", tcp.CALLS, name, numbers)
@@ -998,17 +857,16 @@ def add_ends(cases):
         cases.add(name, numbers, found)
     for name, of, rows in (("sending", sending.Sending, worked_ends.SENDING), ("receiving", receiving.Receiving, worked_ends.RECEIVING)):
         for numbers, text in rows:
-            play(cases, " ".join([name, *map(str, numbers)]), of(*numbers), text)
+            play(cases, name, of, numbers, text)
 
 
 def add_ranges(cases):
     """The ranges, one after another, by both calls and in assemblers of three sizes."""
     for most in (1, 4, 32):
         for name in ("add", "add_then_remove_front"):
-            subject = assembler.Assembler(most)
-            cases.begin(f"assembler {most}", subject.show())
+            subject = cases.subject("assembler", assembler.Assembler, most)
             for numbers in RANGES:
-                assembler.add(cases, subject, name, numbers)
+                cases.call(subject, name, numbers)
 
 
 def add_shown(cases):
@@ -1027,10 +885,9 @@ def add_shown(cases):
 
 def play_all(cases, most, calls):
     """Calls of an assembler of `most` runs."""
-    subject = assembler.Assembler(most)
-    cases.begin(f"assembler {most}", subject.show())
+    subject = cases.subject("assembler", assembler.Assembler, most)
     for name, numbers in calls:
-        assembler.add(cases, subject, name, numbers)
+        cases.call(subject, name, numbers)
 
 
 def add_schedules(cases):
@@ -1041,14 +898,12 @@ def add_schedules(cases):
                  for kind, *numbers in commands]
         lists = [("replay", [number for command in part for number in command]) for part in (commands[:2], commands[2:])]
         for made in (calls, lists):
-            subject = receiver.Pair(capacity, 4, first)
-            cases.begin(f"receiver {capacity} 4 {first}", subject.show())
+            subject = cases.subject("receiver", receiver.Pair, capacity, 4, first)
             for name, numbers in made:
-                receiver.add(cases, subject, name, numbers)
-    subject = receiver.Pair(64, 4, 0)
-    cases.begin("receiver 64 4 0", subject.show())
+                cases.call(subject, name, numbers)
+    subject = cases.subject("receiver", receiver.Pair, 64, 4, 0)
     for seed, segment in enumerate(sum(SIXTY, []), 1):
-        receiver.add(cases, subject, "segment", [*segment, seed])
+        cases.call(subject, "segment", [*segment, seed])
     reply_often(cases)
     hold_and_send(cases, 64, range(0, 64, 7), False)
     hold_and_send(cases, 16, range(0, 48, 7), True)
@@ -1056,37 +911,34 @@ def add_schedules(cases):
 
 def reply_often(cases):
     """Lists of commands whose replies come after 300 and more others."""
-    subject = receiver.Pair(16, 4, 0)
-    cases.begin("receiver 16 4 0", subject.show())
+    subject = cases.subject("receiver", receiver.Pair, 16, 4, 0)
     for start in range(0, 2100, 700):
         commands = [([0, pos, 7, pos], [1, 7, 0, 0], [2, 0, 0, 0]) for pos in range(start, start + 700, 7)]
         numbers = [number for command in commands for part in command for number in part]
-        receiver.add(cases, subject, "replay", numbers)
+        cases.call(subject, "replay", numbers)
 
 
 def hold_and_send(cases, capacity, starts, reads):
     """Four held runs of a byte, and then a stream in pieces of seven bytes."""
-    subject = receiver.Pair(capacity, 4, 0)
-    cases.begin(f"receiver {capacity} 4 0", subject.show())
+    subject = cases.subject("receiver", receiver.Pair, capacity, 4, 0)
     for pos in (1, 3, 5, 7):
-        receiver.add(cases, subject, "segment", [pos, 1, pos])
+        cases.call(subject, "segment", [pos, 1, pos])
     for start in starts:
-        receiver.add(cases, subject, "segment", [start, min(7, starts.stop - start), start])
+        cases.call(subject, "segment", [start, min(7, starts.stop - start), start])
         if reads:
-            receiver.add(cases, subject, "read", [7, 0])
+            cases.call(subject, "read", [7, 0])
     agree("a stream in pieces", subject.now.next, str(starts.stop))
 
 
 def add_pairs(cases):
     for one, other, same in PAIRS:
-        subject = receiver.Pair(16, 4, 0)
-        cases.begin("receiver 16 4 0", subject.show())
+        subject = cases.subject("receiver", receiver.Pair, 16, 4, 0)
         for text in (one, other):
             for name, numbers, _ in rows_of(text) if text else []:
-                receiver.add(cases, subject, name, numbers)
-            receiver.add(cases, subject, "swap", [])
+                cases.call(subject, name, numbers)
+            cases.call(subject, "swap", [])
         agree(f"{one}, {other}", subject.same_state(), same)
-        receiver.add(cases, subject, "same_state", [])
+        cases.call(subject, "same_state", [])
 
 
 def add_values(cases):

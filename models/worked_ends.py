@@ -35,6 +35,12 @@ SENDING = [
      "acknowledged 1000 0 2 29 60 1: taken 20 0 0 then 29-32 0; write 1000 0 2 4: 2 then none; "
      "set_nagle_enabled 1000 0 0: done then 32-34 0; set_nagle_enabled 0 0 1: done; write 1000 0 2 5: 2 then none; "
      "close 1000 0: done then 34-37 0"),
+    # What is set stays for a peer. A probe that is due stays where the peer is forgotten.
+    ([100, 4, 0, *TCP],
+     "set_nagle_enabled 0 0 0: done; open 0 0 60 20 1 0: done; write 1000 0 9 1: 9 then 0-9 0; write 1000 0 2 2: 2 then 9-11 0"),
+    ([100, 4, 0, *TCP],
+     "open 0 0 10 10 1 0: done; write 100 0 20 1: 20 then 0-10 0; acknowledged 100 0 1 10 0 1: taken 10 0 0 then none; "
+     "expired 0 1000000: probe; forget 1000000: done; next_segment 100 1000000: 10-11 0"),
     # A window is shut after 10 bytes: one byte asks for it, first after a second, then after two. An answer is an equal
     # acknowledgement, so that no probe for an answer is sent. A byte that isn't taken is sent again once the window opens, and
     # then the rest. An acknowledgement's number is in the window.
@@ -64,7 +70,7 @@ SENDING = [
     ([100, 4, 10, *TCP],
      "open 0 10 100 10 0 0: done; write 60 0 60 1: 60 then 10-20 0, 20-30 0, 30-40 0, 40-50 0, 50-60 0, 60-70 0; "
      "acknowledged 0 0 1 10 100 1: taken 0 0 0; acknowledged 0 0 1 10 100 1 5 5: taken 0 0 0; "
-     "acknowledged 0 0 1 10 100 1 10 20: taken 0 0 0; "
+     "acknowledged 0 0 1 10 100 1 10 20: taken 0 0 0; acknowledged 0 0 1 9 99 1: old; acknowledged 0 0 1 71 99 1: refused; "
      "acknowledged 1 0 1 10 100 1 7 6: taken 0 0 1 then 10-20 1; acknowledged 60 0 2 30 100 1: taken 20 0 0 then 30-40 1; "
      "acknowledged 0 0 3 70 100 1: taken 40 0 0|60 60 100 - 0 - 0 0"),
     # The window that was announced last counts, also if it isn't taken: that of an older segment. What is new is no equal one.
@@ -139,6 +145,10 @@ SENDING = [
      "write 90 0 90 1: 90 then 0-10 0, 10-20 0, 20-30 0, 30-40 0, 40-50 0, 50-60 0, 60-70 0, 70-80 0, 80-90 0; "
      "acknowledged 0 0 1 10 100 1 20 21 20 30: taken 10 1 0; acknowledged 0 0 1 10 100 1 20 60: taken 0 1 0|10 90; "
      "acknowledged 1 0 1 10 100 1 0 10 20 71: taken 0 1 1 then 10-20 1"),
+    # A block that is also the second one came twice.
+    ([100, 4, 0, *TCP],
+     "open 0 0 100 10 1 0: done; write 0 0 60 1: 60; write 60 0 0 1: 0 then 0-10 0, 10-20 0, 20-30 0, 30-40 0, 40-50 0, 50-60 0; "
+     "acknowledged 0 0 1 10 100 1 20 30 20 30: taken 10 1 0; acknowledged 0 0 1 10 100 1 20 60: taken 0 1 0"),
     # A round trip makes it twice as many once, what acknowledges it included: 6 segments are enough still.
     ([100, 4, 0, *TCP],
      "open 0 0 100 1 1 0: done; write 9 0 4 1: 4 then 0-1 0, 1-2 0, 2-3 0, 3-4 0; acknowledged 0 0 1 1 100 1 0 1: taken 1 0 0; "
@@ -175,7 +185,7 @@ RECEIVING = [
      "arrived 124 1 5 0: 1 1|0 1; arrived 125 1 5 0: 1 1|1 1; arrived 126 1 5 0: 1 1|1 1; acknowledgement: 27 13|0 0"),
     # What came twice is the first block of the next acknowledgement, and of no other (RFC 2883, 4).
     ([40, 1, 100, 8],
-     "open 100 0: 40; arrived 100 4 1 0: 4 4; arrived 102 4 1 0: 2 2; acknowledgement: 6 34 2-4; acknowledgement: 6 34; "
+     "open 100 0: 40; arrived 100 4 1 0: 4 4; arrived 102 4 1 0: 2 2; announce: 6 34; acknowledgement: 6 34 2-4; acknowledgement: 6 34; "
      "arrived 90 14 1 0: 0 0|1 1; acknowledgement: 6 34 0-4; arrived 100 1 1 0: 0 0; arrived 101 2 1 0: 0 0; arrived 106 1 1 0: 1 1; "
      "acknowledgement: 7 33 1-3; arrived 90 4 1 0: 0 0|1 1; acknowledgement: 7 33; "
      "arrived 110 4 1 0: 4 0; arrived 108 3 1 0: 3 0; acknowledgement: 7 33 10-11 8-14; acknowledgement: 7 33 8-14; "
@@ -192,7 +202,7 @@ RECEIVING = [
     ([40, 1, 0, 8],
      "open 0 0: 40; arrived 9 0 0 1: 0 0|1 1 0 0 40 0 9 0 0; acknowledgement: 0 40; arrived 6 1 9 0: 1 0; acknowledgement: 0 40 6-7; "
      "arrived 0 4 1 1: 4 4|1 1 4 4 36 0 4 5 1; acknowledgement: 5 35|0 0; arrived 9 0 0 1: other_end|1 1 4 4 36 0 4 5 1; "
-     "classify 4 0 0 1 0: answer"),
+     "classify 4 0 0 1 0: answer; arrived 2 1 1 1: other_end; acknowledgement: 5 35 2-3"),
     # The window's edge moves by half of the capacity, or by a segment, and not by less (RFC 9293, 3.8.6.2.2); once all has come
     # no update is sent.
     ([12, 1, 0, 5],

@@ -6,7 +6,7 @@ import io
 import json
 import os
 import pathlib
-import shutil
+import runpy
 import subprocess
 import sys
 import tempfile
@@ -361,8 +361,10 @@ def models():
     same("rows", make.text_of([(["a 1", "b"], ["x|1", "y|"]), (["c"], ["z|"])]), "a 1 => x|1\nb => y|\n\nc => z|\n")
     for blocks in [(["a => b"], ["c"])], [(["a\nb"], ["c"])], [(["a"], ["b\nc"])]:
         same(blocks, is_asserted(make.text_of, blocks), False)
-    same("seen", make.seen([(["words", "a\\b\t\0"], ["|", "c\r|"])]), [(["a\\\\b\\t\\0"], ["c\\r"])])
-    with folder({"a": "1\n", "b": "2\n", "src/storage/c.rs": "fn test_a() {}\n", "none/src/storage/c.rs": "fn a() {}\n"}) as make.REPOSITORY:
+    same("seen", make.seen([(["words", "a\\b\t\0"], ["|", "c\r"])]), [(["a\\\\b\\t\\0"], ["c\\r"])])
+    files = {"a": "1\n", "b": "2\n", "src/storage/c.rs": "fn test_a() {}\n", "src/storage/d.rs": "fn clear() {}\n",
+             "none/src/storage/c.rs": "fn a() {}\n"}
+    with folder(files) as make.REPOSITORY:
         told = lambda name: f"{name} is not as the models give it: python3 models/make.py writes it"
         for files, writes, before, after in [({"a": "1\n", "b": "3\n", "c": "4\n"}, False, [], [told("b"), told("c")]),
                                              ({"a": "5\n"}, True, ["wrong"], ["wrong", told("a")]), ({"b": "3\n", "c": "4\n"}, True, [], []),
@@ -370,19 +372,48 @@ def models():
             status, lines = said(make.compare, files, writes, before)
             same(files, (before, len(lines)), (after, len(files)))
         same("lines", lines[0], "a: 1 lines, 2 bytes")
-        given, make.given = make.given, lambda: ({"d": "5\n"}, [*wrong])
-        for wrong, words, wanted in [(["one"], [], (1, ["d: 1 lines, 2 bytes", "one", told("d")])), ([], ["--check"], (1, ["d: 1 lines, 2 bytes", told("d")])),
-                                     ([], [], (0, ["d: 1 lines, 2 bytes"])), ([], ["--check"], (0, ["d: 1 lines, 2 bytes"]))]:
+        given, tests = make.given, make.unknown_tests
+        make.given, make.unknown_tests = lambda: ({"d": "5\n"}, [*wrong]), lambda: [*unknown]
+        for wrong, unknown, words, wanted in [
+                (["one"], [], [], (1, ["one", told("d")])), ([], [], ["--check"], (1, [told("d")])), ([], [], [], (0, [])),
+                ([], [], ["--check"], (0, [])), ([], ["two"], ["--check"], (1, ["two"]))]:
             sys.argv[1:] = words
-            same((wrong, words), said(make.main), wanted)
-        make.given = given
-        kept, make.worked.tests_of_smoltcp = make.worked.tests_of_smoltcp, lambda: {"test_a", "test_b"}
+            status, lines = said(make.main)
+            same((wrong, words), (status, lines), (wanted[0], ["d: 1 lines, 2 bytes", *wanted[1]]))
+        make.given, make.unknown_tests = given, tests
+        same("tests", (made := make.worked.tests_of_smoltcp()) >= {"clear", "test_simple"} and "" not in made, True)
+        kept, make.worked.tests_of_smoltcp = make.worked.tests_of_smoltcp, lambda: {"test_a", "test_b", "clear"}
         for place, wanted in [("", ["smoltcp has no test test_b"]), ("/none", 2)]:
             os.environ["SMOLTCP"] = f"{make.REPOSITORY}{place}"
             same(place, said(make.unknown_tests)[0], wanted)
         del os.environ["SMOLTCP"]
         same("no checkout", make.unknown_tests(), [])
         make.worked.tests_of_smoltcp = kept
+    cases, worked, branches = make.cases, make.worked, make.cases.branches
+    # A worked row that its model contradicts ends the script.
+    for of, name, row in [
+            (worked.add, "ASSEMBLERS", ("", 4, "add 1 1: ok", [])), (worked.add, "RINGS", ("", 4, "enqueue_slice 3 1: 3|2")),
+            (worked.add_pairs, "PAIRS", ("", "", "0 0")), (worked.add_values, "NUMBERS", ("at", [1, 2], "4")),
+            (worked.add_values, "TIMES", ("Duration", worked.moments.LENGTHS, [("add", [1, 2], "4 ")])),
+            (worked.add_values, "POSITIONS", (1, 0, 0, "2")), (worked.add_values, "SETS", ([], "[]")),
+            (worked.add_values, "MOMENTS", (1000, "0.01s")), (worked.add_lines, "RUNS", ("", "ring 4", "w 61;", "= Ok")),
+            (worked.add_lines, "NO_LINES", ("ring 4", ["w 61;"])), (worked.add_ends, "TCP", ("scaled", [1, 0], "2")),
+            (lambda _: make.tables.ring_rows(), "QUEUED", ("", "..", "enqueue_slice 1 'a': 2"))]:
+        kept, ended = getattr(worked, name), None
+        setattr(worked, name, [row])
+        same(name, str(said(of, cases.drawing.Cases())[0]).partition(",")[0], "worked row")
+        setattr(worked, name, kept)
+    # Answers that no case gave are told, and all files are compared.
+    branches.ALL, cases.PARTS, cases.OWN, worked.add, make.by_hand.drawn = [], [], [], lambda cases: cases.begin("words"), lambda: []
+    one, two = branches.Test("a"), branches.Order("b")
+    with branches.asking("b"):
+        two.least(one(False), 1)
+    same("answers", (one(True), two.least(3, 2), branches.missing()), (True, 2, ["a: no case with False", "b: no case with equal"]))
+    sys.argv[1:] = ["--check"]
+    status, lines = said(runpy.run_path, make.__file__, None, "__main__")
+    tables = [str(it.relative_to(HERE.parent)) for it in HERE.parent.glob("crates/*/src/**/*_rows.rt")]
+    same("files", sorted(line.split(":")[0] for line in lines if " lines, " in line), sorted([make.ROWS, make.PROGRAM, *tables]))
+    same("whole", (status, [line for line in lines if ": no case with" in line]), (1, branches.missing()))
 
 
 # ---- growth.py, composition.py, places.py
