@@ -44,10 +44,9 @@ HEADER = '// Written by tools/erase.py from {}: a change here would be lost.\n'
 # What a prelude has: that of the library, and that of the program.
 PRELUDE = {'prove', 'slice_mut', 'Vec', 'ASSEMBLER_MAX_SEGMENT_COUNT'}, {'String', 'Vec'}
 GHOST_DERIVES = {'Drop', 'Error'}
-PLAIN_ATTRIBUTES = {'allow', 'cfg', 'default', 'derive', 'inline', 'must_use', 'non_exhaustive', 'repr', 'track_caller'}
-MODIFIERS = {'pub', 'const', 'unsafe', 'extern'}
+PLAIN_ATTRIBUTES = {'cfg', 'default', 'derive', 'inline', 'must_use', 'non_exhaustive', 'repr', 'track_caller'}
+MODIFIERS = {'pub', 'const', 'extern'}
 GONE, NO_CLAUSE = '\0', '\1'                      # where a form, and where a clause, was
-DOCS = {'/// ```rust': '/// ```text', '//! ```rust': '//! ```text'}
 OF_TRAIT = re.compile(r'\bfor\b|\btrait\b')
 # The type that an impl is of, or a trait's name.
 OWNER = re.compile(r'(?:.*?\b(?:for|trait) |impl(?:<(?:[^<>]|<(?:[^<>]|<[^<>]*>)*>)*>)? )(\w+)', re.S)
@@ -88,7 +87,8 @@ class Eraser(Text):
             kind, word, at = self.tokens[k]
             begin = k if head is None else head
             if kind == 'doc':
-                self.new[k] = LINK.sub(lambda m: self.path(m.group()), DOCS.get(word, word)) if self.crate != given.EXPORTS else GONE
+                said = LINK.sub(lambda m: self.path(m.group()), re.sub('^/// ```rust$', '/// ```text', word))
+                self.new[k] = said if self.crate != given.EXPORTS else GONE
                 head, k = (begin if word.startswith('///') else head), k + 1
             elif kind in SPACE:
                 k += 1
@@ -209,7 +209,8 @@ class Eraser(Text):
                     self.put(j, after + (self.tokens[after][0] == 'space'), '')
 
     def margin(self, k):
-        return re.search(r'[ \t]*$', self.text[:self.tokens[k][2]]).group()
+        before = self.text[:self.tokens[k][2]]
+        return before[len(before.rstrip(' \t')):]
 
     def attribute(self, k):
         bracket = k + 1 + (self.tokens[k + 1][1] == '!')

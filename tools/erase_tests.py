@@ -11,6 +11,7 @@ import tempfile
 sys.dont_write_bytecode = True
 import erase
 from parts import erase_says
+from parts.planted_texts import TEXTS
 
 PRELUDE = 'use crate::rattle::prelude::*;\n'
 
@@ -44,6 +45,7 @@ GIVEN = [
      'use crate::proved::net_ring::A;\n\n/// B.\nfn f() -> A {\n    A // B\n}\n'),
     ('fn f() {\n    std::mem::swap(a, net_ring::b());\n    Self::c(a.crate_, b::std::c, a.std::<T>());\n}\n',
      'fn f() {\n    crate::rattle::std::mem::swap(a, crate::proved::net_ring::b());\n    Self::c(a.crate_, b::std::c, a.std::<T>());\n}\n'),
+    ('/// ```rust\n/// f();\n/// ```\nfn f() {}\n', '/// ```text\n/// f();\n/// ```\nfn f() {}\n'),
     ('/// [`f`](crate::a::f), [`g`](net_ring::g).\nfn f() {}\n',
      '/// [`f`](crate::proved::net_tcp::a::f), [`g`](crate::proved::net_ring::g).\nfn f() {}\n'),
     # Ghost fields, items and members; bounds and derives that all types of Rust meet; other traits of these names.
@@ -59,6 +61,8 @@ GIVEN = [
     # What a public function requires, and tests.
     ('/// A.\n///\n/// # Requires\n///\n/// The sum of `x` and 1 fits, as\n/// `fits` tests.\n///\n/// B.\n#[track_caller]\npub fn f() {}\n',
      '/// A.\n///\n/// # Panics\n///\n/// Panics unless the sum of `x` and 1 fits, as `fits` tests.\n///\n/// B.\n#[track_caller]\npub fn f() {}\n'),
+    ('/// # Requires\n///\n/// RTO is 1.\n#[track_caller]\npub fn f() {}\n',
+     '/// # Panics\n///\n/// Panics unless RTO is 1.\n#[track_caller]\npub fn f() {}\n'),
     ('/// # Requires\n///\n/// `x` is 1.\n#[track_caller]\npub fn f() {}\n\n/// # Requires\n///\n/// A.\npub fn g() {}\n',
      '/// # Panics\n///\n/// Panics unless `x` is 1.\n#[track_caller]\npub fn f() {}\n\n/// # Requires\n///\n/// A.\npub fn g() {}\n'),
     # A path after a range, and in a macro's definition.
@@ -66,12 +70,16 @@ GIVEN = [
      'fn f() {\n    0..crate::proved::net_tcp::a::B;\n    0..=crate::proved::net_tcp::a::B;\n    $crate::proved::net_tcp::c\n}\n'),
     ('impl Clone for A {\n    fn clone(&self) -> Result<A, E> {\n        count();\n        Ok(b)\n    }\n}\n',
      'impl crate::rattle::Clone for A {\n    fn clone(&self) -> Result<A, E> {\n        count();\n        Ok(b)\n    }\n}\n'),
+    # What is for this crate alone stays; braces in braces.
+    ('pub(crate) use net_ring::A;\n\nfn f(a: A) {}\n', 'pub(crate) use crate::proved::net_ring::A;\n\nfn f(a: A) {}\n'),
+    ('use net_ring::{a::{B, C}, D};\n\nfn f(b: B) {}\n', 'use crate::proved::net_ring::{a::{B, }, };\n\nfn f(b: B) {}\n'),
+    ('trait T {\n    fn f(x: impl A);\n}\n\nimpl Drop for B {\n    fn drop(self) {}\n}\n', 'trait T {\n    fn f(x: impl A);\n}\n'),
     # A text in quotes, and a comment, is no bound, and no contract.
     ('fn f() {\n    // a: Drop + b\n    g("x: Drop + y, ghost { requires {", Drop);\n    // ghost use\n}\n',
      'fn f() {\n    // a: Drop + b\n    g("x: Drop + y, ghost { requires {", Sized);\n    // ghost use\n}\n'),
     # Attributes.
-    ('#[repr(C)]\n#[must_use]\n#[inline(always)]\n#[allow(a)]\n#[cfg(b)]\n#[non_exhaustive]\n#[track_caller]\nstruct A;\n',
-     '#[repr(C)]\n#[must_use]\n#[inline(always)]\n#[allow(a)]\n#[cfg(b)]\n#[non_exhaustive]\n#[track_caller]\nstruct A;\n'),
+    ('#[repr(C)]\n#[must_use]\n#[inline(always)]\n#[cfg(b)]\n#[non_exhaustive]\n#[track_caller]\nstruct A;\n',
+     '#[repr(C)]\n#[must_use]\n#[inline(always)]\n#[cfg(b)]\n#[non_exhaustive]\n#[track_caller]\nstruct A;\n'),
     ('#![tactic(auto)]\n#[tactic(auto, using(a::b))]\nfn f() {}\n', 'fn f() {}\n'),
     ('#[derive(Debug, Error)]\n#[error("no room")]\npub struct A;\n',
      '#[derive(Debug)]\npub struct A;\n\ncrate::rattle::error_text!(A, A => "no room");\n'),
@@ -98,6 +106,8 @@ STAYS = [
     'impl PartialEq for A {}\nimpl Default for A {\n    fn default() -> A {\n        A\n    }\n}\n',
     'fn f() {\n    g(E::Drop);\n}\n',
     'const _: () = prove!(size_of::<A>() == 0);\n',
+    'impl A {\n    pub fn f(&self) -> Header {\n        self.a\n    }\n}\n',
+    'fn f() {\n    g("\\" ghost x", "{");\n}\n', 'fn f() {\n    matches!(a, \'\\\'\'|\'"\') && b("ghost x");\n}\n',
 ]
 
 # Pairs that differ in one thing, which Rust has otherwise than Rattle: the first is refused, with a part of what is said, and
@@ -105,11 +115,14 @@ STAYS = [
 UNLIKE = [
     *(('more than a bound', f'fn f() {{ prove!({bad} <= b, "in any `usize`"); }}', f'fn f() {{ prove!({right}, "in any `usize`"); }}')
       for bad, right in (('{ a = 2; a }', 'a <= b'), ('bump(&mut x)', 'a + c <= s.len()'), ('s.grow()', 'a <= s.n'), ('take(&mut a)', '(a + c) as u64 <= most() as u64'),
-                         ('of!(a)', 'a == b'), ('(a += 1, a).1', 'a.n + 1 <= b'))),
+                         ('of!(a)', 'a == b'), ('(a += 1, a).1', 'a.n + 1 <= b'), ('len(&mut a)', 'a'), ('_bump(a)', 'a'), ('lend(a)', 'a'),
+                         ('(a\n +=\n1, a).1', 'a'))),
     ('from an element', 'fn f() { S { a: 1, ..v[i] } }', 'fn f() { S { a: 1, ..w } }'),
     ('from an element', 'fn f() { S { ..self.v[i] } }', 'fn f() { let S { a, .. } = v[i]; f(&v[..i], &v[1..]) }'),
     ('from an element', 'fn f() { S { a: 1, ..(v[i].b) } }', 'fn f() { let [a, .., b] = v[i]; }'),
+    ('from an element', 'fn f() { S { a: 1, ..g(v)[i] } }', 'fn f() { S { a: 1, ..g(v) } }'),
     ('all names', 'use a::*;', 'use a::{b, c};'),
+    ('all names', 'use a::{b::*, c};', 'use a::{b::{d}, c};'),
 ]
 
 # A part of what is said of texts that are refused, and these.
@@ -134,6 +147,7 @@ REFUSED = {
     'not a text': ['#[error("a {1}")] struct A;'],
     'no sentence': [
         '/// # Requires\n///\n/// - A.\n#[track_caller]\npub fn f() {}\n',
+        '/// # Requires\n///\n/// | A |\n#[track_caller]\npub fn f() {}\n',
         '/// # Requires\n/// A.\n#[track_caller]\npub fn f() {}\n',
     ],
     'by another name': ['use crate::a::{b as c, d};\nfn f() { d() }'],
@@ -145,6 +159,7 @@ RETURNS = ''.join(f'    /// D.\n    pub fn {head} ensures {{ result ≡ {value} 
     ('room(&self) -> usize', 'self.now.room'), ('at(x: u8, y: u8) -> A', 'place x y'), ('lends(&self) -> &[u8]', 'self.now.edge'),
     ('more(&self, x: u8) -> u8', 'self.now.edge + x'), ('of(&self, x: u8) -> u8', 'g x x self.now'),
     ('take_one(&mut self) -> usize', 'length self.new.rest'), ('kept(&self, x: u8) -> u8', 'self.now.edge'), ('sum(&self) -> u8', 'self.now.a + 1'),
+    ('pair(&self) -> A', 'self.now.pair'), ('inner(&self) -> A', 'self.now.pair.inner'),
 ))
 
 # A clause that is marked, and what is said of it; and clauses that can't be said.
@@ -155,7 +170,8 @@ SAID = [
     ('length (queue self.new) + 1 ≡ length (queue self.old)', '`self.len() + 1 == old(self).len()`'),
     ('place n (f self.new) ≡ place n m', '`place(n, self.f) == place(n, m)`'),
     ('self.new.a + 1 ≡ self.new.edge', '`self.a + 1 == self.edge`'),
-    ('length self.new.rest ≡ x', '`self.rest.len() == x`'),
+    ('length self.new.rest ≡ x', '`self.rest.len() == x`'), ('self.new.pair.inner ≡ x', '`self.inner() == x`'),
+    ('a * b / c * d ≡ x', '`a * b / c * d == x`'), ('a / (b / c) ≡ x', '`a / (b / c) == x`'),
     ('«data».new ≡ drop self.old.rooms data.old', '`data == old(data)[old(self).rooms..]`'),
     ('self.old.edge + a + g b b self.old ≢ 2 ^ (n + 1)', '`old(self).edge + a + g(b, b, old(self)) != 2^(n + 1)`'),
     ('a - b - (c - d * (e + f)) ≤ x', '`a.saturating_sub(b).saturating_sub(c.saturating_sub(d * (e + f))) <= x`'),
@@ -264,6 +280,31 @@ def uncalled():
     assert erase.called_laws() >= {'members', 'is_usize'} and not erase.called_laws() & {'headline', 'schedules'}
 
 
+def entries():
+    """Each entry of a list is needed: of names that the sources have, or, of attributes, that a replacement brings. Each module that
+    isn't erased is named once. Of the texts of same_texts.py the eraser refuses those that say so, and no other."""
+    given, texts = erase.given, {f'{crate}/{path.with_suffix("")}': text for crate, path, text in [*erase.sources(), *erase.program()]}
+    whole = '\n'.join([*texts.values(), *(new for _, new, _ in given.REPLACED)])
+    assert erase.PLAIN_ATTRIBUTES <= {*re.findall(r'#!?\[(\w+)', whole)}
+    assert erase.GHOST_DERIVES <= {*re.findall(r'\w+', ' '.join(re.findall(r'#\[derive\((.*?)\)', whole)))}
+    assert all(re.search(rf'\b{word} (?:fn|struct|"C")', whole) for word in erase.MODIFIERS)
+    assert all(re.search(rf'\bpub use [^;]*\b{name}\b', texts[file]) for file, names in given.UNNAMED.items() for name in names)
+    assert all(re.search(rf'\b{name}::', '\n'.join(text for *_, text in erase.program())) for name in given.BY_HAND)
+    assert all(files and min(files.values()) > 0 for *_, files in given.REPLACED)
+    unerased = [name for names in given.UNERASED.values() for name in names]
+    assert len({*unerased}) == len(unerased)
+    for names, side in zip(erase.PRELUDE, (erase.sources(), erase.program())):
+        assert names <= {*re.findall(r'\w+', ' '.join([*(text for *_, text in side), *(new for _, new, _ in given.REPLACED)]))}, names
+    assert len({name for name, *_ in TEXTS}) == len(TEXTS)
+    assert {how for _, _, how, _ in TEXTS} == {'eraser', 'rustc', 'same', 'widths', 'runs'}
+    for name, _, how, text in TEXTS:
+        try:
+            is_refused = not erase.Eraser(text, 'planted').run()
+        except erase.Refused:
+            is_refused = True
+        assert is_refused == (how == 'eraser'), name
+
+
 def exact_sizes():
     """An `ExactSizeIterator` is refused unless a clause says what its `size_hint` returns, one within the trait's bounds or not."""
     rust = "impl ExactSizeIterator for A<'_> {}\n\nimpl<T: Copy> ExactSizeIterator for B<T> {}\n\nimpl Iterator for C {}\n"
@@ -271,6 +312,8 @@ def exact_sizes():
     rattle = lambda *clauses: ''.join(f"impl<'a> Iterator for {name} {{\n    {body.replace('{}', clause)}}}\n" for name, clause in zip('AB', clauses))
     exact = '        ensures exact { result ≡ (n, Some n) }\n'
     assert erase.inexact(rust, rattle(exact, exact)) == [] and erase.inexact(rust, '') == ['A', 'B']
+    next_of = '    fn next(&mut self) -> Option<u8>\n' + exact + '    {\n        None\n    }\n}\n'
+    assert erase.inexact(rust, rattle('', exact).replace('}\n}\n', '}\n' + next_of, 1)) == ['A']
     assert erase.inexact(rust, rattle('', exact)) == ['A'] and erase.inexact(rust, rattle(exact, exact.replace('≡', '≤'))) == ['B']
 
 
@@ -284,12 +327,16 @@ def statuses():
         assert erase.main(['--check']) and not one.exists()
         assert not erase.main([]) and one.read_text() == 'fn a() {}\n'
         assert not erase.main(['--check'])
-        for change in (lambda: two.write_text('fn c() {}\n'), two.unlink, lambda: (erase.OUT / 'three.rs').write_text('')):
+        for change in (lambda: two.write_text('fn c() {}\n'), two.unlink, lambda: (erase.OUT / 'three.rs').write_text(''),
+                       lambda: (erase.OUT / 'a/four').write_text('')):
             change()
             told.truncate(0)
             assert erase.main(['--check']) and 'is not as' in told.getvalue()
             assert not erase.main([]) and not erase.main(['--check'])
-        assert sorted(erase.OUT.rglob('*.rs')) == [one, two]
+        assert sorted(file for file in erase.OUT.rglob('*') if file.is_file()) == [one, two]
+        exact, erase.inexact = erase.inexact, lambda rust, rattle: ['A'] * ('fn ' in rust and 'requires' in rattle)
+        assert erase.main(['--check']) and 'A is an ExactSizeIterator' in told.getvalue()
+        erase.inexact = exact
         erase.erased = lambda said: said.append('refused') or {one: 'fn d() {}\n'}
         assert erase.main([]) and erase.main(['--check']) and one.read_text() == 'fn a() {}\n'
     erase.OUT, erase.EXAMPLE, erase.erased = kept
@@ -345,7 +392,6 @@ def main():
     for other in ('D as _', 'D as E'):
         assert of(f'use crate::b::{other};\n', traits={'D'}) == f'use crate::proved::net_tcp::b::{other};\n'
     assert of('use crate::b::f as e;\n', traits={'D'}) == '\n'
-    uncalled()
     # The program: some crates are modules of what is by hand, and its prelude has other names.
     paths = 'use crate::a::B;\nuse net_ring::C;\nuse hex::{D, E};\nuse std::mem;\n\nfn f(b: B, c: C) -> D {\n    b.is_sound()\n}\n'
     assert of(paths, crate='net_bench_lib', by_hand=erase.given.BY_HAND) == paths.replace('use crate', 'use crate::proved::net_bench_lib') \
@@ -354,9 +400,11 @@ def main():
     assert of(export, crate='net_ffi') == '#[inline(always)]\npub fn f(x: u8) -> u8 {\n    x\n}\n'
     assert 'unknown attribute' in said(export)
     exact_sizes()
-    replacements()
     statuses()
     guarantees()
+    entries()
+    uncalled()
+    replacements()
     told = (erase.REPOSITORY / 'docs/TRUST.md').read_text()
     listed = re.findall(r'`([^`]*)`', told[told.index('Not erased:'):told.index('### What isn')])
     assert {*listed} >= {name for names in erase.given.UNERASED.values() for name in names}, 'docs/TRUST.md has other modules that are not erased'

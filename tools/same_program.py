@@ -2,7 +2,7 @@
 """Compares the program that is proved with the one that rustc compiles, function by function, as wholes: what is done, in
 which order, under which condition, and with what:
 
-    python3 tools/same_program.py [--all] [KIT [FOLDER]]
+    python3 tools/same_program.py [KIT [FOLDER]]
 
 The prover keeps its program beside each library that is proved, `out/rlib/NAME.rlib/toolchain/mir.json`, but for a static one, so
 the exports for C are built as another library too, in FOLDER. Rustc's is its MIR of the erased crate, and of the example
@@ -349,9 +349,9 @@ def compiled(root, kit, target):
 
 
 def programs(arguments, temporary):
-    """The prover's programs by crate; of each crate or module that is compared its name and rustc's program; and the compiler's
-    folder. Where these can't be had a line says why, and the status is what ends this."""
-    folders = [Path(word).resolve() for word in arguments if word != '--all']
+    """The prover's programs by crate; and of each crate or module that is compared its name and rustc's program. Where these can't be
+    had a line says why, and the status is what ends this."""
+    folders = [Path(word).resolve() for word in arguments]
     folder = [*folders, *[temporary] * 2][1]
     folder.mkdir(parents=True, exist_ok=True)
     missing = [crate for crate in (*given.CRATES, *given.PROGRAM) if crate != given.EXPORTS and not kept(crate).is_file()]
@@ -363,13 +363,14 @@ def programs(arguments, temporary):
     libraries.build_exports(folder, made)
     mirs = {crate: kept(crate) for crate in (*given.CRATES, *given.PROGRAM)} | {given.EXPORTS: made / PROGRAM}
     of_example = [(within, example) for within in (SCHEDULE, *given.PROGRAM)]
-    return {crate: Proved(json.loads(mir.read_text())) for crate, mir in mirs.items()}, [*((crate, library) for crate in given.CRATES), *of_example], kit
+    of_crates = [(crate, library) for crate in given.CRATES]
+    return {crate: Proved(json.loads(mir.read_text())) for crate, mir in mirs.items()}, of_crates + of_example
 
 
 def main(arguments):
     with tempfile.TemporaryDirectory() as temporary:
-        proved, sides, _ = programs(arguments, Path(temporary))
-    shows, bad = '--all' in arguments, 0
+        proved, sides = programs(arguments, Path(temporary))
+    bad = 0
     for within, rust in sides:
         same, differ, unknown = compared(proved[within.split('::')[0]], rust, within)
         left = {name for name, reason in differ + unknown if LEFT.fullmatch(f'{name}: {reason}')}
@@ -378,7 +379,6 @@ def main(arguments):
         wrong = differ + [(name, f'not understood: {reason}') for name, reason in unknown if name not in left]
         bad += len(wrong)
         print(*(f'{name}: {reason}' for name, reason in wrong), sep='\n', end='\n' * bool(wrong))
-        print(*(f'  not understood: {name}: {reason}' for name, reason in unknown if shows), sep='\n', end='\n' * bool(shows and unknown))
         print(f'{within}: {len(same)} functions are the same, {len(differ)} differ, {len(unknown)} are not understood')
     return int(bad > 0)
 

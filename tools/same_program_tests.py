@@ -1,7 +1,11 @@
 #!/usr/bin/env python3
-"""What tools/same_program.py says of texts and programs that are wrong: python3 tools/same_program_tests.py [KIT [FOLDER]],
-after the crates were proved. Each part is tested: terms; rustc's side and the pair by bodies that mean the same, or don't; the
-prover's by changes of its programs; the whole by changes of the erased text; and its lists by leaving out each entry."""
+"""What tools/same_program.py says of texts and programs that are wrong, after the crates were proved:
+
+    python3 tools/same_program_tests.py [--bodies] [KIT [FOLDER]]
+
+Each part is tested: terms; rustc's side and the pair by bodies that mean the same, or don't; the prover's by changes of its
+programs; the whole by changes of the erased text; and its lists by leaving out each entry. With --bodies only the terms and the
+bodies are, which want no proof."""
 import copy
 import json
 import os
@@ -29,6 +33,7 @@ EQUAL = [
     (terms.sliced(('sp', X), ('len', X)), X), (terms.operation('+', ('int', 3), ('int', 4)), ('int', 7)), (terms.cast(64, 8, ('int', 255)), ('int', 255)),
 ]
 UNEQUAL = [
+    (terms.negated(X), X),
     (terms.operation('-', X, Y), terms.operation('-', Y, X)), (terms.operation('<', X, Y), terms.operation('<=', X, Y)),
     (terms.operation('<', X, Y, 64), terms.operation('<', X, Y, -64)), (terms.operation('>>', X, Y, 8), terms.operation('>>', X, Y, -8)),
     (terms.operation('wrapping_add', X, Y, 8), terms.operation('wrapping_add', X, Y, 64)), (terms.operation('<<', X, Y, 8), terms.operation('<<', X, Y, 64)),
@@ -46,8 +51,12 @@ MEAN_ONE = [
     ('for c in 0..a { go(c); } 0', 'for k in 0..a { let d = k; go(d); } 0'), ('match a { 0 => go(b), 1 => 7, _ => 8 }', 'if a == 0 { go(b) } else if a == 1 { 7 } else { 8 }'),
     ('let mut c = (a, b); c.1 = 3; c.0 + c.1', 'let c = (a, 3); c.0 + c.1'), ('let c = [a, b]; c[..1].len() as u64', '1'), ('let c = &mut s.m; *c = a; 0', 's.m = a; 0'),
     ('let c = held(a); drop(c); go(b)', '{ let c = held(a); } go(b)'), ('let c = held(a); let d = held(b); 0', 'let d = held(a); let c = held(b); drop(d); 0'),
+    ('u64::MAX', '18446744073709551615'), ("let c = 'a'; c as u64", '97'), ('text("(<"); go(a)', 'text("(<"); let c = a; go(c)'),
+    ('apply(go, a)', 'let c = a; apply(go, c)'),
     ('let c = Some(held(a)); if let Some(d) = c { keep(d); } 0', 'if let Some(d) = Some(held(a)) { keep(d); } 0'), ('s.h = held(a); 0', 'let c = held(a); s.h = c; 0'),
 ]
+# A loop in which two numbers differ from its second turn on.
+TURNS = 'let mut n = 0; let mut c = a; let mut d = a; while go(n) < b { d += if n > 0 { 2 } else { 1 }; c += 1; n += 1; }'
 MEAN_TWO = [
     ('a + b', 'b + a'), ('a', 'b'), ('a < b; a', 'b'), ('if a < b { 1 } else { 2 }', 'if a <= b { 1 } else { 2 }'), ('if a < b { go(a); } b', 'if a < b { go(b); } b'),
     ('go(a); go(b)', 'go(b); go(a)'), ('go(a); 0', '0'), ('s.m = a; s.n = b; 0', 's.m = b; s.n = a; 0'), ('s.m = a; 0', 's.n = a; 0'), ('s.m = a; 0', '0'),
@@ -67,6 +76,24 @@ MEAN_TWO = [
     ('let c = held(a); let d = held(b); drop(c); go(a); 0', 'let c = held(a); let d = held(b); drop(d); go(a); 0'), ('let c = held(a); keep(c); 0', 'let c = held(a); keep(held(a)); 0'),
     ('s.h = held(a); 0', 'core::mem::forget(core::mem::replace(&mut s.h, held(a))); 0'),
     ('let c = held(a); if a < b { s.m = a; drop(c); } else { s.m = b; } go(a)', 'let c = held(a); if a < b { s.m = a; } else { s.m = b; drop(c); } go(a)'),
+    ('let c = two(a); if a < b { s.m = a; drop(c); } else { s.m = b; } go(a)',
+     'let c = two(a); if a < b { s.m = a; } else { s.m = b; drop(c); } go(a)'),
+    # Elements, variants, facts and symbols of two ways, numbers with a sign, and names.
+    ('let mut c = [a, 0]; c[b as usize] = 3; c[a as usize]', 'let c = [a, 0]; c[a as usize]'),
+    ('let mut c = [a, 0]; c[a as usize] = 1; c[b as usize] = 2; c[a as usize]', 'let mut c = [a, 0]; c[b as usize] = 2; c[a as usize]'),
+    ('let c = [a, b]; let [d, e] = c; d', 'let c = [a, b]; let [d, e] = c; e'),
+    ('let c: &[u64] = &[a, b]; c.len() as u64', 'let c: &[u64] = &[a, b, b]; c.len() as u64'),
+    ('let c: Result<u64, u64> = if a < b { Ok(b) } else { Err(b) }; go(a); matches!(c, Ok(_)) as u64',
+     'let c: Result<u64, u64> = if a < b { Ok(b) } else { Ok(b) }; go(a); matches!(c, Ok(_)) as u64'),
+    ('let c: Result<u64, u64> = if a < b { Err(b) } else { Ok(b) }; go(a); matches!(c, Ok(_)) as u64',
+     'let c: Result<u64, u64> = if a < b { Ok(b) } else { Ok(b) }; go(a); matches!(c, Ok(_)) as u64'),
+    ('if a < b { go(a); } went(b); if a < b { 1 } else { 2 }', 'if a < b { go(a); } went(b); 1'),
+    ('if a < b { go(a); } went(b); if a < b { 1 } else { 2 }', 'if a < b { go(a); } went(b); 2'),
+    (f'{TURNS} c', f'{TURNS} d'),
+    ('(a as i64 / 3) as u64', 'a / 3'), ('a as i8 as i64 as u64', 'a as u8 as u64'),
+    ('a >> (b as u8)', 'a >> (b as u16)'), ('a.max(b)', 'a.max(a)'),
+    ('let c = &xs[1..]; c.len() as u64', 'xs.len() as u64'), ('Keeps::keep(s)', 'Holds::keep(s)'),
+    ('apply(go, a)', 'apply(went, a)'), ('text("("); 0', 'text(")"); 0'),
     ('let c = Some(held(a)); if a < b { drop(c); } go(b)', 'let c = Some(held(a)); if a < b { go(b) } else { drop(c); go(b) }'),
 ]
 HEAD = """#![allow(warnings)]
@@ -78,6 +105,14 @@ pub struct S { pub m: u64, pub n: u64, pub h: Held }
 impl S { pub fn keep(&self) -> u64 { 1 } }
 pub trait Keeps { fn keep(&self) -> u64; }
 impl Keeps for S { fn keep(&self) -> u64 { 2 } }
+pub trait Holds { fn keep(&self) -> u64; }
+impl Holds for S { fn keep(&self) -> u64 { 3 } }
+pub struct T;
+pub struct Two { pub a: T, pub b: T }
+impl Drop for T { fn drop(&mut self) {} }
+pub fn two(a: u64) -> Two { Two { a: T, b: T } }
+pub fn text(s: &str) {}
+pub fn apply<F: Fn(u64) -> u64>(f: F, a: u64) -> u64 { f(a) }
 pub fn go(a: u64) -> u64 { a }
 pub fn went(a: u64) -> u64 { a }
 pub fn change(s: &mut S) {}
@@ -250,10 +285,15 @@ def lists(proved, sides):
 
 def main(arguments):
     assert all(one == two for one, two in EQUAL) and not any(one == two for one, two in UNEQUAL), [pair for pair in EQUAL if pair[0] != pair[1]]
+    folders = [word for word in arguments if word != '--bodies']
     with tempfile.TemporaryDirectory() as temporary:
         temporary = Path(temporary)
-        proved, sides, kit = same_program.programs(arguments, temporary)
+        kit = widths.kit_of(folders, temporary)
         count = bodies(temporary / 'bodies', str(kit / 'rustc'))
+        if folders != arguments:
+            print(f'{len(EQUAL)} terms are one, {len(UNEQUAL)} are two; {count} pairs of bodies')
+            return 0
+        proved, sides = same_program.programs(folders, temporary)
         entries = lists(proved, sides)
         seen = programs(proved, sides)
         plants = planted(kit, temporary, proved)

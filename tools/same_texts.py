@@ -1,11 +1,11 @@
 #!/usr/bin/env python3
 """Texts that the kit proves, and that may mean something else once they are erased:
 
-    python3 tools/same_texts.py [--show] KIT [FOLDER]
+    python3 tools/same_texts.py KIT [FOLDER]
 
 Each of tools/parts/planted_texts.py is proved in a crate of its own in FOLDER, or a temporary one, erased and compiled,
 and has to be found by what its entry says: the eraser, rustc, tools/same_program.py or widths.py; or to do what was
-proved. With --show what finds each is printed. The status is 1 if one isn't found so, and 2 if there is no compiler.
+proved. The status is 1 if one isn't found so, and 2 if there is no compiler.
 """
 import json
 import os
@@ -92,8 +92,7 @@ def runs(crate, target, names):
 
 
 def main(arguments):
-    shows, folders = '--show' in arguments, [Path(word).resolve() for word in arguments if word != '--show']
-    found = {}
+    folders, found = [Path(word).resolve() for word in arguments], {}
     with tempfile.TemporaryDirectory() as temporary:
         temporary = Path(temporary)
         kit, crate = widths.kit_of(folders, temporary), temporary / 'crate'
@@ -115,8 +114,6 @@ def main(arguments):
         right = runs(crate, temporary / 'tests', left)
     found |= {name: 'runs' for name in right}
     bad = [(name, how, found.get(name, 'nothing')) for name, _, how, _ in TEXTS if found.get(name, 'nothing').split(':')[0] != how]
-    if shows:
-        print(*(f'{name}: {found.get(name, "nothing")}' for name, *_ in TEXTS), sep='\n')
     print(*(f'same_texts: {name} is found by {by}, and not by {how}' for name, how, by in bad), sep='\n', end='\n' * bool(bad))
     print(f'{len(TEXTS)} texts: ' + ', '.join(f'{sum(text[2] == how for text in TEXTS)} {how}' for how in dict.fromkeys(text[2] for text in TEXTS)))
     return bool(bad)

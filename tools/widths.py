@@ -2,7 +2,7 @@
 """Finds the operations of the erased text that are right where a `usize` has 64 bits, and for which nothing proves that
 they are so where it has 32:
 
-    python3 tools/widths.py [--all] [FOLDER]
+    python3 tools/widths.py [FOLDER]
 
 The erased text, with the exports for C and its laws, has its bounds, `prove!(sum <= bound, "in any `usize`")`, and rustc
 says what each operation is, by its types. A difference, a quotient, a rest, `min`, `max` or `saturating_sub` of numbers of a `usize`
@@ -27,9 +27,9 @@ is one. Any other operation has a cover:
 What isn't known is open: each value or call with a `usize` or an `isize` in its type, that is none of `FORMS` and `KNOWN`.
 
 The law `is_usize` is given a parameter, a field, a length, what a call returned, or a literal: of a sum it would state
-what is to be proved. No proof but those of `most` and of this law unfolds `shortfall`, but for that it is below 2^64. With --all the operations that
-have a cover are shown too. The compiler is that of rust/kit.sh, unpacked in FOLDER, or in a temporary one. The status is
-1 if an operation is open, and 2 if there is no compiler.
+what is to be proved. No proof but those of `most` and of this law unfolds `shortfall`, but for that it is below 2^64. The
+compiler is that of rust/kit.sh, unpacked in FOLDER, or in a temporary one. The status is 1 if an operation is open, and 2 if
+there is no compiler.
 """
 import os
 import re
@@ -63,6 +63,10 @@ KNOWN = re.compile(r"""<[iu]size\ as\ core::(?:cmp::Ord>::(?:min|max|cmp)|cmp::P
 """, re.X)
 OWN = re.compile(r'(?!core::)[a-z_]+\w*::|<.* as (?!core::)\w+::|<(?!core::)\w+::.* as '
                  r'core::iter::(?:Iterator|DoubleEndedIterator)>::(?:next|next_back|size_hint)$')
+# A pattern that has a name: of `let`, of `for`, of a closure, of an arm.
+HIDES = r'\blet\b[^=;]*{0}|\bfor\b[^{{]*{0}[^{{]*\bin\b|\|[^|;]*{0}[^|;]*\||{0}[^;{{]*=>'
+# The proofs that say how many bits a `usize` has.
+KNOWING = {'net_assembler/proofs/width/most/Answers.antt', 'net_assembler/proofs/laws/is_usize/Answers.antt'}
 FLAGS = ['--emit=mir', '-Coverflow-checks=on', '-Zmir-opt-level=0', '-Zmir-include-spans=on', '-Ztrim-diagnostic-paths=no', '-Awarnings']
 
 
@@ -171,12 +175,9 @@ class Reader:
             if cast[2] == 'usize' and source != 'usize' and source not in NARROW:
                 return f'cast {source} to usize'
             return f'cast usize to {cast[2]}' if source == 'usize' and cast[2] in ('isize', 'u64') else None
-        call = re.search(r'impl usize>::(\w+)|<usize as (?:std::|core::)?\w*(?:::\w+)*?(TryFrom|FromStr|Sum|Product)\b', value)
-        if call:
-            return f'call {call[1] or call[2]}'
-        if re.search(r'::(?:sum|product)::<usize>', value):
-            return 'call sum'
-        if re.match(r'(?:move|copy|const) .*::<?impl isize>', value) or re.search(r'impl isize>::\w+', value):
+        if call := re.search(r'impl usize>::(\w+)', value):
+            return f'call {call[1]}'
+        if 'impl isize>::' in value:
             return 'isize'
         sign = re.match(r'(\w+?)(?:WithOverflow|Unchecked)?\(', value)
         of_usize = into in ('usize', '(usize, bool)', 'isize', '(isize, bool)')
@@ -189,7 +190,7 @@ class Reader:
         path = re.sub(r'\b(?:std|alloc)::', 'core::', called(value)) if is_call and value.endswith(')') else ''
         if OWN.match(path):
             return None
-        if re.match(r'<\w+ as core::ops::(?!Index|Fn|Deref|Try|FromResidual)|<[A-Z]\w* as core::(?:convert::Try|str::FromStr|iter::(?:Sum|Product))'
+        if re.match(r'<\w+ as core::ops::(?!Index|Fn|Deref|Try|FromResidual)|<[A-Z]\w* as core::(?:convert::Try|str::FromStr)'
                     r'|.*::(?:sum|product)::<', path):
             return f'unknown {path}'               # of any type, so of a `usize` too
         if into and not re.search(r'\b[iu]size\b', f'{into} {path}'):
@@ -264,8 +265,7 @@ class Reader:
         counted = re.fullmatch(r'(\w+)\+1', text)
         for brace in file.blocks(start) if counted else ():
             if re.search(rf'\bfor {counted[1]} in (?:[\w.]*\w)?\.\.(?!=)[^{{}};]*$', file.code[:brace]):
-                bound = r'\blet\b[^=;]*{0}|\bfor\b[^{{]*{0}[^{{]*\bin\b|\|[^|;]*{0}[^|;]*\||{0}[^;]*=>'.format(rf'\b{counted[1]}\b')
-                return not re.search(bound, file.code[brace:start])
+                return not re.search(HIDES.format(rf'\b{counted[1]}\b'), file.code[brace:start])
         return False
 
     def is_cut(self, at, text):
@@ -379,8 +379,9 @@ class Reader:
         reads, that is also whether it calls a method of the whole, or passes it."""
         whole, field, _ = name.partition('.')
         name = re.escape(name)
+        hides = HIDES.format(rf'(?<![.:])\b{whole}\b(?![(:])')
         assigned = rf'(?<![\w.]){name}(?:\.\w+)*\s*(?:[-+*/%&|^]|<<|>>)?=(?!=)'
-        if re.search(rf'{assigned}|&mut {whole}\b|\blet (?:mut )?\(?{whole}\b', code):
+        if re.search(rf'{assigned}|&mut {whole}\b|{hides}', code):
             return True
         return field and re.search(rf'(?<![\w.]){whole}(?:(?:\.\w+)*\.\w+\(|\s*[,)=]|\s*\[)', code)
 
@@ -468,10 +469,9 @@ def laws(paths):
 
 def unfolded(crates):
     """The proofs that know how many bits a `usize` has: but for the two that say what it is, there is none."""
-    known = {'net_assembler/proofs/width/most/Answers.antt', 'net_assembler/proofs/laws/is_usize/Answers.antt'}
     of_both = re.compile(r'(?m)^word : shortfall < 2 \^ 64\nunfolding shortfall\nword = omega arith$')      # of 0 and 2^64 - 2^32
     for path in sorted([*crates.glob('*/proofs/**/*.antt'), *crates.glob('*/src/**/*.rt')]):
-        if re.search(r'unfolding\b[^\n]*\bshortfall\b', of_both.sub('', path.read_text())) and str(path.relative_to(crates)) not in known:
+        if re.search(r'unfolding\b[^\n]*\bshortfall\b', of_both.sub('', path.read_text())) and str(path.relative_to(crates)) not in KNOWING:
             yield f'{path}: a proof unfolds shortfall'
 
 
@@ -503,29 +503,27 @@ def compiled(crate, kit, target):
     return Reader(crate, mir_of(target))
 
 
-def show(reader, everything=False):
+def show(reader):
     """Prints what is open, and returns how many there are of each kind of cover."""
     counts = {'open': 0}
     for (at, kind) in sorted(reader.operations):
         name, start, end = at
         cover = reader.cover(at, kind) or 'open'
         counts[cover] = counts.get(cover, 0) + 1
-        if cover == 'open' or everything and cover != 'no growth':
+        if cover == 'open':
             file = reader.file(name)
             line = file.code.count('\n', 0, start) + 1
-            print(f'{cover}: {name.removeprefix(reader.prefix)}:{line}: {kind}: {" ".join(file.text[start:end].split())}')
+            print(f'open: {name.removeprefix(reader.prefix)}:{line}: {kind}: {" ".join(file.text[start:end].split())}')
     for (name, start, _), number in reader.large:
         counts['open'] += 1
         print(f'open: {name}: the constant {number}')
     return counts
 
 
-def main(arguments):
-    everything = '--all' in arguments
-    folders = [a for a in arguments if a != '--all']
+def main(folders):
     with tempfile.TemporaryDirectory() as temporary:
         temporary = Path(temporary)
-        counts = show(compiled(REPOSITORY / 'rust', kit_of(folders, temporary), temporary / 'target'), everything)
+        counts = show(compiled(REPOSITORY / 'rust', kit_of(folders, temporary), temporary / 'target'))
     for line in [*laws(sorted((REPOSITORY / 'crates').glob('*/src/**/*.rt'))), *unfolded(REPOSITORY / 'crates')]:
         counts['open'] += 1
         print(f'open: {line}')

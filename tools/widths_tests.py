@@ -2,6 +2,8 @@
 """What tools/widths.py says of small functions: python3 tools/widths_tests.py [FOLDER]
 
 Each text is the body of a function, or items; the status is 2 if there is no compiler, as that of tools/widths.py."""
+import contextlib
+import io
 import os
 import shutil
 import subprocess
@@ -53,6 +55,7 @@ COVERED = {
         f'let mut c = a; if x > 3 {{ c = a + b; }} else {{ take(a); }} prove!(c <= most(){BOUND} c',
         f'let mut c = 0; while x > 3 {{ c = a + b; prove!(c <= most(){BOUND} }} c',
         f'let c = a.wrapping_add(b); prove!(c <= most(){BOUND} c',
+        f'let d = "(["; // A note: )}}\n    let c = a + b; prove!(c <= most(){BOUND} c',
     ],
     'end': ['take(xs[a..a + b].len()); 0'],
     'cut': [
@@ -75,7 +78,8 @@ OPEN = [
     'a.wrapping_mul(b)', 'a.wrapping_sub(b)', 'a.checked_add(b).unwrap_or(0)', 'a.overflowing_add(b).0', 'a.pow(2)',
     'a.next_power_of_two()', 'a.leading_zeros() as usize', 'a.to_be_bytes()[0] as usize',
     'usize::try_from(x).unwrap_or(0)', '[a, b].iter().sum::<usize>()', 'usize::MAX', 'usize::BITS as usize',
-    'let c = usize::MAX - a; c',
+    'let c = usize::MAX - a; c', 'if (a as isize) < 0 { 1 } else { 2 }', '1 << 32', 'a.wrapping_sub(1)',
+    'xs.get(a.wrapping_sub(1) / 2).map_or(0, |c| 1)', 'xs.get(0 + a.wrapping_sub(1)).map_or(0, |c| 1)',
     # What isn't a form that is known, with a `usize` or an `isize` in its type.
     'std::ops::Mul::mul(a.min(2147483648), 2)', 'std::ops::Add::add(b, 4294967295)',
     '<usize as std::ops::Shl<u32>>::shl(a, 3)', 'let mut c = a; std::ops::AddAssign::add_assign(&mut c, b); c',
@@ -103,11 +107,25 @@ OPEN = [
     f'let mut y = x; prove!(y <= a as u64{BOUND} y = x + 9; y as usize',
     f'let f = |c: usize| a + c; prove!(a + b <= s.n{BOUND} f(b)',
     f'match x {{ 0 => {{ prove!(a + b <= s.n{BOUND} 0 }} _ => a + b }}',
+    f'match x {{ 0 => {{ take(a + b); }} _ => {{}} }} prove!(a + b <= s.n{BOUND} 0',
+    f'let mut c = a; match x {{ 0 => {{ c = a + b; }} _ => {{}} }} prove!(c <= s.n{BOUND} c',
+    f'let mut c = a; let mut f = || {{ c = a + b; }}; f(); prove!(c <= s.n{BOUND} c',
+    f'fn g(a: usize, b: usize) -> usize {{ a + b }} prove!(a + b <= s.n{BOUND} g(b, b)',
+    f'prove!(a + b <= s.n{BOUND} fn g(a: usize, b: usize) -> usize {{ a + b }} g(b, b)',
+    f'let mut c = 0; while x > 3 {{ c = a + b; if c > a {{ continue; }} prove!(c <= most(){BOUND} }} c',
+    f'let mut c = a; prove!(c + b <= s.n{BOUND} let d = &mut c; *d = b; c + b',
+    f'let mut c = a; prove!(c + b <= s.n{BOUND} c |= b; c + b', f'let c = a; prove!(c + b <= s.n{BOUND} let c = b; c + b',
+    f'prove!(s.n + b <= a{BOUND} let t = s; t.n = b; t.grow(); a + t.n',
+    *(f'let c = a; prove!(c + b <= s.n{BOUND} {hides}' for hides in (
+        'let (d, c) = (a, b); c + b', 'if let Some(c) = Some(b) { take(c + b); } 0', 'for c in 0..b { take(c + b); } 0',
+        'Some(b).map_or(0, |c| c + b)', 'match b { c => take(c + b) } 0')),
+    f'// prove!(a + b <= s.n{BOUND}\n    a + b', f'take(a + b); let c = b; prove!(a + c <= s.n{BOUND} 0',
     # A bound of the wrong variable, of a part, or by what isn't there before.
     f'let c = a + b; prove!(a <= most(){BOUND} c', f'let c = a + b; prove!(b <= c{BOUND} c',
     f'let c = a + b; prove!(c <= c{BOUND} c', f'let c = a + b; prove!(c <= a + b{BOUND} c',
     f'let c = a + b; prove!(c >= a{BOUND} c', f'let c = a + b; let d = c; prove!(c <= d{BOUND} c',
-    f'let c = (a + b) / 2; prove!(c <= a{BOUND} c', f'let c = a + b; prove!(c <= most() || x > 3{BOUND} c',
+    f'let c = (a + b) / 2; prove!(c <= a{BOUND} c', f'let c = if a < b {{ a + b }} else {{ b }} / 2; prove!(c <= a{BOUND} c',
+    f'prove!(a * b <= s.n{BOUND} 0', f'prove!(a + b <= a + b{BOUND} 0', f'let c = a + b; prove!(c <= most() || x > 3{BOUND} c',
     'let c = a + b; prove!(c <= most(), "another text"); c', f'let c = x as usize; prove!(x <= x{BOUND} c',
     f'prove!(x <= a{BOUND} x as usize'.replace('x <= a', 'x <= (a as u64)'),
     # No turn of a `for`, and no lesser number.
@@ -118,7 +136,8 @@ OPEN = [
     'for c in [a].into_iter().chain(0..b) { take(c + 1); } 0', 'for c in 0..b { } let c = a; c + 1',
     'a.saturating_mul(b).max(7)', 'a.saturating_mul(b).pow(2).min(7)', 'a.wrapping_mul(b).min(7)',
     # An end of no slice, a cut of no `usize`, and a number that wraps and goes elsewhere.
-    'take((a..a + b).len()); 0', 'let c = [(a..a + b).len()]; c[0]', 'x.min(7) as usize',
+    'take((a..a + b).len()); 0', 'let c = [0..a + b]; c.len()', 'xs.swap(a, a + b); 0', 'take(xs.len().max(a + b)); 0',
+    'let c = [(a..a + b).len()]; c[0]', 'x.min(7) as usize',
     '(x as u64).min(x) as usize', 'x.min(x as u64) as usize', 'let c = x as u64; c.min(x) as usize',
     '(a as u64).max(x) as usize', '((a as u64) + x).min(x) as usize', 'x.min(x + a as u64) as usize',
     'let c = x; c.min(x) as usize', 'take(a.wrapping_neg()); 0', 'let c = a.wrapping_neg(); take(c); 0',
@@ -135,6 +154,14 @@ ITEMS = [
      'fn all(by: usize, a: usize) { take(moved(by, a)); }\npub fn g(a: usize, b: usize) { all(a.wrapping_neg(), b); }', 0),
     ('fn plus<T: std::ops::Add<Output = T>>(a: T, b: T) -> T { a + b }\npub fn g(a: usize, b: usize) -> usize { plus(a, b) }', 1),
     ('fn all<T: std::iter::Sum>(a: Vec<T>) -> T { a.into_iter().sum() }', 1),
+    (f'pub fn g(a: usize, b: usize, c: Option<u8>) -> Option<usize> {{ let d = a + b; c?; prove!(d <= most(){BOUND} Some(d) }}', 1),
+    ('pub mod inner {\n    pub const fn most() -> usize {\n        usize::MAX\n    }\n}', 1),
+    ('const _: () = assert!(size_of::<usize>() == 8);', 1), ('const _: () = assert!(size_of::<[u8; 0]>() == 0);', 0),
+    ('pub struct A { pub n: usize }\n'
+     'impl std::hash::Hash for A { fn hash<H: std::hash::Hasher>(&self, h: &mut H) { self.n.hash(h); } }', 1),
+    ('#[derive(Hash)]\npub struct A { pub n: usize }', 0),
+    (f'fn moved(to: usize, by: usize) -> usize {{ let c = by.wrapping_add(to); prove!(c <= most(){BOUND} c }}\n'
+     'fn other(by: usize, a: usize) { take(moved(a, by)); take(by); }\npub fn g(a: usize, b: usize) { other(a.wrapping_neg(), b); }', 1),
     ('fn moved(by: usize) -> bool { by == 0 }\npub fn g(a: usize) -> bool { moved(a.wrapping_neg()) }', 1),
 ]
 
@@ -162,7 +189,27 @@ UNLAWFUL = [
     'fn f(a: usize) { let c = a + 1; is_usize(c); }', 'fn f(a: u64) { is_usize(a as usize); }',
     'fn f(a: u64) { let c = a as usize; is_usize(c); }', 'fn f(a: usize) { let mut c = a; c += 1; is_usize(c); }',
     'fn f(mut a: usize) { a += 1; is_usize(a); }', 'fn f(&mut self) { self.n += 1; is_usize(self.n); }',
-    'fn f(a: usize) { is_usize(a.wrapping_add(1)); }',
+    'fn f(a: usize) { is_usize(a.wrapping_add(1)); }', 'fn f(a: usize) { is_usize(a); is_usize(a + 1); }',
+    'fn f(a: usize) { let c = a.wrapping_add(1); is_usize(c); }', 'fn f() { is_usize(4_294_967_296usize); }',
+]
+
+
+class Shown(widths.Reader):
+    """A reader of one line of text, with a given operation or a given large number."""
+
+    def __init__(self, operation, large):
+        super().__init__(None, '')
+        self.files = {'src/proved/a.rs': widths.File('fn f() { a + b; a.min(b); }')}
+        self.operations, self.large = dict.fromkeys(operation), dict.fromkeys(large)
+
+
+# Operations and large numbers of a file, and a law beside it: what is shown, and how many there are.
+SUM, MIN, HERE = (('src/proved/a.rs', 9, 14), 'Add'), (('src/proved/a.rs', 16, 24), 'Sub'), ('src/proved/a.rs', 9, 14)
+STATUSES = [
+    ([], [], LAWFUL[0], ['0 open']), ([MIN], [], LAWFUL[0], ['0 open, 1 no growth']),
+    ([SUM, MIN], [], LAWFUL[0], ['open: a.rs:1: Add: a + b', '1 open, 1 no growth']),
+    ([], [(HERE, 5_000_000_000)], LAWFUL[0], ['open: src/proved/a.rs: the constant 5000000000', '1 open']),
+    ([], [], UNLAWFUL[1], ['open: {}:1: is_usize(a + 1)', '1 open']),
 ]
 
 
@@ -222,6 +269,22 @@ def main(arguments):
                             (of_both, 0), (of_both.replace('64', '63'), 1), (of_both.replace('<', '≡'), 1)):
             path.write_text(f'use a.{{shortfall}}\n{text}\n')
             assert len(list(widths.unfolded(temporary / 'crates'))) == count, text
+        source = temporary / 'crates/a/src/b/c.rt'
+        source.parent.mkdir(parents=True)
+        source.write_text('#[tactic(auto, unfolding shortfall)]\n')
+        path.write_text('\n')
+        assert len(list(widths.unfolded(temporary / 'crates'))) == 1
+        unfolds = [widths.REPOSITORY / 'crates' / name for name in widths.KNOWING]
+        assert all('unfolding' in file.read_text() and 'shortfall' in file.read_text() for file in unfolds)
+        # What is open is counted and said, and so is a wrong law.
+        widths.REPOSITORY, widths.kit_of, widths.compiled = temporary, lambda *_: kit, lambda *_: shown
+        for at, large, law, wanted in STATUSES:
+            shown = Shown(at, large)
+            source.write_text(law)
+            with contextlib.redirect_stdout(io.StringIO()) as told:
+                status = widths.main([str(kit)])
+            lines = told.getvalue().splitlines()
+            assert (status, lines) == (int(wanted[-1][0] != '0'), [line.format(source) for line in wanted]), lines
     print(f'{len(covered)} covers, {len(OPEN) + len(EXPORTS)} plants, {len(ITEMS)} items, {len(LAWFUL) + len(UNLAWFUL)} calls of the law')
     return 0
 

@@ -8,16 +8,16 @@ import re
 from parts import erase_list
 from parts.erase_tokens import Refused
 
-LEVELS = '↔', '→', '⊎', '×', '≡ ≢ ≤ <', '++ ∷', '+ -', '* / %', '^'         # the loosest first
+LEVELS = '↔', '→', '⊎', '×', '≡ ≢ ≤ <', '++ ∷', '+ -', '* /', '^'           # the loosest first
 RANK = {sign: rank for rank, level in enumerate(LEVELS) for sign in level.split()}
 TERM, WHOLE, CASE = RANK['≡'], len(LEVELS), -1    # what is looser than terms is a sentence
 SIGNS = {'≡': '==', '≢': '!=', '≤': '<=', '×': 'and', '⊎': 'or', '↔': 'exactly if'}
-CASES = {'OnOk': 'Ok', 'IfOk': 'Ok', 'OnErr': 'Err', 'IfErr': 'Err', 'IfSome': 'Some'}
+CASES = {'OnOk': 'Ok', 'IfOk': 'Ok', 'OnErr': 'Err', 'IfSome': 'Some'}
 CALLS = {                                         # a capital is what may need parentheses there
     'take': '{B}[..{a}]', 'drop': '{B}[{a}..]', 'length': '{A}.len()', 'min': 'min({a}, {b})', 'max': 'max({a}, {b})',
-    'Ok': 'Ok({a})', 'Some': 'Some({a})', 'IsOk': '{A}.is_ok()', 'IsErr': '{A}.is_err()', 'IsTrue': '{A}', 'IsFalse': '!{A}',
+    'Some': 'Some({a})', 'IsOk': '{A}.is_ok()', 'IsErr': '{A}.is_err()', 'IsTrue': '{A}', 'IsFalse': '!{A}',
 }
-STATES = {'new', 'now', 'entry', 'receiver', 'sender'}    # the last two: a stream that ends is said as the one in it
+STATES = {'new', 'now', 'receiver', 'sender'}    # the last two: a stream that ends is said as the one in it
 NAME = re.compile(r'(?!(?:let|in|if|then|else|record)$|[A-Z]\w*\.)«?([A-Za-z_]\w*)»?((?:\.\w+)*)')
 MARK, MOST = '// Guarantee.', 3                   # before a clause that a user of Rust wants, at most three of a function
 
@@ -63,7 +63,7 @@ def read(text, held):
     for signs in LEVELS:
         found = [*re.finditer(rf' ({"|".join(map(re.escape, signs.split()))}) ', text)]
         if found:
-            sign = found[-1 if signs in ('+ -', '* / %') else 0]
+            sign = found[-1 if signs in ('+ -', '* /') else 0]
             return joined(read(text[:sign.start()], held), sign[1], read(text[sign.end():], held))
     name, *given = text.split(' ')
     if name in CASES:
@@ -152,4 +152,4 @@ def document(eraser):
         eraser.refuse(tokens[k][2], 'a mark of no clause that is shown')
     for item in re.finditer(r'^///[^\n]*(?=\n(?:#\[[^\n]*\n)*pub (?:struct|enum|trait)\b)', eraser.text, re.M) if shown else ():
         k = next(j for j, token in enumerate(tokens) if token[2] == item.start())
-        eraser.after[k] = eraser.after.get(k, '') + f'\n///\n/// Contracts: {place(eraser.file)}.'
+        eraser.after[k] = f'\n///\n/// Contracts: {place(eraser.file)}.'

@@ -13,10 +13,10 @@ def depths(text, start=0):
         yield found.start(), sign, depth
 
 
-def closing(text, start, opened=0):
-    """Where the bracket ends that a place is in, or that many more."""
+def closing(text, start):
+    """Where the bracket ends that a place is in."""
     for at, _, depth in depths(text, start):
-        if depth + opened < 0:
+        if depth < 0:
             return at
     raise IndexError('a bracket is not closed')
 
