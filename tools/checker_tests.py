@@ -813,7 +813,8 @@ def exports():
             heads.TABLE.write_text(f"task A\ntask: ring_ init take\ntask: board_ add differs {words}\n")
             index = ["- A", "  `net_base_ring_`: init, take", "  `net_base_board_`: add, differs, span"]
             same(words, said(ffi.index_of, library)[0], f"ffi: not once in the index of heads.txt: {' '.join(wrong)}" if wrong else index)
-    with folder({"abi.txt": "", "a.rt": ""}) as ffi.ROOT:
+    laying = {"rattle": 'echo "$1 $2" > "${3%/*}/laid"'}
+    with programs(laying), folder({"abi.txt": "", "a.rt": ""}) as ffi.ROOT:
         ffi.ABI, path = ffi.ROOT / "abi.txt", ffi.ROOT / "a.rt"
         for text, wanted in ABIS:
             ffi.ABI.write_text(text)
@@ -824,6 +825,7 @@ def exports():
                 file.write_text(old)
             same((old, new), said(ffi.put, {file: new}, True), (stale, [f"{name}: stale, run python3 tools/ffi.py"] * stale))
             same((old, new), said(ffi.put, {file: new}, False) + (file.read_text(),), (False, [], new if stale else old))
+        same("laid out", (ffi.ROOT / "laid").read_text(), "fmt --write\n")
         (ffi.ROOT / "src").mkdir()
         (ffi.ROOT / "src/lib.rt").write_text("//! A.\n//!\n//! # Duties\n//!\n//! 1. Keep\n//!    it.\n")
         path.write_text(f"a\n{ffi.PAGE_BEGIN}\nold\n{ffi.PAGE_END}\nb\n")
@@ -1408,7 +1410,9 @@ BY_HAND = [
         "rust/CHANGELOG.md: what a user must write otherwise, since tools/public_items.txt changed"]),
     (["tools/heads.txt"], "", ["tools/exports.txt: values worked by hand, and docs/FFI.md where it names the exports of a task"]),
     (["tools/heads.txt", "tools/exports.txt"], "", []),
-    (["c/abi.txt"], "", ["rust/CHANGELOG.md, and the version in rust/Cargo.toml: the interface for C has another number"]),
+    (["c/abi.txt"], "", [
+        "rust/CHANGELOG.md: the interface for C is another one; the version in rust/Cargo.toml too, if its number is new",
+        "docs/FFI.md: its table of code and stack, by sh c/targets.sh --table"]),
 ]
 
 
@@ -1429,6 +1433,7 @@ def regenerate():
             sys.argv[1:] = words
             status, lines = said(script.main)
             same((changes, words), (status, (script.ROOT / "log").read_text().split()), (code, wanted.split()))
+            same((changes, words), "left by hand:" in lines, code != 2)
         same("said", lines[-6:], ["changed since the last commit:", "    tools/heads.txt", "    a b", "left by hand:",
                                   "    a: pub fn f: .ci/run untested, places and growth say what it lacks", f"    {BY_HAND[3][2][0]}"])
 

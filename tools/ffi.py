@@ -24,6 +24,8 @@ import dataclasses
 import hashlib
 import pathlib
 import re
+import shutil
+import subprocess
 import sys
 import textwrap
 
@@ -588,7 +590,7 @@ def without_layout(text):
 
 
 def put(files, only_compares):
-    """Writes files, or returns whether one of them is stale, and says so. `rt fmt` lays out those of Rattle."""
+    """Writes files, or returns whether one of them is stale, and says so. Those of Rattle are laid out, where the kit is here."""
     stale = False
     for path, text in files.items():
         same = without_layout if path.suffix == ".rt" else str
@@ -597,6 +599,8 @@ def put(files, only_compares):
         if not only_compares:
             path.parent.mkdir(exist_ok=True)
             path.write_text(text)
+            if path.suffix == ".rt" and shutil.which("rattle"):
+                subprocess.run(["rattle", "fmt", "--write", path], check=True)
         else:
             print(f"{path.relative_to(ROOT)}: stale, run python3 tools/ffi.py")
             stale = True
