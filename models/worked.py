@@ -664,6 +664,7 @@ TCP = [
     ("peer_update", [200, 10, 100, 110, 150, 10, 109, 30], "0 200"),
     ("peer_update", [200, 10, 100, 110, 150, 10, 151, 30], "0 200"),
     ("updated_checksum", [0xdd2f, 0x5555, 0x3285], "0"),
+    ("updated_checksum", [0, 0, 1], "65534"),  # 0xffff + 0xffff + 1 carries twice
     ("updated_checksum", [0xb861, 0x4011, 0x3f11], str(0xb961)),
     ("first_sample", [100_000], "800000 200000"), ("next_sample", [800_000, 200_000, 100_000], "800000 150000"),
     # After a sample of 800 ms RTTVAR is 400 ms; after one of 400 ms more SRTT is 750 ms, and RTTVAR 400 ms.
