@@ -398,7 +398,7 @@ pub static SCHEDULES: [Row<'static>; 13] = [
 ];
 
 /// Lines that no mode has.
-pub static NO_LINES: [Row<'static>; 27] = [
+pub static NO_LINES: [Row<'static>; 28] = [
     ("no_line", "ring 8", b"w 61\r\n", b"", "line 1: bad command"),
     ("no_line", "ring 8", b"w  61\n", b"", "line 1: bad command"),
     ("no_line", "ring 8", b" w 61\n", b"", "line 1: bad command"),
@@ -423,6 +423,7 @@ pub static NO_LINES: [Row<'static>; 27] = [
     ("no_line", "asm 4", b"a 1 2 3\n", b"", "line 1: bad command"),
     ("no_line", "asm 4", b"x 1 2\n", b"", "line 1: bad command"),
     ("no_line", "asm 4", b"f 1\n", b"", "line 1: bad command"),
+    ("no_line", "asm 4", b"p 1\n", b"", "line 1: bad command"),
     ("no_line", "asm 4", b"w 61\n", b"", "line 1: bad command"),
     (
         "no_line",
