@@ -229,6 +229,8 @@ TABLES = [
     ("CONTRIBUTING.md", "", "", []),
     ("CONTRIBUTING.md", "`net_a/one`", "`net_a/none`", ["net_a/one: no row of CONTRIBUTING.md has this edit",
                                                         "net_a/none: CONTRIBUTING.md names this edit, and there is none"]),
+    ("CONTRIBUTING.md", "| C |", "| A body | `net_a/one` | `a::A::h` ensures |\n| C |", [
+        "net_a/one: CONTRIBUTING.md has 2 rows of this edit"]),
     ("crates/net_a/must-fail/one.edit", "# no row: it counts\n", "", ["net_a/one: it has no rows, and says not why"]),
     ("crates/net_a/must-fail/one.edit", "# no row: it counts\n", "# no row: \n", ["net_a/one: it has no rows, and says not why"]),
     ("crates/net_a/must-fail/two.edit", "# row: new: b\n", "# row: new: b\n# no row: it counts\n",

@@ -24,9 +24,10 @@ each with what the reply begins with that the wrong body gives, or nothing. `--r
 crate with the edited text erased, where each must be so, and over the right text, where one must not. An edit
 of which no call tells has a line `# no row: REASON`.
 
-Ends with status 1 if an edit is in no row of the table, a row of it names nothing, another goal refuses an edit,
+Ends with status 1 if an edit isn't in one row of the table, a row of it names nothing, another goal refuses an edit,
 a twin isn't proved, or an edit has neither rows nor a reason, or rows that aren't as they say.
 """
+import collections
 import os
 import pathlib
 import re
@@ -57,11 +58,13 @@ def name_of(edit):
 
 
 def differing():
-    """Prints each edit that no row has, and each row whose edit or test isn't there; returns how many."""
+    """Prints each edit that isn't in one row, and each row whose edit or test isn't there; returns how many."""
     clauses, tests = table()
     there = {name_of(it) for it in edits_of([])}
     wrong = [f"{it}: no row of {PAGE.name} has this edit" for it in sorted(there - set(clauses))]
     wrong += [f"{it}: {PAGE.name} names this edit, and there is none" for it in sorted(set(clauses) - there)]
+    rows = collections.Counter(f"{crate}/{name}" for _, crate, name, function, _ in ROW.findall(PAGE.read_text()) if function)
+    wrong += [f"{it}: {PAGE.name} has {count} rows of this edit" for it, count in sorted(rows.items()) if count > 1]
     wrong += [f"{name_of(it)}: it has no rows, and says not why" for it in edits_of([])
               if bool(rows_of(it)) == bool(re.search(r"^# no row: \w", it.read_text(), re.M))]
     for crate, name in tests:
