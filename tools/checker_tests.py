@@ -557,6 +557,8 @@ def places():
         ("", "Named Listed", ["Listed: ROWLESS has it, and it has rows, or is no type"]),
         *((f"- b::c: #[must_use] pub {it} New {{ A }}\n", "Named", ["New: no file of rust/tests/rows names it, and ROWLESS has no reason"])
           for it in ("enum", "type", "union")),
+        ("  b: pub struct Named { }\n- a: pub struct Named { a }\n", "Named", []),
+        ("  b: pub struct Named { a }\n", "Named", ["Named: two modules have a type of this name, which rows don't tell apart"]),
     ]:
         same((more, rows), places.without_rows(items + more, rows), wrong)
     same("no type", places.without_rows("", ""), [f"{it}: ROWLESS has it, and it has rows, or is no type" for it in ("Listed", "Too")])

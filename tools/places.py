@@ -4,7 +4,8 @@
 - a public `&mut self` method of a type with a history has no clause that says which call of the history it is, by `Makes` or
   a word of specs that is defined by it, or if a call of the history is in no clause;
 - a public call that requires something has no guard (guards.py, which proves that the guards are enough);
-- a public type of the Cargo crate is named by no file of rust/tests/rows, which makes calls of the rows,
+- a public type of the Cargo crate is named by no file of rust/tests/rows, which makes calls of the rows, or has the name
+  of another one, in another module,
 
 but for those that a list has with its reason, or if a list has what isn't so.
 """
@@ -58,11 +59,17 @@ def without_history(subject, history, specs, sources):
 
 def without_rows(items, rows):
     """A line for each public type that no file of the rows names, and for each of `ROWLESS` that isn't so."""
-    kind = r"^. ([\w:]*): (?:#\[.*?\] )*pub (?:struct|enum|trait|type|union) (\w+)"
-    types = {name for path, name in re.findall(kind, items, re.M)
-             if not path.startswith("exports")}
+    kind = r"^. ([\w:]*): (?:#\[.*?\] )*pub (?:struct|enum|trait|type|union) (\w+)(.*)"
+    places = {}
+    for path, name, text in re.findall(kind, items, re.M):
+        if not path.startswith("exports"):
+            places.setdefault(name, {}).setdefault(path, text)
+    types = set(places)
     named, listed = set(re.findall(r"\w+", rows)), {word for it in ROWLESS.values() for word in it.split()}
     wrong = [f"{it}: no file of rust/tests/rows names it, and ROWLESS has no reason" for it in types - named - listed]
+    # A type that two modules show has one text.
+    wrong += [f"{it}: two modules have a type of this name, which rows don't tell apart"
+              for it in types if len({*places[it].values()}) > 1]
     return sorted(wrong + [f"{it}: ROWLESS has it, and it has rows, or is no type" for it in listed - (types - named)])
 
 
