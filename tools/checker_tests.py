@@ -1201,6 +1201,9 @@ def gate():
             same(words, "not run: no nosuch" in lines, "lacks" in part)
         names = " ".join(row.split()[0] for row in STEPS.strip().split("\n"))
         same("no step", gated("good", "other"), (1, [f"run: no step other: there are {names}"]))
+        for words in ["--from", "part", "good"], ["--quick", "good"], ["--quick", "--from", "part"]:
+            ended, lines = gated(*words)
+            same(words, (ended, "not allowed with argument" in lines[-1]), (2, True))
         one, two = [pathlib.Path(gated("--list", place=it)[1][-1].split()[2].rstrip(":")) for it in "ab"]
         same("folders", (one == two, one.parent, one.is_dir()), (False, files / "tmp", True))
         same("clean", (gated("--clean"), one.exists()), ((0, []), False))
