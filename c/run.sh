@@ -22,6 +22,10 @@ fail() {
     exit 1
 }
 
+lacks() {
+    echo "run.sh: there is no $1 here: $2 tried" >&2
+}
+
 for program in "$compiler" nm ar; do
     command -v "$program" > /dev/null || { at="not run: there is no $program: apt-get install -y gcc libc6-dev"; exit 2; }
 done
@@ -79,6 +83,8 @@ if command -v doxygen > /dev/null; then
     printf 'INPUT = "%s"\nQUIET = YES\nGENERATE_LATEX = NO\nHAVE_DOT = NO\nOUTPUT_DIRECTORY = "%s"\n' \
         "$here/net_base.h" "$out/doxygen" | doxygen - > "$out/said" 2>&1
     ! grep . "$out/said" || fail "doxygen warns"
+else
+    lacks doxygen "the header's comments aren't"
 fi
 
 at="an example"
@@ -92,14 +98,14 @@ if command -v clang > /dev/null && clang $threads "$out/empty.c" -o "$out/empty"
     clang $threads $warnings -I "$here" "$here/programs/split.c" "$library" -o "$out/split"
     "$out/split" 10000000
 else
-    echo "run.sh: there is no clang with its thread sanitizer here: programs/split.c isn't tried" >&2
+    lacks "clang with its thread sanitizer" "programs/split.c isn't"
 fi
 if command -v "${CXX:-c++}" > /dev/null; then
     "${CXX:-c++}" -std=c++17 -O2 $warnings -Wold-style-cast $sanitizers -I "$here" "$here/programs/receiver.cpp" "$library" \
         -o "$out/receiver"
     "$out/receiver"
 else
-    echo "run.sh: there is no C++ compiler here: C++ isn't tried" >&2
+    lacks "C++ compiler" "C++ isn't"
 fi
 
 at="pkg-config"
@@ -114,6 +120,8 @@ if command -v pkg-config > /dev/null; then
     # It escapes a folder's spaces for the shell.
     eval '"$compiler" "$out/plain.o"' "$words" '-o "$out/plain"'
     "$out/plain"
+else
+    lacks pkg-config "net_base.pc isn't"
 fi
 
 at="duties.c"
@@ -157,6 +165,8 @@ if command -v cmake > /dev/null; then
             cmake --build "$out/$each/built" && "$out/$each/built/my" &&
             { [ $each = found ] || cmake --install "$out/user/built"; }; } > "$out/said" 2>&1 || { cat "$out/said"; exit 1; }
     done
+else
+    lacks CMake "CMakeLists.txt isn't"
 fi
 
 at="edges.c"
