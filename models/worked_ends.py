@@ -190,14 +190,25 @@ RECEIVING = [
      "acknowledgement: 7 33 1-3; arrived 90 4 1 0: 0 0|1 1; acknowledgement: 7 33; "
      "arrived 110 4 1 0: 4 0; arrived 108 3 1 0: 3 0; acknowledgement: 7 33 10-11 8-14; acknowledgement: 7 33 8-14; "
      "arrived 110 1 1 0: 1 0; arrived 107 0 0 1: 0 0|1 1 7 7 33 0 7 8 1; acknowledgement: 8 32"),
-    # The newest run is listed first, then those that were, at most four. Another stream knows none of them.
+    # An announcement that wasn't due has no list: what came twice waits for the next acknowledgement.
+    ([40, 1, 100, 8],
+     "open 100 0: 40; arrived 100 4 1 0: 4 4|0 1; acknowledgement: 4 36|0 0; arrived 102 4 1 0: 2 2|0 1; announce: 6 34|0 0; "
+     "acknowledgement: 6 34 2-4"),
+    # The newest run is listed first, then those that were, at most four: one that wasn't is as if it never had been. Another
+    # stream knows none of them.
     ([40, 32, 0, 4],
      "open 0 0: 40; arrived 2 1 0 0: 1 0; acknowledgement: 0 40 2-3; arrived 6 1 0 0: 1 0; acknowledgement: 0 40 6-7 2-3; "
      "arrived 4 1 0 0: 1 0; acknowledgement: 0 40 4-5 6-7 2-3; arrived 10 1 0 0: 1 0; acknowledgement: 0 40 10-11 4-5 6-7 2-3; "
      "arrived 8 1 0 0: 1 0; acknowledgement: 0 40 8-9 10-11 4-5 6-7; arrived 6 1 0 0: 1 0; "
      "acknowledgement: 0 40 6-7 6-7 8-9 10-11; arrived 0 2 0 0: 2 3; acknowledgement: 3 37 6-7 8-9 10-11 4-5; "
+     "arrived 12 1 0 0: 1 0; acknowledgement: 3 37 12-13 6-7 8-9 10-11; arrived 14 1 0 0: 1 0; "
+     "acknowledgement: 3 37 14-15 12-13 6-7 8-9; arrived 7 1 0 0: 1 0; acknowledgement: 3 37 6-9 14-15 12-13 4-5; "
      "arrived 0 1 0 0: 0 0; open 0 0: 40; arrived 2 1 0 0: 1 0; arrived 4 1 0 0: 1 0; arrived 6 1 0 0: 1 0; arrived 8 1 0 0: 1 0; "
      "acknowledgement: 0 40 8-9 2-3 4-5 6-7"),
+    # A segment of which nothing is kept tells of the newest run too.
+    ([40, 4, 0, 8],
+     "open 0 0: 40; arrived 2 1 0 0: 1 0; arrived 6 1 0 1: 1 0; acknowledgement: 0 40 6-7 2-3; arrived 2 1 0 1: other_end; "
+     "acknowledgement: 0 40 2-3 2-3 6-7"),
     # A forged end, and a forged byte beyond the true end, which comes in order, and is taken.
     ([40, 1, 0, 8],
      "open 0 0: 40; arrived 9 0 0 1: 0 0|1 1 0 0 40 0 9 0 0; acknowledgement: 0 40; arrived 6 1 9 0: 1 0; acknowledgement: 0 40 6-7; "
