@@ -10,8 +10,9 @@ is one. Any other operation has a cover:
 
     bound     on each way that runs it, a bound of its value is tested before the value is changed, and no way leaves before;
               or such a bound of the same expression was tested, and none of its variables is assigned in between.
-              The right side is `most()`, a length, a variable or a field that was there before, and no expression. A
-              bound of a sum is one of the sum in it, since it is proved of numbers of any size
+              The right side is a `usize`, or one as a `u64`: `most()`, a length, a variable or a field that was there before
+              and isn't changed since, and no expression. A bound of a sum is one of the sum in it, since it is proved of
+              numbers of any size
     end       it is the end of the range of a slice, or of `part`: the index is proved to be at most a length
     cut       a cast of the lesser of two numbers, one of which was a `usize`
     wrapped   the negative of a number: only `wrapping_add` is given it, whose value has a bound
@@ -94,7 +95,7 @@ class File:
         """The braces around a place, the innermost first, up to the body of its function."""
         around = sorted((o for o, c in self.close.items() if self.code[o] == '{' and o < at <= c), reverse=True)
         for k, brace in enumerate(around):
-            if re.search(r'\bfn\s+\w+[^{};]*$', self.code[:brace]):
+            if re.search(r'\bfn\s+\w+(?:[^][{};]|\[[^]{}]*\])*$', self.code[:brace]):
                 return around[:k + 1]
         return around
 
@@ -241,13 +242,14 @@ class Reader:
         return next((bound for bound in self.bounds(file) if bound[0] <= at < bound[1]), None)
 
     def bounds(self, file):
-        """The bounds of a file: where, the left side, and the right one."""
+        """The bounds of a file: where, the left side, with `:u64` if the right one is a `usize` as that, and the right one."""
         if not hasattr(file, 'bounds'):
             file.bounds = []
             for m in re.finditer(r'prove!\(((?:(?!prove!)[^;])*?),\s*' + re.escape(MARK) + r',?\s*\);', file.code):
                 sides = re.fullmatch(r'(.*?[^<])<=?([^<=].*)', plain(m[1]))
                 if sides and '&&' not in m[1] and '||' not in m[1]:
-                    file.bounds.append((m.start(), m.end(), sides[1], sides[2]))
+                    of_u64 = ':u64' * sides[2].endswith('asu64')
+                    file.bounds.append((m.start(), m.end(), sides[1] + of_u64, sides[2].removesuffix('asu64')))
         return file.bounds
 
     @staticmethod
@@ -282,13 +284,13 @@ class Reader:
             for a, b in file.statements(brace):
                 given = re.match(r'\s*let (\w+) = (.*) as u64;$', file.code[a:b], re.S)
                 if given and b <= start and lesser[1] == given[1] and any(a <= c and d == b - 1 for c, d in widened):
-                    return True
+                    return not self.changes(file.code[b:start], given[1])
         return False
 
     def is_bounded(self, file, start, end, text):
         """Whether on each way a bound of an expression's value follows it, or a bound of the expression precedes it."""
         cast = re.fullmatch(r'\(?([\w.-]+)\)?asusize', text)
-        own = {text, cast[1]} if cast else {text}
+        own = {text, f'{cast[1]}:u64'} if cast else {text}
         blocks = file.blocks(start)
         statement = next((a, b) for a, b in file.statements(blocks[0]) if a <= start < b)
         names = own | self.named(file, statement, start, end)
@@ -336,17 +338,22 @@ class Reader:
 
     def bounded_after(self, file, statements, names, start, end):
         """Whether a bound of one of the names follows the first statement, with nothing that leaves or assigns it in between."""
-        if self.leaves(file.code[end:statements[0][1]]):
+        (a, b), *after = statements
+        if self.leaves(file.code[end:b]):
             return False
-        for statement in statements[1:]:
+        # Gone are names that the rest of the statement changes, and expressions that what is before them in it changes.
+        names = {name for name in names if not self.changed(file.code[end:b], name) and (
+            re.fullmatch(r'[\w.]+', name) or not self.changed(file.code[a:start], name))}
+        changing = ''
+        for statement in after:
             code = file.code[slice(*statement)]
             if bound := self.bound_of(file, statement):
-                if bound[2] in names and self.is_there(file, bound[3], bound[2], start):
+                if bound[2] in names and self.is_there(file, bound[3], bound[2], start) and not self.changed(changing, bound[3]):
                     return True
             elif self.leaves(code):
                 return False
             else:
-                names = {name for name in names if not self.changed(code, name)}
+                names, changing = {name for name in names if not self.changed(code, name)}, changing + code
         return False
 
     def bounded_before(self, file, statements, names, start, text):
@@ -354,6 +361,10 @@ class Reader:
         *before, last = statements
         if self.is_nested(file, last[0], start) and self.changed(file.code[slice(*last)], text):
             return False
+        within = re.sub(r'^\s*(?:let (?:mut )?)?[\w.]+ [-+*/]?= ', '', file.code[last[0]:start])
+        for whole, *field in (path.split('.') for path in re.findall(PATH, text)):
+            if self.changes(within, whole) or field and re.search(rf'(?<![\w.]){whole}\s*[,)]', within):
+                return False
         for statement in reversed(before):
             if bound := self.bound_of(file, statement):
                 if bound[2] in names and self.is_there(file, bound[3], bound[2], start):
@@ -381,15 +392,15 @@ class Reader:
         name = re.escape(name)
         hides = HIDES.format(rf'(?<![.:])\b{whole}\b(?![(:])')
         assigned = rf'(?<![\w.]){name}(?:\.\w+)*\s*(?:[-+*/%&|^]|<<|>>)?=(?!=)'
-        if re.search(rf'{assigned}|&mut {whole}\b|{hides}', code):
+        in_pattern = rf'\([^()=;]*\b{name}\b[^()=;]*\)\s*=(?!=)|\bref mut\b'
+        if re.search(rf'{assigned}|{in_pattern}|&mut {whole}\b|{hides}', code):
             return True
-        return field and re.search(rf'(?<![\w.]){whole}(?:(?:\.\w+)*\.\w+\(|\s*[,)=]|\s*\[)', code)
+        return field and re.search(rf'(?<![\w.]){whole}(?:(?:\.\w+)*\.\w+\(|\s*[,)=;}}]|\s*\[)', code)
 
     def is_there(self, file, right, left, start):
         """Whether the right side of a bound is a number that was there before the operation."""
         if right == left:
             return False
-        right = right.removesuffix('asu64')
         if right == 'most()':
             return True
         path = re.fullmatch(rf'({PATH})(?:\.len\(\))?', right)
@@ -459,11 +470,13 @@ def laws(paths):
                 continue
             body = file.blocks(call.start())[-1]
             text, name = file.code[body:call.start()], re.escape(given.split('.')[0])
-            made = re.findall(rf'\blet (?:mut )?{name}\b(?:: \w+)? = ([^;]*);', text)
+            plainly = rf'\blet (?:mut )?{name}\b(?:: \w+)? = ([^;]*);'
+            made, other = re.findall(plainly, text), re.search(HIDES.format(rf'\b{name}\b'), re.sub(plainly, '', text))
             assigned = re.search(rf'(?<![\w.]){re.escape(given)}\s*(?:[-+*/]|<<)?=(?!=)', re.sub(r'\blet [^;]*;', '', text))
             is_plain = re.fullmatch(rf'{PATH}(?:\.(?:len|count)\(\))?', given)
             is_changed = assigned or re.search(rf'\blet mut {name}\b', text)
-            if not is_plain or is_changed or any(re.search(r'[-+*/]|<<|\bas\b|wrapping', value) for value in made):
+            computes = r'[-+*/]|<<|\bas\b|wrapping|saturating|\bpow\b|\bMAX\b|^\w+$'
+            if not is_plain or is_changed or other or any(re.search(computes, value) for value in made):
                 yield f'{path}:{file.code.count(chr(10), 0, call.start()) + 1}: is_usize({given})'
 
 

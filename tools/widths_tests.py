@@ -51,11 +51,11 @@ COVERED = {
         f'prove!(x <= a as u64{BOUND} x as usize', f'let c = x as usize; prove!(x <= a as u64{BOUND} c',
         f'prove!(b + read(xs) <= a{BOUND} b + read(xs)',
         f'prove!(a + b <= s.n{BOUND} while x > 3 {{ if x > 9 {{ take(a + b); }} }} 0',
-        f'prove!(a + b <= s.n{BOUND} s.n - (a + b)',
+        f'prove!(a + b <= s.n{BOUND} s.n - (a + b)', f'let mut c = a; prove!(c + b <= s.n{BOUND} c = c + b; c',
         f'let mut c = a; if x > 3 {{ c = a + b; }} else {{ take(a); }} prove!(c <= most(){BOUND} c',
         f'let mut c = 0; while x > 3 {{ c = a + b; prove!(c <= most(){BOUND} }} c',
         f'let c = a.wrapping_add(b); prove!(c <= most(){BOUND} c',
-        f'let d = "(["; // A note: )}}\n    let c = a + b; prove!(c <= most(){BOUND} c',
+        f'let d = ("([", \'(\'); // A note: )}}\n    let c = a + b; prove!(c <= most(){BOUND} c',
     ],
     'end': ['take(xs[a..a + b].len()); 0'],
     'cut': [
@@ -74,16 +74,18 @@ COVERED = {
 OPEN = [
     # A sum, a product, a shift, a cast, a negation and the like without a bound.
     'a + b', 'let c = a + b; c', 's.n += a; 0', 'a * b', 'a << 3', '1 << 33', '!a', 'x as usize',
-    'take(x as i64 as usize); 0', 'take(a as isize as usize); 0', 'a.saturating_mul(b)', 'a.saturating_add(b)',
+    *(f'x as {kind} as usize' for kind in ('i32', 'i64', 'u128', 'f64')), 's.n = !a; 0',
+    'take(a as isize as usize); 0', 'a.saturating_mul(b)', 'a.saturating_add(b)',
     'a.wrapping_mul(b)', 'a.wrapping_sub(b)', 'a.checked_add(b).unwrap_or(0)', 'a.overflowing_add(b).0', 'a.pow(2)',
     'a.next_power_of_two()', 'a.leading_zeros() as usize', 'a.to_be_bytes()[0] as usize',
     'usize::try_from(x).unwrap_or(0)', '[a, b].iter().sum::<usize>()', 'usize::MAX', 'usize::BITS as usize',
     'let c = usize::MAX - a; c', 'if (a as isize) < 0 { 1 } else { 2 }', '1 << 32', 'a.wrapping_sub(1)',
-    'xs.get(a.wrapping_sub(1) / 2).map_or(0, |c| 1)', 'xs.get(0 + a.wrapping_sub(1)).map_or(0, |c| 1)',
+    *(f'xs.get({index}); 0' for index in ('a.wrapping_sub(1) / 2', '0 | a.wrapping_sub(1)', 'a.wrapping_sub(b)')),
+    *(f'let c: isize = 3; take(({of} > 3) as usize); 0' for of in ('-c', 'c * c', 'isize::MAX')),
     # What isn't a form that is known, with a `usize` or an `isize` in its type.
     'std::ops::Mul::mul(a.min(2147483648), 2)', 'std::ops::Add::add(b, 4294967295)',
     '<usize as std::ops::Shl<u32>>::shl(a, 3)', 'let mut c = a; std::ops::AddAssign::add_assign(&mut c, b); c',
-    'isize::MAX.unsigned_abs()', 'isize::BITS as usize', 'std::mem::size_of::<usize>()',
+    'let mut c = a..; c.next(); c.start', 'isize::MAX.unsigned_abs()', 'isize::BITS as usize', 'std::mem::size_of::<usize>()',
     'std::mem::size_of::<&[u8]>()', 'let f = usize::saturating_mul; f(a, b)',
     'let f: fn(usize, usize) -> usize = std::ops::Add::add; f(a, b)',
     '[a, b].iter().copied().fold(0, std::ops::Add::add)', '(a..b).len() + 0', '(a..b).map(|c| c).last().unwrap_or(b)',
@@ -115,6 +117,14 @@ OPEN = [
     f'let mut c = 0; while x > 3 {{ c = a + b; if c > a {{ continue; }} prove!(c <= most(){BOUND} }} c',
     f'let mut c = a; prove!(c + b <= s.n{BOUND} let d = &mut c; *d = b; c + b',
     f'let mut c = a; prove!(c + b <= s.n{BOUND} c |= b; c + b', f'let c = a; prove!(c + b <= s.n{BOUND} let c = b; c + b',
+    *(f'let mut c = a; prove!(c + b <= s.n{BOUND} {block} c + b' for block in (
+        'match x { _ => c = b }', 'for _ in 0..3 { c = b; }', '{ c = b; }', 'unsafe { c = b; }', 'loop { c = b; break; }', 'c >>= 1;')),
+    f'prove!(b + read(xs) <= a{BOUND} xs[0] = 9; b + read(xs)', f'prove!(s.n + b <= a{BOUND} *s = S {{ n: a }}; s.n + b',
+    f'let mut c = a; prove!(c <= most(){BOUND} c = a + b; c', f'let mut c = 0; for _ in 0..3 {{ c = a + b; }} prove!(c <= most(){BOUND} c',
+    f'if x > 3 {{ take(a + b); return 0; }} prove!(a + b <= s.n{BOUND} 0',
+    'trait G { fn up(&mut self); } impl G for usize { fn up(&mut self) { *self = 9; } }'
+    f' take(0); prove!(s.n + b <= a{BOUND} s.n.up(); s.n + b',
+    f'xs.iter().for_each(|d| {{ let a = read(&[*d]); take(a + 1); }}); prove!(a + 1 <= b{BOUND} 0',
     f'prove!(s.n + b <= a{BOUND} let t = s; t.n = b; t.grow(); a + t.n',
     *(f'let c = a; prove!(c + b <= s.n{BOUND} {hides}' for hides in (
         'let (d, c) = (a, b); c + b', 'if let Some(c) = Some(b) { take(c + b); } 0', 'for c in 0..b { take(c + b); } 0',
@@ -124,18 +134,36 @@ OPEN = [
     f'let c = a + b; prove!(a <= most(){BOUND} c', f'let c = a + b; prove!(b <= c{BOUND} c',
     f'let c = a + b; prove!(c <= c{BOUND} c', f'let c = a + b; prove!(c <= a + b{BOUND} c',
     f'let c = a + b; prove!(c >= a{BOUND} c', f'let c = a + b; let d = c; prove!(c <= d{BOUND} c',
+    f'let c = a + b; let mut d = c; prove!(c <= d{BOUND} c', f'prove!(a + b - 1 <= s.n{BOUND} 0',
+    f'let c = a + {{ b }} ^ 7; prove!(c <= a{BOUND} c', f'let c = a; let f = |mut c: usize| c += 1; prove!(c <= a{BOUND} c',
     f'let c = (a + b) / 2; prove!(c <= a{BOUND} c', f'let c = if a < b {{ a + b }} else {{ b }} / 2; prove!(c <= a{BOUND} c',
     f'prove!(a * b <= s.n{BOUND} 0', f'prove!(a + b <= a + b{BOUND} 0', f'let c = a + b; prove!(c <= most() || x > 3{BOUND} c',
     'let c = a + b; prove!(c <= most(), "another text"); c', f'let c = x as usize; prove!(x <= x{BOUND} c',
     f'prove!(x <= a{BOUND} x as usize'.replace('x <= a', 'x <= (a as u64)'),
+    # What changes, or hides, a variable in an inner block, beside the operation, or by another form.
+    f'let mut c = a; if x > 3 {{ take(c + b); c = 0; }} prove!(c + b <= s.n{BOUND} 0',
+    f'if x > 3 {{ take(s.n + b); s.n = 0; }} prove!(s.n + b <= a{BOUND} 0', f'let mut c = a; c = (c + b) / 2; prove!(c + b <= s.n{BOUND} c',
+    f'if x > 3 {{ let a = b; take(a + b); }} prove!(a + b <= s.n{BOUND} 0', f'for a in 0..b {{ take(a + b); }} prove!(a + b <= s.n{BOUND} 0',
+    f'prove!(s.n + b <= a{BOUND} let d = (grow(s), s.n + b); d.1',
+    *(f'let mut c = a; prove!(c + b <= s.n{BOUND} {change} c + b' for change in (
+        "'l: while c < b { c = b; }", '(c, _) = (b, 0);', 'let ref mut d = c; *d = b;')),
+    f'let mut c = a; prove!(c + b <= s.n{BOUND} let d = ({{ c = b; 0 }}, c + b); d.1',
+    f'prove!(s.n + b <= a{BOUND} let t = &mut *s; t.n = b; s.n + b', f'prove!(s.n + b <= a{BOUND} let S {{ n }} = s; *n = b; s.n + b',
+    f'prove!(a + b <= s.n{BOUND} fn g(a: usize, b: usize, c: [u8; 2]) -> usize {{ a + b }} g(b, b, [0, 0])',
+    'let c = a as u64; let c = x; c.min(x) as usize',
+    # A bound that is given the value, or that is no `usize`.
+    f'let c = a + b; s.n = c; prove!(c <= s.n{BOUND} c', f'let c = a + b; let (d, e) = (c, 0); prove!(c <= d{BOUND} c',
+    f'let y = x; let c = x as usize; prove!(x <= y{BOUND} c', f'let y = x / 2; prove!(x <= y{BOUND} x as usize',
     # No turn of a `for`, and no lesser number.
     'for c in 0..b { take(c + 2); } 0', 'for mut c in 0..b { c = a; take(c + 1); } 0',
     'for c in 0..=b { take(c + 1); } 0', 'for c in 0..b { if let Some(c) = Some(a) { take(c + 1); } } 0',
     'for c in 0..b { let c = a; take(c + 1); } 0', 'for c in 0..b { match a { c => take(c + 1) } } 0',
     'for c in 0..b { take(Some(a).map_or(0, |c| c + 1)); } 0',
     'for c in [a].into_iter().chain(0..b) { take(c + 1); } 0', 'for c in 0..b { } let c = a; c + 1',
-    'a.saturating_mul(b).max(7)', 'a.saturating_mul(b).pow(2).min(7)', 'a.wrapping_mul(b).min(7)',
+    'a.saturating_mul(b).max(7)', 'a.saturating_mul(b).max(2).min(7)', 'a.wrapping_mul(b).min(7)',
     # An end of no slice, a cut of no `usize`, and a number that wraps and goes elsewhere.
+    'take(xs[a..a + b - 1].len()); 0', 'let c = a as u64; x.min(7) as usize', 'let mut c = a as u64; c = x; c.min(x) as usize',
+    'let c = (x + (a as u64)) as u64; c.min(x) as usize',
     'take((a..a + b).len()); 0', 'let c = [0..a + b]; c.len()', 'xs.swap(a, a + b); 0', 'take(xs.len().max(a + b)); 0',
     'let c = [(a..a + b).len()]; c[0]', 'x.min(7) as usize',
     '(x as u64).min(x) as usize', 'x.min(x as u64) as usize', 'let c = x as u64; c.min(x) as usize',
@@ -150,9 +178,12 @@ ITEMS = [
     ('pub const A: usize = 4_294_967_296; pub fn g() -> usize { A }', 1),
     (f'fn moved(by: usize, a: usize) -> usize {{ let c = by.wrapping_add(a); prove!(c <= most(){BOUND} c }}\n'
      'pub fn g(a: usize, b: usize) { take(moved(a.wrapping_neg(), b)); }', 0),
-    (f'fn moved(by: usize, a: usize) -> usize {{ let c = by.wrapping_add(a); prove!(c <= most(){BOUND} c }}\n'
-     'fn all(by: usize, a: usize) { take(moved(by, a)); }\npub fn g(a: usize, b: usize) { all(a.wrapping_neg(), b); }', 0),
+    (f'fn moved(a: usize, by: usize) -> usize {{ let c = by.wrapping_add(a); prove!(c <= most(){BOUND} c }}\n'
+     'fn all(by: usize, a: usize) { take(moved(usize::min(a, a), by)); }\npub fn g(a: usize, b: usize) { all(a.wrapping_neg(), b); }', 0),
     ('fn plus<T: std::ops::Add<Output = T>>(a: T, b: T) -> T { a + b }\npub fn g(a: usize, b: usize) -> usize { plus(a, b) }', 1),
+    ('fn g<T: std::ops::Shl<Output = T> + TryFrom<u64>>(a: T) -> Option<T> { Some(a << T::try_from(3).ok()?) }', 2),
+    ('impl S { fn part(&self, a: usize, b: usize) {} }\n'
+     'pub fn g(s: &S, a: usize, b: usize) { s.part(a, a + b); s.part(a, a + b - 1); }', 1),
     ('fn all<T: std::iter::Sum>(a: Vec<T>) -> T { a.into_iter().sum() }', 1),
     (f'pub fn g(a: usize, b: usize, c: Option<u8>) -> Option<usize> {{ let d = a + b; c?; prove!(d <= most(){BOUND} Some(d) }}', 1),
     ('pub mod inner {\n    pub const fn most() -> usize {\n        usize::MAX\n    }\n}', 1),
@@ -161,7 +192,9 @@ ITEMS = [
      'impl std::hash::Hash for A { fn hash<H: std::hash::Hasher>(&self, h: &mut H) { self.n.hash(h); } }', 1),
     ('#[derive(Hash)]\npub struct A { pub n: usize }', 0),
     (f'fn moved(to: usize, by: usize) -> usize {{ let c = by.wrapping_add(to); prove!(c <= most(){BOUND} c }}\n'
-     'fn other(by: usize, a: usize) { take(moved(a, by)); take(by); }\npub fn g(a: usize, b: usize) { other(a.wrapping_neg(), b); }', 1),
+     'fn other(by: usize, a: usize) { take(moved(a, by)); take(by); }\n'
+     'pub fn g(a: usize, b: usize) { other(a.wrapping_neg(), b); moved(b, a.wrapping_neg() / 2); }', 2),
+    ('fn moved(by: usize) -> bool { by.min(7) == 0 }\npub fn g(a: usize) -> bool { moved(a.wrapping_neg()) }', 1),
     ('fn moved(by: usize) -> bool { by == 0 }\npub fn g(a: usize) -> bool { moved(a.wrapping_neg()) }', 1),
 ]
 
@@ -187,10 +220,14 @@ LAWFUL = [
 UNLAWFUL = [
     'fn f() { is_usize(4_294_967_296); }', 'fn f(a: usize) { is_usize(a + 1); }',
     'fn f(a: usize) { let c = a + 1; is_usize(c); }', 'fn f(a: u64) { is_usize(a as usize); }',
-    'fn f(a: u64) { let c = a as usize; is_usize(c); }', 'fn f(a: usize) { let mut c = a; c += 1; is_usize(c); }',
+    'fn f(a: u64) { let c: usize = a as usize; is_usize(c); }', 'fn f(a: usize) { let mut c = a; c += 1; is_usize(c); }',
     'fn f(mut a: usize) { a += 1; is_usize(a); }', 'fn f(&mut self) { self.n += 1; is_usize(self.n); }',
     'fn f(a: usize) { is_usize(a.wrapping_add(1)); }', 'fn f(a: usize) { is_usize(a); is_usize(a + 1); }',
     'fn f(a: usize) { let c = a.wrapping_add(1); is_usize(c); }', 'fn f() { is_usize(4_294_967_296usize); }',
+    *(f'fn f(a: usize) {{ {given} is_usize(c); }}' for given in (
+        'let (c, d) = (a + 1, 0);', 'let d = a + 1; let c = d;', 'let c = a.saturating_add(b);', 'let c = a.pow(b);', 'let c = usize::MAX;',
+        'let c = 5_000_000_000;', 'for c in 0..a + 1 {}')),
+    'fn f(a: usize) { is_usize(a.next_power_of_two()); }', 'fn f(a: usize) { let mut c = a; change(&mut c); is_usize(c); }',
 ]
 
 
