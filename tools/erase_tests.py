@@ -5,6 +5,7 @@ import contextlib
 import io
 import pathlib
 import re
+import runpy
 import sys
 import tempfile
 
@@ -22,13 +23,14 @@ def of(text, crate='net_tcp', omitted=(), file='crates/net_tcp/src/a.rt', **sett
     first, rest = erased.split('\n', 1)
     assert f'{first}\n' == erase.HEADER.format(file), erased
     names = erase.PRELUDE[bool(settings.get('by_hand'))]
-    assert (PRELUDE in rest) == any(word in erase.words(rest) for word in names), text
+    begins = re.match(rf'(?://!.*\n)*\n?{re.escape(PRELUDE)}', rest)
+    assert bool(begins) == any(word in erase.words(rest) for word in names), text
     return rest.replace(PRELUDE, '', 1)
 
 
 # Pairs: a text, and what it becomes.
 GIVEN = [
-    ('pub fn f(x: u8) -> u8\n    // A.\n    requires { x < 3 }\n    // B.\n    // C.\n    ensures a { result ≡ x }\n{\n    prove!(x < 3);\n    x\n}\n',
+    ('pub fn f(x: u8) -> u8\n    // A.\n    requires { x < 3 }\n    // B.\n    // C.\n    ensures a { AHead x }\n{\n    prove!(x < 3);\n    x\n}\n',
      'pub fn f(x: u8) -> u8 {\n    prove!(x < 3);\n    x\n}\n'),
     # Quotes in logic are none of Rust's.
     ("/// D.\n#[inline]\npub fn f<'a>(x: &'a [u8; 3]) -> char\n    ensures { x' ≡ y }\n{\n    '}'\n}\n",
@@ -45,26 +47,26 @@ GIVEN = [
      'use crate::proved::net_ring::A;\n\n/// B.\nfn f() -> A {\n    A // B\n}\n'),
     ('fn f() {\n    std::mem::swap(a, net_ring::b());\n    Self::c(a.crate_, b::std::c, a.std::<T>());\n}\n',
      'fn f() {\n    crate::rattle::std::mem::swap(a, crate::proved::net_ring::b());\n    Self::c(a.crate_, b::std::c, a.std::<T>());\n}\n'),
-    ('/// ```rust\n/// f();\n/// ```\nfn f() {}\n', '/// ```text\n/// f();\n/// ```\nfn f() {}\n'),
-    ('/// [`f`](crate::a::f), [`g`](net_ring::g).\nfn f() {}\n',
-     '/// [`f`](crate::proved::net_tcp::a::f), [`g`](crate::proved::net_ring::g).\nfn f() {}\n'),
+    ('/// ```rust\n/// f();\n/// ```\n/// ```rust,b\nfn f() {}\n', '/// ```text\n/// f();\n/// ```\n/// ```rust,b\nfn f() {}\n'),
+    ('/// [`f`](crate::a::f), [`g`](net_ring::g), [h](net_ring.md).\nfn f() {}\n',
+     '/// [`f`](crate::proved::net_tcp::a::f), [`g`](crate::proved::net_ring::g), [h](net_ring.md).\nfn f() {}\n'),
     # Ghost fields, items and members; bounds and derives that all types of Rust meet; other traits of these names.
     ('#[derive(Debug, Drop)]\nstruct A<H: Drop, G: Drop + Copy> {\n    ghost fits: { x },\n    a: H,\n}\n',
      '#[derive(Debug)]\nstruct A<H: Sized, G: Sized + Copy> {\n    a: H,\n}\n'),
     ('#[derive(Drop)]\nstruct A;\n', 'struct A;\n'),
     ('struct A;\n\n/// M.\nimpl<T: Model> Model for A<T> {\n    ghost use x.y;\n    ghost Value = { ℕ };\n}\n\nfn f() {}\n',
      'struct A;\n\nfn f() {}\n'),
-    ('trait T {\n    /// X.\n    ghost x: { A } = { b };\n\n    ghost y: { C };\n\n    fn f(&self) -> [u8; 3]\n        ensures { ⊤ };\n}\n',
-     'trait T {\n    fn f(&self) -> [u8; 3];\n}\n'),
+    ('trait T {\n    /// X.\n    ghost x: { A } = { b };\n\n    ghost y: { C };\n\n    fn f(&self, x: A<{}>) -> [u8; 3]\n        ensures { ⊤ };\n}\n',
+     'trait T {\n    fn f(&self, x: A<{}>) -> [u8; 3];\n}\n'),
     ('struct A;\n\n/// By hand.\nimpl<T: Drop> Drop for A<T> {\n    fn drop(self) {\n        let A { a, b: _ } = self;\n        drop(a);\n    }\n}\n\nfn f() {}\n',
      'struct A;\n\nfn f() {}\n'),
     # What a public function requires, and tests.
     ('/// A.\n///\n/// # Requires\n///\n/// The sum of `x` and 1 fits, as\n/// `fits` tests.\n///\n/// B.\n#[track_caller]\npub fn f() {}\n',
      '/// A.\n///\n/// # Panics\n///\n/// Panics unless the sum of `x` and 1 fits, as `fits` tests.\n///\n/// B.\n#[track_caller]\npub fn f() {}\n'),
-    ('/// # Requires\n///\n/// RTO is 1.\n#[track_caller]\npub fn f() {}\n',
-     '/// # Panics\n///\n/// Panics unless RTO is 1.\n#[track_caller]\npub fn f() {}\n'),
-    ('/// # Requires\n///\n/// `x` is 1.\n#[track_caller]\npub fn f() {}\n\n/// # Requires\n///\n/// A.\npub fn g() {}\n',
-     '/// # Panics\n///\n/// Panics unless `x` is 1.\n#[track_caller]\npub fn f() {}\n\n/// # Requires\n///\n/// A.\npub fn g() {}\n'),
+    ('/// # Requires\n///\n/// RTO is 10000' + ' ab-cd' * 12 + '.\n#[track_caller]\npub fn f() {}\n',
+     '/// # Panics\n///\n/// Panics unless RTO is 10000' + ' ab-cd' * 11 + '\n/// ab-cd.\n#[track_caller]\npub fn f() {}\n'),
+    ('/// # Requires\n///\n/// A `x` is 1.\n#[track_caller]\npub fn f() {}\n\n/// # Requires\n///\n/// A.\npub fn g() {}\n',
+     '/// # Panics\n///\n/// Panics unless a `x` is 1.\n#[track_caller]\npub fn f() {}\n\n/// # Requires\n///\n/// A.\npub fn g() {}\n'),
     # A path after a range, and in a macro's definition.
     ('fn f() {\n    0..crate::a::B;\n    0..=crate::a::B;\n    $crate::c\n}\n',
      'fn f() {\n    0..crate::proved::net_tcp::a::B;\n    0..=crate::proved::net_tcp::a::B;\n    $crate::proved::net_tcp::c\n}\n'),
@@ -75,14 +77,14 @@ GIVEN = [
     ('use net_ring::{a::{B, C}, D};\n\nfn f(b: B) {}\n', 'use crate::proved::net_ring::{a::{B, }, };\n\nfn f(b: B) {}\n'),
     ('trait T {\n    fn f(x: impl A);\n}\n\nimpl Drop for B {\n    fn drop(self) {}\n}\n', 'trait T {\n    fn f(x: impl A);\n}\n'),
     # A text in quotes, and a comment, is no bound, and no contract.
-    ('fn f() {\n    // a: Drop + b\n    g("x: Drop + y, ghost { requires {", Drop);\n    // ghost use\n}\n',
-     'fn f() {\n    // a: Drop + b\n    g("x: Drop + y, ghost { requires {", Sized);\n    // ghost use\n}\n'),
+    ('fn f() {\n    // Vec: Drop + b\n    g("x: Drop + y, ghost { requires {", Drop);\n    // ghost use\n}\n',
+     'fn f() {\n    // Vec: Drop + b\n    g("x: Drop + y, ghost { requires {", Sized);\n    // ghost use\n}\n'),
     # Attributes.
     ('#[repr(C)]\n#[must_use]\n#[inline(always)]\n#[cfg(b)]\n#[non_exhaustive]\n#[track_caller]\nstruct A;\n',
      '#[repr(C)]\n#[must_use]\n#[inline(always)]\n#[cfg(b)]\n#[non_exhaustive]\n#[track_caller]\nstruct A;\n'),
     ('#![tactic(auto)]\n#[tactic(auto, using(a::b))]\nfn f() {}\n', 'fn f() {}\n'),
-    ('#[derive(Debug, Error)]\n#[error("no room")]\npub struct A;\n',
-     '#[derive(Debug)]\npub struct A;\n\ncrate::rattle::error_text!(A, A => "no room");\n'),
+    ('#[error("no room")]\n/// D.\n#[derive(Debug, Error)]\npub struct A;\n',
+     '/// D.\n#[derive(Debug)]\npub struct A;\n\ncrate::rattle::error_text!(A, A => "no room");\n'),
     ('#[derive(Error)]\npub enum A {\n    #[error("b {0}")]\n    B(u64),\n    #[error("c")]\n    C,\n}\n',
      'pub enum A {\n    B(u64),\n    C,\n}\n\ncrate::rattle::error_text!(A, A::B(field) => "b {0}" (field), A::C => "c");\n'),
     ('#[error("z")]\npub struct Z;\n\n#[derive(Error)]\npub enum A {\n    /// B.\n    #[error("b")]\n    B,\n    #[error("c")]\n    C,\n}\n',
@@ -91,23 +93,24 @@ GIVEN = [
     # A head stays inside, but for its own calls.
     ('impl A {\n    pub fn place(&self) -> AHead {\n        self.a\n    }\n}\n',
      'impl A {\n    pub(crate) fn place(&self) -> AHead {\n        self.a\n    }\n}\n'),
-    ('impl A {\n    pub fn place(&self) -> AParts<N> {\n        self.a\n    }\n}\n',
-     'impl A {\n    pub(crate) fn place(&self) -> AParts<N> {\n        self.a\n    }\n}\n'),
-    ('impl AHead {\n    pub fn new() -> AHead {\n        A\n    }\n}\n', 'impl AHead {\n    pub fn new() -> AHead {\n        A\n    }\n}\n'),
+    ('impl A {\n    /// # Requires\n    ///\n    /// A.\n    #[track_caller]\n    pub fn place(&self) -> AParts<N> {\n        a\n    }\n}\n',
+     'impl A {\n    /// # Requires\n    ///\n    /// A.\n    #[track_caller]\n    pub(crate) fn place(&self) -> AParts<N> {\n        a\n    }\n}\n'),
+    ('impl A {}\n\nimpl AHead {\n    pub fn new() -> AHead {\n        A\n    }\n}\n',
+     'impl A {}\n\nimpl AHead {\n    pub fn new() -> AHead {\n        A\n    }\n}\n'),
 ]
 
 # What looks like a law, or like a bound, and runs: it stays.
 STAYS = [
-    'fn f(x: usize) -> usize {\n    prove!(bump(&mut x) <= 1000, "at most 1,000");\n    x\n}\n',
+    '/// D.\nfn f(x: usize) -> usize {\n    prove!(bump(&mut x) <= 1000, "at most 1,000");\n    x\n}\n',
     'fn f(x: usize) -> usize {\n    laws::raise(&mut x);\n    x\n}\n',
     'impl Settles for A {\n    fn settle(&mut self) {}\n}\n',
     'pub fn law() {}\npub mod laws;\nuse laws::b;\n\nfn f() {\n    b();\n}\n',
     'fn f() {\n    if a {\n        g();\n    } else {\n        put_header(&mut self.slots, at, size, header);\n    }\n}\n',
-    'impl PartialEq for A {}\nimpl Default for A {\n    fn default() -> A {\n        A\n    }\n}\n',
-    'fn f() {\n    g(E::Drop);\n}\n',
+    'impl PartialEq for A {}\nimpl OnDrop for A {}\nimpl Default for A {\n    fn default() -> A {\n        A\n    }\n}\n',
+    'pub extern "C" fn f<T: Clone>() {\n    g(E::Drop);\n}\n', '/// # Requires\n///\n/// A.\n#[track_caller]\nfn f() {}\n',
     'const _: () = prove!(size_of::<A>() == 0);\n',
     'impl A {\n    pub fn f(&self) -> Header {\n        self.a\n    }\n}\n',
-    'fn f() {\n    g("\\" ghost x", "{");\n}\n', 'fn f() {\n    matches!(a, \'\\\'\'|\'"\') && b("ghost x");\n}\n',
+    'fn f<\'aghost>() {\n    g("\\" ghost x", "{");\n}\n', 'fn f() {\n    matches!(a, \'\\u{7d}\'|\'\\x7d\'|\'\\\'\'|\'"\') && b("ghost x");\n}\n',
 ]
 
 # Pairs that differ in one thing, which Rust has otherwise than Rattle: the first is refused, with a part of what is said, and
@@ -115,12 +118,12 @@ STAYS = [
 UNLIKE = [
     *(('more than a bound', f'fn f() {{ prove!({bad} <= b, "in any `usize`"); }}', f'fn f() {{ prove!({right}, "in any `usize`"); }}')
       for bad, right in (('{ a = 2; a }', 'a <= b'), ('bump(&mut x)', 'a + c <= s.len()'), ('s.grow()', 'a <= s.n'), ('take(&mut a)', '(a + c) as u64 <= most() as u64'),
-                         ('of!(a)', 'a == b'), ('(a += 1, a).1', 'a.n + 1 <= b'), ('len(&mut a)', 'a'), ('_bump(a)', 'a'), ('lend(a)', 'a'),
-                         ('(a\n +=\n1, a).1', 'a'))),
+                         ('of!(a)', 'a == b'), ('(a += 1, a).1', 'a.n + 1 <= b'), ('len(&mut a)', 'mute'), ('_bump(a)', 'a != b'),
+                         ('lend(a)', 'a >= b'), ('(a\n +=\n1, a).1', 'a'))),
     ('from an element', 'fn f() { S { a: 1, ..v[i] } }', 'fn f() { S { a: 1, ..w } }'),
     ('from an element', 'fn f() { S { ..self.v[i] } }', 'fn f() { let S { a, .. } = v[i]; f(&v[..i], &v[1..]) }'),
-    ('from an element', 'fn f() { S { a: 1, ..(v[i].b) } }', 'fn f() { let [a, .., b] = v[i]; }'),
-    ('from an element', 'fn f() { S { a: 1, ..g(v)[i] } }', 'fn f() { S { a: 1, ..g(v) } }'),
+    ('from an element', 'fn f() { S { a: 1, ..(v[i].b) } }', 'fn f() { let [a, .., b] = v[i]; g(a, ..b); v[i] }'),
+    ('from an element', 'fn f() { S { a: 1, ..*g(v)[i] } }', 'fn f() { S { a: 1, ..g(v) } }'),
     ('all names', 'use a::*;', 'use a::{b, c};'),
     ('all names', 'use a::{b::*, c};', 'use a::{b::{d}, c};'),
 ]
@@ -143,11 +146,10 @@ REFUSED = {
         '#[decreases(x)] fn f() {}', '#[derive_where(Debug)] struct A;', '#![feature(x)]',
         '#[unsafe(no_mangle)] fn f() {}',
     ],
-    'does not read': ['fn f() {\n  /* a */ }', 'fn f() { r"a"; }', 'fn f() { br#"a"#; }', 'fn f() { c"a"; }'],
-    'not a text': ['#[error("a {1}")] struct A;'],
+    'does not read': ['fn f() {\n  /* a */ }', 'fn f() { r"a"; }', 'fn f() { br##"a"##; }', 'fn f() { c"a"; }'],
+    'not a text': ['#[error("a {1}")] struct A;', '#[error("a\\n")] struct A;'],
     'no sentence': [
-        '/// # Requires\n///\n/// - A.\n#[track_caller]\npub fn f() {}\n',
-        '/// # Requires\n///\n/// | A |\n#[track_caller]\npub fn f() {}\n',
+        *(f'/// # Requires\n///\n/// {sign} A.\n#[track_caller]\npub fn f() {{}}\n' for sign in '-*|#'),
         '/// # Requires\n/// A.\n#[track_caller]\npub fn f() {}\n',
     ],
     'by another name': ['use crate::a::{b as c, d};\nfn f() { d() }'],
@@ -159,7 +161,7 @@ RETURNS = ''.join(f'    /// D.\n    pub fn {head} ensures {{ result ≡ {value} 
     ('room(&self) -> usize', 'self.now.room'), ('at(x: u8, y: u8) -> A', 'place x y'), ('lends(&self) -> &[u8]', 'self.now.edge'),
     ('more(&self, x: u8) -> u8', 'self.now.edge + x'), ('of(&self, x: u8) -> u8', 'g x x self.now'),
     ('take_one(&mut self) -> usize', 'length self.new.rest'), ('kept(&self, x: u8) -> u8', 'self.now.edge'), ('sum(&self) -> u8', 'self.now.a + 1'),
-    ('pair(&self) -> A', 'self.now.pair'), ('inner(&self) -> A', 'self.now.pair.inner'),
+    ('pair(&self) -> A', 'self.now.pair'), ('inner(&self) -> A', 'self.now.pair.inner'), ('deep(&self) -> A', 'self.now.inner'),
 ))
 
 # A clause that is marked, and what is said of it; and clauses that can't be said.
@@ -170,30 +172,30 @@ SAID = [
     ('length (queue self.new) + 1 ≡ length (queue self.old)', '`self.len() + 1 == old(self).len()`'),
     ('place n (f self.new) ≡ place n m', '`place(n, self.f) == place(n, m)`'),
     ('self.new.a + 1 ≡ self.new.edge', '`self.a + 1 == self.edge`'),
-    ('length self.new.rest ≡ x', '`self.rest.len() == x`'), ('self.new.pair.inner ≡ x', '`self.inner() == x`'),
+    ('length self.new.rest ≡ myself.room', '`self.rest.len() == myself.room`'), ('self.new.pair.inner ≡ x', '`self.inner() == x`'),
     ('a * b / c * d ≡ x', '`a * b / c * d == x`'), ('a / (b / c) ≡ x', '`a / (b / c) == x`'),
-    ('«data».new ≡ drop self.old.rooms data.old', '`data == old(data)[old(self).rooms..]`'),
+    ('«data».new ≡ drop self.old.rooms data.old ++ data.old.lens', '`data == old(data)[old(self).rooms..] ++ old(data).lens`'),
     ('self.old.edge + a + g b b self.old ≢ 2 ^ (n + 1)', '`old(self).edge + a + g(b, b, old(self)) != 2^(n + 1)`'),
     ('a - b - (c - d * (e + f)) ≤ x', '`a.saturating_sub(b).saturating_sub(c.saturating_sub(d * (e + f))) <= x`'),
     ('(a + b - c) * (d / (e / 1_000) * f) ≤ max a (b + c)', '`(a + b).saturating_sub(c) * (d / (e / 1_000) * f) <= max(a, b + c)`'),
     ('(a ^ b) ^ (c ^ d) < e', '`(a^b)^(c^d) < e`'),
     ('x ∷ y ∷ [] ≡ x ∷ xs', '`[x] ++ [y] == [x] ++ xs`'),
     ('(x ++ y) ++ z ≡ x ++ y ++ z', '`(x ++ y) ++ z == x ++ y ++ z`'),
-    ('take n (drop m (xs ++ ys)) ≡ []', '`(xs ++ ys)[m..][..n] == []`'),
-    ('OnErr result (self.new ≡ self.old)', 'on `Err`: `self == old(self)`'),
-    ('OnOk result ((f self.new ≡ 1) × (g 2 3 ≡ self.new.receiver.end))', 'on `Ok`: `self.f == 1` and `g(2, 3) == self.end`'),
+    ('take n (drop m (xs ++ ys)) ≡ take (length (x ++ [])) (xs ++ ys)', '`(xs ++ ys)[m..][..n] == (xs ++ ys)[..(x ++ []).len()]`'),
+    ('OnErr result (self.new ≡ self.old)', 'on `Err`: `self == old(self)`'), ('OnErr result a', 'on `Err`: `a`'),
+    ('OnOk result ((f self.new ≡ 1) × (g 2 self.new.sender.x ≡ self.new.receiver.end))', 'on `Ok`: `self.f == 1` and `g(2, self.x) == self.end`'),
     ('IfOk result (λ r. a ≡ (r.0, r.1.now) ∷ [])', 'on `Ok(r)`: `a == [(r.0, r.1)]`'),
     ('IfSome result (λ r. r < 3 → IsOk x)', 'on `Some(r)`: if `r < 3`, then `x.is_ok()`'),
     ('IsTrue result ↔ ((a < b) × (b ≤ c) × (P a b))', '`result` exactly if `a < b` and `b <= c` and `P(a, b)`'),
     ('IsErr result ↔ ((a < b) ⊎ (b ≡ c))', '`result.is_err()` exactly if `a < b` or `b == c`'),
     ('a < b → (b < c) × (c < d) → IsFalse result', 'if `a < b` and `b < c` and `c < d`, then `!result`'),
-    ('a ⊎ b → c', 'if `a` or `b`, then `c`'),
+    ('a ⊎ b → c', 'if `a` or `b`, then `c`'), ('IsFalse (a < b) → IsOk (a + b)', 'if `!(a < b)`, then `(a + b).is_ok()`'),
     ('a < b → b < c ⊎ c < d', 'if `a < b`, then `b < c` or `c < d`'),
     ('(f g : ℕ) (x : List ℕ) → f ≤ g → result ≡ Some x', 'for each `f`, `g`, `x`: if `f <= g`, then `result == Some(x)`'),
 ]
 UNSAID = [
-    'if a then b else c', 'let x = y in x', '(a → ⊥) → b', 'a → b ↔ c', 'x ↔ (y → z)', 'a ≡ (b × c)', 'x × (y → z)', 'x ⊎ (y → z)', 'a ↔ b ↔ c',
-    '((a ≡ b) × (b ≡ c)) ⊎ (c ≡ d)', '(a ≡ b) ⊎ ((b ≡ c) × (c ≡ d))', 'a ≡ b ≡ c', 'S.elements x ≡ y', 'x ≡ E.First', 'a <ℤ b',
+    'if a then b else c', 'let x = y in x', '(a → c) → b', 'a → b ↔ c', 'x ↔ (y → z)', 'a ≡ (b × c)', 'x × (y → z)', 'x ⊎ (y → z)', 'a ↔ b ↔ c',
+    '((a ≡ b) × (b ≡ c)) ⊎ (c ≡ d)', '(a ≡ b) ⊎ ((b ≡ c) × (c ≡ d))', 'a ≡ b ≡ c', '(a ≡ b) ≡ c', 'S.elements x ≡ y', 'x ≡ E.First', 'a <ℤ b',
     'IfOk x (λ r. a)', 'All (λ r. r) xs', 'a ≡', 'a b ,', 'take n', 'length a b', 'x.0.old ≡ y', '(k : ℕ) × (k ≡ 1)', 'OnErr result (a) ≡ b', '[a] ≡ b',
     'b ≡ record a', 'x.f y ≡ 1', 'OnErr result', 'f (OnErr result (a)) ≡ b', 'λ x. y',
 ]
@@ -255,7 +257,7 @@ def replacements():
                 assert f'{count} times, and not {other}' in refusal(lambda: erase.replaced(name, texts[name])), name
     given.REPLACED, found = [*kept, ('pub struct', 'struct', {file: 3}), ('a', 'b', {'net_ring/none': 1})], []
     erase.erased(found)
-    assert len(found) == 2 and '2 times, and not 3' in found[0] and 'no such file' in found[1], found
+    assert len(found) == 2 and 'net_ring/src/error.rt: 2 times, and not 3' in found[0] and 'no such file' in found[1], found
     given.REPLACED = kept
 
 
@@ -314,7 +316,9 @@ def exact_sizes():
     assert erase.inexact(rust, rattle(exact, exact)) == [] and erase.inexact(rust, '') == ['A', 'B']
     next_of = '    fn next(&mut self) -> Option<u8>\n' + exact + '    {\n        None\n    }\n}\n'
     assert erase.inexact(rust, rattle('', exact).replace('}\n}\n', '}\n' + next_of, 1)) == ['A']
-    assert erase.inexact(rust, rattle('', exact)) == ['A'] and erase.inexact(rust, rattle(exact, exact.replace('≡', '≤'))) == ['B']
+    assert erase.inexact(rust, rattle('', exact)) == ['A']
+    for other in ('result ≤', 'result.1 ≡'):
+        assert erase.inexact(rust, rattle(exact, exact.replace('result ≡', other))) == ['B']
 
 
 def statuses():
@@ -324,7 +328,7 @@ def statuses():
         erase.OUT = erase.EXAMPLE = pathlib.Path(folder)
         one, two = erase.OUT / 'a/one.rs', erase.OUT / 'two.rs'
         erase.erased = lambda said: {one: 'fn a() {}\n', two: 'fn b() {}\n'}
-        assert erase.main(['--check']) and not one.exists()
+        assert erase.main(['--check']) and told.getvalue().count('is not as') == 2 and not one.exists()
         assert not erase.main([]) and one.read_text() == 'fn a() {}\n'
         assert not erase.main(['--check'])
         for change in (lambda: two.write_text('fn c() {}\n'), two.unlink, lambda: (erase.OUT / 'three.rs').write_text(''),
@@ -340,6 +344,13 @@ def statuses():
         erase.erased = lambda said: said.append('refused') or {one: 'fn d() {}\n'}
         assert erase.main([]) and erase.main(['--check']) and one.read_text() == 'fn a() {}\n'
     erase.OUT, erase.EXAMPLE, erase.erased = kept
+    kept, erase.given.CRATES, sys.argv[1:] = erase.given.CRATES, [], ['--check']
+    with contextlib.redirect_stderr(io.StringIO()):
+        try:
+            assert not runpy.run_path(erase.__file__, run_name='__main__'), 'a status of 0'
+        except SystemExit as ended:
+            assert ended.code == 1
+    erase.given.CRATES = kept
 
 
 def guarantees():
@@ -357,11 +368,13 @@ def guarantees():
         assert of(text).replace(section, '') == of(text.replace(f'        {mark}\n', ''))
     assert of(asked(mark, one, one, mark, one, mark, one)).count('/// - `a == b`') == 3
     for clause in (*(f'ensures {{ {clause} }}' for clause in UNSAID), 'ensures* { a ≡ b }', 'requires { 1 ≤ N }'):
-        assert "can't be said" in said(asked(mark, clause)), (clause, said(asked(mark, clause)))
+        assert "can't be said: fn put" in said(asked(mark, clause)), (clause, said(asked(mark, clause)))
     assert 'more than 3' in said(asked(*[mark, one] * 4)) and 'no documentation' in said(asked(mark, one, function='pub fn f()'))
+    other = asked(mark, 'ensures { self.now.room ≡ x }').replace(RETURNS, '').replace('impl A', 'impl B')
+    assert '- `self.room == x`' in of(asked() + other)
     of_head = f'impl AHead {{\n    pub fn f()\n    {mark}\n    {one}\n    {{\n        g()\n    }}\n}}\n'
     for text in (asked(mark, one, function='fn put()'), of_head, f'{mark}\nfn f() {{}}\n', f'fn f() {{\n    {mark}\n}}\n', asked(one, mark)):
-        assert 'a mark of no clause' in said(text), (text, said(text))
+        assert f'a mark of no clause that is shown: {mark}' in said(text), (text, said(text))
     types = '/// A.\n#[repr(C)]\npub struct A {\n    a: u8,\n}\n\n/// B.\nstruct B;\n\n'
     contract = 'impl A {\n    pub fn f()\n        ensures { ⊤ }\n    {\n        g()\n    }\n}\n'
     assert erase.Eraser(types + contract, 'net_tcp', (), 'a.rt').run().count('Contracts: `a.rt`.') == 1
@@ -379,7 +392,7 @@ def main():
     refused = [(part, text) for part, texts in REFUSED.items() for text in texts]
     for part, text in refused:
         assert part in said(text), (text, part, said(text))
-    assert all(said(f'fn f() {{\n    g();\n    {word}\n}}\n').startswith('3: ') for word in ('/* a */', 'ghost { a }'))
+    assert all(re.fullmatch('3: .*', said(f'fn f() {{\n    g();\n    {word}\n}}\n')) for word in ('/* a */', 'ghost { a }'))
     for part, text, right in UNLIKE:
         assert part in said(text), (text, part, said(text))
         of(right)
@@ -392,6 +405,10 @@ def main():
     for other in ('D as _', 'D as E'):
         assert of(f'use crate::b::{other};\n', traits={'D'}) == f'use crate::proved::net_tcp::b::{other};\n'
     assert of('use crate::b::f as e;\n', traits={'D'}) == '\n'
+    kept, erase.sources = erase.sources, lambda crates=(): [('net_tcp', pathlib.Path(f'{name}.rt'), text) for name, text in (
+        ('a', 'use crate::b::D;\n'), ('b', 'pub(crate) trait D {}\n'))]
+    assert 'b::D' in erase.erased([])[erase.OUT / 'net_tcp/a.rs']
+    erase.sources = kept
     # The program: some crates are modules of what is by hand, and its prelude has other names.
     paths = 'use crate::a::B;\nuse net_ring::C;\nuse hex::{D, E};\nuse std::mem;\n\nfn f(b: B, c: C) -> D {\n    b.is_sound()\n}\n'
     assert of(paths, crate='net_bench_lib', by_hand=erase.given.BY_HAND) == paths.replace('use crate', 'use crate::proved::net_bench_lib') \
