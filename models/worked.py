@@ -340,7 +340,7 @@ TIMES = [
         ("checked_div", [53, 0], "none"), ("checked_div", [LONGEST, 2], f"{LONGEST // 2} "),
         ("checked_div", [1 << 32, 4_294_967_295], "1 "), ("checked_div", [(1 << 32) + 2, 4_294_967_295], "1 ")]),
     ("Duration", moments.SHIFTS, [
-        ("shl", [LONGEST, 1], "18446744073709551614 "), ("shr", [LONGEST, 63], "1 "),
+        ("shl", [LONGEST, 1], "18446744073709551614 "), ("shr", [LONGEST, 63], "1 "), ("shl", [1, 64], "none"), ("shr", [1, 64], "none"),
         ("shl_assign", [21_000, 2], "84000 "), ("shr_assign", [84_000, 1], "42000 ")]),
     ("Duration", moments.CORES, [
         ("fits_core", [18_446_744_073_709, 551_615_999], "1"), ("fits_core", [18_446_744_073_709, 551_616_000], "0"),
@@ -375,6 +375,7 @@ MOMENTS = [(74_000, "0.074s"), (5_674_000, "5.674s"), (5_000_000, "5.000s"), (-5
 
 # Calls on a generator of a seed.
 DRAWS = [(0, "below 2147483648: 1"), (0, "below 4294967295: 2"), (0, "below 1431655766: 1; below 1: 0"),
+         (112389, "rand_u16: 1024; rand_u16: 45842"), (112389, "rand_source_port: 45842"),  # 1,024 is the last reserved port
          (0, "below 1431655765: 0"), (0, "rand_u16: 3; rand_u16: 1358"), (1, "rand_u16: 49741"), (0, "rand_source_port: 1358"),
          (0, "rand_u16: 3; rand_u32: 4260165794"), (0, "rand_source_port: 1358; rand_u32:"),
          (1, "rand_source_port: 49741"), (0, "rand_u32: 3; rand_u32: 4260165794"), (1, "rand_u32: 788327601")]
@@ -500,7 +501,7 @@ FRAGMENTS = [
      "add 16 1 2: too_long; add 7 1 2: refused|1 0 0 8 1; add 1 7 2: ok|1 0 0 8 1; assemble: 8:"),
     # A fragment that comes twice, longer, with other bytes, and beside what came.
     (8, 4, 0, "add 2 3 1: ok|1 2; differs 2 3 1: 0; differs 2 4 1: 0; differs 2 1 2: 1; differs 2 3 2: 1; differs 1 1 2: 0; "
-     "differs 5 3 2: 0; differs 2 0 2: 0; differs 9 2 2: 0|1 2 0 0 0"),
+     "differs 5 3 2: 0; differs 2 0 2: 0; differs 9 2 2: 0|1 2 0 0 0; add 7 1 1: ok|2; differs 7 1 2: 1"),
 ]
 # Scoreboards: runs, first position, and calls.
 SCOREBOARDS = [
@@ -526,6 +527,8 @@ SCOREBOARDS = [
      "next_lost 100 3 9: 100-110; report 150 151 200: 1; next_lost 100 3 1000: 100-110; next_lost 110 3 1000: none; "
      "next_lost 110 3 5: 120-130; next_lost 130 3 5: none; next_hole 130 200: 140-150; acknowledge 125: done; "
      "next_lost 0 3 5: 125-130"),
+    (1, 2 ** 32, "report_block 0 5 2147483648 9999999999: 0|0; report_block 0 5 2147483647 9999999999: 1"),  # 2^31 ahead is behind
+    (1, 0, "report 0 4294967296 4294967296: 1|4294967296"),  # What moves the first position may be as long.
     (1, 0, "report 5 7 6: 0; report 5 5 6: 0; report 6 5 6: 0; report 5 6 6: 1|0 6 1 1"),
     (1, 0, "report 1 18446744073709551615 18446744073709551615: 0|0 0 0 0; "
      "report 1 4294967296 4294967296: 0|0 0 0 0; report 1 4294967295 4294967296: 1|0 4294967295 1 4294967294"),
@@ -558,6 +561,7 @@ ENDINGS = [
     (4, 1, 18446744073709551613, "keep 18446744073709551613 3 1 1: other_end; keep 18446744073709551613 3 1 0: 1 1|1 1 3 0 - 1 0; "
      "keep 18446744073709551615 3 1 0: 0 0; keep 18446744073709551615 0 1 1: other_end; "
      "keep 18446744073709551614 0 1 1: 0 0|1 1 3 0 1 2 1"),
+    (4, 1, 18446744073709551611, "keep 18446744073709551613 1 9 0: 1 0|0 0 4 1 -; keep 18446744073709551611 4 1 1: other_end|0 0 4 1 -"),
     # Four bytes, then an end in order, which is taken, whatever came before it: a byte beyond it; an end beyond it; both; an
     # end below it; both, and the last segment begins with old bytes.
     (8, 1, 0, "keep 5 1 9 0: 1 0|0 0 8 1 - 0 0; keep 0 4 1 0: 4 4|4 4 4 1 - 4 0; can_end 4: 0; keep 4 0 0 1: 0 0|4 4 4 0 4 5 1; "
@@ -675,6 +679,26 @@ TCP = [
     ("timeout", [800_000, 200_000, 1_000_000, 60_000_000, 1], "1000000"),
     ("expired", [1_000_000, 1_000_000, 60_000_000], "2000000"), ("expired", [40_000_000, 0, 60_000_000], "60000000"),
     ("expired", [2 ** 64 - 1, 1_000_000, 60_000_000], "60000000"),
+    # An answer needs no ACK. An edge moves by 3 of 5 bytes, and never by 0. The bytes of seed 8 are d6 5d f3 41 ad. The least
+    # timeout may be above the greatest.
+    ("classify", [100, 10, 110, 0, 0, 0, 0], "answer"), ("is_update_due", [100, 0, 100, 100, 10, 0], "0"), ("checksum", [4, 8], "13920"),
+    ("is_update_due", [100, 0, 100, 102, 5, 1460], "0"), ("peer_update", [200, 10, 120, 100, 150, 10, 110, 30], "0 200"),
+    ("checksum", [5, 8], "35167"), ("timeout", [800_000, 200_000, 2_000_000, 1_500_000, 1], "2000000"), ("next_sample", [15, 7, 0], "14 7"),
+    ("timeout", [8_000, 0, 0, 60_000_000, 10], "1010"), ("first_sample", [2 ** 64 - 1], f"{2 ** 63} {2 ** 61}"),
+]
+# Loss recovery of segments of 10 bytes: runs, first position, size, and calls. Equal acknowledgements tell of what has left
+# (RFC 5681). What wasn't sent again, and arrives, wasn't lost (RFC 5682). A probe's answer tells that all before is lost
+# (RFC 8985). More than 20 later bytes tell that a copy is.
+RECOVERIES = [
+    (4, 9, 10, "send 9 89: done; find_losses 9 0 0 1: 0|0 70; find_losses 9 0 1 0: 0|0 80; find_losses 9 0 0 1: 0|0 70; "
+     "expect_reports 1: done|0 80; find_losses 9 0 0 1: 0|0 70; duplicated: done|0 70 6; lose_all: done|1 0 3; send 9 19: done|1 10"),
+    (4, 9, 10, "send 9 89: done; find_losses 9 0 0 1: 0; find_losses 9 0 0 1: 0|0 60; acknowledge 29: done; find_losses 9 0 0 0: 0|0 50"),
+    (4, 0, 10, "send 0 80:; report 40 70:; find_losses 0 0 1 0: 1; send 0 40:; send 80 120:; report 80 110:; find_losses 0 0 1 0: 0|1 10; "
+     "acknowledge 10:; find_losses 0 50 0 0: 0|1 50 6; probed 10:; acknowledge 20:; find_losses 10 0 0 0: 0|1 0"),
+    (4, 0, 10, "send 0 80:; report 10 20:; report 30 60:; find_losses 0 0 1 0: 1|1 20; send 0 10:; send 20 30: done|1 40; send 80 120:; "
+     "report 80 110:; find_losses 0 0 1 0: 0|1 20; send 0 10: done|1 30; next_segment 120 1000: 60-70; send 60 80:; send 0 10: done|1 50"),
+    (4, 0, 10, "send 0 40:; find_losses 0 0 1 1: 0|0 40 3; report 25 35:; next_probe 40: 35-40; report 35 40: 1; next_probe 50: 0-10; "
+     "send 40 50: done; lose_all: done|1 0; find_overdue: 0; unsent: 35; lose_dropped: 0|1 0 3"),
 ]
 # Timers, by RFC 6298, section 5, with a timeout of 1 s, of at least 1 s and at most 60 s; the peer delays an acknowledgement by
 # 0.2 s at most. The last number of a state is how many timeouts came in a row.
@@ -700,7 +724,7 @@ TIMERS = [
     # A round trip of 0.1 s gives 0.3 s, which is below the least. Two segments are left: probes after 0.2 s and 0.4 s more; the
     # next one would be after the timeout, which is where it was.
     "sent 0 1 0 0 0: done|1000000 1000000 0; sent 1 2 0 1 0: done; sent 2 3 0 2 0: done|1000000 1000000 0; "
-    "acknowledged 0 3 1 100000: done|1000000 300000 - 0; expire 300000: probe|1000000 700000 - 0; "
+    "sent 1 2 0 3 50000: done; acknowledged 0 3 1 100000: done|1000000 300000 - 0; expire 300000: probe|1000000 700000 - 0; "
     "expire 700000: probe|1000000 1100000 - 0; expire 1099999: none; expire 1100000: timeout|2000000 3100000 - 1; "
     "expire 3100000: timeout|4000000 7100000 - 2; acknowledged 1 3 2 7100001: done|4000000 7500001 - 0; "
     "acknowledged 2 3 3 7200000: done|4000000 - - 0; start 7300000: done|4000000 11300000 - 0; stop: done; "
@@ -834,6 +858,11 @@ def add(cases):
     add_pairs(cases)
     for *numbers, text in DRAWS:
         play(cases, "rand", small.Generator, numbers, text)
+    # A cell is its index at first, and a reset doubles each and adds 1. The bytes of seed 8 are d6 5d f3, and those of 3 are 1c 53.
+    play(cases, "cells", small.Cells, [3], "enqueue_one 10: 0; enqueue_one 11: 1; dequeue_one 7: 10; enqueue_one 12: 2; enqueue_one 13: 7; "
+         "enqueue_one 9: full; reset: done; dequeue_one 1: empty; enqueue_one 1: 27; dequeue_one 5: 1; clear: done|0 3; enqueue_one 1: 5")
+    play(cases, "storage", small.Storage, [3, 8], "part 0 3: 3:d65df3|3 3; part 3 3: 0:0; part 2 1: forbidden; part 0 4: forbidden; "
+         "element 2: 1:f3; element 3: forbidden; element_mut 2 7: 1:f3; part_mut 0 2 3: 2:d65d; as_mut_slice 1: 3:1c5307")
     add_values(cases)
     add_lines(cases)
     add_ends(cases)
@@ -842,7 +871,8 @@ def add(cases):
 def add_ends(cases):
     """What a TCP, or whoever joins fragments, needs beside queues."""
     for name, of, rows in (("fragments", fragments.Buffer, FRAGMENTS), ("scoreboard", scoreboard.Scoreboard, SCOREBOARDS),
-                           ("ending", ending.Ending, ENDINGS), ("closing", closing.Closing, CLOSINGS)):
+                           ("ending", ending.Ending, ENDINGS), ("closing", closing.Closing, CLOSINGS),
+                           ("recovery", recovery.Recovery, RECOVERIES)):
         for *numbers, text in rows:
             play(cases, name, of, numbers, text)
     # What came twice doubles the threshold once a round trip, up to 1024.

@@ -46,7 +46,8 @@ SENDING = [
     # then the rest. An acknowledgement's number is in the window.
     ([100, 4, 10, *TCP],
      "open 0 10 10 10 1 0: done; write 100 0 20 1: 20 then 10-20 0; "
-     "acknowledged 100 100000 1 20 0 1: taken 10 0 0 then none|10 10 90 1100000 0; expired 0 1099999: no; "
+     "acknowledged 100 100000 1 20 0 1: taken 10 0 0 then none|10 10 90 1100000 0; "
+     "acknowledged 0 200000 2 20 0 1: taken 0 0 0|10 10 90 1100000 0; expired 0 1099999: no; "
      "expired 1 1100000: probe then 20-21 0; acknowledged 0 1200000 2 20 0 1: taken 0 0 0; "
      "expired 0 1500000: no|10 11 90 2300000 1; expired 100 2300000: no then none; "
      "expired 1 3100000: probe then 20-21 1|10 11 90 7100000 2; acknowledged 100 3200000 3 20 10 1: taken 0 0 0 then 20-21 1; "
@@ -156,6 +157,7 @@ SENDING = [
      "acknowledged 0 0 1 4 100 1 5 10: taken 0 1 0; acknowledged 0 0 1 4 100 1 5 11: taken 0 1 1"),
     # A SYN is sent, and again after a second; then its answer's timeout is the first one.
     ([8, 1, 0, *TCP],
+     "open 0 0 8 8 1 0: done; acknowledged 0 0 1 0 8 1: taken 0 0 0; forget 0: done; "
      "is_opening_due 0: 1|0 0 8 1000000 0; is_opening_due 999999: 0; is_opening_due 1000000: 1|0 0 8 3000000 1; "
      "open 0 0 8 8 1 3100000: done|0 0 8 - 0; is_opening_due 3100000: 1|0 0 8 4100000 0; "
      "acknowledged 0 3200000 1 0 8 1: taken 0 0 0|0 0 8 - 0; write 0 0 8 1: 8; "
@@ -218,9 +220,13 @@ RECEIVING = [
     # no update is sent.
     ([12, 1, 0, 5],
      "open 0 0: 12; classify 11 1 0 1 0: take; classify 12 1 0 1 0: answer; arrived 0 12 1 0: 12 12|0 1; acknowledgement: 12 0|0 0; "
-     "classify 12 1 0 1 0: acknowledgement; read 4: 4:; announce: 12 0|0 0 12 8 4; read 1: 1:; arrived 0 0 0 0: 0 0|0 1 12 7 5; "
+     "read 4: 4:; classify 12 1 0 1 0: acknowledgement; announce: 12 0|0 0 12 8 4; read 1: 1:; arrived 0 0 0 0: 0 0|0 1 12 7 5; "
      "announce: 12 5|0 0; arrived 12 5 2 1: 5 5|1 1 17 12 0 0 17 18 1; announce: 18 0|1 1; acknowledgement: 18 0|0 0; read 9: 9#; "
      "arrived 0 0 0 0: 0 0|0 0 17 3 9"),
+    # What came twice, and is due, is of one stream, and isn't told once its true end drops it. No window ends above the last number.
+    ([40, 1, 100, 8], "open 100 0: 40; arrived 100 4 1 0: 4 4; arrived 100 4 1 0: 0 0|1 1; open 200 0: 40|0 0; acknowledgement: 0 40|0 0"),
+    ([40, 1, 0, 8], "open 0 0: 40; arrived 0 3 1 0:; arrived 4 2 1 0:; arrived 4 2 1 0:; arrived 3 1 1 1: 1 1; acknowledgement: 5 35|0"),
+    ([40, 1, 18446744073709551605, 8], "open 18446744073709551605 0: 10"),
     # Windows of a scale: 257 in units of 8 are 32; a SYN's has none.
     ([257, 1, 0, 10],
      "open 0 3: 257; announce: 0 32|0 0; arrived 0 9 0 0: 9 9|0 1; acknowledgement: 9 31; read 9: 9#; announce: 9 31"),
