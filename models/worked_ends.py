@@ -223,7 +223,8 @@ RECEIVING = [
      "read 4: 4:; classify 12 1 0 1 0: acknowledgement; announce: 12 0|0 0 12 8 4; read 1: 1:; arrived 0 0 0 0: 0 0|0 1 12 7 5; "
      "announce: 12 5|0 0; arrived 12 5 2 1: 5 5|1 1 17 12 0 0 17 18 1; announce: 18 0|1 1; acknowledgement: 18 0|0 0; read 9: 9#; "
      "arrived 0 0 0 0: 0 0|0 0 17 3 9"),
-    # What came twice, and is due, is of one stream, and isn't told once its true end drops it. No window ends above the last number.
+    # What came twice is of one stream, and so is an answer that is due. It isn't told once the true end drops its bytes. No
+    # window ends above the last number.
     ([40, 1, 100, 8], "open 100 0: 40; arrived 100 4 1 0: 4 4; arrived 100 4 1 0: 0 0|1 1; open 200 0: 40|0 0; acknowledgement: 0 40|0 0"),
     ([40, 1, 0, 8], "open 0 0: 40; arrived 0 3 1 0:; arrived 4 2 1 0:; arrived 4 2 1 0:; arrived 3 1 1 1: 1 1; acknowledgement: 5 35|0"),
     ([40, 1, 18446744073709551605, 8], "open 18446744073709551605 0: 10"),

@@ -194,7 +194,7 @@ SAID = [
     ('(f g : ℕ) (x : List ℕ) → f ≤ g → result ≡ Some x', 'for each `f`, `g`, `x`: if `f <= g`, then `result == Some(x)`'),
 ]
 UNSAID = [
-    'if a then b else c', 'let x = y in x', '(a → c) → b', 'a → b ↔ c', 'x ↔ (y → z)', 'a ≡ (b × c)', 'x × (y → z)', 'x ⊎ (y → z)', 'a ↔ b ↔ c',
+    'if a then b else c', 'let x = y in x', '(a → ⊥) → b', '(a → c) → b', 'a → b ↔ c', 'x ↔ (y → z)', 'a ≡ (b × c)', 'x × (y → z)', 'x ⊎ (y → z)', 'a ↔ b ↔ c',
     '((a ≡ b) × (b ≡ c)) ⊎ (c ≡ d)', '(a ≡ b) ⊎ ((b ≡ c) × (c ≡ d))', 'a ≡ b ≡ c', '(a ≡ b) ≡ c', 'S.elements x ≡ y', 'x ≡ E.First', 'a <ℤ b',
     'IfOk x (λ r. a)', 'All (λ r. r) xs', 'a ≡', 'a b ,', 'take n', 'length a b', 'x.0.old ≡ y', '(k : ℕ) × (k ≡ 1)', 'OnErr result (a) ≡ b', '[a] ≡ b',
     'b ≡ record a', 'x.f y ≡ 1', 'OnErr result', 'f (OnErr result (a)) ≡ b', 'λ x. y',

@@ -294,11 +294,14 @@ class Reader:
         blocks = file.blocks(start)
         statement = next((a, b) for a, b in file.statements(blocks[0]) if a <= start < b)
         names = own | self.named(file, statement, start, end)
+        # What is run with the operation, and after it, may give its value to the right side of a bound.
+        changing = file.code[slice(*statement)]
         for brace in blocks:
             statements = list(file.statements(brace))
             here = next(k for k, (a, b) in enumerate(statements) if a <= start < b)
-            if self.bounded_after(file, statements[here:], names, start, end):
+            if self.bounded_after(file, statements[here:], names, changing, start, end):
                 return True
+            changing += file.code[statements[here][1]:file.close[brace]]
             known = names - self.assigned(file, statement)
             if self.bounded_before(file, statements[:here + 1], known, start, text.removesuffix('asusize')):
                 return True
@@ -336,15 +339,15 @@ class Reader:
         a, b = statement
         return next((x for x in self.bounds(file) if a <= x[0] and x[1] <= b and not file.code[a:x[0]].strip()), None)
 
-    def bounded_after(self, file, statements, names, start, end):
-        """Whether a bound of one of the names follows the first statement, with nothing that leaves or assigns it in between."""
+    def bounded_after(self, file, statements, names, changing, start, end):
+        """Whether a bound of one of the names follows the first statement, with nothing that leaves or assigns it in between, or
+        changes the bound's right side."""
         (a, b), *after = statements
         if self.leaves(file.code[end:b]):
             return False
         # Gone are names that the rest of the statement changes, and expressions that what is before them in it changes.
         names = {name for name in names if not self.changed(file.code[end:b], name) and (
             re.fullmatch(r'[\w.]+', name) or not self.changed(file.code[a:start], name))}
-        changing = ''
         for statement in after:
             code = file.code[slice(*statement)]
             if bound := self.bound_of(file, statement):

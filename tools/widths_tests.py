@@ -153,6 +153,7 @@ OPEN = [
     'let c = a as u64; let c = x; c.min(x) as usize',
     # A bound that is given the value, or that is no `usize`.
     f'let c = a + b; s.n = c; prove!(c <= s.n{BOUND} c', f'let c = a + b; let (d, e) = (c, 0); prove!(c <= d{BOUND} c',
+    f's.n = a + b; prove!(a + b <= s.n{BOUND} 0', f'if x > 3 {{ let c = a + b; s.n = c; }} prove!(a + b <= s.n{BOUND} 0',
     f'let y = x; let c = x as usize; prove!(x <= y{BOUND} c', f'let y = x / 2; prove!(x <= y{BOUND} x as usize',
     # No turn of a `for`, and no lesser number.
     'for c in 0..b { take(c + 2); } 0', 'for mut c in 0..b { c = a; take(c + 1); } 0',
