@@ -63,7 +63,7 @@ at="layouts: a field of a struct isn't where Rust has it"
 "$compiler" -I "$here" "$out/layouts.c" -o "$out/layouts"
 "$out/layouts" > "$out/layouts.rs"
 crate=$(ls -t "$target"/release/deps/libnet_base-*.rlib | head -n 1)
-rustc --edition 2021 --crate-type rlib --emit metadata -C panic=abort --extern "proved=$crate" \
+rustc --edition 2024 --crate-type rlib --emit metadata -C panic=abort --extern "proved=$crate" \
     "$out/layouts.rs" -o "$out/layouts.rmeta"
 echo "layouts: $(grep -c 'offset_of!(' "$out/layouts.rs") fields of $(grep -c 'size_of::' "$out/layouts.rs") structs"
 [ "$(grep -c 'size_of::' "$out/layouts.rs")" = "$(grep -c '^struct net_base_.* {$' "$here/net_base.h")" ] || fail "not each struct"
@@ -201,10 +201,6 @@ grep -q "count < 2 is false" "$out/said"
 at="the sequence"
 "$compiler" $flags -O1 $sanitizers -I "$here" "$out/sequence.c" "$library" -o "$out/sequence"
 "$out/sequence" > "$out/printed" || { cat "$out/printed"; exit 1; }
-# With no calls it says of each result and of each length that nothing was reached.
-"$out/sequence" 0 > "$out/said" && fail "sequence.c tells of nothing"
-grep -oE '^static [a-z_0-9 ]+ result_|&[a-z_]+_length_[0-9]+' "$out/sequence.c" > "$out/wanted"
-[ "$(grep -c '^sequence: in 0' "$out/said")" = "$(grep -c . "$out/wanted")" ] || fail "sequence.c doesn't tell of all"
 cat "$out/printed"
 [ "${1:-}" != --record ] || sed -i "s/^$(getconf LONG_BIT) bits .*/$(getconf LONG_BIT) bits $(sed 's/.* //' "$out/printed")/" "$here/sequence.txt"
 grep -qE "bits $(sed 's/.* //' "$out/printed")$" "$here/sequence.txt" || fail "c/sequence.txt has another digest: run with --record if exports or structs are meant to differ"

@@ -33,7 +33,8 @@ def built(smoltcp, over_smoltcp):
     if over_smoltcp:
         return common.cargo("release", ["loops"], smoltcp, **variables) / "loops"
     folder = common.REPOSITORY / "rust"
-    return common.cargo("release", ["net-base"], smoltcp, folder, ["--example", "loops"], **variables) / "examples/loops"
+    return common.cargo("release", ["net-base"], smoltcp, folder, ["--example", "loops"],
+                        **variables) / "examples/loops"
 
 
 def instructions(program, loop):

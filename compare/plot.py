@@ -53,7 +53,8 @@ def growth(rows):
     parts = [text(left, 18, "smoltcp", color=THERE), text(left + 60, 18, "net-base", color=HERE)]
     for panel, (name, *cells) in enumerate(rows):
         parts += [text(at(panel, 4, 1)[0], top - 6, name.split(",")[0] + name.split(",")[1])]
-        parts += [text(at(panel, 4, 1)[0] - 6, at(panel, 4, cost)[1] + 4, f"{cost:,}", "end") for cost in (10, 100, 1000, 10000)]
+        parts += [text(at(panel, 4, 1)[0] - 6, at(panel, 4, cost)[1] + 4, f"{cost:,}", "end")
+                  for cost in (10, 100, 1000, 10000)]
         parts += [text(at(panel, runs, 1)[0], top + high + 16, f"{runs:,}", "middle") for runs in counts]
         for side, color in enumerate((THERE, HERE)):
             costs = [float(re.findall(r"[\d,]+\.\d", cell)[side].replace(",", "")) for cell in cells]

@@ -25,7 +25,7 @@ FILES = ["storage/ring_buffer", "storage/packet_buffer", "storage/assembler", "t
 FIELDS = """
 #[cfg(test)]
 impl<T, S: Storage<T>> core::ops::Deref for RingOver<T, S> {
-    type Target = crate::proved::net_ring::RingHead;
+    type Target = crate::storage::RingHead;
 
     fn deref(&self) -> &Self::Target {
         &self.head
@@ -44,7 +44,7 @@ impl<T, S: Storage<T>> core::ops::DerefMut for RingOver<T, S> {
 HEAD = """
 #[cfg(test)]
 impl<H, M: Storage<PacketMetadata<H>>, B: Storage<u8>> core::ops::Deref for PacketsOver<H, M, B> {
-    type Target = crate::proved::net_packets::PacketsHead;
+    type Target = crate::storage::packets_head::PacketsHead;
 
     fn deref(&self) -> &Self::Target {
         &self.head
@@ -52,7 +52,7 @@ impl<H, M: Storage<PacketMetadata<H>>, B: Storage<u8>> core::ops::Deref for Pack
 }
 
 #[cfg(test)]
-impl crate::proved::net_ring::RingHead {
+impl crate::storage::RingHead {
     fn len(&self) -> usize {
         self.length
     }
@@ -79,16 +79,16 @@ def replaced(text, pattern, by, what, where, count=1):
     return text
 
 
-def show_fields(proved):
+def show_fields(source):
     """Shows the fields that the tests name, that of a packet queue's slots under smoltcp's name."""
-    for path, field in [("net_ring/ring_buffer.rs", "storage: S,"), ("net_ring/ring_buffer.rs", "head: RingHead,"),
-                        ("net_packets/packet_buffer.rs", "head: PacketsHead,")]:
-        text, found = re.subn(rf"^    (?={field}$)", "    pub(crate) ", (proved / path).read_text(), flags=re.M)
+    for path, field in [("storage/ring_buffer.rs", "storage: S,"), ("storage/ring_buffer.rs", "head: RingHead,"),
+                        ("storage/packet_buffer.rs", "head: PacketsHead,")]:
+        text, found = re.subn(rf"^    (?={field}$)", "    pub(crate) ", (source / path).read_text(), flags=re.M)
         assert found == 1, (path, field)
-        (proved / path).write_text(text)
-    for path in [*(proved / "net_packets").rglob("*.rs"), proved.parent / "extremes.rs"]:
+        (source / path).write_text(text)
+    for path in [*source.glob("storage/packet*.rs"), source / "extremes.rs"]:
         text = re.sub(r"\bhead(\s*)\.slots\b", r"head\1.metadata_ring", path.read_text())
-        if path.name in ("head.rs", "extremes.rs"):
+        if path.name in ("packets_head.rs", "extremes.rs"):
             text = re.sub(r"\bself\.slots\b", "self.metadata_ring", text)
             text = re.sub(r"\bslots: RingHead\b", "metadata_ring: RingHead", text)
         path.write_text(text)
@@ -128,10 +128,11 @@ def prepare(sources, crate):
             more = FIELDS
             print(f"{name}: added: the ring's head by `Deref`, for tests that name its field `length`")
         if name.startswith("storage"):
-            more += "\n#[cfg(test)]\n#[allow(unused_imports)]\nuse super::*;\n"
+            names = "use super::*;\n    #[allow(unused_imports)]\n    use crate::storage::*;"
+            tests = tests.replace("use super::*;", names, 1)
         with (crate / "src" / f"{name}.rs").open("a") as file:
             file.write(more + "\n" + tests)
-    show_fields(crate / "src/proved")
+    show_fields(crate / "src")
     root = crate / "src/lib.rs"
     what = "added: std's macros, since the crate has no std"
     root.write_text(replaced(root.read_text(), r"^extern crate std;", "#[macro_use]\nextern crate std;", what, "lib"))

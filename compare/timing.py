@@ -4,9 +4,9 @@ timing.py --whole PROGRAM [--lines N] [--runs N]
 
 Times workloads over the crate net-base and over smoltcp in turns, each side linked once for each placement of its code,
 both built as a user builds a program, in cargo's default profile without flags; counts instructions and mispredicted
-branches, if valgrind is there. With --whole: whole runs of the example net_bench of the crate beside PROGRAM, which takes
-the same words and lines, as net_bench of another commit. Prints a table in Markdown. Status 1 if results differ. --once:
-one placement.
+branches, if valgrind is there. With --whole: whole runs of the example net_bench of the crate beside PROGRAM, which
+takes the same words and lines, as net_bench of another commit. Prints a table in Markdown. Status 1 if results differ.
+--once: one placement.
 """
 import argparse
 import datetime
@@ -237,7 +237,8 @@ def timed(smoltcp, arguments):
     print(f"{datetime.date.today()}; {machine()}; {len(placements)} placements of each side, "
           f"{arguments.samples} samples of {arguments.milliseconds:g} ms a row and placement\n")
     rows, differ = workloads(built, sides, arguments)
-    workload_table([row for row in rows if row[0] != "loopback"], counted(built, [path.split(":")[0] for path in sides], arguments))
+    workload_table([row for row in rows if row[0] != "loopback"],
+                   counted(built, [path.split(":")[0] for path in sides], arguments))
     return differ
 
 

@@ -2,8 +2,9 @@
 """SMOLTCP=path [RUST_KIT=folder] python3 overlay/costs.py
 
 Prints what the overlay costs, beside smoltcp of the checkout that SMOLTCP names, both below the layers of `stand_in`:
-instructions, counted by valgrind, of `examples/bench.rs` in cargo's release profile, and the bytes of code and constants of `no_std`
-at opt-level "s" and "z". The Cortex-M4's are there if RUST_KIT names the folder that `sh rust/targets.sh FOLDER` fills.
+instructions, counted by valgrind, of `examples/bench.rs` in cargo's release profile, and the bytes of code and
+constants of `no_std` at opt-level "s" and "z". The Cortex-M4's are there if RUST_KIT names the folder that `sh
+rust/targets.sh FOLDER` fills.
 """
 import os
 import re
@@ -41,7 +42,8 @@ def size(tests, checkout, level, target, linker):
     shutil.copytree(test.HERE / "no_std", folder, ignore=shutil.ignore_patterns("target", "Cargo.lock"))
     manifest = folder / "Cargo.toml"
     manifest.write_text(manifest.read_text().replace("../stand_in", f"../{checkout}"))
-    variables = {"CARGO_TARGET_DIR": str(tests.folder / "target/no_std" / checkout), "CARGO_PROFILE_RELEASE_OPT_LEVEL": level}
+    variables = {"CARGO_TARGET_DIR": str(tests.folder / "target/no_std" / checkout),
+                 "CARGO_PROFILE_RELEASE_OPT_LEVEL": level}
     words = "build -q --release --ignore-rust-version"
     if target:
         variables["RUSTC"] = test.COMPILER

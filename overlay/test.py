@@ -2,18 +2,17 @@
 """[SMOLTCP=path] [RUST_KIT=folder] python3 overlay/test.py [--record]
 
 Tests overlay.py and what it makes of a checkout. The layers above are those of `stand_in`. SMOLTCP names the folder of
-a checkout of smoltcp 0.14.0, whose `storage`, `time` and `rand` are put below them; then its own tests run too, and what
-is printed over the overlay is compared with what is printed over smoltcp with two faults mended. Without it, digests of
-what smoltcp printed are compared (`expected.txt`, which --record writes), and the status is 2 if nothing else is wrong.
-RUST_KIT names the folder that `sh rust/targets.sh FOLDER` fills: a compiler for ARMv7, if `rustc` is none.
+a checkout of smoltcp 0.14.0, whose `storage`, `time` and `rand` are put below them; then its own tests run too, and
+what is printed over the overlay is compared with what is printed over smoltcp with two faults mended. Without it,
+digests of what smoltcp printed are compared (`expected.txt`, which --record writes), and the status is 2 if nothing
+else is wrong. RUST_KIT names the folder that `sh rust/targets.sh FOLDER` fills: a compiler for ARMv7, if `rustc` is
+none.
 """
 import argparse
 import hashlib
 import os
 import re
-import resource
 import shutil
-import signal
 import subprocess
 import sys
 import tempfile
@@ -39,8 +38,8 @@ FEATURES = [
 ]
 API = ["", "--features defmt", f"{SMALL},assembler-max-segment-count-8,defmt"]
 
-# Edits of smoltcp's text that mend the two faults of its packet queue: a refusal leaves a gap; a queue without bytes isn't
-# rewound.
+# Edits of smoltcp's text that mend the two faults of its packet queue: a refusal leaves a gap; a queue without bytes
+# isn't rewound.
 ONE_SLOT = "self.metadata_ring.window() < 2"
 FULL = "self.metadata_ring.is_full() {\n            return Err(Full);\n        }\n\n        let window"
 REWOUND = "if self.payload_ring.is_empty() {\n            self.payload_ring.clear();\n        }\n        let window"
@@ -52,10 +51,10 @@ MENDED = [
 
 # Faults of what is written by hand: a file, what is there, what is put there. Random calls show each.
 FAULTS = [
-    ("proved/net_ring/managed.rs", "&self[from..to]", "&self[from..to.max(from + 1) - 1]"),
-    ("proved/net_ring/managed.rs", "&mut self[from..to]", "&mut self[..to - from]"),
-    ("proved/net_ring/managed.rs", "&mut self[at]", "&mut self[at / 2]"),
-    ("proved/net_ring/managed.rs", "&self[at]", "&self[at / 2]"),
+    ("proved/storage/managed.rs", "&self[from..to]", "&self[from..to.max(from + 1) - 1]"),
+    ("proved/storage/managed.rs", "&mut self[from..to]", "&mut self[..to - from]"),
+    ("proved/storage/managed.rs", "&mut self[at]", "&mut self[at / 2]"),
+    ("proved/storage/managed.rs", "&self[at]", "&self[at / 2]"),
     ("storage/assembler.rs", "from = end;\n            Contig", "from = start;\n            Contig"),
     ("storage/packet_buffer.rs", "&Shown(&self.bytes, self.head.bytes)", "&Shown(&self.bytes, self.head.slots)"),
     ("time.rs", "val.total_micros() as", "val.total_millis() as"),
@@ -73,44 +72,10 @@ def digests(texts):
     return "".join(f"{name}: {hashlib.sha256(text.encode()).hexdigest()}\n" for name, text in texts.items())
 
 
-def changes(event, words):
-    """Whether an event that Python audits is a change of files: one that is opened to be written, or another call."""
-    return event in ("os.mkdir", "os.rename", "os.remove", "os.rmdir", "os.chmod") or (
-        event == "open" and isinstance(words[2], int) and words[2] & (os.O_WRONLY | os.O_RDWR | os.O_CREAT))
-
-
-def interrupted(call, by, at):
-    """Makes a call in a process of its own, which gets a signal before each change from that number on. Returns whether it
-    ended before that."""
-    child = os.fork()
-    if child:
-        return os.waitpid(child, 0)[1] == 0
-    count = 0
-
-    def audit(event, words):
-        nonlocal count
-        if changes(event, words):
-            count += 1
-            if count > at:
-                os.kill(os.getpid(), by)
-
-    sys.stdout = sys.stderr = open(os.devnull, "w")
-    sys.addaudithook(audit)
-    try:
-        call()
-    except BaseException:
-        os._exit(1)
-    os._exit(0)
-
-
 def tree(folder):
     """Each file of a folder, and a digest of its bytes."""
     files = [path for path in folder.rglob("*") if path.is_file()]
     return {path.relative_to(folder): hashlib.sha256(path.read_bytes()).hexdigest() for path in files}
-
-
-def folders(folder):
-    return {path for path in folder.rglob("*") if path.is_dir()}
 
 
 class Tests:
@@ -120,7 +85,7 @@ class Tests:
         shutil.copytree(HERE / "stand_in", folder / "original", ignore=shutil.ignore_patterns("target", "Cargo.lock"))
         for file in FILES if smoltcp else []:
             shutil.copy(smoltcp / "src" / file, folder / "original/src" / file)
-        # A user who isn't root reads this copy.
+        # It is edited.
         shutil.copytree(HERE.parent / "rust", folder / "net-base/rust", ignore=shutil.ignore_patterns("target"))
         shutil.copytree(HERE / "modules", folder / "net-base/overlay/modules")
         shutil.copy(HERE / "overlay.py", folder / "net-base/overlay")
@@ -130,16 +95,9 @@ class Tests:
             overlay.DIGESTS = {name: overlay.digest(code(name).encode()) for name in overlay.DIGESTS}
         self.start = f"import overlay; overlay.DIGESTS = {overlay.DIGESTS!r}; "
 
-    def overlay(self, *words, nobody=False, **options):
-        user = "import locale, os; os.geteuid() or os.setuid(65534); " if nobody else ""
-        words = [sys.executable, "-B", "-c", f"{self.start}{user}overlay.main()", *map(str, words)]
-        return subprocess.run(words, cwd=self.folder / "net-base/overlay", capture_output=True, text=True, timeout=600, **options)
-
-    def made(self, *words):
-        done = self.overlay(*words)
-        if done.returncode:
-            stop(f"{words}: {done.stderr}")
-        return done.stdout
+    def overlay(self, checkout, copy):
+        words = [sys.executable, "-B", "-c", f"{self.start}overlay.main()", checkout, copy]
+        return subprocess.run(words, cwd=self.folder / "net-base/overlay", capture_output=True, text=True, timeout=600)
 
     def copy(self, name, source="original"):
         shutil.rmtree(self.folder / name, ignore_errors=True)
@@ -151,143 +109,53 @@ class Tests:
         path.write_bytes(path.read_bytes().replace(old.encode(), new.encode("latin-1"), 1))
         return self.folder / "checkout"
 
-    def refused(self, what, words, **options):
+    def refused(self, what, checkout, copy="none"):
         """What is refused by one line and status 1, and changes nothing."""
         self.refusals += 1
         before = tree(self.folder)
-        done = self.overlay(*words, **options)
+        done = self.overlay(checkout, self.folder / copy)
         if done.returncode != 1 or done.stdout or not re.fullmatch(rf"[^\n]*{what}[^\n]*\n", done.stderr):
-            stop(f"{what} {words}: status {done.returncode}, {done.stdout}{done.stderr}")
+            stop(f"{what} {checkout}: status {done.returncode}, {done.stdout}{done.stderr}")
         if tree(self.folder) != before:
-            stop(f"{what} {words}: something was changed")
+            stop(f"{what} {checkout}: something was changed")
 
     def script(self):
-        """The script: what it makes, takes back and refuses."""
+        """The script: what it makes and refuses."""
         original, before = self.folder / "original", tree(self.folder / "original")
-        listed = self.made(original, "--dry-run").splitlines()
-        self.made(original, "--into", self.folder / "overlaid")
-        if tree(original) != before:
-            stop("--dry-run or --into changed the checkout")
+        done = self.overlay(original, self.folder / "overlaid")
         after = tree(self.folder / "overlaid")
-        differ = {str(path) for path in after if before.get(path) != after[path] and path.parts[0] == "src" and ".overlay" not in path.parts}
-        if differ != {line.split(": ")[1] for line in listed} or set(before) - set(after):
-            stop("--dry-run doesn't list what is changed")
-        checkout = self.copy("checkout")
-        self.refused("has no overlay", [checkout, "--undo"])
-        for _ in range(2):
-            self.made(checkout)
-            if tree(checkout) != after:
-                stop("an overlay in place isn't that of a copy")
-            self.refused("has an overlay already", [checkout])
-            self.made(checkout, "--undo", "--dry-run")
-            if tree(checkout) != after:
-                stop("--undo --dry-run changes something")
-            self.made(checkout, "--undo")
-            if tree(checkout) != before or (checkout / "src/proved").exists():
-                stop("--undo doesn't give back what was there")
-        self.stashed(checkout, before)
-        (checkout / "src/proved").mkdir()
-        (checkout / "src/proved/own.rs").write_text("")
-        self.refused("has a folder src/proved", [checkout])
-        self.refused("checkout exists", [original, "--into", checkout])
-        self.refused("has no Cargo.toml of smoltcp", [self.folder / "none"])
-        self.refused("has no Cargo.toml of smoltcp", [self.folder / "vendor/managed"])
+        differ = {path for path in before if before[path] != after.get(path)}
+        files = {Path(name) for name in [*overlay.DIGESTS, "src/lib.rs"]}
+        if done.returncode or tree(original) != before or differ != files:
+            stop(f"changed are {differ} and not {files}, or the checkout: {done.stderr}")
+        self.refused("overlaid exists", original, "overlaid")
+        self.refused("has no Cargo.toml of smoltcp", self.folder / "none")
+        self.refused("has no Cargo.toml of smoltcp", self.folder / "vendor/managed")
         edits = [
             ("is smoltcp 0.13.0", "Cargo.toml", 'version = "0.14.0"', 'version = "0.13.0"'),
+            ("has no version", "Cargo.toml", 'version = "0.14.0"', "version.workspace = true"),
             ("0.14.0 was released: src/time.rs", "src/time.rs", "use core::", "use  core::"),
             ("0.14.0 was released: src/rand.rs", "src/rand.rs", "\n", "\n\x80"),
             ("src/lib.rs doesn't fit", "src/lib.rs", "mod rand;", "pub mod rand;"),
         ]
         for what, *edit in edits:
-            self.refused(re.escape(what), [self.edited(*edit)])
-        checkout, path = self.copy("checkout"), self.folder / "net-base/rust/src/proved/net_ring/error.rs"
+            self.refused(re.escape(what), self.edited(*edit))
+        checkout, path = self.copy("checkout"), self.folder / "net-base/rust/src/storage/error.rs"
         text = path.read_text()
         for other in [text.replace("struct Full", "struct  Full"), ""]:
             path.write_text(other)
-            self.refused("error.rs doesn't fit", [checkout])
+            self.refused("error.rs doesn't fit", checkout)
         path.unlink()
-        self.refused("error.rs doesn't fit", [checkout])
+        self.refused("error.rs doesn't fit", checkout)
         path.write_text(text)
-        self.made(checkout)
-        path = checkout / "src/proved/net_ring/head.rs"
-        path.write_text(path.read_text() + "\n")
-        self.refused("edited since: src/proved/net_ring/head.rs", [checkout, "--undo"])
-        path.unlink()
-        (checkout / "src/rand.rs").unlink()
-        self.refused("edited since: src/rand.rs", [checkout, "--undo"])
-        checkout = self.copy("checkout")
-        limit = lambda: resource.setrlimit(resource.RLIMIT_FSIZE, (8000, 8000))
-        for words in [[checkout], [original, "--into", self.folder / "none"]]:
-            self.refused("nothing was changed: .*File too large", words, preexec_fn=limit)
-        for path in [checkout, *checkout.rglob("*")]:
-            path.chmod(0o777 if path.is_dir() else 0o666)
-        for name in ["src/storage", "src"]:
-            (checkout / name).chmod(0o555)
-            self.refused("nothing was changed: .*Permission denied", [checkout], nobody=True)
-            (checkout / name).chmod(0o777)
-        self.made(checkout)
-        (checkout / "src/storage").chmod(0o555)
-        self.refused("nothing was changed: .*Permission denied", [checkout, "--undo"], nobody=True)
-        (checkout / "src/storage").chmod(0o777)
-        self.refused("makes no copy", [checkout, "--undo", "--into", self.folder / "none"])
-        self.refused("has no version", [self.edited("Cargo.toml", 'version = "0.14.0"', "version.workspace = true")])
         for name in ["src", "src/storage", "src/time.rs"]:
             path = self.copy("checkout") / name
             path.rename(checkout / "moved")
             path.symlink_to(checkout / "moved")
-            self.refused(f"{name} is a link", [checkout])
-            self.refused(f"{name} is a link", [checkout, "--into", self.folder / "none"])
-        print(f"script: {len(listed)} files, listed, made, taken back; {self.refusals} refusals, which change nothing")
-
-    def stashed(self, checkout, before):
-        """`git stash -u` takes the undo along, and gives it back. Two commands at once: the second is refused."""
-        self.made(checkout)
-        git = lambda *words: subprocess.run(["git", "-C", self.folder / "git", *words], check=True, capture_output=True)
-        original = self.copy("git")
-        for words in [["init"], ["add", "."], ["-c", "user.name=a", "-c", "user.email=a@b", "commit", "-m", "a"]]:
-            git(*words)
-        shutil.rmtree(original / "src")
-        shutil.copytree(checkout / "src", original / "src")
-        git("-c", "user.name=a", "-c", "user.email=a@b", "stash", "-u")
-        self.refused("has no overlay", [original, "--undo"])
-        git("stash", "pop")
-        self.made(original, "--undo")
-        shutil.rmtree(original / ".git")
-        if tree(original) != before:
-            stop("--undo doesn't give back what was there after a stash")
-        shutil.rmtree(original)
-        # Who copies lets others copy: one more is refused for the overlay that is there.
-        for how, of_copies in [("EX", "another overlay command is at work"), ("SH", "has an overlay already")]:
-            text = f"import fcntl, pathlib, overlay; overlay.lock(pathlib.Path({str(checkout)!r}), fcntl.LOCK_{how}); input('held')"
-            words = [sys.executable, "-B", "-c", text]
-            with subprocess.Popen(words, cwd=HERE, stdin=subprocess.PIPE, stdout=subprocess.PIPE) as other:
-                other.stdout.read(4)
-                for words in [[checkout], [checkout, "--undo"], [checkout, "--undo", "--dry-run"]]:
-                    self.refused("another overlay command is at work", words)
-                self.refused(of_copies, [checkout, "--into", self.folder / "none"])
-                other.communicate(b"\n")
-        self.made(checkout, "--undo")
-
-    def interruptions(self):
-        """Killed, or interrupted, before any of its changes of files, the command is taken back by --undo; so is an --undo
-        by another one. Some of the added files are enough."""
-        root = self.copy("checkout")
-        before, other = (tree(root), folders(root)), overlay.other_files(root)
-        new = dict(list(overlay.proved_files().items())[:5]) | other
-        undo, places = lambda: overlay.undo(root, False), 0
-        for by in (signal.SIGKILL, signal.SIGINT):
-            for is_undo in (False, True):
-                at, is_ended = 0, False
-                while not is_ended:
-                    if is_undo and not interrupted(lambda: overlay.write(root, new), by, 10_000):
-                        stop("an overlay that isn't interrupted fails")
-                    is_ended = interrupted(undo if is_undo else lambda: overlay.write(root, new), by, at)
-                    interrupted(undo, by, 10_000)
-                    if (tree(root), folders(root)) != before:
-                        stop(f"{by.name} before change {at} of {'--undo' if is_undo else 'an overlay'}: not as it was")
-                    at += 1
-                places += at
-        print(f"interruptions: {places}, each taken back")
+            self.refused(f"{name} is a link", checkout)
+        (self.copy("checkout") / "src/proved").mkdir()
+        self.refused("has a folder src/proved", checkout)
+        print(f"script: {len(differ)} files changed, {len(after) - len(before)} added; {self.refusals} refusals, without a copy")
 
     def cargo(self, checkout, words, variables=(), check=True):
         own = {"CARGO_TARGET_DIR": str(self.folder / "target" / checkout), "CARGO_NET_OFFLINE": "true"}
@@ -306,7 +174,8 @@ class Tests:
         """What the programs print over a checkout, by the number of runs; release builds print the same."""
         texts = {}
         for count in [1, 2, 4, 8, 32]:
-            words = "" if count in (2, 4) else f"--features assembler-max-segment-count-{count}" + ",defmt" * (count == 8)
+            words = "" if count in (2, 4) \
+                else f"--features assembler-max-segment-count-{count}" + ",defmt" * (count == 8)
             variables = {"SMOLTCP_ASSEMBLER_MAX_SEGMENT_COUNT": "2"} if count == 2 else {}
             self.cargo(checkout, f"build -q --example run --example calls {words}", variables)
             texts[f"run, {count} runs"] = self.program(checkout, "run", "")
@@ -366,7 +235,8 @@ class Tests:
         print(f"items: each visible one, in {len(API)} sets of features; {len(FEATURES)} sets compile")
 
     def shadowed(self):
-        """No method of the proved types has the name of one of a trait that is in scope, and so would be called for it."""
+        """No method of the proved types has the name of one of a trait that is in scope, and so would be called for
+        it."""
         traits = "eq ne cmp partial_cmp lt le gt ge min max clamp clone clone_from into try_into to_string to_owned borrow "
         traits += "borrow_mut as_ref as_mut hash fmt deref deref_mut drop next into_iter type_id"
         for operator in "add sub mul div shl shr".split():
@@ -407,7 +277,6 @@ class Tests:
 
     def all(self, record):
         self.script()
-        self.interruptions()
         self.compiles()
         self.shadowed()
         self.own_tests()
@@ -448,7 +317,6 @@ def main():
     if arguments.record and not smoltcp:
         stop("--record wants SMOLTCP")
     with tempfile.TemporaryDirectory() as folder:
-        Path(folder).chmod(0o755)
         Tests(Path(folder).resolve(), smoltcp).all(arguments.record)
     if not smoltcp:
         print("overlay: not run, since SMOLTCP names no checkout: smoltcp's own tests and files", file=sys.stderr)

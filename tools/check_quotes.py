@@ -1,34 +1,24 @@
 #!/usr/bin/env python3
-"""Looks for what the pages quote and name in the sources.
+"""Looks for what the pages quote and name in the sources; status 1 if something isn't there.
 
 In doc comments of crates/*/src, each block that is marked `rust` is an example in Rattle: it has to be found, line by
 line, in a file of one of EXAMPLES, crates that the gate proves, and to name the item that it documents. A block without
-a mark is one in Rust, which `cargo test` runs over the Cargo crate. The pages are README.md,
-CONTRIBUTING.md, docs/*.md and crates/*/CALLING.md. Each of their blocks that is marked `rust` has to be found, line by
-line, in one file crates/*/src/**/*.rt, which the prover checks, or in the examples of rust/src, which `cargo test` runs.
-How far it is indented doesn't matter, nor does the attribute `#![tactic(auto)]`, which each crate has in its root.
+a mark is one in Rust, which `cargo test` runs over the Cargo crate. The pages are README.md, CONTRIBUTING.md, docs/*.md
+and crates/*/CALLING.md. Each of their blocks that is marked `rust` has to be found, line by line, in one file
+crates/*/src/**/*.rt, which the prover checks, or in the examples of rust/src, which `cargo test` runs. How far it is
+indented doesn't matter, nor does the attribute `#![tactic(auto)]`, which each crate has in its root.
 
-In prose, between backquotes,
+In prose, between backquotes, each name has to be one of the sources, a file's or a folder's, or one of ELSEWHERE: names
+of the kit, of Rust or of smoltcp that no source has, and parameters. A name that ends or begins with an underscore is
+short for all that begin or end so. A path has to be a file's, from the top, from `crates` or from a crate's folder on,
+and a file's name that of a file. Each name after the word "clause" has to be that of a clause of some function, and
+where "of" and a function's name follow, of one of that name.
 
-- each name has to be one of the sources (code, specs, proofs, edits, scripts, the files for Rust and C), a file's or a folder's, or one of
-  ELSEWHERE: names of the kit, of Rust or of smoltcp that no source has, and parameters. A name that ends or begins
-  with an underscore is short for all that begin or end so;
-- a path has to be a file's, from the top, from `crates` or from a crate's folder on, and a file's name that of a file;
-- a name of a value in an answer, such as `c.part.ensures`, has to be in a file `proofs/**/*.antt`;
-- a path `Rattle.CRATE.specs.FILE` has to be that of a file of a crate's specs;
-- a file with a number of lines after it, such as `specs/Frames.antt`, 24 lines, has to have that number;
-- each name after the word "clause" has to be that of a clause of some function, and where "of" and a function's name
-  follow, of one of that name.
-
-README.md and docs/PROVED.md promise no more than a comment says. Their quotations, `> ..`, have to be in a doc comment of
-crates/*/src. An item that begins with a law's name, and a colon, is in the words of the law's comment: between full
-stops, colons and semicolons it says the same, without a leading "states", "that" and "and", and without names of clauses in
-parentheses; but for what says of itself that it is of a clause.
-
-What docs/TRUST.md counts has to be as many in the crates: declarations of C functions, which are axioms, impls that are
-unsafe, proofs by hand, and lines of the definitions to read (`definitions.py`).
-
-Says what is not in the sources, and ends with status 1 if there is anything.
+README.md and docs/PROVED.md promise no more than a comment says. Their quotations, `> ..`, have to be in a doc comment
+of crates/*/src. An item that begins with a law's name, and a colon, is in the words of the law's comment: between full
+stops, colons and semicolons it says the same, without a leading "states", "that" and "and", and without names of
+clauses in parentheses; but for what says of itself that it is of a clause. What docs/TRUST.md counts has to be as many
+in the crates: declarations of C functions, which are axioms, impls that are unsafe, and proofs by hand.
 """
 
 import collections
@@ -38,16 +28,15 @@ import re
 import sys
 import textwrap
 
-import definitions
 from parts.erase_tokens import Text
 
 ROOT = pathlib.Path(__file__).resolve().parent.parent
 # The crates whose lines doc comments quote as examples.
 EXAMPLES = ["net_examples", "net_core_tests"]
 # Where names are looked for.
-SOURCES = ["crates/**/*", "models/*", "compare/**/*", "rust/**/*", "c/**/*", "tools/**/*", "crates.txt", "HANDLES", ".ci/run", "*", "docs/*"]
+SOURCES = ["crates/**/*", "compare/**/*", "rust/**/*", "c/**/*", "tools/**/*", ".ci/run", "*", "docs/*"]
 ELSEWHERE = set("""
-    MODULE axioms nat dac8208d650f15bf __builtin_add_overflow int32_t spsc defmt Format Debug2Format
+    MODULE axioms nat dac8208d650f15bf __builtin_add_overflow int32_t spsc defmt Format Debug2Format HOLE
     c.storage-1.given
 """.split())
 NAME = re.compile(r"[A-Za-z_][A-Za-z0-9_]*")
@@ -67,8 +56,8 @@ def line_of(text, at):
 
 
 def doc_comments(path):
-    """Each doc comment of a source: the number of its first line, its text, and the name of the item after it, if there is
-    one."""
+    """Each doc comment of a source: the number of its first line, its text, and the name of the item after it, if there
+    is one."""
     text = path.read_text()
     for found in re.finditer(r"(?:^ *//[/!].*\n)+(?:\s*#\[[^\]]*\]\n)*(?:\s*(?:pub )?(?:const |unsafe )*"
                              r"(?:fn|const|struct|enum|trait|type) (\w+))?", text, re.M):
@@ -112,8 +101,8 @@ def names_of_sources():
         if {"out", "target", "__pycache__"} & set(path.parts):
             continue
         known.update([path.name, path.stem])
-        # This script and its tests name what no other source does.
-        if path.is_file() and path.suffix != ".md" and path.stem not in ("check_quotes", "checker_tests"):
+        # This script names what no other source does.
+        if path.is_file() and path.suffix != ".md" and path.stem != "check_quotes":
             text = path.read_text(errors="replace")
             known.update(NAME.findall(text))
             if path.suffix == ".rt":
@@ -130,14 +119,14 @@ def is_named(name, known):
 
 
 def spans(page):
-    """Each part of a page's prose between backquotes, with its line's number and the text after it there."""
+    """Each part of a page's prose between backquotes, with its line's number."""
     in_block = False
     for number, line in enumerate(page.read_text().splitlines(), 1):
         if line.strip().startswith("```"):
             in_block = not in_block
         elif not in_block:
             for span in re.finditer(r"`([^`]+)`", line):
-                yield number, span.group(1), line[span.end() :]
+                yield number, span.group(1)
 
 
 def clauses_named(page):
@@ -168,19 +157,8 @@ def is_there(page, span):
         return span in files()
     if not re.fullmatch(r"[\w./]+/[\w.]+" + kinds, span) or re.search(r"\b[A-Z]{4}", span):
         return True
-    crates = [*ROOT.glob("crates/*"), *ROOT.glob("rust/src/proved/*")]
-    places = [ROOT, ROOT / "crates", page.parent, *page.parent.glob("*"), *crates]
+    places = [ROOT, ROOT / "crates", page.parent, *page.parent.glob("*"), *ROOT.glob("crates/*")]
     return any((place / span).is_file() for place in places)
-
-
-def names_of_answers():
-    """Each name with dots that a proof has: of a value of a function's body, and what it begins with."""
-    known = set()
-    for path in ROOT.glob("crates/*/proofs/**/*.antt"):
-        for name in re.findall(r"\bc(?:\.[\w-]+)+", path.read_text()):
-            parts = name.split(".")
-            known.update(".".join(parts[:end]) for end in range(2, len(parts) + 1))
-    return known
 
 
 def clauses_of(page):
@@ -193,22 +171,6 @@ def clauses_of(page):
             number = line_of(text, found.start())
             for clause in re.findall(r"`(\w+)`", found["clauses"]):
                 yield number, clause, found["name"].split("::")[-1]
-
-
-def is_spec(span):
-    """Whether each path `Rattle.CRATE.specs.FILE` in a span is that of a file, or of one that the crate passes on."""
-    for crate, name in re.findall(r"\bRattle\.(net_\w+)\.specs\.([A-Z]\w*)", span):
-        specs = ROOT / "crates" / crate / "specs"
-        passed = (specs / "Lib.antt").read_text() if (specs / "Lib.antt").is_file() else ""
-        if not (specs / f"{name}.antt").is_file() and not re.search(rf"\.{name}$", passed, re.MULTILINE):
-            return False
-    return True
-
-
-def has_lines(span, count):
-    """Whether a file that a page names has `count` lines; true if there is no such file."""
-    found = [path for path in files().get(span.split("/")[-1], ()) if path.match(span)]
-    return not found or any(len(path.read_text().splitlines()) == count for path in found)
 
 
 def miscounted():
@@ -299,24 +261,17 @@ def cited(pages, known):
                 yield page, number, "" if is_one else f"{name} has no clause {clause}"
 
 
-def unknown(page, clauses, names, answers):
+def unknown(page, clauses, names):
     """What a page names that isn't there, each with its line."""
     for number, name in clauses_named(page):
         if name not in clauses:
             yield number, f"no function has a clause {name}"
-    for number, span, behind in spans(page):
+    for number, span in spans(page):
         for name in NAME.findall(span):
             if not is_named(name, names):
                 yield number, f"no source has the name {name}"
-        if re.fullmatch(r"c(\.[\w-]+)+", span) and span not in answers:
-            yield number, f"no proof has the name {span}"
-        if not is_spec(span):
-            yield number, f"there is no module {span}"
         if not is_there(page, span):
             yield number, f"there is no file {span}"
-        lines = re.match(r",? (\d+) lines", behind)
-        if lines and not has_lines(span, int(lines[1])):
-            yield number, f"{span} hasn't {lines[1]} lines"
 
 
 def main():
@@ -330,11 +285,11 @@ def main():
         "clauses that pages name are those of their functions": [*cited(pages, known)],
     }
     clauses = {clause for here in known for named in here.values() for clause in named}
-    names, answers = names_of_sources(), names_of_answers() | ELSEWHERE
+    names = names_of_sources()
     wrong = [it for found in counted.values() for it in found if it[2]]
-    wrong += [(page, *it) for page in pages for it in unknown(page, clauses, names, answers)]
+    wrong += [(page, *it) for page in pages for it in unknown(page, clauses, names)]
     wrong += [(ROOT / name, *it) for name in PROMISING for it in beyond(ROOT / name)]
-    wrong += [(ROOT / "docs/TRUST.md", 1, what) for what in [*miscounted(), *definitions.miscounted()]]
+    wrong += [(ROOT / "docs/TRUST.md", 1, what) for what in miscounted()]
     print(*(f"{page.relative_to(ROOT)}:{number}: {what}\n" for page, number, what in wrong), sep="", end="")
     for what, found in counted.items():
         print(f"{sum(not it[2] for it in found)} {what}")

@@ -3,8 +3,8 @@
 
     python3 tools/edits.py [CRATE ..]             all edits, or those of some crates, by `rt must-fail`
     python3 tools/edits.py --log FILE             all edits, by what `rt ci` printed into a file
-    python3 tools/edits.py --table                the table of CONTRIBUTING.md alone: edits and tests that it names are there
-    python3 tools/edits.py --twins [CRATE ..]     the twins of all edits, or of those of some crates
+    python3 tools/edits.py --table                the table of CONTRIBUTING.md alone: edits and tests that it names are
+                                                  there
     python3 tools/edits.py --rows [CRATE ..]      the rows of all edits, or of those of some crates
 
 CONTRIBUTING.md has a table of wrong bodies. A row names the edit, and the function, as `rt check --only`
@@ -16,16 +16,15 @@ callee's precondition, a loop's invariant, and a name that a proof no longer fin
 and say nothing of the contract.
 
 A right body of the same shape may be refused like the edit. So each `new:` is followed by a line
-`# twin:`, which `rt` takes for a comment, the text of a right body in its place. `--twins` checks the
-function with these texts, and it has to be proved.
+`# twin:`, which `rt` takes for a comment, the text of a right body in its place, which was proved once.
 
-An edit is the body that its name says: lines `# row: CALL => REPLY` are a block of rows of models/make.py,
+An edit is the body that its name says: lines `# row: CALL => REPLY` are a block of rows of rust/tests/rows,
 each with what the reply begins with that the wrong body gives, or nothing. `--rows` plays them over the Cargo
 crate with the edited text erased, where each must be so, and over the right text, where one must not. An edit
 of which no call tells has a line `# no row: REASON`.
 
 Ends with status 1 if an edit isn't in one row of the table, a row of it names nothing, another goal refuses an edit,
-a twin isn't proved, or an edit has neither rows nor a reason, or rows that aren't as they say.
+or an edit has neither rows nor a reason, or rows that aren't as they say.
 """
 import collections
 import os
@@ -63,12 +62,14 @@ def differing():
     there = {name_of(it) for it in edits_of([])}
     wrong = [f"{it}: no row of {PAGE.name} has this edit" for it in sorted(there - set(clauses))]
     wrong += [f"{it}: {PAGE.name} names this edit, and there is none" for it in sorted(set(clauses) - there)]
-    rows = collections.Counter(f"{crate}/{name}" for _, crate, name, function, _ in ROW.findall(PAGE.read_text()) if function)
+    rows = collections.Counter(f"{crate}/{name}"
+                               for _, crate, name, function, _ in ROW.findall(PAGE.read_text()) if function)
     wrong += [f"{it}: {PAGE.name} has {count} rows of this edit" for it, count in sorted(rows.items()) if count > 1]
     wrong += [f"{name_of(it)}: it has no rows, and says not why" for it in edits_of([])
               if bool(rows_of(it)) == bool(re.search(r"^# no row: \w", it.read_text(), re.M))]
     for crate, name in tests:
-        files = (CRATES.parent / "rust/tests").rglob("*.rs") if crate == "rust" else (CRATES / crate / "src").rglob("*.rt")
+        files = (CRATES.parent / "rust/tests").rglob("*.rs") if crate == "rust" \
+            else (CRATES / crate / "src").rglob("*.rt")
         texts = "".join(path.read_text() for path in files)
         if not re.search(rf"#\[test\]\nfn {name}\(", texts):
             wrong.append(f"{crate}/{name}: {PAGE.name} names this test, and there is none")
@@ -76,8 +77,8 @@ def differing():
     return len(wrong)
 
 
-def edited(folder, edit, by="new"):
-    """The texts of the files that an edit changes, by their path in the crate; by its twin's texts if that is asked for."""
+def edited(folder, edit):
+    """The texts of the files that an edit changes, by their path in the crate."""
     texts, path, old = {}, "", ""
     for line in edit.read_text().split("\n"):
         word, _, rest = line.partition(": ")
@@ -86,10 +87,10 @@ def edited(folder, edit, by="new"):
             texts.setdefault(path, (folder / path).read_text())
         elif word == "old":
             old = rest
-        elif line.startswith(f"{by}:"):
+        elif line.startswith("new:"):
             if old not in texts[path]:
                 raise SystemExit(f"{edit}: not in {path}: {old}")
-            texts[path] = texts[path].replace(old, line[len(by) + 1 :].removeprefix(" "))
+            texts[path] = texts[path].replace(old, line[4:].removeprefix(" "))
     return texts
 
 
@@ -157,44 +158,6 @@ def compare(edits, printed):
     return wrong
 
 
-def checked(crate, texts, function):
-    """What the check of a function ended with and printed, with these texts."""
-    with tempfile.TemporaryDirectory(prefix="edits-", dir=ROOT.parent) as room:
-        room = pathlib.Path(room)
-        (room / "crates").mkdir()
-        shutil.copy(ROOT / "crates.txt", room)
-        for other in CRATES.iterdir():
-            how = shutil.copy2 if other.name == crate else os.link
-            shutil.copytree(other, room / "crates" / other.name, copy_function=how)
-        folder = room / "crates" / crate
-        for path, text in texts.items():
-            (folder / path).write_text(text)
-        words = ["rt", "check", "--jobs", "1", "--only", function]
-        ran = subprocess.run(words, cwd=folder, capture_output=True, text=True)
-        return ran.returncode, ran.stdout + ran.stderr
-
-
-def try_twins(edits):
-    """Checks the twin of each edit; returns how many edits have none, or one that isn't proved."""
-    wrong = 0
-    for edit in edits:
-        folder, name, text = edit.parent.parent, name_of(edit), edit.read_text()
-        if text.count("\n# twin:") != text.count("\nnew:"):
-            wrong += 1
-            print(f"{name}: HAS NO TWIN")
-            continue
-        function = table()[0][name][0]
-        status, said = checked(folder.name, edited(folder, edit, "# twin"), function)
-        if status == 0 and f"fn {folder.name}::{function}: proved" in said:
-            print(f"{name}: its twin is proved")
-            continue
-        wrong += 1
-        print(f"{name}: ITS TWIN IS NOT PROVED")
-        print("    " + "\n    ".join([it for it in said.split("\n") if ": error" in it][:3]))
-    print(f"{wrong} edits have no twin that is proved")
-    return wrong
-
-
 # What compares a reply with a row, if a row has only what the reply begins with.
 BEGINS = """macro_rules! begins {
     ($given:expr, $reply:expr, $($rest:tt)*) => {
@@ -210,12 +173,13 @@ def rows_of(edit):
 
 
 def play(copy, crate, texts, rows):
-    """What is said of the first of the rows that isn't so over a copy of the Cargo crate, with these texts of a crate; nothing
-    if each is so."""
+    """What is said of the first of the rows that isn't so over a copy of the Cargo crate, with these texts of a crate;
+    nothing if each is so."""
     import erase
 
     sources, refused = erase.sources, []
-    erase.sources = lambda *of: ((name, path, texts.get(f"src/{path}", text) if name == crate else text) for name, path, text in sources(*of))
+    erase.sources = lambda *of: ((name, path, texts.get(f"src/{path}", text) if name == crate else text)
+                                 for name, path, text in sources(*of))
     for file, text in erase.erased(refused).items():
         place = copy / file.relative_to(ROOT / "rust")
         if place.read_text() != text:
@@ -226,7 +190,8 @@ def play(copy, crate, texts, rows):
     said = "".join(refused) or subprocess.run(words, cwd=copy, capture_output=True, text=True).stdout
     # The test also wants rows of each kind, which come after those that are wrong.
     told = re.search(r"gives .*, not .*", said)
-    return "" if re.search(r"no row .* was made|test result: ok", said) else told[0] if told else said or "it doesn't compile"
+    return "" if re.search(r"no row .* was made|test result: ok", said) else told[0] if told \
+            else said or "it doesn't compile"
 
 
 def try_rows(edits):
@@ -236,13 +201,15 @@ def try_rows(edits):
         copy = pathlib.Path(room) / "rust"
         shutil.copytree(ROOT / "rust", copy, ignore=shutil.ignore_patterns("target"))
         test = copy / "tests/rows/main.rs"
-        test.write_text(re.sub(r"assert_eq!(?=\(.*, \*?repl)", "begins!", test.read_text()).replace("\nuse ", f"\n{BEGINS}\nuse ", 1))
+        test.write_text(re.sub(r"assert_eq!(?=\(.*, \*?repl)", "begins!",
+                               test.read_text()).replace("\nuse ", f"\n{BEGINS}\nuse ", 1))
         edits = [it for it in edits if rows_of(it)]
         # All over the right text first, which is compiled once.
         right = {it for it in edits if not play(copy, it.parent.parent.name, {}, rows_of(it))}
         for edit in edits:
             said = play(copy, edit.parent.parent.name, edited(edit.parent.parent, edit), rows_of(edit))
-            how = f"ITS BODY DOESN'T GIVE\n    {said}" if said else "THE RIGHT BODY GIVES TOO" if edit in right else "its body gives"
+            how = f"ITS BODY DOESN'T GIVE\n    {said}" if said else "THE RIGHT BODY GIVES TOO" if edit in right \
+                else "its body gives"
             wrong += bool(said) or edit in right
             print(f"{name_of(edit)}: {how} {len(rows_of(edit))} rows")
     print(f"of {len(edits)} edits with rows {wrong} have others")
@@ -254,8 +221,6 @@ def main():
         return 1 if differing() else 0
     if sys.argv[1:2] == ["--log"]:
         return 1 if compare(edits_of([]), pathlib.Path(sys.argv[2]).read_text()) else 0
-    if sys.argv[1:2] == ["--twins"]:
-        return 1 if try_twins(edits_of(sys.argv[2:])) else 0
     if sys.argv[1:2] == ["--rows"]:
         return 1 if try_rows(edits_of(sys.argv[2:])) else 0
     edits = edits_of(sys.argv[1:])

@@ -1,12 +1,12 @@
 #!/usr/bin/env python3
 """Erases Rattle to Rust: what can't run goes, all else stays.
 
-    python3 tools/erase.py             writes rust/src/proved, of the crates that tools/parts/erase_list.py names, and the
-                                       program, rust/examples/net_bench/proved
+    python3 tools/erase.py             writes what is erased in rust/src, of the crates that tools/parts/erase_list.py
+                                       names, and the program, rust/examples/net_bench/proved
     python3 tools/erase.py --check     writes nothing, and names each file that isn't so
 
-What it does are the rules of docs/TRUST.md, "The eraser's rules", and no more; what they refuse is said with its file and
-line. What is taken out ends where its bracket closes. That what is left does in Rust what was proved is for
+What it does are the rules of docs/TRUST.md, "The eraser's rules", and no more; what they refuse is said with its file
+and line. What is taken out ends where its bracket closes. That what is left does in Rust what was proved is for
 tools/same_program.py. tools/parts/erase_says.py adds lines of documentation.
 """
 import re
@@ -20,19 +20,15 @@ from parts import erase_says
 from parts.erase_tokens import SPACE, Refused, Text, words
 
 REPOSITORY = Path(__file__).resolve().parent.parent
-OUT, EXAMPLE = REPOSITORY / 'rust/src/proved', REPOSITORY / 'rust/examples/net_bench/proved'
+OUT, EXAMPLE = REPOSITORY / 'rust/src', REPOSITORY / 'rust/examples/net_bench/proved'
 TOP = '''//! The proved code: crates of the repository without their contracts, as `tools/erase.py` writes them.
-// Which item is public in a crate of Rattle isn't which one is in this crate: `lib.rs` re-exports by hand. A parameter may
-// be for contracts alone. The rest is what Rattle has no other form for.
+// Which item is public in a crate of Rattle isn't which one is in this program. A parameter may be for contracts alone. The
+// rest is what Rattle has no other form for.
 #![allow(unreachable_pub, unused_variables)]
 #![allow(clippy::manual_filter, clippy::manual_find, clippy::manual_map, clippy::needless_range_loop, clippy::question_mark)]
 #![allow(clippy::int_plus_one, clippy::len_without_is_empty, clippy::needless_lifetimes, clippy::new_without_default)]
 #![allow(clippy::precedence, clippy::redundant_closure, clippy::redundant_pattern_matching, clippy::single_match)]
 #![allow(clippy::too_many_arguments)]
-'''
-FEATURES = '''// Some calls and names are for the features `c` and `segmentation-offload` alone.
-#![cfg_attr(not(all(feature = "c", feature = "segmentation-offload")), allow(dead_code, unused_imports))]
-
 '''
 PROGRAM = '''// Some names are for tests alone, and labels for contracts. A line feed is in a text, as in what is read.
 #![cfg_attr(not(test), allow(unused_imports))]
@@ -40,7 +36,8 @@ PROGRAM = '''// Some names are for tests alone, and labels for contracts. A line
 
 ''' + ''.join(f'pub mod {name};\n' for name in given.PROGRAM) + 'pub mod {} {{\n    pub mod {};\n}}\n'.format(*given.SCHEDULE.split('/'))
 ROOT, RATTLE = 'crate::proved', 'crate::rattle'
-HEADER = '// Written by tools/erase.py from {}: a change here would be lost.\n'
+WRITTEN = '// Written by tools/erase.py from '
+HEADER = WRITTEN + '{}: a change here would be lost.\n'
 # What a prelude has: that of the library, and that of the program.
 PRELUDE = {'prove', 'slice_mut', 'Vec', 'ASSEMBLER_MAX_SEGMENT_COUNT'}, {'String', 'Vec'}
 GHOST_DERIVES = {'Drop', 'Error'}
@@ -51,13 +48,14 @@ OF_TRAIT = re.compile(r'\bfor\b|\btrait\b')
 # The type that an impl is of, or a trait's name.
 OWNER = re.compile(r'(?:.*?\b(?:for|trait) |impl(?:<(?:[^<>]|<(?:[^<>]|<[^<>]*>)*>)*>)? )(\w+)', re.S)
 # A bound of a `usize` that does something: it assigns, lends to be changed, or calls more than `most` and `len`.
-WIDE = re.compile(r'prove!\(.*(?:\{|\bmut\b|[^=<>!]=[^=]|(?!\b(?:len|most)\()\b[a-z_]\w*\(|\w!\().*"in any `usize`"', re.S)
+WIDE = re.compile(r'prove!\(.*(?:\{|\bmut\b|[^=<>!]=[^=]|(?!\b(?:len|most)\()\b[a-z_]\w*\(|\w!\().*"in any `usize`"',
+                  re.S)
 LINK = re.compile(r'(?<=\]\()(?:crate|net_\w+)(?=::)')
 
 
 class Eraser(Text):
-    """One file of a crate. `new` has the text that is written for a token, where that is another one; `after` what is added
-    behind one, by tools/parts/erase_says.py lines of documentation alone."""
+    """One file of a crate. `new` has the text that is written for a token, where that is another one; `after` what is
+    added behind one, by tools/parts/erase_says.py lines of documentation alone."""
 
     def __init__(self, text, crate, omitted=(), file='', laws=None, traits=(), by_hand=()):
         super().__init__(text)
@@ -111,7 +109,8 @@ class Eraser(Text):
             return self.put(head, k + 1, GONE)
         if kind == 'clause' and k not in self.new:
             self.refuse(at, 'a clause of no function')
-        if (word, follows) == ('.', '.') and self.before(k) in (',', '{') and re.compile(r'\.\.\s*[\w(*&][^{};]*\[').match(self.text, at):
+        if (word, follows) == ('.', '.') and self.before(k) in (',', '{') and \
+                re.compile(r'\.\.\s*[\w(*&][^{};]*\[').match(self.text, at):
             self.refuse(at, 'the rest of a struct from an element, which Rattle may not read: name it before')
         if kind != 'word':
             return k + 1
@@ -158,7 +157,8 @@ class Eraser(Text):
         if (is_law or self.name(k) in self.uncalled) and not (owner and OF_TRAIT.search(impl[-1])):
             self.gone.add(self.name(k))
             return self.put(head, self.group(body), GONE)
-        if pub is not None and pub not in self.new and 'track_caller' in self.source(head, k) and self.crate != given.EXPORTS:
+        if pub is not None and pub not in self.new and 'track_caller' in self.source(head, k) and \
+                self.crate != given.EXPORTS:
             self.panics(head, k)
         self.functions.append((owner, impl[-1] if owner else '', k, head, begin, body, pub))
         return k + 1
@@ -185,17 +185,21 @@ class Eraser(Text):
         self.put(docs[heading + 2], docs[end - 1] + 1, f'\n{margin}'.join(f'/// {line}' for line in text))
 
     def trim(self):
-        """Takes from imports what only contracts name, but for traits and std's, and from a `pub use` the list's names."""
+        """Takes from imports what only contracts name, but for traits and std's, and from a `pub use` the list's
+        names."""
         spans = {j for _, k, end, _ in self.imports for j in range(k, end)}
-        used = {self.tokens[j][1] for j, token in enumerate(self.tokens) if token[0] == 'word' and j not in spans and j not in self.new}
+        used = {self.tokens[j][1] for j, token in enumerate(self.tokens) if token[0] == 'word' and j not in spans
+                and j not in self.new}
         used |= {word for j, text in self.new.items() if j not in spans for word in words(text)}
         for head, k, end, is_public in self.imports:
             named = [j for j in range(k + 1, end) if self.tokens[j][0] == 'word']
             kept = lambda name: name not in given.UNNAMED.get(self.key, ()) if is_public else name in used or name in self.traits
             leaves = [j for j in named if self.tokens[self.next(j + 1)][1] in (',', ';', '}')]
-            by_name = {j: self.tokens[named[at - 2]][1] for at, j in enumerate(named) if at > 1 and self.tokens[named[at - 1]][1] == 'as'}
+            by_name = {j: self.tokens[named[at - 2]][1] for at, j in enumerate(named) if at > 1
+                       and self.tokens[named[at - 1]][1] == 'as'}
             gone = [j for j in leaves if self.tokens[j][1] == 'Model' or
-                    self.tokens[named[0]][1] not in ('std', 'thiserror') and not kept(self.tokens[j][1]) and by_name.get(j) not in self.traits]
+                    self.tokens[named[0]][1] not in ('std', 'thiserror') and not kept(self.tokens[j][1])
+                    and by_name.get(j) not in self.traits]
             if len(gone) == len(leaves):
                 self.put(head, end + 1, GONE)
             elif gone and re.search(r'\bas\b', self.source(k, end)):
@@ -219,8 +223,10 @@ class Eraser(Text):
             return self.put(k, end, '#[inline(always)]')
         if name == 'error':
             item = re.compile(r'(?:\s*(?:#\[[^\]]*\]|///[^\n]*|pub|struct)(?=\s))*\s*(\w+)').match(self.text, self.tokens[end][2])[1]
-            owner = re.findall(r'^pub (?:struct|enum) (\w+)', self.text[:self.tokens[end][2]], re.M) if self.margin(k) else [item]
-            text = re.fullmatch(r'#\[error\(("(?:[^"{}\\]|\{0\})*")\)\]', self.source(k, end)) or self.refuse(self.tokens[k][2], 'not a text')
+            owner = re.findall(r'^pub (?:struct|enum) (\w+)', self.text[:self.tokens[end][2]],
+                               re.M) if self.margin(k) else [item]
+            text = re.fullmatch(r'#\[error\(("(?:[^"{}\\]|\{0\})*")\)\]',
+                                self.source(k, end)) or self.refuse(self.tokens[k][2], 'not a text')
             taken, shown = ('(field)', ' (field)') if '{0}' in text[1] else ('', '')
             self.errors.setdefault(owner[-1], []).append(f'{owner[-1]}{f"::{item}" * bool(self.margin(k))}{taken} => {text[1]}{shown}')
         if name in ('tactic', 'error'):
@@ -243,7 +249,8 @@ class Eraser(Text):
         out = re.sub(rf'\s*(?:{NO_CLAUSE}\s*)+(?={{)', ' ', out)
         out = re.sub(rf'\s*(?:{NO_CLAUSE}\s*)+(?=;)', '', out)
         out = re.sub(rf'(?m)^[ \t]*{GONE}[ \t{GONE}]*\n', '', out).replace(GONE, '')
-        out = re.sub(r'\{\n\n+', '{\n', re.sub(r'\n\n+(\s*\})', r'\n\1', re.sub(r'\n{3,}', '\n\n', out))).strip('\n') + '\n'
+        out = re.sub(r'\{\n\n+', '{\n',
+                     re.sub(r'\n\n+(\s*\})', r'\n\1', re.sub(r'\n{3,}', '\n\n', out))).strip('\n') + '\n'
         texts = ''.join(f'\n{RATTLE}::error_text!({name}, {", ".join(said)});\n' for name, said in self.errors.items())
         top = re.match(r'(?://![^\n]*\n)*\n?', out).end()
         prelude = f'use {RATTLE}::prelude::*;\n' if PRELUDE[bool(self.by_hand)] & {*words(out)} else ''
@@ -262,7 +269,8 @@ def sources(crates=given.CRATES):
 def program():
     """The same of the program, which is erased into an example."""
     crate, module = given.SCHEDULE.split('/')
-    return [*sources(given.PROGRAM), (crate, Path(f'{module}.rt'), (REPOSITORY / 'crates' / crate / 'src' / f'{module}.rt').read_text())]
+    return [*sources(given.PROGRAM),
+            (crate, Path(f'{module}.rt'), (REPOSITORY / 'crates' / crate / 'src' / f'{module}.rt').read_text())]
 
 
 def omitted(crate, path):
@@ -293,11 +301,11 @@ def called_laws():
 
 def erased(said):
     """Each file of the result, by its path, with its text; what is refused is appended to `said`."""
-    modules = ''.join('#[cfg(feature = "c")]\n#[allow(missing_docs)]\n' * (name == given.EXPORTS) + f'pub mod {name};\n' for name in given.CRATES)
-    files = {OUT / 'mod.rs': HEADER.format('crates') + TOP + FEATURES + modules, EXAMPLE / 'mod.rs': HEADER.format('crates') + TOP + PROGRAM}
+    files = {EXAMPLE / 'mod.rs': HEADER.format('crates') + TOP + PROGRAM}
     left = {file for *_, found in given.REPLACED for file in found}
     laws, of_crate, of_program, of_traits, gone = called_laws(), [*sources()], program(), set(), set()
-    traits = {name for *_, text in of_crate + of_program for name in re.findall(r'^ *(?:pub(?:\([^)]*\))? )?trait (\w+)', text, re.M)}
+    traits = {name for *_, text in of_crate + of_program
+              for name in re.findall(r'^ *(?:pub(?:\([^)]*\))? )?trait (\w+)', text, re.M)}
     lawless = {Path(crate, path).parent for crate, path, text in of_crate
                if path.stem == 'laws' and not laws & {*re.findall(r'^pub fn (\w+)', text, re.M)}}
     for out, by_hand, (crate, path, text) in [(OUT, (), each) for each in of_crate] + [(EXAMPLE, given.BY_HAND, each) for each in of_program]:
@@ -308,22 +316,59 @@ def erased(said):
         try:
             folder = Path(crate, path).parent if path.name == 'lib.rt' else Path(crate, path).with_suffix('')
             left_out = omitted(crate, path) | ({'laws'} if folder in lawless else set())
-            eraser = Eraser(replaced(file, text), crate, left_out, f'crates/{crate}/src/{path}', laws if path.stem == 'laws' else None, traits, by_hand)
-            files[out / crate / ('mod.rs' if path.name == 'lib.rt' else path.with_suffix('.rs'))] = eraser.run()
+            eraser = Eraser(replaced(file, text), crate, left_out, f'crates/{crate}/src/{path}',
+                            laws if path.stem == 'laws' else None, traits, by_hand)
+            text = eraser.run()
+            if out == EXAMPLE:
+                files[out / crate / ('mod.rs' if path.name == 'lib.rt' else path.with_suffix('.rs'))] = text
+            elif file not in given.ROOTS:
+                files[out / f'{placed(file)}.rs'] = relocated(text)
+            elif missing := [item for item in constants(text) if item not in by_hand_root(file)]:
+                said.append(f'rust/src: {missing[0]} of {eraser.file} is by hand in no root')
             gone |= {f'{file} {name}' for name in eraser.gone}
             of_traits |= {eraser.name(k) for _, impl, k, *_ in eraser.functions if OF_TRAIT.search(impl)}
         except Refused as refused:
             said.append(f'{REPOSITORY / "crates" / crate / "src" / path}:{refused}')
     for file, names in given.UNCALLED.items():
-        said += [f'tools/parts/erase_list.py: {file} has no function {name}' for name in names if f'{file} {name}' not in gone]
-        said += [f'tools/parts/erase_list.py: {name} is also the name of a function of a trait' for name in names if name in of_traits]
+        said += [f'tools/parts/erase_list.py: {file} has no function {name}'
+                 for name in names if f'{file} {name}' not in gone]
+        said += [f'tools/parts/erase_list.py: {name} is also the name of a function of a trait'
+                 for name in names if name in of_traits]
     said += [f'tools/parts/erase_list.py: no such file: {file}' for file in sorted(left)]
     return files
 
 
+def placed(module):
+    """Where a module of a crate is in rust/src, without its suffix."""
+    for name, place in given.MOVED.items():
+        if f'{module}/'.startswith(f'{name}/'):
+            return place + module[len(name):]
+    crate, _, path = module.partition('/')
+    return '/'.join(filter(None, [given.FOLDERS[crate], path]))
+
+
+def relocated(text):
+    """A text with the paths that modules have in the Cargo crate."""
+    names = [name.replace('/', '::') for name in [*given.MOVED, *given.CRATES]]
+    place = lambda name: '::'.join(['crate', *placed(name[1].replace('::', '/')).split('/')]).removesuffix('::')
+    return re.sub(rf'{ROOT}::({"|".join(names)})\b', place, text)
+
+
+def constants(text):
+    """The constants of a root."""
+    return re.findall(r'^const .*;$', text, re.M)
+
+
+def by_hand_root(file):
+    """The file by hand in the place of a root."""
+    module = placed(file.removesuffix('/lib'))
+    roots = [OUT / name for name in (f'{module}.rs', f'{module}/mod.rs', 'lib.rs')]
+    return next(root.read_text() for root in roots if root.is_file())
+
+
 def inexact(rust, rattle):
-    """The types that are an `ExactSizeIterator` in Rust, and of whose `size_hint` no clause says what it returns: their `len`
-    panics if it returns anything else than how many items are left."""
+    """The types that are an `ExactSizeIterator` in Rust, and of whose `size_hint` no clause says what it returns: their
+    `len` panics if it returns anything else than how many items are left."""
     told = {name for name, body in re.findall(r'^impl\b[^{]*\bIterator for (\w+)[^{]*\{\n(.*?)^\}', rattle, re.M | re.S)
             if re.search(r'fn size_hint\(&self\)[^{]*\n(?: {8}.*\n)*? {8}ensures \w+ \{ \(?result(?:\.0)? ≡ ', body)}
     return [name for name in re.findall(r'^impl\b[^{]*\bExactSizeIterator for (\w+)', rust, re.M) if name not in told]
@@ -331,7 +376,8 @@ def inexact(rust, rattle):
 
 def main(arguments):
     said = []
-    files, old = erased(said), {file: file.read_text() for out in (OUT, EXAMPLE) for file in out.rglob('*') if file.is_file()}
+    files, old = erased(said), {file: file.read_text() for out in (OUT, EXAMPLE) for file in out.rglob('*.rs')}
+    old = {file: text for file, text in old.items() if text.startswith(WRITTEN)}
     differ = [path for path in sorted(files.keys() | old.keys()) if files.get(path) != old.get(path)]
     if arguments == ['--check']:
         rust = ''.join(file.read_text() for file in sorted((REPOSITORY / 'rust/src').rglob('*.rs')))

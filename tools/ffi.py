@@ -1,23 +1,26 @@
 #!/usr/bin/env python3
 """Writes the declarations of the library for C from the exports of crates/net_ffi.
 
-    python3 tools/ffi.py               writes the exports of heads, of c header, tests of duties, shim and net_base.pc, and
-                                       duties in docs/FFI.md
+    python3 tools/ffi.py               writes the exports of heads, of c header, tests of duties, shim and net_base.pc,
+                                       and duties in docs/FFI.md
     python3 tools/ffi.py --check       compares the files with what it would write; status 1 if one is stale
     python3 tools/ffi.py --tests FILE  writes the program that calls each export at the values of exports.txt
     python3 tools/ffi.py --sequence FILE    writes the program that makes one long sequence of calls of all
 
 It reads, in the order of the modules in lib.rt, but those in FIRST before,
 - each `#[unsafe(no_mangle)] pub extern "C" fn`, with its doc comment;
-- the types `..Status`, each an enum in C, whose enumerators are those constants `NET_BASE_..` of the type `Status` that its
-  comment names, and as `NET_BASE_NONE` what the function `no_number` returns: no constant knows how many bits a `usize` has;
+- the types `..Status`, each an enum in C, whose enumerators are those constants `NET_BASE_..` of the type `Status` that
+its
+  comment names, and as `NET_BASE_NONE` what the function `no_number` returns: no constant knows how many bits a `usize`
+  has;
 - each `#[repr(C)]` struct that one of these takes or returns, of this crate or of one that it uses.
 
-A slice is a pointer and then a length, with `_length` after the slice's name; `&T` and `&mut T` are pointers. In
-C a struct's name is in snake case, without `Net` before and `Head` after it, and has the prefix `net_base_`. The doc
-comment of a module heads its section, a group of doxygen's, but for what follows its first paragraph: that is in the comment
-of the section's head. Of a struct of another crate only the first paragraph is taken. The duties and
-refusals in the crate's own comment are in the header, and the duties in docs/FFI.md. The index in the header is that of heads.txt.
+A slice is a pointer and then a length, with `_length` after the slice's name; `&T` and `&mut T` are pointers. In C a
+struct's name is in snake case, without `Net` before and `Head` after it, and has the prefix `net_base_`. The doc
+comment of a module heads its section, a group of doxygen's, but for what follows its first paragraph: that is in the
+comment of the section's head. Of a struct of another crate only the first paragraph is taken. The duties and refusals
+in the crate's own comment are in the header, and the duties in docs/FFI.md. The index in the header is that of
+heads.txt.
 """
 import argparse
 import dataclasses
@@ -47,11 +50,12 @@ WIDTH = 100
 C_TYPES = {"usize": "size_t", "bool": "bool"}
 C_TYPES |= {f"{sign}{bits}": f"{'u' * (sign == 'u')}int{bits}_t" for sign in "iu" for bits in (8, 16, 32, 64)}
 # The constants that arrays have as lengths.
-LENGTHS = dict(re.findall(r"const (\w+): usize = (\d+);", "".join(path.read_text() for path in EXPORTS.glob("src/*.rt"))))
+LENGTHS = dict(re.findall(r"const (\w+): usize = (\d+);",
+                          "".join(path.read_text() for path in EXPORTS.glob("src/*.rt"))))
 # The type of the numbers of all statuses, an alias of `u32`, and what says in C that a result isn't to be thrown away.
 STATUS, MUST_USE = "Status", "NET_BASE_MUST_USE"
-# The statuses that a call can answer, by the type of its result: an alias of `u32` whose comment names them in its first
-# paragraph, and then says what one of them means there, if that isn't what it means elsewhere. Each is an enum.
+# The statuses that a call can answer, by the type of its result: an alias of `u32` whose comment names them in its
+# first paragraph, and then says what one of them means there, if that isn't what it means elsewhere. Each is an enum.
 COMMENTS = {name: re.sub("^/// ?", "", doc, flags=re.M) for doc, name in re.findall(
     r"((?:^///.*\n)+)^pub type (\w+Status) = u32;", (EXPORTS / "src/refusals.rt").read_text(), flags=re.M)}
 ALIASES = {name: " ".join(doc.partition("\n\n")[0].split()) for name, doc in COMMENTS.items()}
@@ -70,8 +74,8 @@ C_LIMITS |= {f"{sign}{bits}": f"{'U' * (sign == 'u')}INT{bits}" for sign in "iu"
 
 @dataclasses.dataclass
 class Item:
-    """A struct (fields as members), an enum or a constant (its value as text), or an export (parameters as members). The
-    members of an enum are its constants."""
+    """A struct (fields as members), an enum or a constant (its value as text), or an export (parameters as members).
+    The members of an enum are its constants."""
 
     kind: str
     name: str
@@ -238,7 +242,8 @@ class Library:
             for item in [item for item in section if item.kind == "enum"]:
                 item.doc = first_paragraph(item.doc)
                 item.members = [statuses[name] for name in ANSWERS[item.name]]
-                item.members = [dataclasses.replace(it, doc=[MEANT.get((item.name, it.name)) or "\n".join(it.doc)]) for it in item.members]
+                item.members = [dataclasses.replace(it, doc=[MEANT.get((item.name, it.name)) or "\n".join(it.doc)])
+                                for it in item.members]
             if section:
                 section.sort(key=lambda item: ["struct", "enum", "const", "fn"].index(item.kind))
                 self.sections.append((module_doc(paths[0]), section, paths[0].stem))
@@ -453,7 +458,8 @@ def index_of(library):
     return lines
 
 
-# What isn't to be thrown away: C++17 and C23 say it in their own way, where `(void)` allows it; GCC's word allows nothing.
+# What isn't to be thrown away: C++17 and C23 say it in their own way, where `(void)` allows it; GCC's word allows
+# nothing.
 MUST = f"""/** What is returned isn't to be thrown away. */
 #if defined __cplusplus && __cplusplus >= 201703L || defined __STDC_VERSION__ && __STDC_VERSION__ >= 202311L
 #define {MUST_USE} [[nodiscard]]
@@ -465,8 +471,8 @@ MUST = f"""/** What is returned isn't to be thrown away. */
 /** What a call may write overlaps nothing else that it is passed. */
 #define NET_BASE_RESTRICT __restrict"""
 
-# What GCC is told of slices: of a pointer's elements as many are read, or may be written, as the parameter of another number
-# says.
+# What GCC is told of slices: of a pointer's elements as many are read, or may be written, as the parameter of another
+# number says.
 ACCESS = """/** @cond */
 #if defined __has_attribute
 #if __has_attribute(access)
@@ -500,7 +506,8 @@ def link_names(number):
 def slices(library):
     """What GCC is told of slices, apart from the declarations, which stay plain."""
     told = [(item.name.removeprefix("net_base_"), " ".join(attributes(item))) for item in library.exports()]
-    return [ACCESS, *[f"NET_BASE_SLICES({name}, {it})" for name, it in told if it], "#pragma GCC diagnostic pop", "#endif", "#endif",
+    return [ACCESS, *[f"NET_BASE_SLICES({name}, {it})" for name, it in told if it], "#pragma GCC diagnostic pop",
+            "#endif", "#endif",
             "/** @endcond */"]
 
 
@@ -520,7 +527,8 @@ def c_part(library, crate):
     lines += [" * What for, and which calls", " *"]
     for line in index_of(library):
         later = " " * (4 if line.startswith("  ") else 2)
-        lines += [f" * {row}" for row in textwrap.wrap(line.strip(), WIDTH - 3, initial_indent=later[2:], subsequent_indent=later)]
+        lines += [f" * {row}"
+                  for row in textwrap.wrap(line.strip(), WIDTH - 3, initial_indent=later[2:], subsequent_indent=later)]
     lines += [" *"]
     for heading, text in root_sections(crate):
         lines += [f" * {heading}", " *"] * bool(heading)
@@ -528,7 +536,8 @@ def c_part(library, crate):
         lines += [" *"]
     lines[-1] = " */"
     numbers = zip(("MAJOR", "MINOR", "PATCH"), version.partition("-")[0].split("."))
-    lines += ["#ifndef NET_BASE_H", "#define NET_BASE_H", "#include <stdbool.h>", "#include <stddef.h>", "#include <stdint.h>", ""]
+    lines += ["#ifndef NET_BASE_H", "#define NET_BASE_H", "#include <stdbool.h>", "#include <stddef.h>",
+              "#include <stdint.h>", ""]
     for name, number in numbers:
         lines += [f"/** The {name.lower()} number: until 1.0 names and structs may change with each minor one. */",
                   f"#define NET_BASE_VERSION_{name} {number}"]
@@ -540,12 +549,14 @@ def c_part(library, crate):
             more = ["", *doc[doc.index("") + 1 :]] if item is head and "" in doc else []
             lines += [""] + c_item(item, library, more)
         lines += ["", "/** @} */"]
-    lines += ["", END, "", *slices(library), "", "#ifdef __cplusplus", "}", "#endif", "", "#ifdef NET_BASE_CHECK", '#include "net_base_check.h"', "#endif"]
+    lines += ["", END, "", *slices(library), "", "#ifdef __cplusplus", "}", "#endif", "", "#ifdef NET_BASE_CHECK",
+              '#include "net_base_check.h"', "#endif"]
     return "\n".join([*lines, "#endif"]) + "\n"
 
 
 def head_of(section):
-    """The struct of a section that its calls are of, to whose comment that of the section is added: tools show it there."""
+    """The struct of a section that its calls are of, to whose comment that of the section is added: tools show it
+    there."""
     first = next((item for item in section if item.kind == "fn" and item.members), None)
     kind = first and core_type(first.members[0].type)
     return next((item for item in section if item.kind == "struct" and item.name == kind), None)
@@ -571,8 +582,9 @@ def between(text, begin, middle):
 
 
 def abi(text):
-    """The lines of c/abi.txt: each number of the interface, with the digest of the header's declarations without comments.
-    A number that has another digest there is refused: a new line with the next number alone gets the digest."""
+    """The lines of c/abi.txt: each number of the interface, with the digest of the header's declarations without
+    comments. A number that has another digest there is refused: a new line with the next number alone gets the
+    digest."""
     bare = " ".join(re.sub(r"/\*.*?\*/|#define NET_BASE_VERSION_\w+ \d+", "", text, flags=re.S).split())
     number = str(interface())
     digest = hashlib.sha256(bare.encode()).hexdigest()[:16]
@@ -590,7 +602,8 @@ def without_layout(text):
 
 
 def put(files, only_compares):
-    """Writes files, or returns whether one of them is stale, and says so. Those of Rattle are laid out, where the kit is here."""
+    """Writes files, or returns whether one of them is stale, and says so. Those of Rattle are laid out, where the kit
+    is here."""
     stale = False
     for path, text in files.items():
         same = without_layout if path.suffix == ".rt" else str
@@ -629,7 +642,8 @@ def main():
             path.write_text(programs[path](library))
         return
     header = c_part(library, EXPORTS)
-    texts = {HEADER: header, ABI: abi(header), CONFIG: config(), checks.OUT: checks.text(library), shim.OUT: shim.text(library), PAGE: page(EXPORTS, PAGE)}
+    texts = {HEADER: header, ABI: abi(header), CONFIG: config(), checks.OUT: checks.text(library),
+             shim.OUT: shim.text(library), PAGE: page(EXPORTS, PAGE)}
     stale |= put(texts, options.check)
     sys.exit(stale)
 

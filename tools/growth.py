@@ -22,9 +22,11 @@ from pathlib import Path
 FEW, MANY = 32, 1024
 # How many times more instructions a call may take with 32 times as many runs.
 MOST = {"looks": 1.1, "searches": 2.2, "passes": 36}
-# How many times more it has to take, since its class would else be a better one; and calls whose case isn't their worst.
+# How many times more it has to take, since its class would else be a better one; and calls whose case isn't their
+# worst.
 LEAST, BETTER = {"looks": 0, "searches": 1, "passes": 2.2}, {"sending_end_next_segment"}
-# What the calls of a type, or of a module, begin with in growth/src/main.rs: then comes the method's name, and the case.
+# What the calls of a type, or of a module, begin with in growth/src/main.rs: then comes the method's name, and the
+# case.
 TYPES = {
     "assembler": "Assembler", "scoreboard": "Scoreboard", "recovery": "LossRecovery", "receiver": "ReceiverOver",
     "finite_receiver": "FiniteReceiverOver", "sender": "SenderOver", "finite_sender": "FiniteSenderOver",
@@ -108,7 +110,8 @@ def page_table(few, many, classes):
 
 
 def differing(rows, writes):
-    """A line for each row of the page that is another, or has a number that is off by more than a tenth; or writes them."""
+    """A line for each row of the page that is another, or has a number that is off by more than a tenth; or writes
+    them."""
     before, begin, rest = PAGE.read_text().partition("<!-- tools/growth.py: begin -->\n")
     said, end, after = rest.partition("<!-- tools/growth.py: end -->")
     if writes:

@@ -92,9 +92,11 @@ def guarded():
         eraser.run()
         for owner, header, k, head, begin, body, pub in eraser.functions:
             signature, name = eraser.source(k, begin), f'{owner}::{eraser.tokens[eraser.next(k + 1)][1]}'.removeprefix('::')
-            is_operator = 'ghost can_' in text[text.rfind(header, 0, eraser.tokens[k][2]):eraser.tokens[body][2]] if owner else False
+            is_operator = 'ghost can_' in text[text.rfind(header, 0, eraser.tokens[k][2]):eraser.tokens[body][2]] \
+                if owner else False
             is_called = pub is not None or is_operator or header.startswith(('trait', 'pub trait'))
-            # Of heads, and of parts that have heads, callers test what is required; of `Turns` it is of counts that contracts alone see.
+            # Of heads, and of parts that have heads, callers test what is required; of `Turns` it is of counts that
+            # contracts alone see.
             is_left = owner.endswith('Head') or owner == 'Turns' or pub and re.search(r'Head\b|Parts<', signature)
             if not is_called or crate == given.EXPORTS or is_left:
                 continue
@@ -163,7 +165,8 @@ def check(text):
         source = Path(folder, 'src/lib.rt')
         source.parent.mkdir()
         source.write_text(text)
-        return libraries.over([crate for crate in given.CRATES if crate != given.EXPORTS], 'check', 'checked', folder, Path(folder, 'kept'))
+        return libraries.over([crate for crate in given.CRATES if crate != given.EXPORTS], 'check', 'checked', folder,
+                              Path(folder, 'kept'))
 
 
 def main(arguments):

@@ -3,8 +3,8 @@
 
     python3 tools/libraries.py ARCHIVE [FOLDER]
 
-What is checked stays in FOLDER for a next time. The functions here build and check over these libraries. `rt lib` and `rt check`
-would prove them again: `rt ci` keeps of a library what crates above it read, and not its proofs.
+What is checked stays in FOLDER for a next time. The functions here build and check over these libraries. `rt lib` and
+`rt check` would prove them again: `rt ci` keeps of a library what crates above it read, and not its proofs.
 """
 import re
 import subprocess
@@ -29,12 +29,14 @@ def kit():
 
 
 def over(uses, verb, crate, source, kept, *words):
-    """What `rattle check` or `rattle build` of a crate's source says over these libraries, and its status. What is checked stays in
-    the folder `kept`."""
+    """What `rattle check` or `rattle build` of a crate's source says over these libraries, and its status. What is
+    checked stays in the folder `kept`."""
     rlibs = {'std': kit() / 'rlibs/std.rlib'} | {name: rlib(name) for name in uses}
-    libraries = [word for name, place in rlibs.items() for word in ('--extern', f'{name}={place}', '-L', f'dependency={place.parent}')]
+    libraries = [word for name, place in rlibs.items()
+                 for word in ('--extern', f'{name}={place}', '-L', f'dependency={place.parent}')]
     logic = ['--antt-project', kit() / 'rattle/logic/antt-project.json', '--logic-built', kit() / 'logic_built']
-    ran = subprocess.run(['rattle', verb, '--crate-name', crate, 'src/lib.rt', *libraries, *logic, '--incremental', kept, '--jobs', '2', *words],
+    ran = subprocess.run(['rattle', verb, '--crate-name', crate, 'src/lib.rt', *libraries, *logic, '--incremental',
+                          kept, '--jobs', '2', *words],
                          cwd=source, stdout=subprocess.PIPE, stderr=subprocess.STDOUT, text=True)
     return ran.stdout, ran.returncode
 
@@ -44,7 +46,8 @@ def build_exports(folder, made, *words):
     uses = re.search(rf'^{EXPORTS} staticlib: (.*)', (REPOSITORY / 'crates.txt').read_text(), re.M)[1].split()
     if missing := [crate for crate in uses if not rlib(crate).is_dir()]:
         sys.exit(f'libraries: no proved library of {", ".join(missing)}: rt ci')
-    said, status = over(uses, 'build', EXPORTS, REPOSITORY / 'crates' / EXPORTS, folder / 'incremental', *words, '-o', made)
+    said, status = over(uses, 'build', EXPORTS, REPOSITORY / 'crates' / EXPORTS, folder / 'incremental', *words, '-o',
+                        made)
     if status:
         sys.exit(f'libraries: {EXPORTS} is not built:\n{said[-3000:]}')
 
@@ -52,4 +55,5 @@ def build_exports(folder, made, *words):
 if __name__ == '__main__':
     with tempfile.TemporaryDirectory() as temporary:
         archive, folder = [*(Path(word).resolve() for word in sys.argv[1:]), Path(temporary)][:2]
-        build_exports(folder, archive, '--crate-type', 'staticlib', '--backend', 'llvm', '--toolchain', kit() / 'toolchain')
+        build_exports(folder, archive, '--crate-type', 'staticlib', '--backend', 'llvm', '--toolchain',
+                      kit() / 'toolchain')

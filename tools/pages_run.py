@@ -20,7 +20,8 @@ import tempfile
 
 ROOT = pathlib.Path(__file__).resolve().parent.parent
 # The pages, and where the commands of each are run, unless they name that folder.
-PAGES = {"README.md": ".", "rust/README.md": "rust", "docs/FFI.md": ".", "docs/NOTATION.md": ".", "overlay/README.md": "."}
+PAGES = {"README.md": ".", "rust/README.md": "rust", "docs/FFI.md": ".", "docs/NOTATION.md": ".",
+         "overlay/README.md": "."}
 FIRST = r"cd|cargo|cc|sh|rt|rustup|python3|pkg-config|arm-none-eabi-gcc|echo|\.ci/run"
 WORDS = re.compile(rf"\(?(?:[A-Z_]+=\S+ )?(?:{FIRST})(?= |$)")
 
@@ -59,9 +60,7 @@ ELSEWHERE = {
     "(cd c && cargo build --profile small --target ..": TARGET,
     "arm-none-eabi-gcc ..": TARGET,
     "cargo package": "package.sh runs it",
-    "python3 overlay/overlay.py CHECKOUT [--into COPY] [--dry-run]": CHECKOUT,
-    "python3 overlay/overlay.py CHECKOUT --undo": CHECKOUT,
-    "python3 overlay/overlay.py CHECKOUT --into COPY": CHECKOUT,
+    "python3 overlay/overlay.py CHECKOUT COPY": CHECKOUT,
     "SMOLTCP=CHECKOUT ..": CHECKOUT,
     "(cd CHECKOUT && cargo test); (cd COPY && cargo test)": CHECKOUT,
 }
@@ -100,7 +99,8 @@ def main():
             if (ROOT / name).is_file():
                 (clone / name).parent.mkdir(parents=True, exist_ok=True)
                 shutil.copy2(ROOT / name, clone / name)
-        program = next(block for block in blocks((clone / "docs/FFI.md").read_text()) if block[0].startswith("#include"))
+        program = next(block
+                       for block in blocks((clone / "docs/FFI.md").read_text()) if block[0].startswith("#include"))
         (clone / "my.c").write_text("\n".join(program) + "\n")
         environment = {name: value for name, value in os.environ.items() if name != "CARGO_TARGET_DIR"}
         seen, run, failed, lacking = set(), 0, [], []

@@ -2,12 +2,12 @@
 """python3 tools/public_items.py --check | --write: compares the public items of the Cargo crate with
 tools/public_items.txt, or writes that list. `git diff` of two versions of it says what a user of the crate has to know.
 
-Each line is what rustdoc shows of a module, a type, a trait, a function, a constant, a method or an impl, with attributes,
-fields and automatic traits. Impls that differ in the trait alone are one line, where `_` is the trait. `+` are those that
-only all features give, `-` those that are there without features alone.
+Each line is what rustdoc shows of a module, a type, a trait, a function, a constant, a method or an impl, with
+attributes, fields and automatic traits. Impls that differ in the trait alone are one line, where `_` is the trait. `+`
+are those that only all features give, `-` those that are there without features alone.
 
-Status 1 if the lists differ, if a link in the documentation leads nowhere, or if the page of a type lacks a public method
-that rust/src has of it.
+Status 1 if the lists differ, if a link in the documentation leads nowhere, or if the page of a type lacks a public
+method that rust/src has of it.
 """
 import difflib
 import html

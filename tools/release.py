@@ -1,10 +1,10 @@
 #!/usr/bin/env python3
 """Makes the files of a release: python3 tools/release.py TAG [--kit FOLDER] [TARGET..]
 
-For each TARGET of rustc it builds the C library of the tag, in a checkout of its own, at the profile `release` and, for small
-flash, `small`. Into c/assets, which git ignores, it puts an archive for each, net_base-TAG-TARGET.tar.gz, of header, library,
-net_base.pc and licence, and the digests of all, as `sha256sum` prints them: the same of the same tag and compiler, in a folder
-of the same path. Where rustc lacks the target, FOLDER has Debian's Rust 1.85 (rust/kit.sh).
+For each TARGET of rustc it builds the C library of the tag, in a checkout of its own, at the profile `release` and, for
+small flash, `small`. Into c/assets, which git ignores, it puts an archive for each, net_base-TAG-TARGET.tar.gz, of
+header, library, net_base.pc and licence, and the digests of all, as `sha256sum` prints them: the same of the same tag
+and compiler, in a folder of the same path. Where rustc lacks the target, FOLDER has Debian's Rust 1.85 (rust/kit.sh).
 """
 import argparse
 import gzip
@@ -58,7 +58,8 @@ def main():
                            env=os.environ | {"RUSTC": str(rustc[target]), "CARGO_TARGET_DIR": str(built)})
             packed(ASSETS / f"net_base-{options.tag}-{target}.tar.gz", {
                 "libnet_base.a": (built / target / profile / "libnet_base.a").read_bytes(),
-                **{name: (source / "c" / name).read_bytes() for name in ("net_base.h", "net_base_check.h", "net_base.hpp")},
+                **{name: (source / "c" / name).read_bytes()
+                   for name in ("net_base.h", "net_base_check.h", "net_base.hpp")},
                 "net_base.pc": (source / "c/net_base.pc").read_text().replace("/target/release", "").encode(),
                 "LICENSE": (source / "LICENSE").read_bytes()}, moment)
     finally:

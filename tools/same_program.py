@@ -1,23 +1,23 @@
 #!/usr/bin/env python3
-"""Compares the program that is proved with the one that rustc compiles, function by function, as wholes: what is done, in
-which order, under which condition, and with what:
+"""Compares the program that is proved with the one that rustc compiles, function by function, as wholes: what is done,
+in which order, under which condition, and with what:
 
     python3 tools/same_program.py [KIT [FOLDER]]
 
-The prover keeps its program beside each library that is proved, `out/rlib/NAME.rlib/toolchain/mir.json`, but for a static one, so
-the exports for C are built as another library too, in FOLDER. Rustc's is its MIR of the erased crate, and of the example
-net_bench, by the compiler that is, or is unpacked, in KIT. Both are run side by side with symbols for numbers, from a function's
-start. What one does between two events it does by itself. An event is a call, a store through a reference, a branch, a panic, or
-the return, and both have to come to the same one: the same function with equal arguments, the same place with an equal value, the
-same condition with the same ends. Equal means the same expression over parameters, results of the same calls, and memory as it
-was after the same event. Before each event but a store both have dropped the same values. Where ways meet, or a loop comes round,
-what is equal on each way stays equal, and all else is a new symbol: a function is the same if no pair of places that is reached
-differs.
+The prover keeps its program beside each library that is proved, `out/rlib/NAME.rlib/toolchain/mir.json`, but for a
+static one, so the exports for C are built as another library too, in FOLDER. Rustc's is its MIR of the erased crate,
+and of the example net_bench, by the compiler that is, or is unpacked, in KIT. Both are run side by side with symbols
+for numbers, from a function's start. What one does between two events it does by itself. An event is a call, a store
+through a reference, a branch, a panic, or the return, and both have to come to the same one: the same function with
+equal arguments, the same place with an equal value, the same condition with the same ends. Equal means the same
+expression over parameters, results of the same calls, and memory as it was after the same event. Before each event but
+a store both have dropped the same values. Where ways meet, or a loop comes round, what is equal on each way stays
+equal, and all else is a new symbol: a function is the same if no pair of places that is reached differs.
 
-Not compared are the order of drops between events, and the ghosts of proofs (`Snapshot`); what is derived; the text of a panic;
-rustc's tests of sums and indices, which are proved to hold; types that a callee is given; and the functions of `LEFT`. Names that
-the two have otherwise are in `SAME`, and what one side has alone in `ALONE`. A form that isn't known is an error. The status is 1
-if a function differs or isn't understood, 2 if there is no compiler.
+Not compared are the order of drops between events, and the ghosts of proofs (`Snapshot`); what is derived; the text of
+a panic; rustc's tests of sums and indices, which are proved to hold; types that a callee is given; and the functions of
+`LEFT`. Names that the two have otherwise are in `SAME`, and what one side has alone in `ALONE`. A form that isn't known
+is an error. The status is 1 if a function differs or isn't understood, 2 if there is no compiler.
 """
 import json
 import re
@@ -44,27 +44,36 @@ SAME = [(re.compile(pattern), text) for pattern, text in [
     (r'Vec\.filled', 'Vec.from_elem'),
     (r'Vec\.extend', 'VecExtend.extend'),
     (r'VecDerefSlice(Mut)?\.(\w+)', r'Vec:Deref\1.\2'),
-    (r'array\+N\+T\.as_slice', 'slice.as_slice'), (r'bytes\.memchr', 'memchr.memchr'), ('net_receiver::laws::schedules', 'laws.schedules'),
+    (r'array\+N\+T\.as_slice', 'slice.as_slice'), (r'bytes\.memchr', 'memchr.memchr'),
+    ('net_receiver::laws::schedules', 'laws.schedules'),
     (r'\?:Write\.0', '?:Write.write'), (r'\?:Write\.1', '?:Write.flush'),
     ('net_ring::managed::ManagedSliceFromRefMutSlice::from', 'ManagedSlice:From.from'),
-    ('net_assembler::assembler::Assembler::empty', 'net_assembler::assembler::Assembler::new'), (r'bytes\.is_ascii_digit', 'u8.is_ascii_digit'),
-    (r'net_ring::ring_buffer::managed::RingBuffer\+T::new', 'RingOver.new'), (r'net_receiver::receiver::managed::Receiver\+N::new_at', 'ReceiverOver.empty_at'),
+    ('net_assembler::assembler::Assembler::empty', 'net_assembler::assembler::Assembler::new'),
+    (r'bytes\.is_ascii_digit', 'u8.is_ascii_digit'),
+    (r'net_ring::ring_buffer::managed::RingBuffer\+T::new', 'RingOver.new'),
+    (r'net_receiver::receiver::managed::Receiver\+N::new_at', 'ReceiverOver.empty_at'),
     (r'\?:IntoIterator\.0', '?:IntoIterator.into_iter'),
 ]]
-# What one side has alone: what is printed by hand, or by a macro, in Rust; a default of std's; modules that aren't erased;
-# what makes a variant; and what the eraser leaves out: of a law, and of a function of its list, rustc refuses a call.
+# What one side has alone: what is printed by hand, or by a macro, in Rust; a default of std's; modules that aren't
+# erased; what makes a variant; and what the eraser leaves out: of a law, and of a function of its list, rustc refuses a
+# call.
 ALONE = re.compile('|'.join([
     r'.*::(?:(?:RingOver|PacketsOver|Assembler)Debug::fmt|\w*(?:Empty|Full|Error)Display::fmt|\w*IterIterator::size_hint|Assembler::new): .*',
     r'.*::Instant::from_(?:micros|millis|secs): .*', r'.*::[A-Z]\w*: not proved', r'(?:\w+::)+laws::\w+: not compiled',
-    *(f'{name.replace("/", "::")}::.*' for names in given.UNERASED.values() for name in names if name != given.SCHEDULE),
-    *(rf'{file.replace("/", "::")}::(?:\w+::)?{name}: not compiled' for file, names in given.UNCALLED.items() for name in names)]))
-# What isn't understood: a text of a number with a width; and of the program what calls a list or a text by hand, takes a part of an
-# array, lists texts, or drops a value of several variants; and of a receiving end a binding beside a guard.
+    *(f'{name.replace("/", "::")}::.*' for names in given.UNERASED.values()
+      for name in names if name != given.SCHEDULE),
+    *(rf'{file.replace("/", "::")}::(?:\w+::)?{name}: not compiled' for file, names in given.UNCALLED.items()
+      for name in names)]))
+# What isn't understood: a text of a number with a width; and of the program what calls a list or a text by hand, takes
+# a part of an array, lists texts, or drops a value of several variants; and of a receiving end a binding beside a
+# guard.
 LEFT = re.compile('|'.join(['net_ends::receiving_end::ReceivingEndOver::reported: returned: .*',
     r'net_base::time::(?:duration::Duration|instant::Instant)::text: a width',
     r'net_bench_lib::program::tell: proved: Write\.write_fmt; .*', r'net_bench_lib::stream::fits: proved: Vec\.len; .*',
-    r'net_bench_lib::stream::StreamSession::(?:command|next_schedule): compiled: drops .*', 'net_bench_lib::bench::run_lines: a part of .*',
-    'net_bench_lib::(?:mode::Mode::from_words|stream::reply_lines::show_kept): size of .*', 'net_bench_lib::ring::ring_line: .* KeyError: .*']))
+    r'net_bench_lib::stream::StreamSession::(?:command|next_schedule): compiled: drops .*',
+    'net_bench_lib::bench::run_lines: a part of .*',
+    'net_bench_lib::(?:mode::Mode::from_words|stream::reply_lines::show_kept): size of .*',
+    'net_bench_lib::ring::ring_line: .* KeyError: .*']))
 
 
 def common(name, traits):
@@ -76,8 +85,8 @@ def common(name, traits):
 
 
 class Pair:
-    """A function in both programs, run side by side. A state has the locals of both, what memory is, and the facts: what is
-    known of a term on this way, ('is', number) or ('not', numbers)."""
+    """A function in both programs, run side by side. A state has the locals of both, what memory is, and the facts:
+    what is known of a term on this way, ('is', number) or ('not', numbers)."""
     MOST = 1500
 
     def __init__(self, proved, compiled, traits, place=str):
@@ -106,14 +115,16 @@ class Pair:
     def same(self, one, two, state, seen=()):
         if one == two and not holds_ref(one):
             return True
-        if not isinstance(one, tuple) or not isinstance(two, tuple) or len(one) != len(two) or one[:1] != two[:1] or one[:1] in (('nothing',), ('forgotten',)):
+        if not isinstance(one, tuple) or not isinstance(two, tuple) or len(one) != len(two) or one[:1] != two[:1] or \
+                one[:1] in (('nothing',), ('forgotten',)):
             return False
         if one[:1] == ('closure',):
             return self.place(one[1]) == two[1]
         if one[:1] == ('N',):                      # a parameter that is a number, by place and by name
             return self.counts.setdefault(one, two) == two and self.counts.setdefault(two, one) == one
         if one[:1] == ('ref',) and one[1] != two[1]:
-            ends = [self.settle(side.read(state, ('local', *ref[2:4])), state['facts']) for side, ref in ((self.a, one), (self.b, two))]
+            ends = [self.settle(side.read(state, ('local', *ref[2:4])), state['facts'])
+                    for side, ref in ((self.a, one), (self.b, two))]
             return (one, two) in seen or one[4] == two[4] and self.same(*ends, state, (*seen, (one, two)))
         return all(self.same(a, b, state, seen) if isinstance(a, tuple) else a == b for a, b in zip(one, two))
 
@@ -143,16 +154,21 @@ class Pair:
         """What two states have in common; nothing if that is the old one."""
         pairs, memo_old, memo_new, ones = {}, {}, {}, {}
         before = {name: self.settle(value, old['facts'], memo_old) for name, value in old.items() if name != 'facts'}
-        out = {name: met(value, self.settle(new[name], new['facts'], memo_new), key, pairs) for name, value in before.items() if name in new}
-        facts = {value: known for value, known in old['facts'].items() if new['facts'].get(value) == known and not mentions(value, key)}
-        is_less = any(not (one[:1] == ('sym',) and one[1] == key) or ones.setdefault(one, two) != two for one, two in pairs)
-        is_less |= len(out) + 1 != len(old) or len(facts) != len(old['facts']) or any(before[name] != old[name] for name in before)
+        out = {name: met(value, self.settle(new[name], new['facts'], memo_new), key, pairs)
+               for name, value in before.items() if name in new}
+        facts = {value: known for value, known in old['facts'].items() if new['facts'].get(value) == known
+                 and not mentions(value, key)}
+        is_less = any(not (one[:1] == ('sym',) and one[1] == key) or ones.setdefault(one, two) != two
+                      for one, two in pairs)
+        is_less |= len(out) + 1 != len(old) or len(facts) != len(old['facts']) or \
+            any(before[name] != old[name] for name in before)
         return {**out, 'facts': facts} if is_less else None
 
     def compare(self):
         """Raises `Differ` or `Unknown`; gives how many pairs of places are reached."""
         state, count = {'ver': ('sym', 'ver', 0), 'facts': {}}, self.a.function['params']
-        state |= {(word, k): ('par', k) for k in range(1, count + 1) for word in 'AB'} | {(word, 'drops'): UNIT for word in 'AB'}
+        state |= {(word, k): ('par', k) for k in range(1, count + 1)
+                  for word in 'AB'} | {(word, 'drops'): UNIT for word in 'AB'}
         if count != self.b.parameters:
             raise Unknown('parameters')
         self.reach((self.a.start, self.b.start), state)
@@ -169,12 +185,14 @@ class Pair:
             event = side.run(at, state)
             if event[0] == 'next':                 # a range's: a branch, with what each end writes
                 _, where, one, condition, item, *last = event
-                event = ('branch', condition, {0: ([(last[0], ('agg', 0))], last[1])}, ([(where, ('next', one)), (last[0], ('agg', 1, item))], last[1]))
+                event = ('branch', condition, {0: ([(last[0], ('agg', 0))], last[1])},
+                         ([(where, ('next', one)), (last[0], ('agg', 1, item))], last[1]))
             if event[0] != 'branch':
                 return event
             value, ends, other = self.settle(event[1], state['facts']), event[2], event[3]
             while value[0] == 'not':
-                value, ends, other = value[1], {k: end for k, end in ((0, ends.get(1, other)), (1, ends.get(0, other))) if end is not None}, None
+                value, ends, other = value[1], {k: end for k, end in ((0, ends.get(1, other)), (1, ends.get(0, other)))
+                                                if end is not None}, None
             if value[0] == 'op' and value[1] == '==' and value[3][0] == 'int':      # a test of one value
                 value, ends, other = value[2], {value[3][1]: ends.get(1, other)}, ends.get(0, other)
             if is_test(value):
@@ -223,7 +241,8 @@ class Pair:
 
     def drops(self, state):
         """What was dropped since the last event but a store, in whichever order."""
-        one, two = ([self.settle(of, state['facts'])[2:] for of in state[side.word, 'drops'][2:]] for side in (self.a, self.b))
+        one, two = ([self.settle(of, state['facts'])[2:] for of in state[side.word, 'drops'][2:]]
+                    for side in (self.a, self.b))
         state |= {(word, 'drops'): UNIT for word in 'AB'}
         for value, *_ in (pair for pair in one if self.has_drop(*pair, state)):
             found = next((k for k, pair in enumerate(two) if self.same(value, pair[0], state)), None)
@@ -273,14 +292,16 @@ class Pair:
         if name == '?:Fn.call' and len(given_b) == 2 and given_b[1][:2] == ('agg', None):
             given_b = [given_b[0], *given_b[1][2:]]
         if re.search(r'Partial(?:Eq|Ord)\.', name):
-            given_a, given_b = ([self.end(side, one, state) for one in given] for side, given in ((self.a, given_a), (self.b, given_b)))
+            given_a, given_b = ([self.end(side, one, state) for one in given]
+                                for side, given in ((self.a, given_a), (self.b, given_b)))
         if len(given_a) != len(given_b):
             raise Unknown(f'arguments of {name}')
         for k, (a, b) in enumerate(zip(given_a, given_b)):
             self.check(a, b, state, f'{name}, argument {k + 1}')
         result = self.fresh(state, ('call', node))
         for k, both in enumerate(zip(given_a, given_b)):                            # what was lent may be changed
-            refs = [self.lent(side, self.settle(one, state['facts']), state) for side, one in zip((self.a, self.b), both)]
+            refs = [self.lent(side, self.settle(one, state['facts']), state)
+                    for side, one in zip((self.a, self.b), both)]
             if len(refs[0]) != len(refs[1]):
                 raise Unknown(f'what {name} is lent')
             for m, pair in enumerate(zip(*refs)):
@@ -314,24 +335,29 @@ def place(proved, rust, name):
     around = proved.functions[name].rpartition('::')[0]
     if name in rust.functions or '::fn::' not in around:
         return name
-    closures = [other for other, there in proved.functions.items() if there.rpartition('::')[0] == around and other not in rust.functions]
+    closures = [other for other, there in proved.functions.items() if there.rpartition('::')[0] == around
+                and other not in rust.functions]
     return f'{around.replace("fn::", "")}::{{closure#{closures.index(name)}}}'
 
 
 def compared(proved, rust, within):
-    """Of each function of a crate or a module: whether it is the same, with its reason if not; and what one side has alone."""
+    """Of each function of a crate or a module: whether it is the same, with its reason if not; and what one side has
+    alone."""
     found = {'same': [], 'differ': [], 'unknown': []}
     for name in sorted(proved.functions):
         there = place(proved, rust, name)
-        if not name.startswith(f'{within}::') or within != SCHEDULE and name.startswith(f'{SCHEDULE}::') or there in rust.derived - rust.twice:
+        if not name.startswith(f'{within}::') or within != SCHEDULE and name.startswith(f'{SCHEDULE}::') or \
+                there in rust.derived - rust.twice:
             continue
         if there in rust.functions or there in rust.constants:
             how, reason = why(proved, rust, name, there)
             found[how].append((name, reason))
-        elif name not in proved.trivial and not ALONE.fullmatch(f'{name}: not compiled'):         # a drop that only drops isn't erased
+        # a drop that only drops isn't erased
+        elif name not in proved.trivial and not ALONE.fullmatch(f'{name}: not compiled'):
             found['differ'].append((name, 'not compiled'))
     own = {name for name in rust.functions if name.startswith(f'{within}::') and '{' not in name} - rust.derived
-    found['differ'] += [(name, 'not proved') for name in sorted(own - proved.functions.keys()) if not ALONE.fullmatch(f'{name}: not proved')]
+    found['differ'] += [(name, 'not proved')
+                        for name in sorted(own - proved.functions.keys()) if not ALONE.fullmatch(f'{name}: not proved')]
     return found['same'], found['differ'], found['unknown']
 
 
@@ -345,16 +371,17 @@ def compiled(root, kit, target):
     widths.rustc(root, kit, target, check=True)
     library = Compiled(root, widths.mir_of(target))
     widths.rustc(root, kit, target, '--example=net_bench', check=True)
-    return library, Compiled(root, widths.mir_of(target, 'examples'), 'examples/net_bench/proved', library)
+    return library, Compiled(root, widths.mir_of(target, 'examples'), 'examples/net_bench', library)
 
 
 def programs(arguments, temporary):
-    """The prover's programs by crate; and of each crate or module that is compared its name and rustc's program. Where these can't be
-    had a line says why, and the status is what ends this."""
+    """The prover's programs by crate; and of each crate or module that is compared its name and rustc's program. Where
+    these can't be had a line says why, and the status is what ends this."""
     folders = [Path(word).resolve() for word in arguments]
     folder = [*folders, *[temporary] * 2][1]
     folder.mkdir(parents=True, exist_ok=True)
-    missing = [crate for crate in (*given.CRATES, *given.PROGRAM) if crate != given.EXPORTS and not kept(crate).is_file()]
+    missing = [crate for crate in (*given.CRATES, *given.PROGRAM) if crate != given.EXPORTS
+               and not kept(crate).is_file()]
     if missing:
         sys.exit(f'{Path(sys.argv[0]).stem}: not compared: no proved library of {", ".join(missing)}: rt ci')
     kit = widths.kit_of(folders, temporary)

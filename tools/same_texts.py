@@ -3,9 +3,9 @@
 
     python3 tools/same_texts.py KIT [FOLDER]
 
-Each of tools/parts/planted_texts.py is proved in a crate of its own in FOLDER, or a temporary one, erased and compiled,
-and has to be found by what its entry says: the eraser, rustc, tools/same_program.py or widths.py; or to do what was
-proved. The status is 1 if one isn't found so, and 2 if there is no compiler.
+Each of tools/parts/planted_texts.txt is proved in a crate of its own in FOLDER, or a temporary one, erased and
+compiled, and has to be found by what its entry says: the eraser, rustc, tools/same_program.py or widths.py; or to do
+what was proved. The status is 1 if one isn't found so, and 2 if there is no compiler.
 """
 import json
 import os
@@ -21,11 +21,21 @@ import erase
 import same_program
 import widths
 from parts import erase_list as given
-from parts.planted_texts import TEXTS
 from parts.same_compiled import Compiled
 from parts.same_proved import Proved
 
 HEAD = '//! A text.\nghost use Rattle.std.specs.Prelude.{◌≡◌, ◌+◌, ◌*◌, ◌<◌, ◌↔◌, IsTrue, IsFalse, IsOk, IfOk, min};\n'
+
+
+def texts():
+    """The texts: of each its name, what is proved of it, what finds the difference, and itself."""
+    page = re.sub(r'^# .*\n', '', (Path(__file__).parent / 'parts/planted_texts.txt').read_text(), flags=re.M)
+    for head, text in re.findall(r'^== (.*)\n((?:(?!== ).*\n)*)', page, re.M):
+        name, how, value = head.split(' | ')
+        yield name, value, how, f'\n{text.strip()}\n'
+
+
+TEXTS = [*texts()]
 # Modules that texts use, and all that there are.
 OTHERS = {'config': '//! Numbers.\n\n/// A number.\npub const ASSEMBLER_MAX_SEGMENT_COUNT: usize = 9;\n',
           'traits': '//! Traits.\n\n/// Goes.\npub trait Goes {\n    fn go(self) -> u64;\n}\n'}
@@ -49,18 +59,18 @@ def proved(folder):
 
 def erased(crate, found):
     """Writes the erased texts into a copy of the crate; what the eraser refuses is found by it."""
-    given.CRATES = [*given.CRATES, 'planted']
-    out = crate / 'src/proved/planted'
+    given.CRATES, given.FOLDERS['planted'] = [*given.CRATES, 'planted'], 'planted'
+    out = crate / 'src/planted'
     out.mkdir()
     traits = {name for text in FILES.values() for name in re.findall(r'^(?:pub )?trait (\w+)', text, re.M)}
     for name, text in FILES.items():
         try:
             eraser = erase.Eraser(text, 'planted', (), f'crates/planted/src/{name}.rt', traits=traits)
-            (out / f'{name}.rs').write_text(eraser.run())
+            (out / f'{name}.rs').write_text(erase.relocated(eraser.run()))
         except erase.Refused as refused:
             found[name] = f'eraser: {refused}'
-    modules = crate / 'src/proved/mod.rs'
-    modules.write_text(modules.read_text() + '#[allow(missing_docs)]\npub mod planted;\n')
+    library = crate / 'src/lib.rs'
+    library.write_text(library.read_text() + '\nerased! {\n    pub(crate) mod planted;\n}\n')
     return out
 
 
@@ -71,7 +81,8 @@ def compiled(crate, kit, target, out, found):
         ran = widths.rustc(crate, kit, target, capture_output=True, text=True)
         if not ran.returncode:
             return widths.mir_of(target)
-        refused = {name: text for text, name in re.findall(r'error[^:]*: ([^\n]*)\n +--> src/proved/planted/(\w+)\.rs', ran.stderr)}
+        refused = {name: text
+                   for text, name in re.findall(r'error[^:]*: ([^\n]*)\n +--> src/planted/(\w+)\.rs', ran.stderr)}
         if not refused.keys() - found.keys():
             sys.exit(f'same_texts: not compiled:\n{ran.stderr[:3000]}')
         found |= {name: f'rustc: {text}' for name, text in refused.items()}
@@ -81,9 +92,10 @@ def runs(crate, target, names):
     """Which of the texts do in Rust what was proved."""
     library = crate / 'src/lib.rs'
     library.write_text(library.read_text() + '\n#[cfg(test)]\n#[allow(warnings)]\nmod planted_texts {\n' + ''.join(
-        f'    #[test]\n    fn {name}() {{\n        use crate::proved::planted::{name}::*;\n        assert!({value});\n    }}\n'
+        f'    #[test]\n    fn {name}() {{\n        use crate::planted::{name}::*;\n        assert!({value});\n    }}\n'
         for name, value, *_ in TEXTS if name in names) + '}\n')
-    ran = subprocess.run(['cargo', 'test', '--offline', '--lib', '--features', 'segmentation-offload,c', 'planted_texts'],
+    ran = subprocess.run(['cargo', 'test', '--offline', '--lib', '--features', 'segmentation-offload,c',
+                          'planted_texts'],
                          cwd=crate, env=os.environ | {'CARGO_TARGET_DIR': str(target)}, capture_output=True, text=True)
     told = dict(re.findall(r'test planted_texts::(\w+) \.\.\. (\w+)', ran.stdout))
     if told.keys() != set(names):
@@ -113,9 +125,12 @@ def main(arguments):
         left = [name for name, *_ in TEXTS if name not in found]
         right = runs(crate, temporary / 'tests', left)
     found |= {name: 'runs' for name in right}
-    bad = [(name, how, found.get(name, 'nothing')) for name, _, how, _ in TEXTS if found.get(name, 'nothing').split(':')[0] != how]
-    print(*(f'same_texts: {name} is found by {by}, and not by {how}' for name, how, by in bad), sep='\n', end='\n' * bool(bad))
-    print(f'{len(TEXTS)} texts: ' + ', '.join(f'{sum(text[2] == how for text in TEXTS)} {how}' for how in dict.fromkeys(text[2] for text in TEXTS)))
+    bad = [(name, how, found.get(name, 'nothing'))
+           for name, _, how, _ in TEXTS if found.get(name, 'nothing').split(':')[0] != how]
+    print(*(f'same_texts: {name} is found by {by}, and not by {how}' for name, how, by in bad), sep='\n',
+          end='\n' * bool(bad))
+    print(f'{len(TEXTS)} texts: ' + ', '.join(f'{sum(text[2] == how for text in TEXTS)} {how}'
+                                              for how in dict.fromkeys(text[2] for text in TEXTS)))
     return bool(bad)
 
 

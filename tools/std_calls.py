@@ -4,8 +4,8 @@
     python3 tools/std_calls.py [--check] [FOLDER]
 
 With --check docs/TRUST.md is to have these lines; the status is 1 if it hasn't. The compiler is that of rust/kit.sh,
-unpacked in FOLDER, or in a temporary one; the status is 2 if there is none. Operators, indices, `?`, calls of closures and
-what derives print aren't listed.
+unpacked in FOLDER, or in a temporary one; the status is 2 if there is none. Operators, indices, `?`, calls of closures
+and what derives print aren't listed.
 """
 import re
 import sys
@@ -15,10 +15,10 @@ from pathlib import Path
 
 sys.dont_write_bytecode = True
 import widths
-from parts.mir_text import called, without
+from parts.mir_text import called, erased_files, without
 
 REPOSITORY = widths.REPOSITORY
-CALL = re.compile(r'^\s+[^=]+? = (?:move |copy )?(.+\)) -> .*// scope \d+ at src/proved/')
+CALL = re.compile(r'^\s+[^=]+? = (?:move |copy )?(.+\)) -> .*// scope \d+ at ([^:]+):')
 DEFINED = re.compile(r'\b(?:fn|struct|enum|trait|type|union) (\w+)')
 
 
@@ -39,19 +39,22 @@ def name(path, own):
 
 def lists(mir):
     """The lines of the page."""
-    text = '\n'.join(file.read_text() for file in (REPOSITORY / 'rust/src/proved').rglob('*.rs'))
-    own, found = set(DEFINED.findall(text)), {}
+    files = erased_files(REPOSITORY / 'rust')
+    own, found = {name for file in files for name in DEFINED.findall((REPOSITORY / 'rust' / file).read_text())}, {}
     for line in mir.split('\n'):
         call = CALL.match(line)
-        path = call and called(call[1])
+        path = call and call[2] in files and called(call[1])
         one = path and name(path, own)
-        if one and not re.search(r'panick|fmt::rt|::debug_|SliceMut| as (?:\w+::)*(?:Index|Try|FromResidual|FnOnce)\b', path):
+        if one and not re.search(r'panick|fmt::rt|::debug_|SliceMut| as (?:\w+::)*(?:Index|Try|FromResidual|FnOnce)\b',
+                                 path):
             found.setdefault(one[0], set()).add(one[1])
     rows = [f'`{of}`: {", ".join(f"`{call}`" for call in sorted(calls))}' for of, calls in sorted(found.items())]
     folders = {file.name for file in (REPOSITORY / 'crates').iterdir()}
-    crates = [re.sub('#.*', '', row).partition(':')[2].split() for row in (REPOSITORY / 'crates.txt').read_text().split('\n')]
+    crates = [re.sub('#.*', '', row).partition(':')[2].split()
+              for row in (REPOSITORY / 'crates.txt').read_text().split('\n')]
     ported = sorted({crate for row in crates for crate in row} - folders)
-    return ['  ' + '\n    '.join(textwrap.wrap(f'- {row}', 116)) for row in rows], f'({", ".join(f"`{crate}`" for crate in ported)})'
+    return ['  ' + '\n    '.join(textwrap.wrap(f'- {row}', 116))
+            for row in rows], f'({", ".join(f"`{crate}`" for crate in ported)})'
 
 
 def main(arguments):

@@ -4,20 +4,20 @@ they are so where it has 32:
 
     python3 tools/widths.py [FOLDER]
 
-The erased text, with the exports for C and its laws, has its bounds, `prove!(sum <= bound, "in any `usize`")`, and rustc
-says what each operation is, by its types. A difference, a quotient, a rest, `min`, `max` or `saturating_sub` of numbers of a `usize`
-is one. Any other operation has a cover:
+The erased text, with the exports for C and its laws, has its bounds, `prove!(sum <= bound, "in any `usize`")`, and
+rustc says what each operation is, by its types. A difference, a quotient, a rest, `min`, `max` or `saturating_sub` of
+numbers of a `usize` is one. Any other operation has a cover:
 
-    bound     on each way that runs it, a bound of its value is tested before the value is changed, and no way leaves before;
-              or such a bound of the same expression was tested, and none of its variables is assigned in between.
-              The right side is a `usize`, or one as a `u64`: `most()`, a length, a variable or a field that was there before
-              and isn't changed since, and no expression. A bound of a sum is one of the sum in it, since it is proved of
-              numbers of any size
+    bound     on each way that runs it, a bound of its value is tested before the value is changed, and no way leaves
+              before; or such a bound of the same expression was tested, and none of its variables is assigned in
+              between. The right side is a `usize`, or one as a `u64`: `most()`, a length, a variable or a field that
+              was there before and isn't changed since, and no expression. A bound of a sum is one of the sum in it,
+              since it is proved of numbers of any size
     end       it is the end of the range of a slice, or of `part`: the index is proved to be at most a length
     cut       a cast of the lesser of two numbers, one of which was a `usize`
     wrapped   the negative of a number: only `wrapping_add` is given it, whose value has a bound
-    index     one less than a number, in numbers that wrap, as the whole argument of `get`: of 0 it is the greatest `usize`,
-              an index that no slice has
+    index     one less than a number, in numbers that wrap, as the whole argument of `get`: of 0 it is the greatest
+              `usize`, an index that no slice has
     greatest  the body of `most`
     turn      one more than what a `for` over a range counts: at most the end of the range
     lesser    a sum or product that stops at the greatest `usize`, of which the lesser and another number is taken
@@ -25,12 +25,13 @@ is one. Any other operation has a cover:
     no bytes  a size that is compared with 0 when the text is compiled
     derived hash  a field that a derived `Hash` gives to a hasher, of which no clause says the bytes
 
-What isn't known is open: each value or call with a `usize` or an `isize` in its type, that is none of `FORMS` and `KNOWN`.
+What isn't known is open: each value or call with a `usize` or an `isize` in its type, that is none of `FORMS` and
+`KNOWN`.
 
 The law `is_usize` is given a parameter, a field, a length, what a call returned, or a literal: of a sum it would state
-what is to be proved. No proof but those of `most` and of this law unfolds `shortfall`, but for that it is below 2^64. The
-compiler is that of rust/kit.sh, unpacked in FOLDER, or in a temporary one. The status is 1 if an operation is open, and 2 if
-there is no compiler.
+what is to be proved. No proof but those of `most` and of this law unfolds `shortfall`, but for that it is below 2^64.
+The compiler is that of rust/kit.sh, unpacked in FOLDER, or in a temporary one. The status is 1 if an operation is open,
+and 2 if there is no compiler.
 """
 import os
 import re
@@ -40,7 +41,7 @@ import tempfile
 from pathlib import Path
 
 sys.dont_write_bytecode = True
-from parts.mir_text import called
+from parts.mir_text import called, erased_files
 
 REPOSITORY = Path(__file__).resolve().parent.parent
 MARK = '"in any `usize`"'
@@ -51,8 +52,8 @@ PATH = r'(?:[a-z_]\w*|[A-Z][A-Z_]*)(?:\.\w+)*'
 SAFE = {'Sub', 'Div', 'Rem', 'Shr', 'BitAnd', 'BitOr', 'BitXor', 'call saturating_sub', 'call abs_diff'}
 OPERATORS = {'Add', 'Sub', 'Mul', 'Div', 'Rem', 'Shl', 'Shr', 'BitAnd', 'BitOr', 'BitXor', 'Not', 'Neg'}
 NARROW = {'u8', 'u16', 'u32', 'bool', 'char'}
-# What gives a `usize` of a value or a function that has one, and nothing new: all else that has one is an operation. Derived
-# hashes give a hasher the number of a variant.
+# What gives a `usize` of a value or a function that has one, and nothing new: all else that has one is an operation.
+# Derived hashes give a hasher the number of a variant.
 FORMS = re.compile(r'(?:copy|move|const|&|\(|\[|Len\(|PtrMetadata\(|discriminant\(|(?:Lt|Le|Gt|Ge|Eq|Ne)\(|[\w:]+(?:::)?(?:<.*>)?(?:::\w+)?(?: \{.*\}|\(.*\))?$)')
 KNOWN = re.compile(r"""<[iu]size\ as\ core::(?:cmp::Ord>::(?:min|max|cmp)|cmp::Partial(?:Ord|Eq)>::\w+|clone::Clone>::clone|default::Default>::default)
   | <isize\ as\ core::hash::Hash>::hash.*
@@ -68,7 +69,8 @@ OWN = re.compile(r'(?!core::)[a-z_]+\w*::|<.* as (?!core::)\w+::|<(?!core::)\w+:
 HIDES = r'\blet\b[^=;]*{0}|\bfor\b[^{{]*{0}[^{{]*\bin\b|\|[^|;]*{0}[^|;]*\||{0}[^;{{]*=>'
 # The proofs that say how many bits a `usize` has.
 KNOWING = {'net_assembler/proofs/width/most/Answers.antt', 'net_assembler/proofs/laws/is_usize/Answers.antt'}
-FLAGS = ['--emit=mir', '-Coverflow-checks=on', '-Zmir-opt-level=0', '-Zmir-include-spans=on', '-Ztrim-diagnostic-paths=no', '-Awarnings']
+FLAGS = ['--emit=mir', '-Coverflow-checks=on', '-Zmir-opt-level=0', '-Zmir-include-spans=on',
+         '-Ztrim-diagnostic-paths=no', '-Awarnings']
 
 
 class File:
@@ -129,8 +131,8 @@ def plain(text):
 class Reader:
     """The operations of a crate's MIR, and what covers each."""
 
-    def __init__(self, root, mir, prefix='src/proved/'):
-        self.root, self.prefix, self.files = root, prefix, {}
+    def __init__(self, root, mir):
+        self.root, self.erased, self.files = root, erased_files(root) if root else {}, {}
         self.operations, self.large = {}, {}
         self.read(mir)
         self.negatives = {}
@@ -151,7 +153,7 @@ class Reader:
             if local:
                 types[local[1]] = local[2]
             step = re.match(r'\s+(.+?) = (.*?)(?:;| -> .*;)\s+// scope \d+ at ([^:]*):(\d+):(\d+): (\d+):(\d+)', line)
-            if not step or not step[3].startswith(self.prefix):
+            if not step or step[3] not in self.erased:
                 continue
             to, value, name, *span = step.groups()
             file = self.file(name)
@@ -186,7 +188,8 @@ class Reader:
 
     @staticmethod
     def unknown(into, value, is_call):
-        """What is done with a type that has a `usize` in it, or with one that isn't known, and isn't one of the known forms."""
+        """What is done with a type that has a `usize` in it, or with one that isn't known, and isn't one of the known
+        forms."""
         value = re.sub(r'^(?:move|copy) (?=.*\))', '', value) if is_call else value
         path = re.sub(r'\b(?:std|alloc)::', 'core::', called(value)) if is_call and value.endswith(')') else ''
         if OWN.match(path):
@@ -205,7 +208,8 @@ class Reader:
         file = self.file(name)
         if kind.startswith('unknown core::mem::size_of::<') and re.match(r' == 0\)', file.code[end:]):
             return 'no bytes'
-        if kind.startswith('unknown <usize as core::hash::Hash>') and re.fullmatch(r'(?:pub )?\w+: usize', file.code[start:end]):
+        if kind.startswith('unknown <usize as core::hash::Hash>') and \
+                re.fullmatch(r'(?:pub )?\w+: usize', file.code[start:end]):
             return 'derived hash'                  # of a field: no clause says what a hasher is given
         if kind.startswith('unknown') or kind == 'isize':
             return None
@@ -216,7 +220,7 @@ class Reader:
         if bound:
             is_sum = kind == 'Add' and (bound[2] == text or bound[2].startswith(f'{text}+'))
             return is_sum and self.is_there(file, bound[3], bound[2], start) and 'bound'
-        if kind == 'call MAX' and name.endswith('net_assembler/width.rs') and re.search(
+        if kind == 'call MAX' and name == 'src/storage/width.rs' and re.search(
                 r'\bconst fn most\(\) -> usize \{\s*$', file.code[:start]):
             return 'greatest'
         shift = re.fullmatch(f'({NUMBER})<<({NUMBER})', text)
@@ -242,7 +246,8 @@ class Reader:
         return next((bound for bound in self.bounds(file) if bound[0] <= at < bound[1]), None)
 
     def bounds(self, file):
-        """The bounds of a file: where, the left side, with `:u64` if the right one is a `usize` as that, and the right one."""
+        """The bounds of a file: where, the left side, with `:u64` if the right one is a `usize` as that, and the right
+        one."""
         if not hasattr(file, 'bounds'):
             file.bounds = []
             for m in re.finditer(r'prove!\(((?:(?!prove!)[^;])*?),\s*' + re.escape(MARK) + r',?\s*\);', file.code):
@@ -263,7 +268,8 @@ class Reader:
 
     @staticmethod
     def is_turn(file, start, text):
-        """Whether an expression is one more than what a `for` over a range counts, which nothing else has the name of."""
+        """Whether an expression is one more than what a `for` over a range counts, which nothing else has the name
+        of."""
         counted = re.fullmatch(r'(\w+)\+1', text)
         for brace in file.blocks(start) if counted else ():
             if re.search(rf'\bfor {counted[1]} in (?:[\w.]*\w)?\.\.(?!=)[^{{}};]*$', file.code[:brace]):
@@ -340,8 +346,8 @@ class Reader:
         return next((x for x in self.bounds(file) if a <= x[0] and x[1] <= b and not file.code[a:x[0]].strip()), None)
 
     def bounded_after(self, file, statements, names, changing, start, end):
-        """Whether a bound of one of the names follows the first statement, with nothing that leaves or assigns it in between, or
-        changes the bound's right side."""
+        """Whether a bound of one of the names follows the first statement, with nothing that leaves or assigns it in
+        between, or changes the bound's right side."""
         (a, b), *after = statements
         if self.leaves(file.code[end:b]):
             return False
@@ -351,7 +357,8 @@ class Reader:
         for statement in after:
             code = file.code[slice(*statement)]
             if bound := self.bound_of(file, statement):
-                if bound[2] in names and self.is_there(file, bound[3], bound[2], start) and not self.changed(changing, bound[3]):
+                if bound[2] in names and self.is_there(file, bound[3], bound[2], start) and \
+                        not self.changed(changing, bound[3]):
                     return True
             elif self.leaves(code):
                 return False
@@ -389,8 +396,8 @@ class Reader:
 
     @staticmethod
     def changes(code, name):
-        """Whether code assigns a variable or a field, lends it to be changed, or hides it. Of a field, or of what a call
-        reads, that is also whether it calls a method of the whole, or passes it."""
+        """Whether code assigns a variable or a field, lends it to be changed, or hides it. Of a field, or of what a
+        call reads, that is also whether it calls a method of the whole, or passes it."""
         whole, field, _ = name.partition('.')
         name = re.escape(name)
         hides = HIDES.format(rf'(?<![.:])\b{whole}\b(?![(:])')
@@ -454,7 +461,8 @@ class Reader:
                 continue
             around = max(o for o, c in file.close.items() if o < at <= c)
             callee = re.search(r'(?<![\w.:])(\w+)$', file.code[:around])
-            place = next((k for k, (x, y) in enumerate(self.parts(file, around)) if file.code[x:y].strip() == name), None)
+            place = next((k for k, (x, y) in enumerate(self.parts(file, around)) if file.code[x:y].strip() == name),
+                         None)
             if file.code[around] != '(' or not callee or place is None:
                 return False
             if not self.only_adds(file, callee[1], place, (*seen, (function, index))):
@@ -475,7 +483,8 @@ def laws(paths):
             text, name = file.code[body:call.start()], re.escape(given.split('.')[0])
             plainly = rf'\blet (?:mut )?{name}\b(?:: \w+)? = ([^;]*);'
             made, other = re.findall(plainly, text), re.search(HIDES.format(rf'\b{name}\b'), re.sub(plainly, '', text))
-            assigned = re.search(rf'(?<![\w.]){re.escape(given)}\s*(?:[-+*/]|<<)?=(?!=)', re.sub(r'\blet [^;]*;', '', text))
+            assigned = re.search(rf'(?<![\w.]){re.escape(given)}\s*(?:[-+*/]|<<)?=(?!=)',
+                                 re.sub(r'\blet [^;]*;', '', text))
             is_plain = re.fullmatch(rf'{PATH}(?:\.(?:len|count)\(\))?', given)
             is_changed = assigned or re.search(rf'\blet mut {name}\b', text)
             computes = r'[-+*/]|<<|\bas\b|wrapping|saturating|\bpow\b|\bMAX\b|^\w+$'
@@ -485,14 +494,17 @@ def laws(paths):
 
 def unfolded(crates):
     """The proofs that know how many bits a `usize` has: but for the two that say what it is, there is none."""
-    of_both = re.compile(r'(?m)^word : shortfall < 2 \^ 64\nunfolding shortfall\nword = omega arith$')      # of 0 and 2^64 - 2^32
+    # of 0 and 2^64 - 2^32
+    of_both = re.compile(r'(?m)^word : shortfall < 2 \^ 64\nunfolding shortfall\nword = omega arith$')
     for path in sorted([*crates.glob('*/proofs/**/*.antt'), *crates.glob('*/src/**/*.rt')]):
-        if re.search(r'unfolding\b[^\n]*\bshortfall\b', of_both.sub('', path.read_text())) and str(path.relative_to(crates)) not in KNOWING:
+        if re.search(r'unfolding\b[^\n]*\bshortfall\b',
+                     of_both.sub('', path.read_text())) and str(path.relative_to(crates)) not in KNOWING:
             yield f'{path}: a proof unfolds shortfall'
 
 
 def kit_of(folders, temporary):
-    """The first of the folders, or one that is made, with the compiler of rust/kit.sh; ends the script if that can't be had."""
+    """The first of the folders, or one that is made, with the compiler of rust/kit.sh; ends the script if that can't be
+    had."""
     kit = Path(folders[0]).resolve() if folders else temporary / 'kit'
     if status := subprocess.run(['sh', REPOSITORY / 'rust/kit.sh', kit]).returncode:
         print(f'{Path(sys.argv[0]).stem}: not run: no compiler', file=sys.stderr)
@@ -529,7 +541,7 @@ def show(reader):
         if cover == 'open':
             file = reader.file(name)
             line = file.code.count('\n', 0, start) + 1
-            print(f'open: {name.removeprefix(reader.prefix)}:{line}: {kind}: {" ".join(file.text[start:end].split())}')
+            print(f'open: {name.removeprefix("src/")}:{line}: {kind}: {" ".join(file.text[start:end].split())}')
     for (name, start, _), number in reader.large:
         counts['open'] += 1
         print(f'open: {name}: the constant {number}')

@@ -27,7 +27,8 @@ UNKNOWN = re.compile(r"(?:sub|add)(?:\.w)?\s+sp,(?:\s*sp,)?\s*(?!sp|fp, #)[a-z]"
 
 def functions(objdump, path):
     """The instructions of each function of a file, by its address, with its name."""
-    code = subprocess.run([objdump, "-d", "--no-show-raw-insn", path], capture_output=True, text=True, check=True).stdout
+    code = subprocess.run([objdump, "-d", "--no-show-raw-insn", path], capture_output=True, text=True,
+                          check=True).stdout
     found, lines = {}, []
     for line in code.splitlines():
         if head := re.fullmatch(r"([0-9a-f]+) <(.*)>:", line):
@@ -65,8 +66,8 @@ def frame_of(lines, name):
 
 
 def stack_bounds(objdump, program):
-    """The most bytes of stack that each export can take in a program, with all that it calls: the frames along the deepest
-    path. What is called by a pointer isn't counted, as the C library's `memmove` under Linux."""
+    """The most bytes of stack that each export can take in a program, with all that it calls: the frames along the
+    deepest path. What is called by a pointer isn't counted, as the C library's `memmove` under Linux."""
     found = functions(objdump, program)
     names = {at: name for at, name in found}
     by_address = {at: lines for (at, _), lines in found.items()}
@@ -83,5 +84,6 @@ def stack_bounds(objdump, program):
         return known[at]
 
     # Equal functions are one, with several names.
-    said = subprocess.run([objdump.replace("objdump", "nm"), program], capture_output=True, text=True, check=True).stdout
+    said = subprocess.run([objdump.replace("objdump", "nm"), program], capture_output=True, text=True,
+                          check=True).stdout
     return {name: depth(int(at, 16)) for at, name in re.findall(r"^(\w+) T (net_base_\w+)$", said, flags=re.M)}

@@ -1,6 +1,6 @@
 #!/usr/bin/env python3
-"""What c/targets.sh runs: programs over the library that cargo builds for a target, compiled by the target's compiler, and run by
-an emulator."""
+"""What c/targets.sh runs: programs over the library that cargo builds for a target, compiled by the target's compiler,
+and run by an emulator."""
 import argparse
 import concurrent.futures
 import dataclasses
@@ -57,9 +57,9 @@ PACKAGES = {
 
 @dataclasses.dataclass(frozen=True)
 class Way:
-    """How programs are compiled and run for a target of rustc: the compiler and its words, those for linking, the emulator's. A
-    bare one has no operating system, so that a program gets the words of its command line when it is compiled. The library
-    may be built with other features of the processor."""
+    """How programs are compiled and run for a target of rustc: the compiler and its words, those for linking, the
+    emulator's. A bare one has no operating system, so that a program gets the words of its command line when it is
+    compiled. The library may be built with other features of the processor."""
 
     target: str
     title: str
@@ -73,7 +73,8 @@ class Way:
         return f"{self.target} ({self.title})"
 
     def lacking(self):
-        """The programs that aren't here: the compiler, which counts as missing where its C library is, and the emulator."""
+        """The programs that aren't here: the compiler, which counts as missing where its C library is, and the
+        emulator."""
         wanted = (self.compiler[0], *self.emulator[:1], *[self.tool("g++")] * (self.target in QUICK))
         lacking = [program for program in wanted if not shutil.which(program)]
         if self.compiler[0] not in lacking and "-nostdlib" not in self.linking:
@@ -181,8 +182,8 @@ def shell(words, seconds=1200, **more):
 
 
 def compilers(targets, kit):
-    """The compiler of Rust for each target: that of this machine if it has the target, or the kit's. A target that has none is
-    left out, and a line says why."""
+    """The compiler of Rust for each target: that of this machine if it has the target, or the kit's. A target that has
+    none is left out, and a line says why."""
     found = {}
     for target in targets:
         status, said = shell(["rustc", "--print", "target-libdir", "--target", target])
@@ -225,7 +226,8 @@ class Library:
 
     def wanted(self):
         """The functions that it wants from elsewhere."""
-        return set(re.findall(r" U (\w+)", shell([self.way.tool("nm"), "-u", self.object])[1])) - {"_GLOBAL_OFFSET_TABLE_"}
+        return set(re.findall(r" U (\w+)",
+                              shell([self.way.tool("nm"), "-u", self.object])[1])) - {"_GLOBAL_OFFSET_TABLE_"}
 
 
 class Programs:
@@ -242,7 +244,8 @@ class Programs:
         extra = ["-Dmain=program", "-D__int64_t_defined=1"] if self.way.bare else []
         is_cpp = source.suffix == ".cpp"
         compiler = [self.way.tool("g++") if is_cpp else self.way.compiler[0], *self.way.compiler[1:]]
-        status, said = shell([*compiler, *(CXX_FLAGS if is_cpp else FLAGS), *extra, *words, f"-I{C}", "-c", source, "-o", made])
+        status, said = shell([*compiler, *(CXX_FLAGS if is_cpp else FLAGS), *extra, *words, f"-I{C}", "-c", source,
+                              "-o", made])
         if status:
             raise Failed(f"{source.name} isn't compiled: {said[:1500]}")
         return made
@@ -271,7 +274,8 @@ class Programs:
         objects = [*self.harness(words, flags), *[self.compiled(source, flags) for source in sources]]
         # C++ has another name for a `main` that has another name.
         alias = ["-Wl,--defsym=program=_Z7programv"] * (self.way.bare and sources[0].suffix == ".cpp")
-        status, said = shell([*self.way.compiler, *self.way.linking, *alias, *objects, self.library.path, "-o", program])
+        status, said = shell([*self.way.compiler, *self.way.linking, *alias, *objects, self.library.path, "-o",
+                              program])
         if status:
             raise Failed(f"{name} isn't linked: {said[:1500]}")
         return program
@@ -319,7 +323,8 @@ def another_version(programs):
 
 
 def by_cmake(programs):
-    """Builds the lines of docs/FFI.md that are for CMake, with the file for a Cortex-M4. Returns whether there is CMake."""
+    """Builds the lines of docs/FFI.md that are for CMake, with the file for a Cortex-M4. Returns whether there is
+    CMake."""
     folder = programs.folder / "cmake"
     if not shutil.which("cmake"):
         return False
@@ -327,8 +332,10 @@ def by_cmake(programs):
     (folder / "net-base").symlink_to(ROOT)
     (folder / "my.c").write_text('#include "net_base.h"\nint main(void) { net_base_ring_init(NULL); return 0; }\n')
     lines = re.findall(r"^    ((?:add_|target_).*)$", (ROOT / "docs/FFI.md").read_text(), flags=re.M)
-    (folder / "CMakeLists.txt").write_text("\n".join(["cmake_minimum_required(VERSION 3.21)", "project(user C)", *lines]) + "\n")
-    for words in (["-S", folder, "-B", folder / "built", "--toolchain", HERE / "cortex_m4.cmake"], ["--build", folder / "built"]):
+    (folder / "CMakeLists.txt").write_text("\n".join(["cmake_minimum_required(VERSION 3.21)", "project(user C)",
+                                                      *lines]) + "\n")
+    for words in (["-S", folder, "-B", folder / "built", "--toolchain", HERE / "cortex_m4.cmake"],
+                  ["--build", folder / "built"]):
         status, said = shell(["cmake", *words], env=os.environ | {"RUSTC": str(programs.rustc)})
         if status:
             raise Failed(f"CMake: {said[-1500:]}")
@@ -360,8 +367,10 @@ def tests(programs, generated, options):
         raise Failed(problem)
     layouts = programs.folder / "layouts.rs"
     layouts.write_text(programs.run("layouts", [generated / "layouts.c"]))
-    status, said = shell([programs.rustc, "--target", way.target, "--edition", "2021", "--crate-type", "rlib", "--emit", "metadata",
-                          "-C", "panic=abort", "--extern", f"proved={programs.library.crate}", layouts, "-o", f"{layouts}.rmeta"])
+    status, said = shell([programs.rustc, "--target", way.target, "--edition", "2024", "--crate-type", "rlib",
+                          "--emit", "metadata",
+                          "-C", "panic=abort", "--extern", f"proved={programs.library.crate}", layouts, "-o",
+                          f"{layouts}.rmeta"])
     if status:
         raise Failed(f"layouts: a field of a struct isn't where Rust has it: {said[:1500]}")
     checks = re.search(r"(\d+) checks", programs.run("exports", [generated / "exports.c"]))
@@ -397,13 +406,15 @@ def tests(programs, generated, options):
     return ", ".join(done)
 
 
-# What of the caller's frame an empty call leaves painted, so that it counts for the export: less than a frame's alignment.
+# What of the caller's frame an empty call leaves painted, so that it counts for the export: less than a frame's
+# alignment.
 SLACK = 15
 
 
 def stacks(programs, generated):
-    """Bytes of stack of the export that can take most and of the one after it, with their names, by the code. What calls left
-    painted has to be within; under Linux the C library's `memmove` is called by a pointer, and not counted."""
+    """Bytes of stack of the export that can take most and of the one after it, with their names, by the code. What
+    calls left painted has to be within; under Linux the C library's `memmove` is called by a pointer, and not
+    counted."""
     flags = ["-DSTACK", "-Wno-unused-function"]
     said = programs.run("stack", [generated / "sequence.c", generated / "empty.c"], ["50000"], flags)
     painted = {name: int(size) for size, name in re.findall(r"^stack: (\d+) (\w+)$", said, flags=re.M)}

@@ -1,4 +1,4 @@
 //! The generator of pseudo-random words, whose rules are proved.
 #![allow(unused)]
 
-pub(crate) use crate::proved::net_base::rand::Rand;
+pub(crate) use crate::proved::rand::Rand;

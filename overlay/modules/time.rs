@@ -1,4 +1,4 @@
-pub use crate::proved::net_base::time::{Duration, Instant};
+pub use crate::proved::time::{Duration, Instant};
 
 impl Instant {
     /// Returns the moment `micros` microseconds after the origin.

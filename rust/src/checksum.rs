@@ -22,4 +22,4 @@
 //! udp[6..8].copy_from_slice(&0xffff_u16.to_be_bytes());
 //! assert!(pseudo.with(&udp).is_valid());
 //! ```
-pub use crate::proved::net_tcp::{checksum, is_valid, updated_checksum, PartsSum};
+pub use crate::tcp::internet_sum::{checksum, is_valid, updated_checksum, PartsSum};

@@ -14,9 +14,22 @@ use crate::storage::Storage;
 use crate::tcp::TimeoutBounds;
 use crate::time::Duration;
 
-pub use crate::proved::net_ends::{Acknowledged, Expired, Outgoing, SendingEnd, SendingEndOver};
-pub use crate::proved::net_ends::{Acknowledgement, ReceivingEnd, ReceivingEndOver};
-pub use crate::proved::net_ends::{SendBuffer, SendBufferOver, StreamSender};
+erased! {
+    pub(crate) mod receiving_end;
+    pub(crate) mod send_buffer;
+    pub(crate) mod sending_end;
+    pub(crate) mod stream_sender;
+}
+
+pub use receiving_end::{Acknowledgement, ReceivingEnd, ReceivingEndOver};
+pub use send_buffer::{SendBuffer, SendBufferOver};
+pub use sending_end::{Acknowledged, Expired, Outgoing, SendingEnd, SendingEndOver};
+pub use stream_sender::StreamSender;
+
+#[cfg(feature = "c")]
+pub(crate) use send_buffer::BufferParts;
+#[cfg(feature = "c")]
+pub(crate) use sending_end::SendingParts;
 
 impl<'a, const N: usize> SendBuffer<'a, N> {
     /// Returns what `over_at` does.

@@ -1,9 +1,8 @@
 //! Heads, called with numbers about 0, the middle and the greatest `usize`, beside models in numbers of 128 bits; and what
 //! `prove!` tests.
-use crate::proved::net_assembler::{AssemblerHead, Run};
-use crate::proved::net_packets::PacketsHead;
-use crate::proved::net_ring::RingHead;
 use crate::rattle::prelude::prove;
+use crate::storage::packets_head::PacketsHead;
+use crate::storage::{AssemblerHead, RingHead, Run};
 use std::vec::Vec;
 
 /// The generator xorshift64.

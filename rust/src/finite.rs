@@ -38,12 +38,10 @@
 use core::fmt;
 
 use crate::managed::ManagedSlice;
-use crate::proved::net_ring::Storage;
-use crate::storage::Listed;
-use crate::storage::TooManyHolesError;
+use crate::storage::{Listed, Storage, TooManyHolesError};
 
-pub use crate::proved::net_numbers::SentNumbers;
-pub use crate::proved::net_receiver::{
+pub use crate::stream::SentNumbers;
+pub use crate::stream::{
     FiniteError, FiniteReceiver, FiniteReceiverOver, FiniteSender, FiniteSenderOver,
 };
 

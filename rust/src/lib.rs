@@ -59,6 +59,25 @@ extern crate std;
 #[cfg(not(any(target_pointer_width = "32", target_pointer_width = "64")))]
 compile_error!("a `usize` has 32 or 64 bits");
 
+/// Declares modules that `tools/erase.py` writes, the proved text, which rustfmt leaves as it is. Which item is public in a
+/// crate of Rattle isn't which one is in this crate; a parameter may be for contracts alone; the other lints are of what
+/// Rattle has no other form for. Some calls and names are for two features alone.
+macro_rules! erased {
+    ($($visibility:vis mod $name:ident;)*) => {$(
+        #[allow(unreachable_pub, unused_variables)]
+        #[allow(clippy::int_plus_one, clippy::len_without_is_empty, clippy::manual_filter)]
+        #[allow(clippy::manual_find, clippy::manual_map, clippy::needless_lifetimes)]
+        #[allow(clippy::needless_range_loop, clippy::new_without_default, clippy::precedence)]
+        #[allow(clippy::question_mark, clippy::redundant_closure, clippy::single_match)]
+        #[allow(clippy::redundant_pattern_matching, clippy::too_many_arguments)]
+        #[cfg_attr(
+            not(all(feature = "c", feature = "segmentation-offload")),
+            allow(dead_code, unused_imports)
+        )]
+        $visibility mod $name;
+    )*};
+}
+
 pub mod checksum;
 pub mod config;
 pub mod ends;
@@ -67,38 +86,24 @@ mod extremes;
 pub mod finite;
 pub mod managed;
 pub mod phy;
-#[rustfmt::skip]
-mod proved;
-pub mod rand;
 mod rattle;
 pub mod receiver;
 pub mod scoreboard;
 pub mod sender;
 pub mod sequence_number;
 pub mod storage;
+mod stream;
 pub mod tcp;
 pub mod time;
 
-/// The exports for C, over references and slices, and their structs: for the crate in `c` alone.
+erased! {
+    pub mod rand;
+}
+
 #[cfg(feature = "c")]
 #[doc(hidden)]
 #[allow(missing_docs)]
-pub mod exports {
-    use super::proved;
-
-    pub use proved::net_assembler::{AssemblerHead, Run};
-    pub use proved::net_base::storage::FragmentsHead;
-    pub use proved::net_ends::{BufferParts, SendingParts};
-    pub use proved::net_ffi::*;
-    pub use proved::net_numbers::SentNumbers;
-    pub use proved::net_packets::{FirstPacket, PacketPlace, PacketSlot, PacketsHead};
-    pub use proved::net_receiver::{
-        FiniteReceiverHead, FiniteSenderHead, HeldRun, ReceiverHead, ScoreboardHead, SenderHead,
-    };
-    pub use proved::net_ring::{RingHead, Span};
-    pub use proved::net_split_ring::{SplitCounts, SplitSpan};
-    pub use proved::net_tcp::{AdvertisedWindow, Announcement, PartsSum, PeerWindow, Segment};
-}
+pub mod exports;
 
 #[cfg(doctest)]
 #[doc = include_str!("refused.txt")]

@@ -6,10 +6,9 @@ use core::{fmt, iter};
 #[cfg(doc)]
 use crate::config::ASSEMBLER_MAX_SEGMENT_COUNT;
 use crate::managed::ManagedSlice;
-use crate::proved::net_ring::Storage;
-use crate::storage::Listed;
+use crate::storage::{Listed, Storage};
 
-pub use crate::proved::net_receiver::{
+pub use crate::stream::{
     HeldRunIter, HeldRuns, Kept, KeptBytes, MissingRunIter, NewestRunIter, Plan, Receiver,
     ReceiverOver, SegmentParts,
 };

@@ -5,7 +5,7 @@ use core::fmt;
 
 use crate::storage::Listed;
 
-pub use crate::proved::net_receiver::{ReportError, Scoreboard};
+pub use crate::stream::{ReportError, Scoreboard};
 
 impl<const N: usize> Default for Scoreboard<N> {
     fn default() -> Self {

@@ -50,16 +50,24 @@
 //! assert_eq!(timer.expires_at(), Some(Instant::from_millis(1_000)));
 //! assert_eq!(timer.timeouts(), 1);
 //! ```
-pub use crate::proved::net_numbers::SentNumbers;
-pub use crate::proved::net_recovery::{
-    is_duplicate_block, is_equal_acknowledgement, Answer, LossRecovery, RecoveryParts,
-};
-pub use crate::proved::net_tcp::{
-    checksum, classify, is_acceptable, is_acknowledgement, is_valid, scale_for, scaled,
-    updated_checksum, AdvertisedWindow, Announcement, Arrival, Expiry, PartsSum, PeerWindow,
-    RetransmissionTimeout, RetransmissionTimer, RttEstimate, Segment, TimedSegment, TimeoutBounds,
-    TimerParts, Transmission, MAX_SCALE,
-};
+pub use crate::stream::{is_duplicate_block, is_equal_acknowledgement, Answer, LossRecovery};
+pub use crate::stream::{RecoveryParts, SentNumbers};
+
+erased! {
+    pub(crate) mod advertised_window;
+    pub(crate) mod arriving;
+    pub(crate) mod internet_sum;
+    pub(crate) mod peer_window;
+    pub(crate) mod retransmission;
+    pub(crate) mod retransmission_timer;
+}
+
+pub use advertised_window::{scale_for, AdvertisedWindow, MAX_SCALE};
+pub use arriving::{classify, is_acceptable, is_acknowledgement, Arrival, Segment};
+pub use internet_sum::{checksum, is_valid, updated_checksum, PartsSum};
+pub use peer_window::{scaled, Announcement, PeerWindow};
+pub use retransmission::{RetransmissionTimeout, RttEstimate, TimeoutBounds, Transmission};
+pub use retransmission_timer::{Expiry, RetransmissionTimer, TimedSegment, TimerParts};
 
 use crate::time::Duration;
 

@@ -579,3 +579,10 @@ fn a_sender_by_its_numbers() {
     let numbers = StreamSender::numbers(&sender);
     assert_eq!(numbers, SentNumbers { first_unacknowledged: 9, sent: 11 });
 }
+
+/// A first number beyond 32 bits stays whole.
+#[test]
+fn first_numbers_are_of_64_bits() {
+    let buffer = SendBuffer::<4>::new_at(vec![0; 4], (1 << 40) + 3);
+    assert_eq!(buffer.numbers().first_unacknowledged, (1 << 40) + 3);
+}

@@ -380,3 +380,14 @@ mod streams {
         assert_eq!(Write::write(&mut finite, b"a").unwrap(), 0);
     }
 }
+
+/// The whole contiguous part of a queue is lent, of any length.
+#[test]
+#[cfg(feature = "std")]
+fn long_queues_are_lent_whole() {
+    use std::io::BufRead;
+    let mut storage = [7; 5000];
+    let mut ring = RingBuffer::new(&mut storage[..]);
+    ring.enqueue_unallocated(5000);
+    assert_eq!(ring.fill_buf().unwrap().len(), 5000);
+}

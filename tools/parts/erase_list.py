@@ -1,9 +1,22 @@
-"""All that tools/erase.py knows by name: the modules that aren't erased, and what else Rust has in place of Rattle's text."""
-# The crates that are erased.
-CRATES = ['net_ring', 'net_packets', 'net_assembler', 'net_split_ring', 'net_numbers', 'net_receiver', 'net_base', 'net_tcp', 'net_recovery', 'net_ends', 'net_ffi']
+"""All that tools/erase.py knows by name: the modules that aren't erased, and what else Rust has in place of Rattle's
+text."""
+# The crates that are erased, and the folder of rust/src that each one's modules are in.
+FOLDERS = {
+    'net_ring': 'storage', 'net_packets': 'storage', 'net_assembler': 'storage', 'net_split_ring': 'storage',
+    'net_numbers': 'stream', 'net_receiver': 'stream', 'net_base': '', 'net_tcp': 'tcp', 'net_recovery': 'stream',
+    'net_ends': 'ends', 'net_ffi': 'exports',
+}
+CRATES = [*FOLDERS]
 
-# The program, erased into an example: its library, and the module of the core that only it has. In it these crates are modules
-# of the example's `rattle.rs`.
+# Modules that have another place there: two heads of one folder, and what smoltcp has in `phy/mod.rs`.
+MOVED = {'net_ring/head': 'storage/ring_head', 'net_packets/head': 'storage/packets_head',
+         'net_base/phy': 'phy/capabilities'}
+
+# The roots, in whose place are files by hand: they list modules, and their constants stand there too.
+ROOTS = {f'{crate}/lib' for crate in CRATES} | {'net_base/storage', 'net_base/time'}
+
+# The program, erased into an example: its library, and the module of the core that only it has. In it these crates are
+# modules of the example's `rattle.rs`.
 PROGRAM, SCHEDULE = ['net_bench_lib'], 'net_receiver/schedule'
 BY_HAND = ['net_ring', 'net_assembler', 'net_receiver', 'arrayvec', 'hex', 'memchr']
 
@@ -13,7 +26,8 @@ UNERASED = {
         ['net_ring/ring_buffer/managed', 'net_packets/packet_buffer/managed', 'net_receiver/receiver/managed',
          'net_base/storage/fragments/managed', 'net_base/time/instant/numbers'],
     "Rust's has no `N`, as smoltcp's": ['net_assembler/assembler/new'],
-    "Rust's tokens borrow their device, which Rattle's can't": [f'net_base/phy/{name}' for name in ('device', 'loopback', 'echo')],
+    "Rust's tokens borrow their device, which Rattle's can't": [f'net_base/phy/{name}'
+                                                                for name in ('device', 'loopback', 'echo')],
     "in Rust it is core's": ['net_base/phy/non_zero'],
     'only proofs want them': [*(f'net_base/phy/{name}' for name in ('frame_lists', 'laws')), 'net_bench_lib/laws'],
     'the example `net_bench` alone has it': [SCHEDULE],
@@ -37,18 +51,19 @@ UNCALLED = {
 # Names that a `pub use` gives to other crates of Rattle, and that nothing of Rust has.
 UNNAMED = {'net_base/time': ['earlier'], 'net_bench_lib/lib': ['run']}
 
-# Where the repository's files are on the web, such as `https://..../blob/main`: a type's page then links its contracts. The
-# maintainers fill it in, with `repository` of rust/Cargo.toml.
+# Where the repository's files are on the web, such as `https://..../blob/main`: a type's page then links its contracts.
+# The maintainers fill it in, with `repository` of rust/Cargo.toml.
 SOURCES = ''
 
-# The exports for C, which the shim of `c` calls: they are compiled with the feature `c` alone, and have no documentation.
+# The exports for C, which the shim of `c` calls: they are compiled with the feature `c` alone, and have no
+# documentation.
 EXPORTS = 'net_ffi'
 
 RING, PACKETS, ASSEMBLER, PHY = 'net_ring/ring_buffer', 'net_packets/packet_buffer', 'net_assembler/assembler', 'net_base/phy'
 RECEIVER, FINITE, FRAGMENTS = 'net_receiver/receiver', 'net_receiver/finite_receiver', 'net_base/storage/fragments'
 
-# What is replaced: the old text, the new one, and how often it is in each of these files. These differ in lifetimes alone:
-# closures may keep what they are lent.
+# What is replaced: the old text, the new one, and how often it is in each of these files. These differ in lifetimes
+# alone: closures may keep what they are lent.
 LIFETIMES = [
     ('_with<R, E, F: FnOnce(&mut T) -> Result<R, E>>(\n        &mut self,',
      "_with<'b, R, E, F: FnOnce(&'b mut T) -> Result<R, E>>(\n        &'b mut self,", {RING: 2}),
@@ -60,8 +75,8 @@ LIFETIMES = [
      "_with<'c, R, E, F: FnOnce(&mut H, &'c mut [u8]) -> Result<R, E>>(\n        &'c mut self,", {PACKETS: 1}),
 ]
 
-# These in attributes alone: what is printed is by hand, but for a ring's iterator; what can be cloned in Rust, where that
-# isn't refused; features; and fields that may be added.
+# These in attributes alone: what is printed is by hand, but for a ring's iterator; what can be cloned in Rust, where
+# that isn't refused; features; and fields that may be added.
 ATTRIBUTES = [
     ('#[derive(Debug)]\npub struct RingOver<', '#[derive(Clone)]\npub struct RingOver<', {RING: 1}),
     ('#[derive(Debug, Drop)]\npub struct PacketsOver<', '#[derive(Clone)]\npub struct PacketsOver<', {PACKETS: 1}),

@@ -1,7 +1,8 @@
 """The documentation of erased functions, for tools/erase.py: marked clauses in Rust's words, under "Guarantees".
 
-What a call returns by its contract is said as that call: `window self.new` as `self.window()`, since `window` has a clause
-`result ≡ window self.now`. What else contracts see of `self` has no parentheses: `self.queue`. What isn't known is refused.
+What a call returns by its contract is said as that call: `window self.new` as `self.window()`, since `window` has a
+clause `result ≡ window self.now`. What else contracts see of `self` has no parentheses: `self.queue`. What isn't known
+is refused.
 """
 import re
 
@@ -19,7 +20,8 @@ CALLS = {                                         # a capital is what may need p
 }
 STATES = {'new', 'now', 'receiver', 'sender'}    # the last two: a stream that ends is said as the one in it
 NAME = re.compile(r'(?!(?:let|in|if|then|else|record)$|[A-Z]\w*\.)«?([A-Za-z_]\w*)»?((?:\.\w+)*)')
-MARK, MOST = '// Guarantee.', 3                   # before a clause that a user of Rust wants, at most three of a function
+# before a clause that a user of Rust wants, at most three of a function
+MARK, MOST = '// Guarantee.', 3
 
 
 def needs(true, why="a marked clause that can't be said"):
@@ -59,7 +61,8 @@ def joined(left, sign, right):
 
 
 def read(text, held):
-    """What a part of a clause says, and the rank of its loosest sign. `held` has what is in parentheses, by its place."""
+    """What a part of a clause says, and the rank of its loosest sign. `held` has what is in parentheses, by its
+    place."""
     for signs in LEVELS:
         found = [*re.finditer(rf' ({"|".join(map(re.escape, signs.split()))}) ', text)]
         if found:
@@ -76,7 +79,8 @@ def read(text, held):
     given = [read(one, held) for one in given]
     if name in CALLS:
         needs(CALLS[name].count('{') == len(given))
-        return CALLS[name].format(**dict(zip('abcd', map(term, given))), **{k: term(one, WHOLE) for k, one in zip('ABCD', given)}), WHOLE
+        return CALLS[name].format(**dict(zip('abcd', map(term, given))),
+                                  **{k: term(one, WHOLE) for k, one in zip('ABCD', given)}), WHOLE
     of_self = len(given) == 1 and given[0][0] in ('self', 'old(self)')
     needs(name.isidentifier())
     return (f'{given[0][0]}.{named(name)}' if of_self else f'{named(name)}({", ".join(map(term, given))})'), WHOLE
@@ -94,7 +98,8 @@ def named(word):
 
 def said(clause, begin=''):
     """A clause, after these words of it, as `read` says it."""
-    held, found = {}, re.fullmatch(rf'ensures(?: \w+)? {{ {begin}((?:\((?:\w+ )+: [^()]*\) )+→ )?(.*) }}', ' '.join(clause.split()))
+    held, found = {}, re.fullmatch(rf'ensures(?: \w+)? {{ {begin}((?:\((?:\w+ )+: [^()]*\) )+→ )?(.*) }}',
+                                   ' '.join(clause.split()))
     needs(found)
 
     def hold(inside):
@@ -117,11 +122,13 @@ def place(file):
 
 
 def document(eraser):
-    """Adds lines to the documentation: of public functions the marked clauses, of public types the file with the contracts."""
+    """Adds lines to the documentation: of public functions the marked clauses, of public types the file with the
+    contracts."""
     tokens, shown, calls = eraser.tokens, [], {}
     for owner, header, k, head, begin, body, pub in eraser.functions:
         clauses = [j for j in range(begin, body) if tokens[j][0] == 'clause']
-        if (pub is not None or re.search(r'\bfor\b|^(?:pub )?trait', header)) and clauses and not owner.endswith('Head'):
+        if (pub is not None
+            or re.search(r'\bfor\b|^(?:pub )?trait', header)) and clauses and not owner.endswith('Head'):
             call = re.match(r'fn (\w+)\(&self\) -> \w+\s', eraser.source(k, begin))
             shown.append((owner, k, head, clauses))
             for j in clauses if call else ():     # what a call returns that takes `self` alone
@@ -133,7 +140,8 @@ def document(eraser):
                     pass
     marks = {eraser.next(k): k for k, token in enumerate(tokens) if token[1] == MARK}
     for owner, k, head, clauses in shown:
-        keeps = lambda one: one[1] if f'{one[1]}: &mut [' in eraser.source(k, clauses[0]) else one[0]      # slices, their length
+        # slices, their length
+        keeps = lambda one: one[1] if f'{one[1]}: &mut [' in eraser.source(k, clauses[0]) else one[0]
         lines, docs = [], [d for d in range(head, k) if tokens[d][0] == 'doc']
         for j in (j for j in clauses if j in marks):
             marks.pop(j)
@@ -146,10 +154,12 @@ def document(eraser):
                 text = re.sub(rf'(?<![\w.])(self|old\(self\)){re.escape(value)}(?![\w(])', rf'\1.{call}()', text)
             lines.append(f'\n{eraser.margin(head)}/// - {text}')
         if lines:
-            lines[:0] = [f'\n{eraser.margin(head)}{line}' for line in ('///', '/// # [Guarantees](crate#guarantees)', '///')]
+            lines[:0] = [f'\n{eraser.margin(head)}{line}'
+                         for line in ('///', '/// # [Guarantees](crate#guarantees)', '///')]
             eraser.after[docs[-1]] = ''.join(lines)
     for k in marks.values():
         eraser.refuse(tokens[k][2], 'a mark of no clause that is shown')
-    for item in re.finditer(r'^///[^\n]*(?=\n(?:#\[[^\n]*\n)*pub (?:struct|enum|trait)\b)', eraser.text, re.M) if shown else ():
+    for item in re.finditer(r'^///[^\n]*(?=\n(?:#\[[^\n]*\n)*pub (?:struct|enum|trait)\b)', eraser.text,
+                            re.M) if shown else ():
         k = next(j for j, token in enumerate(tokens) if token[2] == item.start())
         eraser.after[k] = f'\n///\n/// Contracts: {place(eraser.file)}.'

@@ -88,7 +88,8 @@ class Table:
                     sys.exit(f"exports.txt: no row of {name} returns {answer}")
 
     def answers(self, item):
-        """What rows return at least: each status but what null alone is answered, both of a `bool`, or else that a call is refused."""
+        """What rows return at least: each status but what null alone is answered, both of a `bool`, or else that a call
+        is refused."""
         if answer := self.library.answer(item.type):
             names = ffi.ANSWERS[answer] if item.type == answer else ["REFUSED"]
             return [it for it in names if it != "REFUSED" or answer not in ffi.REFUSED_FOR_NULL]
@@ -157,7 +158,8 @@ class C:
         if array := ARRAY.fullmatch(kind):
             return "{" + ", ".join(self.value(part, array[1]) for part in tree[1:] or [self.zero(array[1])]) + "}"
         if kind in self.structs:
-            return "{" + ", ".join(self.value(it, field.type) for field, it in zip(self.fields(tree, kind), tree[1:])) + "}"
+            return "{" + ", ".join(self.value(it, field.type)
+                                   for field, it in zip(self.fields(tree, kind), tree[1:])) + "}"
         return self.literal(self.table.number(tree, kind), kind)
 
     def zero(self, kind):
@@ -196,7 +198,8 @@ class C:
         members = [it for it in row.item.members if it.name in row.left]
         after = [f"is_zero(&{it.name}[{length_of(row.arguments[it.name])}], sizeof *{it.name})" for it in members
                  if "[" in it.type and row.arguments[it.name] not in EMPTY]
-        return [it for member in members for it in self.compared(member.name, row.left[member.name], pointee(member))] + after
+        return [it for member in members
+                for it in self.compared(member.name, row.left[member.name], pointee(member))] + after
 
     def literal(self, number, kind):
         if kind == "usize" and 2**64 - 1 - number < 100:
@@ -245,10 +248,12 @@ class C:
     def nulls(self, row):
         """The lines of calls with each pointer of a row null in turn: they are refused, and nothing changes."""
         return [line for it in row.item.members if it.type.startswith("&")
-                for line in self.lines(row._replace(left={name: row.arguments[name] for name in row.left if name != it.name}), it)]
+                for line in self.lines(row._replace(left={name: row.arguments[name]
+                                                          for name in row.left if name != it.name}), it)]
 
     def lines(self, row, null=None):
-        arguments = [([], f"NULL, {length_of(row.arguments[it.name]) or 1}" if "[" in it.type else "NULL") if it is null else
+        arguments = [([], f"NULL, {length_of(row.arguments[it.name]) or 1}" if "[" in it.type else "NULL")
+                     if it is null else
                      self.argument(it, row.arguments[it.name]) for it in row.item.members]
         lines = [line for variable, _ in arguments for line in variable]
         call = f"{row.item.name}({', '.join(passed for _, passed in arguments)})"
@@ -259,7 +264,8 @@ class C:
             lines.append(f"{ffi.c_type(row.item.type)} refused = {call};")
             lines.append(f"CHECK({' && '.join(f'refused{field} == {value}' for field, value in refused)});")
         elif row.item.type in self.structs:
-            values = ", ".join(self.value(part, kind) for _, part, kind in self.numbers("it", row.item.type, row.result))
+            values = ", ".join(self.value(part, kind)
+                               for _, part, kind in self.numbers("it", row.item.type, row.result))
             lines.append(f"CHECK({is_name(row.item.type)}({call}, {values}));")
         else:
             lines.append(f"CHECK({call} == {self.value(row.result, row.item.type)});")
@@ -276,7 +282,8 @@ class C:
         lines += [f'_Static_assert({name} == {self.literal(it, "usize")}, "a number of net_base.h isn\'t that of the table");'
                   for name, it in named.items()]
         for name in sorted({item.type for item in self.table.exports.values()} & set(self.structs)):
-            numbers = [(path, path.removeprefix("it.").replace(".", "_"), kind) for path, _, kind in self.numbers("it", name)]
+            numbers = [(path, path.removeprefix("it.").replace(".", "_"), kind)
+                       for path, _, kind in self.numbers("it", name)]
             parameters = [f"{ffi.c_type(name)} it", *[f"{ffi.c_type(kind)} {given}" for _, given, kind in numbers]]
             lines += [""] + ffi.filled(f"static bool {is_name(name)}(", parameters, ") {")
             lines += [f"    return {' && '.join(f'{path} == {given}' for path, given, _ in numbers)};", "}"]

@@ -1,11 +1,12 @@
-"""Writes the exports of net_ffi that are methods of heads: a test of what the method requires, then the call. It is a part of
-ffi.py.
+"""Writes the exports of net_ffi that are methods of heads: a test of what the method requires, then the call. It is a
+part of ffi.py.
 
-An export is a line of heads.txt, whose first lines say what the line says. Of the method it has the comment, with C's names
-(`in_c`); the parameters, where elements are bytes, and a pointer is passed in place of a struct; and each clause `ensures`,
-after the test that it was not refused. What the method requires is tested, and where that isn't so, the clause `refused` says what is returned, and
-that nothing changes. What would cost a look at each run isn't tested: that is the export's own `requires`, where the
-tests hold. `TESTS` says how each is tested, `RESULTS` how a result of the method is returned.
+An export is a line of heads.txt, whose first lines say what the line says. Of the method it has the comment, with C's
+names (`in_c`); the parameters, where elements are bytes, and a pointer is passed in place of a struct; and each clause
+`ensures`, after the test that it was not refused. What the method requires is tested, and where that isn't so, the
+clause `refused` says what is returned, and that nothing changes. What would cost a look at each run isn't tested: that
+is the export's own `requires`, where the tests hold. `TESTS` says how each is tested, `RESULTS` how a result of the
+method is returned.
 """
 import dataclasses
 import pathlib
@@ -34,7 +35,8 @@ TESTS = [
     (r"(\w+) < no_end", "{all}", "{c0} == u64::MAX", "`{c0}` is `u64::MAX`", True),
     (rf"next_of {TERM} < 2 \^ 64", "{all}", "!has_next(&{c0}.receiver)", "`next` doesn't fit 64 bits", True),
     (rf"IsSoundBoard {TERM} {TERM}", "{all}", "!{c0}.is_sound({c1})", "`{c0}` isn't sound with `{c1}`", True),
-    (rf"RangeFits {TERM} {TERM}", "{all}", "!AssemblerHead::fits({c0}, {c1})", "`{c0} + {c1}` doesn't fit a `size_t`", True),
+    (rf"RangeFits {TERM} {TERM}", "{all}", "!AssemblerHead::fits({c0}, {c1})", "`{c0} + {c1}` doesn't fit a `size_t`",
+     True),
     (r"(sender\S*\.first_unacknowledged) \+ (\S+\.finished) < 2 \^ 64", "{all}", "{c1} > u64::MAX - {c0}",
      "the number doesn't fit 64 bits", True),
     (r"(sender\S*\.first_unacknowledged) \+ (\S+) \+ (\S+\.closed) < 2 \^ 64", "{all}",
@@ -43,7 +45,8 @@ TESTS = [
     (rf"count ≤ {TERM} - {TERM}", "{all}", "count > {c0} - {c1}", "fewer than `count` elements are free", True),
     (rf"count ≤ {TERM}", "{all}", "count > {c0}", "fewer than `count` elements are queued", True),
     (rf"{TERM} ≤ capacity", "{all}", "{c0} > capacity", "more than `capacity` elements are queued", True),
-    (rf"HasSoundRuns {TERM} {TERM}", "{0}.used ≤ length {1}", "{c0}.used > {c1}.len()", "`{f0}used` is above `{c1}.len()`",
+    (rf"HasSoundRuns {TERM} {TERM}", "{0}.used ≤ length {1}", "{c0}.used > {c1}.len()",
+     "`{f0}used` is above `{c1}.len()`",
      False),
     (rf"HasSoundParts (fragments\S+) {TERM} {TERM}", "IsPlausible (length {1}) (length {2}) {0}",
      "!is_plausible({c0}, {c1}.len(), {c2}.len())",
@@ -68,8 +71,8 @@ FREE = "-"
 
 @dataclasses.dataclass
 class Result:
-    """How a result is returned: its type; the code of the call, {call}; what `result` of the method's clauses is; what a
-    refused call returns, as code, as clauses and in words; and clauses besides."""
+    """How a result is returned: its type; the code of the call, {call}; what `result` of the method's clauses is; what
+    a refused call returns, as code, as clauses and in words; and clauses besides."""
 
     type: str
     body: str
@@ -95,12 +98,15 @@ RESULTS = {
     "Result<(), TooManyHolesError>": Result(
         "RoomStatus", "status_of({call})", *STATUS, "(done_or_many result)", (("status", "result < 2"),)),
     "Result<(), FragmentError>": Result(
-        "FragmentStatus", "status_of_fragment({call})", *STATUS, "(done_or_error result)", (("status", "IsStatus result"),)),
+        "FragmentStatus", "status_of_fragment({call})", *STATUS, "(done_or_error result)",
+        (("status", "IsStatus result"),)),
     "Result<(), ReportError>": Result(
-        "RoomStatus", "status_of_report({call})", *STATUS, "(done_or_report_error result)", (("status", "result < 3"),)),
+        "RoomStatus", "status_of_report({call})", *STATUS, "(done_or_report_error result)",
+        (("status", "result < 3"),)),
     "Result<usize, TooManyHolesError>": Result(
         "FrontLength", "front_length({call})", "refused_front_length()",
-        "(result.status ≡ NET_BASE_REFUSED) × (result.length ≡ 0)", "the status is `NET_BASE_REFUSED`, and the length 0",
+        "(result.status ≡ NET_BASE_REFUSED) × (result.length ≡ 0)",
+        "the status is `NET_BASE_REFUSED`, and the length 0",
         "(length_or_many result.status result.length)",
         (("status", "result.status < 2"), ("none", "result.status ≡ 1 → result.length ≡ 0"))),
     "Arrival": Result("ArrivalStatus", "number_of({call})", "", "", ""),
@@ -200,7 +206,8 @@ class Export:
         """A clause of the method with the export's names."""
         if self.head.name in self.head.uses:
             clause = re.sub(rf"(?<![\w.]){self.head.name}(?=[ )])", f"{self.head.name}_of", clause)
-        clause = re.sub(r"\bArrival\.(\w+)", lambda it: f"NET_BASE_{re.sub('(?<=[a-z])(?=[A-Z])', '_', it[1]).upper()}", clause)
+        clause = re.sub(r"\bArrival\.(\w+)",
+                        lambda it: f"NET_BASE_{re.sub('(?<=[a-z])(?=[A-Z])', '_', it[1]).upper()}", clause)
         for old, new in self.head.names.items():
             clause = re.sub(rf"(?<![\w.]){old}\b", new, clause)
         for name in self.copied:
@@ -215,7 +222,8 @@ class Export:
             if match:
                 parts = match.groups()
                 given = {f"c{at}": code_of(it) for at, it in enumerate(parts)}
-                given |= {f"f{at}": it.split(".", 2)[2] + "." if it.count(".") > 1 else "" for at, it in enumerate(parts)}
+                given |= {f"f{at}": it.split(".", 2)[2] + "." if it.count(".") > 1 else ""
+                          for at, it in enumerate(parts)}
                 self.tests.append([it.format(*parts, all=clause, **given) for it in (tested, code, words)] + [is_all])
                 if not is_all:
                     self.duties.append((self.tests[-1][0], clause))
@@ -227,7 +235,8 @@ class Export:
         self.more = []
         if self.is_new:
             made = f"*{self.head.name} = {{call}};"
-            self.result = (Result("bool", f"{made}\n    true", "false", "IsFalse result", "false", f"{self.head.name}.new")
+            self.result = (Result("bool", f"{made}\n    true", "false", "IsFalse result", "false",
+                                  f"{self.head.name}.new")
                            if self.tests else Result("", made, "", "", "", f"{self.head.name}.new"))
         elif word in ffi.ANSWERS:
             self.result = dataclasses.replace(RESULTS[kind], type=word)
@@ -236,17 +245,20 @@ class Export:
         elif word and word.startswith("out "):
             name = word[4:]
             self.parameters.append((name, f"&mut {kind}"))
-            self.result = Result("bool", f"*{name} = {{call}};\n    true", "false", "IsFalse result", "false", f"{name}.new")
+            self.result = Result("bool", f"*{name} = {{call}};\n    true", "false", "IsFalse result", "false",
+                                 f"{name}.new")
         elif word and word.startswith("stays "):
             field = f"{self.head.name}.{word[6:]}"
-            self.result = Result(kind, "{call}", f"refused_{ffi.snake(kind)}({field})", f"(result.span ≡ nowhere) × (result.next ≡ {field})",
+            self.result = Result(kind, "{call}", f"refused_{ffi.snake(kind)}({field})",
+                                 f"(result.span ≡ nowhere) × (result.next ≡ {field})",
                                  f"`from` is `{NONE}`, `count` and `contiguous` are 0, and `next` is `{field}`, which may be stored")
         elif word:
             struct, *fields = re.findall(r"\w+", word)
             made = ", ".join(["status: NET_BASE_DONE", *fields])
             given = fields[0] if len(fields) == 1 else f"({', '.join(fields)})"
             zeros = " × ".join(["(result.status ≡ NET_BASE_REFUSED)", *[f"(result.{it} ≡ 0)" for it in fields]])
-            self.result = Result(struct, f"let {given} = {{call}};\n    {struct} {{ {made} }}", f"refused_{ffi.snake(struct)}()",
+            self.result = Result(struct, f"let {given} = {{call}};\n    {struct} {{ {made} }}",
+                                 f"refused_{ffi.snake(struct)}()",
                                  zeros, f"the status is `NET_BASE_REFUSED`, and {' and '.join(fields)} 0", fields,
                                  (("status", "result.status ≡ NET_BASE_DONE"),))
         elif kind:
@@ -260,7 +272,8 @@ class Export:
 
     def changed(self):
         """Clauses that nothing changes."""
-        return [f"({quoted(name)}.new ≡ {quoted(name)}.old)" for name, kind in self.parameters if kind.startswith("&mut")]
+        return [f"({quoted(name)}.new ≡ {quoted(name)}.old)"
+                for name, kind in self.parameters if kind.startswith("&mut")]
 
     def clauses(self):
         """The clauses of the contract, each with its name and its word."""
@@ -288,7 +301,8 @@ class Export:
             if is_done:
                 found += [("ensures", "unchanged", f"IsFalse result → {' × '.join(changed)}")] * bool(changed)
             else:
-                refused = self.result.refused if "×" in self.result.refused or not changed else f"({self.result.refused})"
+                refused = self.result.refused if "×" in self.result.refused or not changed \
+                    else f"({self.result.refused})"
                 found.append(("ensures", name, f"({guard} → ⊥) → {' × '.join([refused, *changed])}"))
         is_one = sum(word == "ensures" for word, _, _ in found) == 1
         return [(word, name or "" if is_one else name or "value", clause) for word, name, clause in found]
@@ -322,11 +336,14 @@ class Export:
             # A record stays on a line: broken, `rt fmt` lays it out by fields.
             whole = re.sub(r"\{[^{}]{,60}\}", lambda it: it[0].replace(" ", "\0"), f"{begin} {clause} }}")
             lines += [it.replace("\0", " ") for it in textwrap.wrap(
-                whole, 99, initial_indent="    ", subsequent_indent="        ", break_long_words=False, break_on_hyphens=False)]
+                whole, 99, initial_indent="    ", subsequent_indent="        ", break_long_words=False,
+                break_on_hyphens=False)]
         lines.append("{")
         if self.tests:
-            lines += [f"    if {' || '.join(it[1] for it in self.tests)} {{", f"        return {self.result.refusal};", "    }"]
-        owner = f"{self.head.type}::" if self.is_new else f"{self.head.name}::" if self.head.type == FREE else f"{self.head.name}."
+            lines += [f"    if {' || '.join(it[1] for it in self.tests)} {{", f"        return {self.result.refusal};",
+                      "    }"]
+        owner = f"{self.head.type}::" if self.is_new else f"{self.head.name}::" if self.head.type == FREE \
+            else f"{self.head.name}."
         call = f"{owner}{self.method}({', '.join('*' * (name in self.copied) + name for name, _ in self.given())})"
         lines += [f"    {it}" for it in self.result.body.replace("{call}", call).split("\n    ")]
         return lines + ["}"]
@@ -337,8 +354,8 @@ class Export:
                 if not (isinstance(self.result.value, str) and f"{it[0]}.new" == self.result.value)]
 
     def in_c(self, text):
-        """The method's comment with C's names: those of parameters, exports and statuses. What is returned is written where the
-        result is, and of a call that makes a head made of it."""
+        """The method's comment with C's names: those of parameters, exports and statuses. What is returned is written
+        where the result is, and of a call that makes a head made of it."""
         text = ffi.plain_text([text])
         if self.is_new:
             text = re.sub(r"^Returns ", f"Makes `{self.head.name}` ", text)
@@ -354,7 +371,8 @@ class Export:
                 return f"`{name}`"
             if name in VARIANTS:
                 return f"`NET_BASE_{VARIANTS[name]}`"
-            of = re.sub(r"Over$", "Head", owner[:-2]) if owner else self.head.name if self.head.type == FREE else self.head.type
+            of = re.sub(r"Over$", "Head", owner[:-2]) if owner else self.head.name if self.head.type == FREE \
+                else self.head.type
             export = EXPORTED.get((of, name))
             return f"`net_base_{export}`" if export else "zeros" if name == "None" else f"`{name}`"
 
@@ -366,7 +384,8 @@ class Export:
         if self.tests:
             words = list(dict.fromkeys(it[2] for it in self.tests))
             either = ", or if ".join(words)
-            doc += ["", f"It is refused if {either}: {self.result.words}{', and nothing changes' * bool(self.changed())}."]
+            doc += ["",
+                    f"It is refused if {either}: {self.result.words}{', and nothing changes' * bool(self.changed())}."]
         if self.duties:
             doc += ["", "# Requires", "", f"Head and runs are sound, as `net_base_{self.head.section}_is_sound` tests."]
         return doc
@@ -397,8 +416,10 @@ def with_fields(clause, fields):
 # The exports by the type and the name of the method, and a crate and the name of a function.
 EXPORTED = {}
 # Variants that comments name, as C's statuses.
-VARIANTS = {"TooManyHolesError": "TOO_MANY_RUNS", "TooManyHoles": "TOO_MANY_RUNS", "TooLong": "TOO_LONG", "OtherSize": "OTHER_SIZE",
-            "OtherEnd": "OTHER_END", "NoBlock": "REFUSED", "Take": "TAKE", "AcknowledgementOnly": "ACKNOWLEDGEMENT_ONLY", "Answer": "ANSWER",
+VARIANTS = {"TooManyHolesError": "TOO_MANY_RUNS", "TooManyHoles": "TOO_MANY_RUNS", "TooLong": "TOO_LONG",
+            "OtherSize": "OTHER_SIZE",
+            "OtherEnd": "OTHER_END", "NoBlock": "REFUSED", "Take": "TAKE",
+            "AcknowledgementOnly": "ACKNOWLEDGEMENT_ONLY", "Answer": "ANSWER",
             "Ignore": "IGNORE", "Reset": "RESET"}
 
 
@@ -436,7 +457,8 @@ def heads_of(text):
         elif not line.startswith("  "):
             export = Export(head, line)
             found[-1][1].append(export)
-            EXPORTED.setdefault((kind if head.type != FREE else head.name, export.method), f"{head.section}_{export.name}")
+            EXPORTED.setdefault((kind if head.type != FREE else head.name, export.method),
+                                f"{head.section}_{export.name}")
     return found
 
 
@@ -468,7 +490,8 @@ def is_cited(name, text):
 
 def imported(begin, names):
     """Lines that import names."""
-    chunks = textwrap.wrap(", ".join(name.replace(" ", "\0") for name in names), 115 - len(begin), break_on_hyphens=False)
+    chunks = textwrap.wrap(", ".join(name.replace(" ", "\0") for name in names), 115 - len(begin),
+                           break_on_hyphens=False)
     return [f"{begin}{chunk.rstrip(',')}}};".replace("\0", " ") for chunk in chunks]
 
 
@@ -481,7 +504,8 @@ def file_of(head, exports):
     own = {name: (module, name) for module, names in OWN.items() for name in names.split()}
     if head.name in head.uses:
         own[head.name] = (head.uses[head.name][0], f"{head.name} as {head.name}_of")
-    plausible = {"FragmentsHead": "Rattle.net_base.specs.Fragments", "ReceiverHead": "Rattle.net_ffi.specs.ReceiverParts"}
+    plausible = {"FragmentsHead": "Rattle.net_base.specs.Fragments",
+                 "ReceiverHead": "Rattle.net_ffi.specs.ReceiverParts"}
     plausible["FiniteReceiverHead"] = plausible["ReceiverHead"]
     if head.type in plausible:
         own |= {it: (plausible[head.type], it) for it in ("IsPlausible", "HasRuns")}
@@ -506,8 +530,10 @@ CODE = {name: module for module, names in {
     "crate::refusals": "NET_BASE_ACKNOWLEDGEMENT_ONLY NET_BASE_ANSWER NET_BASE_IGNORE NET_BASE_RESET NET_BASE_TAKE NET_BASE_DONE NET_BASE_REFUSED ArrivalStatus FragmentStatus RoomStatus SizeStatus no_number refused_front_length refused_hole refused_run refused_segment_span refused_span refused_split_span",
     "crate::results": "FrontLength Hole SegmentSpan front_length number_of run_of segment_span status_of status_of_fragment status_of_report",
     "crate::receiver": "has_next has_runs", "crate::finite_receiver": "has_number",
-    "net_assembler": "AssemblerHead Run", "net_ring": "RingHead Span", "net_split_ring": "SplitCounts SplitSpan", "net_base::storage": "FragmentsHead",
-    "net_packets": "PacketSlot PacketsHead", "net_receiver": "FiniteReceiverHead FiniteSenderHead HeldRun ReceiverHead ReportError ScoreboardHead",
+    "net_assembler": "AssemblerHead Run", "net_ring": "RingHead Span", "net_split_ring": "SplitCounts SplitSpan",
+    "net_base::storage": "FragmentsHead",
+    "net_packets": "PacketSlot PacketsHead",
+    "net_receiver": "FiniteReceiverHead FiniteSenderHead HeldRun ReceiverHead ReportError ScoreboardHead",
     "net_numbers": "SentNumbers", "net_tcp": "AdvertisedWindow Announcement PartsSum PeerWindow Segment",
 }.items() for name in names.split()}
 

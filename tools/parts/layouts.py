@@ -1,6 +1,6 @@
-"""Writes a program in C that prints, as assertions in Rust, where C's compiler puts each field of each struct of the header.
-What it prints is compiled beside the crate: a field that rustc puts elsewhere is an error. Where private fields are, rows of
-exports.txt show, whose numbers differ."""
+"""Writes a program in C that prints, as assertions in Rust, where C's compiler puts each field of each struct of the
+header. What it prints is compiled beside the crate: a field that rustc puts elsewhere is an error. Where private fields
+are, rows of exports.txt show, whose numbers differ."""
 import ffi
 from parts import shim
 
@@ -15,4 +15,5 @@ def program(library):
                  if it.is_public]
     return "\n".join(['#include "net_base.h"', "#include <stdio.h>", "int main(void) {",
                       '    puts("#![no_std]\\nuse core::mem::{offset_of, size_of};\\nuse proved::exports::*;");',
-                      *[f'    printf("const _: () = assert!({rust} == %u);\\n", (unsigned){c});' for rust, c in rows], "    return 0;", "}"]) + "\n"
+                      *[f'    printf("const _: () = assert!({rust} == %u);\\n", (unsigned){c});' for rust, c in rows],
+                      "    return 0;", "}"]) + "\n"

@@ -1,7 +1,34 @@
-"""The brackets and paths of rustc's MIR, for tools/widths.py, std_calls.py and same_program.py."""
+"""The brackets and paths of rustc's MIR, where erased text is, and tables of bodies, for tools/widths.py, std_calls.py
+and same_program.py."""
 import re
+from pathlib import Path
+
+WRITTEN = re.compile(r'// Written by tools/erase\.py from crates/(\w+)/src/([\w/]+)\.rt')
 
 SIGN = re.compile(r'"(?:\\.|[^"\\])*"|[-=]>|[][(){}<>,]| as ')
+
+
+def tables(name):
+    """The lines of a text beside this file, by the heading `== WORD` before them, without comments."""
+    found = {}
+    for line in (Path(__file__).parent / name).read_text().splitlines():
+        if line.startswith('== '):
+            rows = found.setdefault(line[3:], [])
+        elif line and not line.startswith('# '):
+            rows.append(line.replace('\\n', '\n'))
+    return found
+
+
+def erased_files(root, folder='src'):
+    """The erased files in a folder of a crate's, by their paths: of each its module, in the prover's words and in
+    rustc's."""
+    found = {}
+    for file in sorted((root / folder).rglob('*.rs')):
+        if written := WRITTEN.match(file.read_text()):
+            path = file.relative_to(root / folder).with_suffix('').parts
+            module = '::'.join([written[1], *written[2].split('/')]).removesuffix('::lib')
+            found[str(file.relative_to(root))] = module, '::'.join(part for part in path if part != 'mod')
+    return found
 
 
 def depths(text, start=0):

@@ -1,11 +1,13 @@
-"""What an export returns for a null pointer, by the words of c/net_base.h alone: the rule of its first comment, and what the
-comment of an export says of a refusal. Nothing here asks tools/ffi.py or tools/heads.txt, by which the shim refuses."""
+"""What an export returns for a null pointer, by the words of c/net_base.h alone: the rule of its first comment, and
+what the comment of an export says of a refusal. Nothing here asks tools/ffi.py or tools/heads.txt, by which the shim
+refuses."""
 import pathlib
 import re
 
 HEADER = pathlib.Path(__file__).resolve().parents[2] / "c/net_base.h"
 # "It returns `false` where it returns a `bool`; where it returns one of these alone or as the first field of a struct,
-# the `NET_BASE_.._REFUSED` of a status, `NET_BASE_NONE` of a `size_t`, `UINT64_MAX` of a `uint64_t`; and 0 of another number".
+# the `NET_BASE_.._REFUSED` of a status, `NET_BASE_NONE` of a `size_t`, `UINT64_MAX` of a `uint64_t`; and 0 of another
+# number".
 REFUSED = {"bool": "false", "size_t": "NET_BASE_NONE", "uint64_t": "UINT64_MAX"}
 EXPORT = re.compile(r"/\*\*((?:(?!\*/).)*)\*/\n(?:NET_BASE_MUST_USE )?(?:struct |enum )?(\w+) (net_base_\w+)\(([^;]*)\)[^;]*;", re.S)
 STATUS = re.compile(r"^enum NET_BASE_32_BITS (net_base_\w+) \{(.*?)^\};", re.S | re.M)

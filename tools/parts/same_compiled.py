@@ -1,40 +1,47 @@
-"""Rustc's program, its MIR of the erased crate, for tools/same_program.py: its functions, under the names that the prover has,
-and one as a graph of steps."""
+"""Rustc's program, its MIR of the erased crate, for tools/same_program.py: its functions, under the names that the
+prover has, and one as a graph of steps."""
 import ast
 import collections
 import json
 import re
 
 import widths
-from parts.mir_text import called, closing, depths, split, without
+from parts.mir_text import called, closing, depths, erased_files, split, without
 from parts.same_proved import WRAPPING, bits, tail
 from parts.same_terms import FALSE, SIGNS, TRUE, UNIT, Side, Unknown, cast, discriminant, length, negated, operation, pointer, sliced, take
 
-WIDTHS = {'bool': 1, 'char': 32, 'usize': 64, 'isize': -64} | {f'{sign}{n}': n * (1 if sign == 'u' else -1) for n in (8, 16, 32, 64, 128) for sign in 'ui'}
+WIDTHS = {'bool': 1, 'char': 32, 'usize': 64, 'isize': -64} | {f'{sign}{n}': n * (1 if sign == 'u' else -1)
+                                                               for n in (8, 16, 32, 64, 128) for sign in 'ui'}
 NUMBERS = r'(?:[iu](?:8|16|32|64|128|size))'
-VARIANTS = {'Option': ['None', 'Some'], 'Result': ['Ok', 'Err'], 'ControlFlow': ['Continue', 'Break'], 'Ordering': ['Less', 'Equal', 'Greater']}
+VARIANTS = {'Option': ['None', 'Some'], 'Result': ['Ok', 'Err'], 'ControlFlow': ['Continue', 'Break'],
+            'Ordering': ['Less', 'Equal', 'Greater']}
 SILENT = re.compile(r'Storage|//|PlaceMention|FakeRead|AscribeUser|Retag|Coverage|nop|ConstEvalCounter')
 
 
 class Compiled:
     """Rustc's program."""
 
-    def __init__(self, root, mir, folder='src/proved', library=None):
-        """The crate's folder, its MIR, and where the erased text is in it; of an example its library, too."""
-        self.root, self.folder, self.files, self.places = root, f'{folder}/', {}, collections.defaultdict(set)
+    def __init__(self, root, mir, folder='src', library=None):
+        """The crate's folder, its MIR, and the folder of its root; of an example its library, too. In the MIR a module
+        of the erased text gets the prover's name, behind `proved`."""
+        self.root, self.erased, self.files, self.places = root, erased_files(root, folder), {}, collections.defaultdict(set)
         self.library = {} if library is None else library.short()
         mir = mir if library is None else re.sub(r'(?<![\w:])std::', 'core::', mir)
+        module = {place: name for name, place in self.erased.values()}
+        mir = re.sub(rf'(?<![\w:])(?:{"|".join(sorted(module, reverse=True))})(?=::)',
+                     lambda m: f'proved::{module[m[0]]}', mir)
         self.functions, self.constants, self.traits, self.derived, self.promoted, self.twice, self.fields, self.closures = {}, {}, {}, set(), {}, set(), {'String': ['Vec<u8>']}, {}
         self.enums = {name: list(names) for name, names in VARIANTS.items()}
-        for file in (root / folder).rglob('*.rs'):
-            module = '::'.join(part for part in file.relative_to(root / folder).with_suffix('').parts if part != 'mod')
-            code = re.sub(r'//[^\n]*', '', file.read_text())
+        for file, (module, _) in self.erased.items():
+            code = re.sub(r'//[^\n]*', '', (root / file).read_text())
             for name in re.findall(r'\b(?:struct|enum) (\w+)', code):
                 self.places[name].add(module)
             for name, body in re.findall(r'\bstruct (\w+)[^{;(]*\{([^}]*)\}', code):
-                self.fields[name] = re.findall(r'^ *(?:pub(?:\([^)]*\))? )?\w+: (.*?),?$', re.sub(r'#\[[^\]]*\]', '', body), re.M)
+                self.fields[name] = re.findall(r'^ *(?:pub(?:\([^)]*\))? )?\w+: (.*?),?$',
+                                               re.sub(r'#\[[^\]]*\]', '', body), re.M)
             for name, body in re.findall(r'\benum (\w+)[^{;]*\{((?:[^{}]|\{[^{}]*\})*)\}', code):
-                body = re.sub(r'\([^()]*(?:\([^()]*\)[^()]*)*\)|\{[^{}]*\}|<[^<>]*>', '', re.sub(r'#\[[^\]]*\]', '', body))
+                body = re.sub(r'\([^()]*(?:\([^()]*\)[^()]*)*\)|\{[^{}]*\}|<[^<>]*>', '',
+                              re.sub(r'#\[[^\]]*\]', '', body))
                 self.enums[name] = re.findall(r'(?:^|,)\s*([A-Z]\w*)', body)
         self.numbers = collections.defaultdict(set)
         for names in self.enums.values():
@@ -48,7 +55,8 @@ class Compiled:
             if path and inner:
                 self.promoted.setdefault((path, inner[2]), item)
             elif path and 'promoted[' not in head:
-                self.closures |= {place: path for place in re.findall(r'#\d+\}\(_1: (?:&|&mut )?(\{closure@[^}]*\})', head)}
+                self.closures |= {place: path
+                                  for place in re.findall(r'#\d+\}\(_1: (?:&|&mut )?(\{closure@[^}]*\})', head)}
                 kept = self.functions if name[1] == 'fn ' else self.constants
                 self.twice |= {path} if path in self.functions and kept[path].split('\n', 1)[0] != head else set()
                 kept.setdefault(path, item)
@@ -64,7 +72,7 @@ class Compiled:
         """A function's path in the prover's words."""
         impl = re.search(r'<impl at ([^:]*):(\d+):(\d+): (\d+):(\d+)>', text)
         if impl:
-            if not impl[1].startswith(self.folder):
+            if impl[1] not in self.erased:
                 return None
             name, kind, trait = self.impl(impl[1], *map(int, impl.groups()[1:]))
             text = text.replace(impl[0], name)
@@ -111,7 +119,8 @@ class Compiled:
             if tail(trait) in ('Index', 'IndexMut') and re.match(r'core::ops::Index(?:Mut)?<core::ops::Range\w*<', trait) and \
                     re.match(r'\[|core::vec::Vec<', kind):
                 return 'slice of a range'
-            if tail(trait) == 'Iterator' and method != 'next' and f'{self.kind(kind)}:Iterator.{method}' not in self.traits.values():
+            if tail(trait) == 'Iterator' and method != 'next' and \
+                    f'{self.kind(kind)}:Iterator.{method}' not in self.traits.values():
                 return f'Iterator.{method}'
             return f'{self.kind(kind)}:{tail(trait)}.{method}'
         of_type = re.match(r'(?:core|std|alloc)::(?:\w+::)*<impl (.*?)>::(\w+)', path)
@@ -136,7 +145,8 @@ class Compiled:
 
     def variant_of(self, names):
         names_of = VARIANTS if names[0] == 'core' else self.enums
-        return names_of[names[-2]].index(names[-1]) if len(names) > 1 and names[-1] in names_of.get(names[-2], ()) else None
+        return names_of[names[-2]].index(names[-1]) if len(names) > 1 and names[-1] in names_of.get(names[-2], ()) \
+                else None
 
 
 class CompiledSide(Side):
@@ -146,7 +156,8 @@ class CompiledSide(Side):
         self.program, self.path, self.nodes, block = program, name, {}, None
         head, *lines = item.split('\n')
         begin = head.find('(_1: ') + 1
-        parameters = [re.match(r'_(\d+): (.*)', one).groups() for one in split(head[begin:closing(head, begin)])] if begin else []
+        parameters = [re.match(r'_(\d+): (.*)', one).groups()
+                      for one in split(head[begin:closing(head, begin)])] if begin else []
         self.types = dict(parameters) | dict(re.findall(r'let (?:mut )?_(\d+): (.*?);\s+//', item))
         self.parameters = len(dict(parameters))
         for line in lines:
@@ -175,7 +186,8 @@ class CompiledSide(Side):
                     found = (of, [*steps, ('f', int(field[1])) if field else ('variant', variant[1])])
                 k = closing(text, field.end()) + 1 if field else variant.end()
             while index := re.compile(r'\[_(\d+)\]|\[(\d+) of \d+\]').match(text, k):
-                found, k = (found[0], [*found[1], ('i', int(index[1]) if index[1] else ('int', int(index[2])))]), index.end()
+                found, k = (found[0],
+                            [*found[1], ('i', int(index[1]) if index[1] else ('int', int(index[2])))]), index.end()
             return found, k
         try:
             found, end = parse(0)
@@ -205,7 +217,8 @@ class CompiledSide(Side):
             return {'true': TRUE, 'false': FALSE, '()': UNIT}[text]
         if re.fullmatch(r"'[^\\]'", text):
             return ('int', ord(text[1]))
-        written = re.fullmatch(r'(b?)("(?:[^"\\]|\\[^u])*")', text)                   # a text, or a reference to its bytes
+        # a text, or a reference to its bytes
+        written = re.fullmatch(r'(b?)("(?:[^"\\]|\\[^u])*")', text)
         if written and text.isascii():
             data = list(ast.literal_eval('b' + written[2]))
             static = ('static', json.dumps({'Ints': {'values': data, 'width': 8}}))
@@ -266,7 +279,9 @@ class CompiledSide(Side):
             return discriminant(self.read(state, self.at_place(state, sign[3])))
         if sign and sign[1] == 'Len':
             local, steps = self.place(sign[3])
-            return length(self.read(state, self.find(state, local, steps[:-1]))) if steps[-1:] == ['deref'] else ('count',)   # of an array: tested only
+            # of an array: tested only
+            return length(self.read(state, self.find(state, local, steps[:-1]))) if steps[-1:] == ['deref'] \
+                    else ('count',)
         if sign and sign[1] == 'PtrMetadata':
             return length(self.value(state, sign[3]))
         repeat = re.match(r'\[(.*); ([^;]+)\]$', value)
@@ -283,7 +298,8 @@ class CompiledSide(Side):
             variant = self.program.variant_of(without(head).split('::'))
         else:
             raise Unknown(f'value {value[:60]}')
-        parts = [one.split(': ', 1)[1] for one in split(fields[2])] if fields[2] else split(value[len(head) + 1:-1]) if head and head != value else []
+        parts = [one.split(': ', 1)[1] for one in split(fields[2])] if fields[2] \
+            else split(value[len(head) + 1:-1]) if head and head != value else []
         values = [self.value(state, one) for one in parts]
         return ('agg', variant, *(values if not closure else [one for one in values if one != UNIT]), *closure)
 
@@ -325,7 +341,8 @@ class CompiledSide(Side):
                 place, value = re.match(r'(\S.*?) = (.*)$', step).groups()
                 test = self.test(value)
                 if test:
-                    return ('branch', test[0], {number: (block, k + 1) if end == 'return' else 'panic' for number, end in test[1].items()}, None)
+                    return ('branch', test[0], {number: (block, k + 1) if end == 'return' else 'panic'
+                                                for number, end in test[1].items()}, None)
                 if place.startswith('discriminant('):
                     raise Unknown('sets a discriminant')
                 store = self.write(state, self.at_place(state, place), self.compute(state, value))
@@ -350,7 +367,8 @@ class CompiledSide(Side):
     def has_drop(self, kind):
         """Whether a value of a type has something to drop: of a type parameter, or memory."""
         kind = re.sub(r"&(?:'\w+ )?(?:mut )?(?:\[.*?\]|[\w:]+)", '', kind)
-        return bool(re.search(r'\b(?:[A-Z]|Vec|String)\b', kind)) or any(map(self.has_drop, self.program.fields.get(tail(without(kind)), ())))
+        return bool(re.search(r'\b(?:[A-Z]|Vec|String)\b', kind)) or any(map(self.has_drop,
+                                                                             self.program.fields.get(tail(without(kind)), ())))
 
     def call(self, state, place, text, after):
         """The event of a call, or what it is without one, written."""
@@ -409,9 +427,11 @@ class CompiledSide(Side):
             return ('agg', None, ('agg', None, *(one for one in both if one[-1] != FALSE)))
         if name in ('slice.iter', 'slice.iter_mut', 'slice:IntoIterator.into_iter'):
             return ('agg', None, ('iter', arguments[0]), FALSE)
-        if name.endswith(':IntoIterator.into_iter') and (kind in ('Range', 'Iter', 'IterMut', 'Zip') or f'{kind}:Iterator.next' in self.program.traits.values()):
+        if name.endswith(':IntoIterator.into_iter') and (kind in ('Range', 'Iter', 'IterMut', 'Zip')
+                                                         or f'{kind}:Iterator.next' in self.program.traits.values()):
             return arguments[0]
-        if name != 'Range:Iterator.next' and not (kind in ('Iter', 'IterMut') and name.endswith('Iterator.next') and '<core::slice::' in head):
+        if name != 'Range:Iterator.next' and not (kind in ('Iter', 'IterMut') and name.endswith('Iterator.next')
+                                                  and '<core::slice::' in head):
             return None
         reference = self.read(state, self.find(state, *self.place(words[0][5:])))
         if reference[0] != 'ref':

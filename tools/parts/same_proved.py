@@ -1,5 +1,5 @@
-"""The prover's program of a crate, as it keeps it beside a proved library, for tools/same_program.py: its functions by name, and
-one as a graph of steps."""
+"""The prover's program of a crate, as it keeps it beside a proved library, for tools/same_program.py: its functions by
+name, and one as a graph of steps."""
 import json
 import re
 
@@ -49,12 +49,14 @@ class Proved:
         self.trivial, before = {'mem.drop', 'Vec.drop'}, None
         while before != len(self.trivial):         # drops that only drop
             before = len(self.trivial)
-            self.trivial |= {name for name in self.functions if name.endswith('::drop') and self.only_drops(self.all[self.functions[name]])}
+            self.trivial |= {name for name in self.functions if name.endswith('::drop')
+                             and self.only_drops(self.all[self.functions[name]])}
 
     def only_drops(self, function):
         """Whether it does no more than take apart and drop."""
         steps = [next(iter(step.items())) for step in function['body'] if isinstance(step, dict)]
-        return all(self.is_trivial(self.callee(rest[0], function)) if tag == 'Call' else tag != 'Assign' or 'Op2' not in rest[1] and not rest[0]['steps']
+        return all(self.is_trivial(self.callee(rest[0], function)) if tag == 'Call' else tag != 'Assign'
+                   or 'Op2' not in rest[1] and not rest[0]['steps']
                    for tag, rest in steps)
 
     def is_trivial(self, name):
@@ -67,7 +69,8 @@ class Proved:
         (tag, rest), = types[0].items()
         if tag == 'Ref':
             return self.kind(rest[2:3])
-        return {'Named': lambda: tail(rest[0]['name']), 'Int': lambda: f'u{rest}', 'Param': lambda: '?', 'Struct': lambda: 'slice'}.get(tag, lambda: tag)()
+        return {'Named': lambda: tail(rest[0]['name']), 'Int': lambda: f'u{rest}', 'Param': lambda: '?',
+                'Struct': lambda: 'slice'}.get(tag, lambda: tag)()
 
     def callee(self, head, function):
         if 'Method' in head:
@@ -105,7 +108,8 @@ class ProvedSide(Side):
         step = self.steps[self.at]
         self.at += 1
         tag, rest = next(iter(step.items())) if isinstance(step, dict) else (step, None)
-        count = {'Seq': 2, 'If': 2, 'Loop': 1, 'Block': 1}.get(tag, 0) if tag != 'Switch' else len(rest[1]) + bool(rest[2])
+        count = {'Seq': 2, 'If': 2, 'Loop': 1, 'Block': 1}.get(tag, 0) if tag != 'Switch' \
+            else len(rest[1]) + bool(rest[2])
         return tag, rest, [self.tree() for _ in range(count)]
 
     def node(self, *parts):
@@ -117,12 +121,16 @@ class ProvedSide(Side):
         if tag == 'Seq':
             return self.link(parts[0], self.link(parts[1], after, exits), exits)
         if tag in ('If', 'Switch'):
-            kept, of = [self.drops(arm) for arm in parts], rest[0].get('Copy') if tag == 'Switch' and isinstance(rest[0], dict) else None
-            if None not in kept and of and any('of a part' in arm for arm in kept):                # drops of each part that may be there
+            kept, of = [self.drops(arm) for arm in parts], rest[0].get('Copy') \
+                if tag == 'Switch' and isinstance(rest[0], dict) else None
+            # drops of each part that may be there
+            if None not in kept and of and any('of a part' in arm for arm in kept):
                 whole, words = {**of, 'steps': of['steps'][:-2]}, [word for arm in kept for word in arm]
                 parts_dropped = [word for word in words if isinstance(word, tuple)]
-                variants = self.shape(self.place(whole)[1]).get('Variants', ()) if self.place(of)[0][-1:] == ['discr'] else ()
-                if len(parts_dropped) == len({*parts_dropped}) == sum(self.needs_drop(part) for variant in variants for part in variant):
+                variants = self.shape(self.place(whole)[1]).get('Variants', ()) \
+                    if self.place(of)[0][-1:] == ['discr'] else ()
+                if len(parts_dropped) == len({*parts_dropped}) == sum(self.needs_drop(part) for variant in variants
+                                                                      for part in variant):
                     return self.node('forget', [word for word in words if isinstance(word, int)], whole, after)
             return self.node(tag, rest, [self.link(arm, after, exits) for arm in parts])
         if tag == 'Block':
@@ -142,7 +150,8 @@ class ProvedSide(Side):
             both = [self.drops(one) for one in parts]
             return None if None in both else both[0] + both[1]
         if tag == 'Call' and self.program.is_trivial(self.program.callee(rest[0], self.function)):
-            return [rest[2]['local'], 'of a part', *(('part', json.dumps(one)) for one in rest[1] if self.needs_drop(self.kind_of(one)))]
+            return [rest[2]['local'], 'of a part',
+                    *(('part', json.dumps(one)) for one in rest[1] if self.needs_drop(self.kind_of(one)))]
         is_plain = tag == 'Assign' and 'Opd' in rest[1] and not rest[0]['steps']
         return [] if tag == 'Skip' else [rest[0]['local']] if is_plain else None
 
@@ -184,7 +193,8 @@ class ProvedSide(Side):
     def at_place(self, state, place):
         steps, _ = self.place(place)
         if 'discr' in steps:
-            return ('value', discriminant(self.read(state, self.find(state, place['local'], steps[:steps.index('discr')]))))
+            return ('value',
+                    discriminant(self.read(state, self.find(state, place['local'], steps[:steps.index('discr')]))))
         return self.find(state, place['local'], steps)
 
     def value(self, state, operand):
@@ -220,7 +230,8 @@ class ProvedSide(Side):
         if self.of(kind, 'Int'):
             return kind['Int'] // 8, kind['Int'] // 8
         shape = self.shape(kind) if self.of(kind, 'Named') else {}
-        of_each = [shape['Fields']] if 'Fields' in shape else [[{'Int': 8}, *fields] for fields in shape.get('Variants', ())]
+        of_each = [shape['Fields']] if 'Fields' in shape else [[{'Int': 8}, *fields]
+                                                               for fields in shape.get('Variants', ())]
         if not of_each:
             raise Unknown(f'size of {str(kind)[:40]}')
         most, longest = 1, 0
@@ -240,7 +251,8 @@ class ProvedSide(Side):
         if 'Named' not in kind:
             return True
         shape = self.shape(kind)
-        return any(map(self.needs_drop, [*shape.get('Fields', ()), *(part for parts in shape.get('Variants', ()) for part in parts)]))
+        return any(map(self.needs_drop,
+                       [*shape.get('Fields', ()), *(part for parts in shape.get('Variants', ()) for part in parts)]))
 
     def drop(self, state, place):
         """Notes a drop of what is in a place, by its fields."""
@@ -267,9 +279,11 @@ class ProvedSide(Side):
             if rest[0] == 'Not':
                 return negated(one) if kind == 'Bool' else ('op', f'! {self.of(kind, "Int")}', one, UNIT)
             if self.of(rest[0], 'Cast'):
-                return cast(rest[0]['Cast'][2], 1 if of == 'Bool' else self.of(of, 'Int') or 0, one, rest[0]['Cast'][0] == 'Signed')
+                return cast(rest[0]['Cast'][2], 1 if of == 'Bool' else self.of(of, 'Int') or 0, one,
+                            rest[0]['Cast'][0] == 'Signed')
         if tag == 'Op2' and rest[0] == 'Offset':
-            return self.offset(self.value(state, rest[1]), self.value(state, rest[2]), (self.of(self.kind_of(rest[1]), 'Ref') or [None])[-1])
+            return self.offset(self.value(state, rest[1]), self.value(state, rest[2]),
+                               (self.of(self.kind_of(rest[1]), 'Ref') or [None])[-1])
         if tag == 'Op2':
             sign, way = next(iter(rest[0].items())) if isinstance(rest[0], dict) else (rest[0], '')
             width = (self.of(kind, 'Int') or 64) * (-1 if way == 'Signed' else 1)
@@ -281,8 +295,10 @@ class ProvedSide(Side):
                 return sliced(*parts)
             name = kind['Named'][0]['name'] if self.of(kind, 'Named') else ''
             if name.endswith('+Self'):
-                return ('agg', None, *(one for one in parts if one != UNIT), ('closure', name.removesuffix('+Self').replace('fn::', '')))
-            return ('agg', parts[0][1], *parts[1:]) if name and 'Variants' in self.shape(kind) else ('agg', None, *parts)
+                return ('agg', None, *(one for one in parts if one != UNIT),
+                        ('closure', name.removesuffix('+Self').replace('fn::', '')))
+            return ('agg', parts[0][1], *parts[1:]) if name and 'Variants' in self.shape(kind) \
+                    else ('agg', None, *parts)
         if tag == 'Repeat':
             return ('repeat', self.value(state, rest[0]), self.number(rest[1]))
         raise Unknown(f'value {str(value)[:60]}')
@@ -321,7 +337,8 @@ class ProvedSide(Side):
                 return ('branch', self.value(state, rest), {0: node[1], 1: node[0]}, None)
             elif kind == 'Switch':
                 value, cases, other = rest
-                ends = {number: arm for case, arm in zip(cases, node) for number in (case if isinstance(case, list) else [case])}
+                ends = {number: arm for case, arm in zip(cases, node)
+                        for number in (case if isinstance(case, list) else [case])}
                 return ('branch', self.value(state, value), ends, node[-1] if other else None)
             elif kind == 'LendStatic':
                 state[self.word, rest[0]['local']] = ('static', json.dumps(rest[2], sort_keys=True))

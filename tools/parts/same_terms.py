@@ -1,14 +1,19 @@
-"""The terms of tools/same_program.py: tuples of a word and parts. Two programs compute the same where the terms are equal."""
+"""The terms of tools/same_program.py: tuples of a word and parts. Two programs compute the same where the terms are
+equal."""
 import re
 
 TRUE, FALSE, UNIT, NOTHING = ('int', 1), ('int', 0), ('agg', None), ('nothing',)
-SIGNS = {'Add': '+', 'Sub': '-', 'Mul': '*', 'Div': '/', 'Rem': '%', 'BitAnd': '&', 'BitOr': '|', 'BitXor': '^', 'Shl': '<<',
-         'Shr': '>>', 'Lt': '<', 'Gt': '>', 'Le': '<=', 'Ge': '>=', 'Eq': '==', 'Ne': '!=', 'And': '&', 'Or': '|', 'Xor': '^',
+SIGNS = {'Add': '+', 'Sub': '-', 'Mul': '*', 'Div': '/', 'Rem': '%', 'BitAnd': '&', 'BitOr': '|', 'BitXor': '^',
+         'Shl': '<<',
+         'Shr': '>>', 'Lt': '<', 'Gt': '>', 'Le': '<=', 'Ge': '>=', 'Eq': '==', 'Ne': '!=', 'And': '&', 'Or': '|',
+         'Xor': '^',
          'WrapAdd': 'wrapping_add', 'WrapSub': 'wrapping_sub', 'WrapMul': 'wrapping_mul'}
-FOLDED = {'+': int.__add__, '-': int.__sub__, '*': int.__mul__, '<<': lambda a, b: a << min(b, 64), '==': lambda a, b: int(a == b),
+FOLDED = {'+': int.__add__, '-': int.__sub__, '*': int.__mul__, '<<': lambda a, b: a << min(b, 64), '==': lambda a,
+          b: int(a == b),
           '<': lambda a, b: int(a < b), '<=': lambda a, b: int(a <= b), '/': lambda a, b: a // b if b else -1}
 # What has parts that are met one by one where ways meet; of some a part is a number, or a way to a part of a value.
-MET = {**dict.fromkeys('agg op not slice next iter sp len discr repeat'.split(), ()), 'load': (2,), 'part': (2,), 'addr': (2,), 'upd': (2,), 'cast': (1, 2)}
+MET = {**dict.fromkeys('agg op not slice next iter sp len discr repeat'.split(), ()), 'load': (2,), 'part': (2,),
+       'addr': (2,), 'upd': (2,), 'cast': (1, 2)}
 
 
 class Unknown(Exception):
@@ -125,18 +130,24 @@ def met(one, two, key, pairs):
     """What two terms have in common: where they differ is a symbol of this key, and `pairs` has which two it is for."""
     if one == two and not mentions(one, key):
         return one
-    fixed = MET.get(one[0]) if isinstance(one, tuple) and isinstance(two, tuple) and one and one[:1] == two[:1] and len(one) == len(two) else None
-    if fixed is None or one[0] in ('agg', 'op') and one[1] != two[1] or any(shape(one[k]) != shape(two[k]) for k in fixed):
+    fixed = MET.get(one[0]) \
+        if isinstance(one, tuple) and isinstance(two, tuple) and one and one[:1] == two[:1] and len(one) == len(two) \
+                else None
+    if fixed is None or one[0] in ('agg', 'op') and one[1] != two[1] or \
+            any(shape(one[k]) != shape(two[k]) for k in fixed):
         return pairs.setdefault((one, two), ('sym', key, len(pairs)))
 
     def way(a, b):
-        return ('i', met(a[1], b[1], key, pairs)) if a[:1] == ('i',) else tuple(way(*ab) if isinstance(ab[0], tuple) else ab[0] for ab in zip(a, b))
-    return tuple(a if not isinstance(a, tuple) else way(a, b) if k in fixed else met(a, b, key, pairs) for k, (a, b) in enumerate(zip(one, two)))
+        return ('i', met(a[1], b[1], key, pairs)) if a[:1] == ('i',) else tuple(way(*ab) if isinstance(ab[0], tuple)
+                                                                                else ab[0] for ab in zip(a, b))
+    return tuple(a if not isinstance(a, tuple) else way(a, b) if k in fixed else met(a, b, key, pairs)
+                 for k, (a, b) in enumerate(zip(one, two)))
 
 
 def shape(path):
     """A way to a part, but for the indices."""
-    return tuple(map(shape, path)) if isinstance(path, tuple) and path[:1] != ('i',) else path[0] if isinstance(path, tuple) else path
+    return tuple(map(shape, path)) if isinstance(path, tuple) and path[:1] != ('i',) \
+            else path[0] if isinstance(path, tuple) else path
 
 
 def shown(value):
@@ -144,8 +155,8 @@ def shown(value):
 
 
 class Side:
-    """One of the two programs of a function: its nodes, and how its places and values are read. The word of a side is in
-    each name of a local of a state; `ver` in a state is what memory is, after the last event that may change it."""
+    """One of the two programs of a function: its nodes, and how its places and values are read. The word of a side is
+    in each name of a local of a state; `ver` in a state is what memory is, after the last event that may change it."""
     word = '?'
 
     def find(self, state, local, steps):
@@ -178,7 +189,8 @@ class Side:
         """What a reference refers to."""
         if value[0] == 'ref':
             return self.read(state, ('local', *value[2:4]))
-        return value[1] if value[0] == 'constant' else ('load', *(value[1:] if value[0] == 'addr' else (value, ())), state['ver'])
+        return value[1] if value[0] == 'constant' else ('load', *(value[1:] if value[0] == 'addr' else (value, ())),
+                                                        state['ver'])
 
     def address(self, at, is_mut):
         if at[0] == 'local':

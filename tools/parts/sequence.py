@@ -1,16 +1,14 @@
 """Writes for C one long sequence of calls of all exports, the same on every processor.
 
-Each call gets sensible arguments mostly, and now and then nonsense; a head that is passed by value is drawn. `sequence.c` prints a digest of all that the calls
-returned and left in memory. With -DSTACK it prints instead how many bytes of stack each export takes, as painted: what a
-call leaves changed below its caller's frame, more than an empty function with the same parameters does (`empty.c`).
+Each call gets sensible arguments mostly, and now and then nonsense; a head that is passed by value is drawn.
+`sequence.c` prints a digest of all that the calls returned and left in memory. With -DSTACK it prints instead how many
+bytes of stack each export takes, as painted: what a call leaves changed below its caller's frame, more than an empty
+function with the same parameters does (`empty.c`).
 
-An export has its arguments in memory of its subject, which is what the index of heads.txt has before its name, so that its
-calls work on one ring, one receiver and so on. One that only looks at a head gets in turn each of that type that is inside
-another subject's head, with that subject's slices. A new export is in the sequence by its declaration alone; `USUAL` and
-`NEAR` make more of its calls sensible.
-
-The program fails with a sentence if a call of an export doesn't reach its results (`least`), or if the length of a slice
-never decided what a call returned or left: now and then a call is made twice, from the same memory, with another length.
+An export has its arguments in memory of its subject, which is what the index of heads.txt has before its name, so that
+its calls work on one ring, one receiver and so on. One that only looks at a head gets in turn each of that type that is
+inside another subject's head, with that subject's slices. A new export is in the sequence by its declaration alone;
+`USUAL` and `NEAR` make more of its calls sensible.
 """
 import re
 
@@ -29,20 +27,16 @@ NEAR = {("receiver", "position"): RECEIVED, ("finite_receiver", "position"): REC
         ("finite_sender", "position"): SENT, ("finite_sender", "next"): SENT, ("tcp", "next"): "now.tcp_segment.seq",
         ("advertised_window", "next"): "now.advertised_window_segment.seq",
         ("tcp", "window"): "4", ("fragments", "offset"): "0", ("fragments", "size"): "7"}
-NEAR |= {("sending_end", name): "now.sending_end_end.sender.sender.first_unacknowledged" for name in ("position", "limit")}
+NEAR |= {("sending_end", name): "now.sending_end_end.sender.sender.first_unacknowledged"
+         for name in ("position", "limit")}
 NEAR |= {("sending_end", "it.ack"): "(below(2) ? now.sending_end_end.sender.sent : now.sending_end_end.sender.sender.first_unacknowledged)",
          ("sending_end", "now"): "(uint64_t)now.sending_end_end.timer.ends_at"}
-NEAR |= {("scoreboard", name): "now.scoreboard_scoreboard.base" for name in ("start", "end", "next", "position", "limit")}
+NEAR |= {("scoreboard", name): "now.scoreboard_scoreboard.base"
+         for name in ("start", "end", "next", "position", "limit")}
 NEAR |= {("scoreboard", "sent"): "now.scoreboard_scoreboard.base + 40"}
 # What a head is made now and then, since calls seldom do: a timer whose probe is due before the timeout passes.
 MADE = {"sending_end": ["now.sending_end_end.timer.reports = 1;", "now.sending_end_end.timer.probe_at = "
                         "(int64_t)((uint64_t)now.sending_end_end.timer.ends_at - below(48));"]}
-# A length that decides only where head and runs aren't sound with it: rows of exports.txt have that.
-UNSOUND = {("net_base_fragments_differs", "storage")}
-# How many results a call reaches at least: a `bool` both, a status each, but what null alone is answered; other numbers
-# and structs these.
-REACHED = 4
-
 HEAD = r"""/* sequence [CALLS]: calls of all exports, and a digest of what they return and leave. Written by tools/parts/sequence.py. */
 #include "net_base.h"
 #include <inttypes.h>
@@ -92,23 +86,6 @@ static uint64_t length(uint64_t usual, uint64_t room) {
     return below(8) == 0 ? below(room + 1) : usual;
 }
 
-struct reached {
-    uint64_t seen[8];
-    unsigned count;
-};
-
-/* Takes notice of a result, unless eight others are known. */
-static void reach(struct reached *it, uint64_t result) {
-    unsigned at = 0;
-    while (at < it->count && it->seen[at] != result) at++;
-    if (at == it->count && at < 8) it->seen[it->count++] = result;
-}
-
-static uint64_t hashed(uint64_t hash, uint64_t word) {
-    hash = (hash ^ word) * UINT64_C(0x100000001b3);
-    return hash ^ hash >> 29;
-}
-
 /* A capacity mostly, now and then any number. */
 static uint64_t capacity(uint64_t usual) {
     return below(8) == 0 ? number() : usual;
@@ -116,55 +93,13 @@ static uint64_t capacity(uint64_t usual) {
 """
 
 TAIL = r"""
-static struct reached reached[EXPORTS];
-static bool decided[EXPORTS][MOST_LENGTHS];
-static struct memory before, after;
-
-/* Makes a call twice, the second time with another length of a slice. */
-static void call_twice(uint64_t which) {
-    unsigned at = (unsigned)below(exports[which].length_count);
-    size_t *length = exports[which].lengths[at], kept = *length;
-    before = now;
-    exports[which].call();
-    uint64_t result = exports[which].result();
-    after = now;
-    now = before;
-    *length = below(exports[which].rooms[at] + 1);
-    if (exports[which].sound() || exports[which].is_of_runs[at]) {
-        exports[which].call();
-        if (exports[which].result() != result || memcmp(&now, &after, sizeof now) != 0) decided[which][at] = true;
-        now = before;
-    }
-    *length = kept;
-}
-
-/* Says what no call reached, and returns how many such things there are. */
-static int say_unreached(uint64_t calls) {
-    int unreached = 0;
-    for (unsigned which = 0; which < EXPORTS; which++) {
-        if (reached[which].count < exports[which].least) {
-            printf("sequence: in %" PRIu64 " calls %s has %u results, of at least %u\n", calls, exports[which].name,
-                   reached[which].count, exports[which].least);
-            unreached++;
-        }
-        for (unsigned at = 0; at < exports[which].length_count; at++) {
-            if (decided[which][at]) continue;
-            printf("sequence: in %" PRIu64 " calls length %u of %s decides nothing\n", calls, at, exports[which].name);
-            unreached++;
-        }
-    }
-    return unreached;
-}
-
 static void digest_calls(uint64_t calls) {
     for (uint64_t done = 0; done < calls; done++) {
         uint64_t which = below(EXPORTS);
         if (exports[which].makes && below(4) != 0) which = below(EXPORTS);
         if (below(64) == 0) exports[which].spoil();
         exports[which].prepare();
-        if (exports[which].length_count && below(2) == 0) call_twice(which);
         exports[which].call();
-        reach(&reached[which], exports[which].result());
         exports[which].eat();
         if (done % 256 == 255) eat_all();
     }
@@ -218,8 +153,6 @@ int main(int count, char **words) {
     stack_of_calls(calls);
 #else
     digest_calls(calls);
-    /* Fewer calls don't reach all, and none reaches nothing. */
-    if ((calls == 0 || calls >= 1000000) && say_unreached(calls)) return 1;
 #endif
     return 0;
 }
@@ -298,7 +231,7 @@ class Call:
     def __init__(self, memory, index, item):
         self.memory, self.index, self.item = memory, index, item
         self.subject = max((it for it in memory.subjects if item.name.startswith(f"net_base_{it}_")), key=len)
-        self.before, self.arguments, self.statics, self.given, self.lengths = [], [], [], {}, []
+        self.before, self.arguments, self.statics, self.given, self.runs = [], [], [], {}, []
         self.pointers, self.values = {}, []
         for member in item.members:
             count = len(self.arguments)
@@ -316,8 +249,7 @@ class Call:
             variable = self.memory.name(self.subject, member.name, inner[1], usual + ROOM)
             size = self.drawn("size_t", f"{member.name}_length", f"length({usual}, {usual + ROOM})")
             self.arguments += [self.pointer(member, inner[1], f"now.{variable}"), size]
-            if (self.item.name, member.name) not in UNSOUND:
-                self.lengths.append((size, usual + ROOM, inner[1] == "Run"))
+            self.runs += [size] * (inner[1] == "Run")
         elif inner := re.fullmatch(r"[&*](?:mut |const )?(\w+)", kind):
             variable = self.memory.name(self.subject, member.name, inner[1])
             self.arguments.append(self.pointer(member, inner[1], f"&now.{variable}"))
@@ -330,7 +262,8 @@ class Call:
             raise SystemExit(f"sequence: {self.item.name}: no argument of type {kind}")
 
     def pointer(self, member, kind, own):
-        """How an argument is passed: by a variable if it is only looked at, for it may be inside another subject's head."""
+        """How an argument is passed: by a variable if it is only looked at, for it may be inside another subject's
+        head."""
         if member.type.startswith("&mut"):
             self.memory.written.add(re.sub(r"^&?now\.", "", own))
             return own
@@ -340,7 +273,8 @@ class Call:
         return variable
 
     def choices(self):
-        """What the pointers may be: those of the own subject, and for each head inside another one, with that one's slices."""
+        """What the pointers may be: those of the own subject, and for each head inside another one, with that one's
+        slices."""
         found = [{name: own for name, (_, own, _) in self.pointers.items()}]
         head = self.item.members[0] if self.item.members else None
         if head and head.name in self.pointers and head.type[1:] in self.memory.library.structs:
@@ -349,7 +283,8 @@ class Call:
                     continue
                 subject = max((it for it in self.memory.subjects if name.startswith(f"{it}_")), key=len)
                 for path in self.memory.inside(head.type[1:], f"now.{name}", kind):
-                    slices = {it: f"now.{subject}_{it}" for it, (_, own, of) in self.pointers.items() if not own.startswith("&")
+                    slices = {it: f"now.{subject}_{it}"
+                              for it, (_, own, of) in self.pointers.items() if not own.startswith("&")
                               and self.memory.kinds.get(f"{subject}_{it}") == of}
                     found.append(found[0] | slices | {head.name: f"&{path}"})
         for name, (_, own, kind) in self.pointers.items():
@@ -405,7 +340,8 @@ class Call:
         return found
 
     def unless(self, sound, given, head, after):
-        """Whether an export finds a head sound with the slice after it and what it has besides, and lines that make it zero."""
+        """Whether an export finds a head sound with the slice after it and what it has besides, and lines that make it
+        zero."""
         words = [given]
         for member in sound.members[1:]:
             same = [it for it in (after, *self.item.members) if it and plain(it.type) == plain(member.type)]
@@ -420,7 +356,8 @@ class Call:
         return f"{sound.name}({', '.join(words)})", self.memory.each(head.removeprefix("now."), zeroed)
 
     def runs_inside(self):
-        """Lines that make heads that have their runs inside hold as many as they can, and lines that say that they hold more."""
+        """Lines that make heads that have their runs inside hold as many as they can, and lines that say that they hold
+        more."""
         full, beyond = [], []
         for member in self.item.members:
             kind, head = ffi.core_type(member.type), f"now.{self.subject}_{member.name}"
@@ -428,17 +365,12 @@ class Call:
                 if array := re.fullmatch(r"\[Run; (\d+)\]", field.type):
                     held = next(self.memory.inside("AssemblerHead", head, kind))
                     full += self.memory.each(head.removeprefix("now."), zeroed)
-                    full += [f"{held}.used = {array[1]};", f"{held}.first_start = 1 + below(8);", f"for (int i = 0; i < {array[1]}; i++) {{",
-                             f"    {head}.{field.name}[i].start = (size_t)(2 * i);", f"    {head}.{field.name}[i].end = (size_t)(2 * i + 1);", "}"]
+                    full += [f"{held}.used = {array[1]};", f"{held}.first_start = 1 + below(8);",
+                             f"for (int i = 0; i < {array[1]}; i++) {{",
+                             f"    {head}.{field.name}[i].start = (size_t)(2 * i);",
+                             f"    {head}.{field.name}[i].end = (size_t)(2 * i + 1);", "}"]
                     beyond += [f"{held}.used = {array[1]} + 1;"]
         return full, beyond
-
-    def least(self):
-        """How many results are reached at least."""
-        kind, answer = self.item.type, self.memory.library.answer(self.item.type)
-        if answer:
-            return len(ffi.ANSWERS[answer]) - (answer in ffi.REFUSED_FOR_NULL)
-        return {"": 0, "bool": 2}.get(kind, REACHED)
 
     def functions(self, sounds):
         """The functions that prepare a call, make it, make an empty one, and eat what it returned and left."""
@@ -447,16 +379,19 @@ class Call:
         eats = [] if self.result == "void" else self.memory.fields(f"result_{index}", self.item.type, eaten)
         eats += [line for name in memory for line in self.memory.each(name, eaten)]
         spoils = [line for name in memory if name not in self.memory.sizes for line in self.memory.each(name, spoiled)]
-        spoils += [line for name in memory if self.memory.kinds[name] == "u8" for line in self.memory.each(name, spoiled)]
+        spoils += [line for name in memory if self.memory.kinds[name] == "u8"
+                   for line in self.memory.each(name, spoiled)]
         parts = [part for member in self.item.members for part in ffi.c_members(member)]
         choose, own = self.chosen()
         tests = [] if self.item.name.endswith("_is_sound") else self.made_sound(sounds)
         sound = " && ".join(test for test, _ in tests) if tests and self.item.requires else "true"
-        drawn = [line for _, own, _ in self.pointers.values() if (name := re.sub(r"^&?now\.", "", own)) not in self.memory.written
+        drawn = [line for _, own, _ in self.pointers.values()
+                 if (name := re.sub(r"^&?now\.", "", own)) not in self.memory.written
                  for line in self.memory.each(name, self.redrawn)]
         drawn += [line for name in self.values for line in self.memory.each(name, spoiled)]
         prepare = [*["if (below(4) == 0) {" if drawn else "", *["    " + line for line in drawn], "}" if drawn else ""],
-                   *choose, *self.before, *([f"if (!({sound})) {{", *["    " + it for it in own], "}"] if sound != "true" and own else [])]
+                   *choose, *self.before,
+                   *([f"if (!({sound})) {{", *["    " + it for it in own], "}"] if sound != "true" and own else [])]
         full, beyond = self.runs_inside() if tests else ([], [])
         prepare += ["if (below(64) == 0) {", *["    " + line for line in full], "}"] if full else []
         # What isn't sound is refused, unless the caller owes that it is.
@@ -464,25 +399,19 @@ class Call:
         for test, zero in tests:
             prepare += [f"if ({now_and_then}!{test}) {{", *["    " + line for line in zero], "}"]
         # Fewer runs than are used are refused.
-        prepare += [f"if (below(16) == 0) {length} = below({length} + 1);" for length, _, is_of_runs in self.lengths if tests and is_of_runs]
+        prepare += [f"if (below(16) == 0) {length} = below({length} + 1);" for length in self.runs if tests]
         prepare += ["if (below(64) == 0) {", *["    " + line for line in beyond], "}"] if beyond else []
         made = MADE.get(self.subject, []) if tests else []
         prepare += ["if (below(16) == 0) {", *["    " + line for line in made], "}"] if made else []
-        hashes = [] if self.result == "void" else self.memory.fields(
-            f"result_{index}", self.item.type, lambda path, kind: f"hash = hashed(hash, (uint64_t){path});")
-        rows = [f"static size_t *const lengths_{index}[] = {{{', '.join(f'&{it}' for it, _, _ in self.lengths)}}};",
-                f"static const size_t rooms_{index}[] = {{{', '.join(str(it) for _, it, _ in self.lengths)}}};",
-                f"static const bool is_of_runs_{index}[] = {{{', '.join(str(it).lower() for _, _, it in self.lengths)}}};",
-                ] if self.lengths else []
-        rows += [f"static bool sound_{index}(void) {{", f"    return {sound};", "}", "", f"static uint64_t outcome_{index}(void) {{",
-                 "    uint64_t hash = 0;", *["    " + it for it in hashes], "    return hash;", "}", ""]
         return [*self.statics, "",
                 f"static void spoil_{index}(void) {{", *["    " + line for line in spoils], "}", "",
-                f"static void prepare_{index}(void) {{", *["    " + line for line in prepare], "}", "", *rows,
-                f"static void call_{index}(void) {{", f"    {kept}{self.item.name}({', '.join(self.arguments)});", "}", "",
+                f"static void prepare_{index}(void) {{", *["    " + line for line in prepare], "}", "",
+                f"static void call_{index}(void) {{", f"    {kept}{self.item.name}({', '.join(self.arguments)});", "}",
+                "",
                 f"static void eat_{index}(void) {{", *["    " + line for line in eats], "}", "",
                 "#ifdef STACK", f"{self.result} empty_{self.item.name}({', '.join(parts) or 'void'});",
-                f"static void empty_{index}(void) {{", f"    {kept}empty_{self.item.name}({', '.join(self.arguments)});",
+                f"static void empty_{index}(void) {{",
+                f"    {kept}empty_{self.item.name}({', '.join(self.arguments)});",
                 "}", "#endif", ""]
 
 
@@ -497,20 +426,17 @@ def sequence(library):
     rows = [HEAD, *memory.declared(), "", *functions]
     rows += ["static void eat_all(void) {",
              *["    " + line for name in memory.kinds for line in memory.each(name, eaten)], "}", "",
-             "static const struct {", "    const char *name;", "    void (*spoil)(void), (*prepare)(void), (*call)(void), (*eat)(void);",
-             "    bool makes, (*sound)(void);", "    uint64_t (*result)(void);", "    unsigned least, length_count;",
-             "    size_t *const *lengths;", "    const size_t *rooms;", "    const bool *is_of_runs;",
+             "static const struct {", "    const char *name;",
+             "    void (*spoil)(void), (*prepare)(void), (*call)(void), (*eat)(void);",
+             "    bool makes;",
              "#ifdef STACK", "    void (*empty)(void);", "#endif", "} exports[] = {"]
     for call in calls:
         index = call.index
-        count = len(call.lengths)
-        lengths = f"lengths_{index}, rooms_{index}, is_of_runs_{index}" if count else "NULL, NULL, NULL"
         makes = str(call.item.name.endswith("_init")).lower()
         rows += [f'    {{"{call.item.name}", spoil_{index}, prepare_{index}, call_{index}, eat_{index},',
-                 f"     {makes}, sound_{index}, outcome_{index}, {call.least()}, {count}, {lengths},",
+                 f"     {makes},",
                  "#ifdef STACK", f"     empty_{index},", "#endif", "    },"]
-    most = max(len(call.lengths) for call in calls)
-    return "\n".join([*rows, "};", "", f"enum {{ EXPORTS = sizeof exports / sizeof exports[0], MOST_LENGTHS = {most} }};", TAIL])
+    return "\n".join([*rows, "};", "", "enum { EXPORTS = sizeof exports / sizeof exports[0] };", TAIL])
 
 
 def empty(library):

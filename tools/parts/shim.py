@@ -1,4 +1,5 @@
-"""Writes c/src/shim.rs: for each export a function with C's convention, which calls the erased one. It is a part of ffi.py.
+"""Writes c/src/shim.rs: for each export a function with C's convention, which calls the erased one. It is a part of
+ffi.py.
 
 A pointer to one value is `Option<&T>`, whose `None` is C's null; a pointer and a length become a slice. Where either
 can't be, the call is refused.
@@ -29,7 +30,8 @@ def function(item, where):
     """The lines of an export."""
     parameters, lines, is_unsafe = [], [], False
     refused = ffi.refusal(item)
-    give = f"return {where.get(refused[:-2], refused[:-2])}()" if refused.startswith("refused_") else f"return {refused}".rstrip()
+    give = f"return {where.get(refused[:-2], refused[:-2])}()" if refused.startswith("refused_") \
+        else f"return {refused}".rstrip()
     for member in item.members:
         name, kind = member.name, member.type
         if inner := re.fullmatch(r"&(mut )?\[(\w+)\]", kind):

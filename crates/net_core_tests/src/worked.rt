@@ -1,5 +1,5 @@
 //! Worked rows: calls with the answers that they must have. Each row has a plain name, which is that of smoltcp's test
-//! if there is one. Files `_rows` are written from models/worked.py. The names of these rows and of the program's are
+//! if there is one. The names of these rows and of the program's are
 //! printed by
 //!
 //! ```text

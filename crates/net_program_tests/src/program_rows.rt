@@ -1,4 +1,4 @@
-//! Rows of the program, of models/worked.py: `python3 models/make.py` writes this file.
+//! Rows of the program.
 use crate::rows::Row;
 
 /// Lines of rings.

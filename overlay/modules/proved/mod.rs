@@ -1,13 +1,46 @@
-//! The proved code: `src/proved` of net-base, as its `overlay/overlay.py` puts it here.
+//! The proved code: erased text of net-base's `src`, as its `overlay/overlay.py` puts it here.
 #![allow(missing_docs, dead_code, unused_variables, unused_imports, unused_must_use, clippy::all)]
 
-pub mod net_assembler;
-pub mod net_packets;
-pub mod net_ring;
+pub mod rand;
 pub(crate) mod rattle;
 
-/// Time and random words.
-pub mod net_base {
-    pub mod rand;
-    pub mod time;
+/// Rings, packet queues and assemblers.
+pub mod storage {
+    pub mod assembler;
+    pub mod error;
+    pub mod laws;
+    pub mod managed;
+    pub mod packet_buffer;
+    pub mod packet_metadata;
+    pub mod packet_slot;
+    pub mod packets_head;
+    pub mod resettable;
+    pub mod ring_buffer;
+    pub mod ring_head;
+    pub mod width;
+
+    pub use self::assembler::{
+        Assembler, AssemblerHead, HoleIter, IterData, Run, RunIter, TooManyHolesError, Turns,
+    };
+    pub use self::error::{Empty, Full};
+    pub use self::managed::{ManagedSlice, Storage};
+    pub use self::packet_buffer::{PacketBuffer, PacketsOver};
+    pub use self::packet_metadata::PacketMetadata;
+    pub use self::packet_slot::PacketSlot;
+    pub use self::packets_head::{FirstPacket, PacketPlace, PacketsHead};
+    pub use self::resettable::Resettable;
+    pub use self::ring_buffer::{RingBuffer, RingOver};
+    pub use self::ring_head::{RingHead, Span};
+}
+
+/// Moments and lengths of time.
+pub mod time {
+    mod duration;
+    mod instant;
+    mod optional;
+
+    pub use self::duration::Duration;
+    pub use self::instant::Instant;
+
+    const LONGEST_TEXT: usize = 20;
 }

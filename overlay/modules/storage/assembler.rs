@@ -2,7 +2,7 @@
 use core::{array, fmt};
 
 use crate::config::ASSEMBLER_MAX_SEGMENT_COUNT;
-use crate::proved::net_assembler::Assembler as Runs;
+use crate::proved::storage::Assembler as Runs;
 
 /// A set of positions of which data has arrived, in as many runs as the build says.
 pub type Assembler = Runs<ASSEMBLER_MAX_SEGMENT_COUNT>;

@@ -7,13 +7,10 @@ mod packet_buffer;
 mod ring_buffer;
 
 pub use self::assembler::Assembler;
-pub use crate::proved::net_packets::{PacketBuffer, PacketMetadata};
-pub use crate::proved::net_ring::{Empty, Full, Resettable, RingBuffer};
+pub use crate::proved::storage::{
+    Empty, Full, PacketBuffer, PacketMetadata, Resettable, RingBuffer,
+};
 
 // Documentation shows the methods of an alias only where it shows the type.
 #[cfg(doc)]
-pub use crate::proved::{
-    net_assembler::Assembler as AssemblerOf,
-    net_packets::PacketsOver,
-    net_ring::{RingOver, Storage},
-};
+pub use crate::proved::storage::{Assembler as AssemblerOf, PacketsOver, RingOver, Storage};

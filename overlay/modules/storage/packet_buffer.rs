@@ -5,8 +5,8 @@ use managed::ManagedSlice;
 
 use super::PacketMetadata;
 use super::ring_buffer::Shown;
-use crate::proved::net_packets::{PacketBuffer, PacketsOver};
-use crate::proved::net_ring::Storage;
+use crate::proved::storage::{PacketBuffer, PacketsOver};
+use crate::proved::storage::Storage;
 
 impl<'a, H> PacketBuffer<'a, H> {
     /// Returns a queue with no packets, which has as many slots as `slots` has elements, and room for as many bytes as

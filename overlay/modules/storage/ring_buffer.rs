@@ -3,7 +3,7 @@ use core::fmt;
 
 use managed::ManagedSlice;
 
-use crate::proved::net_ring::{RingBuffer, RingHead, RingOver, Storage};
+use crate::proved::storage::{RingBuffer, RingHead, RingOver, Storage};
 
 impl<'a, T> RingBuffer<'a, T> {
     /// Returns an empty ring over the storage, whose elements stay as they are.

@@ -1,65 +1,47 @@
 //! Rings, packet queues, assemblers and buffers of fragments, over storage that is lent or owned.
 //!
-//! By hand: what is printed, and an array as storage.
-mod assembler;
-mod fragment_buffer;
-mod packet_buffer;
-mod ring_buffer;
+//! By hand: what is printed, storage that is converted, an array as storage, and traits that Rattle hasn't.
+mod by_hand;
 #[cfg(feature = "std")]
-mod streams;
+mod by_hand_io;
 
-use core::fmt;
-
-pub use crate::proved::net_assembler::{Assembler, HoleIter, IterData, RunIter, TooManyHolesError};
-pub use crate::proved::net_base::storage::fragments::table as fragment_table;
-pub use crate::proved::net_base::storage::{FragmentBuffer, FragmentError, FragmentsOver};
-pub use crate::proved::net_packets::{PacketBuffer, PacketMetadata, PacketsOver};
-pub use crate::proved::net_ring::ring_buffer::Iter;
-pub use crate::proved::net_ring::{Empty, Full, Resettable, RingBuffer, RingOver, Span, Storage};
-pub use crate::proved::net_split_ring::{SplitCounts, SplitSpan};
-
-impl From<TooManyHolesError> for FragmentError {
-    fn from(_error: TooManyHolesError) -> Self {
-        FragmentError::TooManyHoles
-    }
+erased! {
+    pub(crate) mod assembler;
+    pub(crate) mod error;
+    pub(crate) mod fragments;
+    pub(crate) mod laws;
+    pub(crate) mod managed;
+    pub(crate) mod packet_buffer;
+    pub(crate) mod packet_metadata;
+    pub(crate) mod packet_slot;
+    pub(crate) mod packets_head;
+    pub(crate) mod resettable;
+    pub(crate) mod ring_buffer;
+    pub(crate) mod ring_head;
+    pub(crate) mod split_counts;
+    pub(crate) mod width;
 }
 
-/// An array of its own as storage: then the constructors `over` can make a `static`, as in the example `interrupt`.
-///
-/// ```
-/// use net_base::storage::RingOver;
-///
-/// const RING: RingOver<u8, [u8; 4]> = RingOver::over([0; 4]);
-/// let mut ring = RING;
-/// assert_eq!((ring.enqueue_slice(b"abcde"), ring.get_allocated(1, 9)), (4, &b"bcd"[..]));
-/// ```
-impl<T, const N: usize> Storage<T> for [T; N] {
-    fn count(&self) -> usize {
-        N
-    }
+pub use assembler::{Assembler, HoleIter, IterData, RunIter, TooManyHolesError};
+pub use error::{Empty, Full};
+pub use fragments::table as fragment_table;
+pub use fragments::{FragmentBuffer, FragmentError, FragmentsOver};
+pub use managed::Storage;
+pub use packet_buffer::{PacketBuffer, PacketsOver};
+pub use packet_metadata::PacketMetadata;
+pub use resettable::Resettable;
+pub use ring_buffer::{Iter, RingBuffer, RingOver};
+pub use ring_head::Span;
+pub use split_counts::{SplitCounts, SplitSpan};
 
-    fn part(&self, from: usize, to: usize) -> &[T] {
-        &self[from..to]
-    }
-
-    fn part_mut(&mut self, from: usize, to: usize) -> &mut [T] {
-        &mut self[from..to]
-    }
-
-    fn element_mut(&mut self, at: usize) -> &mut T {
-        &mut self[at]
-    }
-
-    fn element(&self, at: usize) -> &T {
-        &self[at]
-    }
-}
-
-/// Prints what a closure's iterator yields, as a list.
-pub(crate) struct Listed<F>(pub(crate) F);
-
-impl<F: Fn() -> I, I: Iterator<Item: fmt::Debug>> fmt::Debug for Listed<F> {
-    fn fmt(&self, f: &mut fmt::Formatter) -> fmt::Result {
-        f.debug_list().entries((self.0)()).finish()
-    }
-}
+// Names for other modules, and those for the exports alone.
+pub(crate) use assembler::{AssemblerHead, Run, Turns};
+pub(crate) use by_hand::Listed;
+#[cfg(feature = "c")]
+pub(crate) use fragments::FragmentsHead;
+pub(crate) use managed::ManagedSlice;
+#[cfg(feature = "c")]
+pub(crate) use packet_slot::PacketSlot;
+#[cfg(feature = "c")]
+pub(crate) use packets_head::{FirstPacket, PacketPlace, PacketsHead};
+pub(crate) use ring_head::RingHead;

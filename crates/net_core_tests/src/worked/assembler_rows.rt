@@ -1,4 +1,4 @@
-//! Rows of assemblers, of models/worked.py: `python3 models/make.py` writes this file.
+//! Rows of assemblers.
 use crate::worked::assembler::Row;
 use crate::worked::assembler::Step::{
     Add, AddCounted, AddThenRemove, Clear, Contains, Equals, Fill, Fits, HoleAt, Holes, Keep,

@@ -1,4 +1,4 @@
-//! Rows of packet queues, of models/worked.py: `python3 models/make.py` writes this file.
+//! Rows of packet queues.
 use crate::worked::packets::Row;
 use crate::worked::packets::Step::{
     Dequeue, DequeueLength, Enqueue, EnqueueHeader, EnqueueWith, Is, Keep, Nothing, Peek, Refuse,

@@ -1,4 +1,4 @@
-//! Rows of receivers of four runs, of models/worked.py: `python3 models/make.py` writes this file.
+//! Rows of receivers of four runs.
 use crate::receiver::schedule::Step::{Keeps, Reads, Refuses, Shows};
 use crate::worked::receiver::Part::{Read, Segment};
 use crate::worked::receiver::{Pair, Row, Twenty};

@@ -1,4 +1,4 @@
-//! Rows of rings, of models/worked.py: `python3 models/make.py` writes this file.
+//! Rows of rings.
 use crate::worked::ring::Row;
 use crate::worked::ring::Step::{
     Allocated, DequeueAllocated, DequeueMany, DequeueManyWith, DequeueOne, DequeueSlice,

@@ -1,7 +1,7 @@
 // Written by tools/erase.py from crates: a change here would be lost.
 //! The proved code: crates of the repository without their contracts, as `tools/erase.py` writes them.
-// Which item is public in a crate of Rattle isn't which one is in this crate: `lib.rs` re-exports by hand. A parameter may
-// be for contracts alone. The rest is what Rattle has no other form for.
+// Which item is public in a crate of Rattle isn't which one is in this program. A parameter may be for contracts alone. The
+// rest is what Rattle has no other form for.
 #![allow(unreachable_pub, unused_variables)]
 #![allow(clippy::manual_filter, clippy::manual_find, clippy::manual_map, clippy::needless_range_loop, clippy::question_mark)]
 #![allow(clippy::int_plus_one, clippy::len_without_is_empty, clippy::needless_lifetimes, clippy::new_without_default)]

@@ -37,7 +37,7 @@ fn run(data: &[u8]) -> usize {
     sum
 }
 
-#[no_mangle]
+#[unsafe(no_mangle)]
 pub extern "C" fn _start() -> ! {
     black_box(run(black_box(&[7; 99])));
     loop {}

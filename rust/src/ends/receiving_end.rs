@@ -1,0 +1,314 @@
+// Written by tools/erase.py from crates/net_ends/src/receiving_end.rt: a change here would be lost.
+//! What receives a stream that ends.
+
+use crate::rattle::prelude::*;
+use crate::stream::{FiniteError, FiniteReceiverOver, KeptBytes};
+use crate::storage::{ManagedSlice, Storage};
+use crate::tcp::{AdvertisedWindow, Arrival, Segment};
+
+/// What a segment without bytes tells the peer.
+///
+/// Contracts: `crates/net_ends/src/receiving_end.rt`.
+#[derive(Copy, Clone, Debug, PartialEq, Eq)]
+pub struct Acknowledgement {
+    /// The first number that is missing.
+    pub next: u64,
+    /// The window, in units of the scale.
+    pub window: u16,
+    /// What came twice since the last one, if anything did (RFC 2883), and then the newest runs that were kept beyond
+    /// `next`, the newest first.
+    pub blocks: [Option<(u64, u64)>; 4],
+}
+
+/// What receives a stream that ends, over storage that is lent or owned.
+pub type ReceivingEnd<'a, const N: usize> = ReceivingEndOver<ManagedSlice<'a, u8>, N>;
+
+/// A [`ReceivingEnd`] over any storage: a receiver, and what it announced.
+///
+/// Contracts: `crates/net_ends/src/receiving_end.rt`.
+pub struct ReceivingEndOver<S: Storage<u8>, const N: usize> {
+    receiver: FiniteReceiverOver<S, N>,
+    advertised: AdvertisedWindow,
+    scale: u8,
+    segment_size: u16,
+    // The position of the newest segment, and the starts of the runs that were listed last.
+    newest: u64,
+    recent: [u64; 4],
+    // What came twice, and wasn't reported yet.
+    duplicate: Option<(u64, u64)>,
+    // How many segments wait for an acknowledgement, at most 2: it is sent for each second one.
+    unanswered: u8,
+}
+
+impl<S: Storage<u8>, const N: usize> ReceivingEndOver<S, N> {
+    /// Returns the end of a stream that begins at position `first`, at which nothing has arrived. A segment has at most
+    /// `segment_size` bytes.
+    ///
+    /// A program in which `N` is 0 does not compile.
+    ///
+    /// # Panics
+    ///
+    /// Panics unless `first` is below `u64::MAX`: an end there would have no number after it.
+    #[must_use]
+    #[track_caller]
+    pub fn over_at(storage: S, first: u64, segment_size: u16) -> Self {
+        prove!(N >= 1, "N is at least 1");
+        prove!(first < u64::MAX, "no number is left for an end");
+        ReceivingEndOver {
+            receiver: FiniteReceiverOver::over_at(storage, first),
+            advertised: AdvertisedWindow::new(first),
+            scale: 0,
+            segment_size,
+            newest: first,
+            recent: [0; 4],
+            duplicate: None,
+            unanswered: 0,
+        }
+    }
+
+    /// Begins again with a stream that begins at position `first`, and whose windows have this scale. Returns the
+    /// window that a SYN announces, which has no scale.
+    ///
+    /// # Panics
+    ///
+    /// Panics unless `first` is below `u64::MAX`: an end there would have no number after it.
+    #[track_caller]
+    pub fn open(&mut self, first: u64, scale: u8) -> u16 {
+        prove!(first < u64::MAX, "no number is left for an end");
+        self.receiver.reset_at(first);
+        self.advertised = AdvertisedWindow::new(first);
+        self.scale = scale;
+        self.newest = first;
+        self.recent = [0; 4];
+        self.duplicate = None;
+        self.unanswered = 0;
+        self.announce_whole()
+    }
+
+    /// Announces all the room that is free, without a scale.
+    fn announce_whole(&mut self) -> u16 {
+        let (next, end) = self.free();
+        self.advertised.announce(0, next, end)
+    }
+
+    /// Returns what to do with a segment, as `net_tcp::classify` says, in the window that was announced.
+    #[must_use]
+    pub fn classify(&self, segment: Segment) -> Arrival {
+        self.advertised
+            .classify(self.receiver.acknowledged(), segment)
+    }
+
+    /// Takes the bytes of a segment, and the end if it `is_last`. A segment out of order, one with the end, and one
+    /// that is refused are answered at once; of the others each second one is. What of its bytes came before is
+    /// reported by the next acknowledgement, as `Receiver::duplicate_of` tells it. One with neither bytes nor the end
+    /// changes nothing.
+    ///
+    /// # Errors
+    ///
+    /// As `FiniteReceiverOver::keep`.
+    pub fn arrived(
+        &mut self,
+        pos: u64,
+        bytes: &[u8],
+        is_last: bool,
+    ) -> Result<KeptBytes, FiniteError> {
+        if bytes.is_empty() && !is_last {
+            return Ok(KeptBytes { kept: 0, queued: 0 });
+        }
+        self.take(pos, bytes, is_last)
+    }
+
+    /// Takes a segment that has a byte or the end.
+    fn take(&mut self, pos: u64, bytes: &[u8], is_last: bool) -> Result<KeptBytes, FiniteError> {
+        let duplicate = self.duplicate_after(pos, bytes.len());
+        let held = self.receiver.receiver().held_count();
+        let kept = self.receiver.keep(pos, bytes, is_last);
+        self.newest = pos;
+        self.duplicate = duplicate;
+        self.wait(is_next(held, is_last, kept));
+        kept
+    }
+
+    /// Returns what waits to be reported once a segment of `len` bytes at `pos` has come.
+    fn duplicate_after(&self, pos: u64, len: usize) -> Option<(u64, u64)> {
+        let part = self.receiver.receiver().duplicate_of(pos, len);
+        part.or(self.duplicate)
+    }
+
+    /// Counts a segment that waits for an acknowledgement, if it `is_next`, or else has one sent at once.
+    fn wait(&mut self, is_next: bool) {
+        self.unanswered = if is_next {
+            self.unanswered.saturating_add(1).min(2)
+        } else {
+            2
+        };
+    }
+
+    /// Has an acknowledgement sent at once.
+    pub fn answer(&mut self) {
+        self.unanswered = 2;
+    }
+
+    /// Returns whether an acknowledgement is to be sent at once.
+    #[must_use]
+    pub fn is_due(&self) -> bool {
+        self.unanswered >= 2
+    }
+
+    /// Returns whether an acknowledgement is to be sent before one waits: something came, or an update of the window
+    /// is worth a segment. No update is, once all bytes and the end have arrived: nothing follows that needs room, and
+    /// a peer that has closed its connection would answer it by a reset.
+    #[must_use]
+    pub fn is_wanted(&self) -> bool {
+        self.unanswered > 0 || self.is_update_due()
+    }
+
+    /// Returns whether an update of the window is worth a segment.
+    fn is_update_due(&self) -> bool {
+        let (next, end) = self.free();
+        !self.receiver.is_complete()
+            && self
+                .advertised
+                .is_update_due(self.scale, next, end, self.capacity(), self.segment_size)
+    }
+
+    /// Returns what a segment with bytes of its own tells, and takes notice that it does: the first number that is
+    /// missing, and the window, in units of the scale. The window's edge is moved only if that is worth a segment.
+    /// An acknowledgement that is due stays so, since it lists runs.
+    pub fn announce(&mut self) -> (u64, u16) {
+        self.answer_one();
+        self.promise()
+    }
+
+    /// Takes notice that what waits for an acknowledgement has it, unless one is due.
+    fn answer_one(&mut self) {
+        if self.unanswered < 2 {
+            self.unanswered = 0;
+        }
+    }
+
+    /// Returns the number and the window to announce, and promises that.
+    fn promise(&mut self) -> (u64, u16) {
+        let (next, end) = self.free();
+        let capacity = self.capacity();
+        let window = self
+            .advertised
+            .announce_in_steps(self.scale, next, end, capacity, self.segment_size);
+        (next, window)
+    }
+
+    /// Returns what a segment without bytes tells, and takes notice that it does. What came twice is told once.
+    pub fn acknowledgement(&mut self) -> Acknowledgement {
+        self.unanswered = 0;
+        let (next, window) = self.promise();
+        let blocks = self.blocks();
+        Acknowledgement {
+            next,
+            window,
+            blocks,
+        }
+    }
+
+    /// Lists what came twice, and then the newest runs, at most four in all.
+    fn blocks(&mut self) -> [Option<(u64, u64)>; 4] {
+        let duplicate = self.take_duplicate();
+        in_front(duplicate, self.runs())
+    }
+
+    /// Lists the newest runs, at most four.
+    fn runs(&mut self) -> [Option<(u64, u64)>; 4] {
+        let mut runs = self
+            .receiver
+            .receiver()
+            .newest_runs(self.newest, &mut self.recent);
+        [runs.next(), runs.next(), runs.next(), runs.next()]
+    }
+
+    /// Takes what came twice, if it is to be reported.
+    fn take_duplicate(&mut self) -> Option<(u64, u64)> {
+        let duplicate = self.reported();
+        self.duplicate = None;
+        duplicate
+    }
+
+    /// Returns what came twice, if it is to be reported.
+    fn reported(&self) -> Option<(u64, u64)> {
+        match self.duplicate {
+            Some(part) if self.is_reported(part) => Some(part),
+            _ => None,
+        }
+    }
+
+    /// Returns whether a part that came twice is to be reported: an end in order lets go of what was held beyond it.
+    fn is_reported(&self, part: (u64, u64)) -> bool {
+        part.1 <= self.receiver.acknowledged() || !self.receiver.is_complete()
+    }
+
+    /// Moves bytes from the head of the queue to the beginning of `into`, and returns how many: as many as are queued
+    /// and as `into` has room for. The rest of `into` stays as it is.
+    pub fn read(&mut self, into: &mut [u8]) -> usize {
+        self.receiver.read(into)
+    }
+
+    /// Calls `f` on the first part of the queue, takes as many bytes off the queue as `f` counts, and returns what `f`
+    /// returned. The part is empty only if the queue is.
+    ///
+    /// # Panics
+    ///
+    /// Panics unless `f` takes that part, and counts no more bytes than it is lent.
+    #[track_caller]
+    pub fn read_with<R, F: FnOnce(&[u8]) -> (usize, R)>(&mut self, f: F) -> (usize, R) {
+        let part = self.first_part();
+        let lent = part.len();
+        let answer = f(part);
+        prove!(answer.0 <= lent, "more bytes than were lent");
+        self.receiver.remove(answer.0);
+        answer
+    }
+
+    /// Lends the first part of the queue, which is empty only if the queue is.
+    fn first_part(&self) -> &[u8] {
+        let receiver = self.receiver.receiver();
+        receiver.peek(0, receiver.queued())
+    }
+
+    /// Lends the receiver, for reading.
+    #[must_use]
+    pub fn receiver(&self) -> &FiniteReceiverOver<S, N> {
+        &self.receiver
+    }
+
+    /// Returns the number that an acknowledgement names, and the end of the free room, or the last position if that
+    /// doesn't fit 64 bits.
+    fn free(&self) -> (u64, u64) {
+        let next = self.receiver.acknowledged();
+        match self.receiver.window_end() {
+            Some(end) => (next, end),
+            None => (next, u64::MAX),
+        }
+    }
+
+    /// Returns the capacity.
+    fn capacity(&self) -> u64 {
+        self.receiver.receiver().capacity() as u64
+    }
+}
+
+/// Returns whether a segment joined the queue where so many runs were held before, and the end wasn't in it.
+fn is_next(held: usize, is_last: bool, kept: Result<KeptBytes, FiniteError>) -> bool {
+    match kept {
+        Ok(kept) => held == 0 && !is_last && kept.queued > 0,
+        Err(_) => false,
+    }
+}
+
+/// Returns four blocks with what came twice in front, if anything did, in place of the last one.
+fn in_front(
+    duplicate: Option<(u64, u64)>,
+    blocks: [Option<(u64, u64)>; 4],
+) -> [Option<(u64, u64)>; 4] {
+    match duplicate {
+        Some(part) => [Some(part), blocks[0], blocks[1], blocks[2]],
+        None => blocks,
+    }
+}

@@ -1,0 +1,111 @@
+// Written by tools/erase.py from crates/net_ffi/src/heads/finite_receiver.rt: a change here would be lost.
+// Written by tools/ffi.py.
+
+use crate::exports::finite_receiver::has_number;
+use crate::exports::receiver::{has_next, has_runs, is_plausible};
+use crate::exports::refusals::no_number;
+use crate::storage::Run;
+use crate::stream::FiniteReceiverHead;
+
+#[inline(always)]
+pub fn net_base_finite_receiver_init(
+    receiver: &mut FiniteReceiverHead,
+    first: u64,
+) -> bool {
+    if first == u64::MAX {
+        return false;
+    }
+    *receiver = FiniteReceiverHead::new(first);
+    true
+}
+
+#[inline(always)]
+pub fn net_base_finite_receiver_is_sound(
+    receiver: &FiniteReceiverHead,
+    capacity: usize,
+    runs: &[Run],
+) -> bool {
+    receiver.is_sound(capacity, runs)
+}
+
+#[inline(always)]
+pub fn net_base_finite_receiver_can_end(
+    receiver: &FiniteReceiverHead,
+    runs: &[Run],
+    position: u64,
+) -> bool {
+    if !has_runs(&receiver.receiver, runs.len()) {
+        return false;
+    }
+    receiver.can_end(runs, position)
+}
+
+#[inline(always)]
+pub fn net_base_finite_receiver_is_complete(receiver: &FiniteReceiverHead) -> bool {
+    if !has_number(receiver) {
+        return false;
+    }
+    receiver.is_complete()
+}
+
+#[inline(always)]
+pub fn net_base_finite_receiver_acknowledged(
+    receiver: &FiniteReceiverHead,
+    number: &mut u64,
+) -> bool {
+    if !has_number(receiver) {
+        return false;
+    }
+    *number = receiver.acknowledged();
+    true
+}
+
+#[inline(always)]
+pub fn net_base_finite_receiver_has_read_all(receiver: &FiniteReceiverHead) -> bool {
+    if !has_number(receiver) {
+        return false;
+    }
+    receiver.has_read_all()
+}
+
+#[inline(always)]
+pub fn net_base_finite_receiver_read(
+    receiver: &mut FiniteReceiverHead,
+    storage: &[u8],
+    into: &mut [u8],
+) -> usize {
+    if !receiver.receiver.place.is_sound(storage.len()) || !has_next(&receiver.receiver) {
+        return no_number();
+    }
+    receiver.read(storage, into)
+}
+
+#[inline(always)]
+pub fn net_base_finite_receiver_remove(
+    receiver: &mut FiniteReceiverHead,
+    capacity: usize,
+    count: usize,
+) -> bool {
+    if !receiver.receiver.place.is_sound(capacity)
+        || count > receiver.receiver.place.length
+        || !has_next(&receiver.receiver)
+    {
+        return false;
+    }
+    receiver.remove(capacity, count);
+    true
+}
+
+#[inline(always)]
+pub fn net_base_finite_receiver_count_new(
+    receiver: &FiniteReceiverHead,
+    capacity: usize,
+    runs: &[Run],
+    position: u64,
+    len: usize,
+) -> usize {
+    if !is_plausible(&receiver.receiver, capacity, runs.len()) {
+        return no_number();
+    }
+    receiver.count_new(capacity, runs, position, len)
+}

@@ -1,0 +1,106 @@
+// Written by tools/erase.py from crates/net_ffi/src/results.rt: a change here would be lost.
+use crate::exports::refusals::{
+    HoleStatus, NET_BASE_ACKNOWLEDGEMENT_ONLY, NET_BASE_ANSWER, NET_BASE_DONE, NET_BASE_IGNORE,
+    NET_BASE_OTHER_SIZE, NET_BASE_REFUSED, NET_BASE_RESET, NET_BASE_TAKE, NET_BASE_TOO_LONG,
+    NET_BASE_TOO_MANY_RUNS, RoomStatus, Status,
+};
+use crate::storage::{Run, TooManyHolesError};
+use crate::storage::FragmentError;
+use crate::stream::ReportError;
+use crate::storage::Span;
+use crate::tcp::Arrival;
+
+#[repr(C)]
+#[derive(Debug, Clone, Copy)]
+pub struct FrontLength {
+    pub status: RoomStatus,
+    pub length: usize,
+}
+
+#[repr(C)]
+#[derive(Debug, Clone, Copy)]
+pub struct Hole {
+    pub status: HoleStatus,
+    pub start: u64,
+    pub end: u64,
+}
+
+#[repr(C)]
+#[derive(Debug, Clone, Copy)]
+pub struct SegmentSpan {
+    pub from: usize,
+    pub count: usize,
+    pub contiguous: usize,
+    pub is_last: bool,
+}
+
+#[inline(always)]
+pub(crate) fn status_of(done: Result<(), TooManyHolesError>) -> Status {
+    match done {
+        Ok(()) => NET_BASE_DONE,
+        Err(_) => NET_BASE_TOO_MANY_RUNS,
+    }
+}
+
+#[inline(always)]
+pub(crate) fn front_length(front: Result<usize, TooManyHolesError>) -> FrontLength {
+    match front {
+        Ok(length) => FrontLength {
+            status: NET_BASE_DONE,
+            length,
+        },
+        Err(_) => FrontLength {
+            status: NET_BASE_TOO_MANY_RUNS,
+            length: 0,
+        },
+    }
+}
+
+#[inline(always)]
+pub(crate) fn status_of_fragment(done: Result<(), FragmentError>) -> Status {
+    match done {
+        Ok(()) => NET_BASE_DONE,
+        Err(FragmentError::TooManyHoles) => NET_BASE_TOO_MANY_RUNS,
+        Err(FragmentError::TooLong) => NET_BASE_TOO_LONG,
+        Err(FragmentError::OtherSize) => NET_BASE_OTHER_SIZE,
+    }
+}
+
+#[inline(always)]
+pub(crate) fn status_of_report(done: Result<(), ReportError>) -> Status {
+    match done {
+        Ok(()) => NET_BASE_DONE,
+        Err(ReportError::TooManyHoles) => NET_BASE_TOO_MANY_RUNS,
+        Err(ReportError::NoBlock) => NET_BASE_REFUSED,
+    }
+}
+
+#[inline(always)]
+pub(crate) fn number_of(arrival: Arrival) -> Status {
+    match arrival {
+        Arrival::Take => NET_BASE_TAKE,
+        Arrival::AcknowledgementOnly => NET_BASE_ACKNOWLEDGEMENT_ONLY,
+        Arrival::Answer => NET_BASE_ANSWER,
+        Arrival::Ignore => NET_BASE_IGNORE,
+        Arrival::Reset => NET_BASE_RESET,
+    }
+}
+
+#[inline(always)]
+pub(crate) fn segment_span(segment: (Span, bool)) -> SegmentSpan {
+    let (span, is_last) = segment;
+    SegmentSpan {
+        from: span.from,
+        count: span.count,
+        contiguous: span.contiguous,
+        is_last,
+    }
+}
+
+#[inline(always)]
+pub(crate) fn run_of(found: Option<(usize, usize)>) -> Run {
+    match found {
+        Some((start, end)) => Run { start, end },
+        None => Run { start: 0, end: 0 },
+    }
+}

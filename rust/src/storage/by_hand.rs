@@ -1,0 +1,276 @@
+//! By hand, of rings, packet queues, assemblers and buffers of fragments: storage that is converted; what has no `N`; what is
+//! printed, since Rattle would print the storage; traits that Rattle hasn't.
+use core::{fmt, iter};
+
+use super::fragment_table::FragmentSlot;
+use super::{
+    Assembler, FragmentBuffer, FragmentError, FragmentsOver, HoleIter, Iter, PacketBuffer,
+};
+use super::{
+    PacketMetadata, PacketsOver, RingBuffer, RingOver, RunIter, Storage, TooManyHolesError,
+};
+#[cfg(doc)]
+use crate::config::ASSEMBLER_MAX_SEGMENT_COUNT;
+use crate::managed::ManagedSlice;
+use crate::time::Instant;
+
+impl<'a, T> RingBuffer<'a, T> {
+    /// Returns an empty ring over the storage, whose elements stay as they are.
+    pub fn new<S: Into<ManagedSlice<'a, T>>>(storage: S) -> Self {
+        RingOver::over(storage.into())
+    }
+}
+
+impl<'a, T, S: Storage<T>> IntoIterator for &'a RingOver<T, S> {
+    type Item = &'a T;
+    type IntoIter = Iter<'a, T>;
+
+    fn into_iter(self) -> Iter<'a, T> {
+        self.iter()
+    }
+}
+
+/// Panics if there is no room for an element: those before it are queued.
+impl<T, S: Storage<T>> Extend<T> for RingOver<T, S> {
+    fn extend<I: IntoIterator<Item = T>>(&mut self, elements: I) {
+        for element in elements {
+            self.push_one(element).expect("room for an element");
+        }
+    }
+}
+
+/// A text for which there is no room isn't queued, nor a part of it.
+impl<S: Storage<u8>> fmt::Write for RingOver<u8, S> {
+    fn write_str(&mut self, text: &str) -> fmt::Result {
+        if text.len() > self.window() {
+            return Err(fmt::Error);
+        }
+        let _all = self.enqueue_slice(text.as_bytes());
+        Ok(())
+    }
+}
+
+impl<T, S: Storage<T>> fmt::Debug for RingOver<T, S> {
+    fn fmt(&self, f: &mut fmt::Formatter) -> fmt::Result {
+        f.debug_struct("RingBuffer")
+            .field("capacity", &self.capacity())
+            .field("read_at", &self.head().read_at)
+            .field("length", &self.len())
+            .finish()
+    }
+}
+
+impl<'a, H> PacketBuffer<'a, H> {
+    /// Returns a queue with no packets, which has as many slots as `slots` has elements, and room for as many bytes as
+    /// `bytes` has.
+    pub fn new<M, B>(slots: M, bytes: B) -> Self
+    where
+        M: Into<ManagedSlice<'a, PacketMetadata<H>>>,
+        B: Into<ManagedSlice<'a, u8>>,
+    {
+        PacketsOver::over(slots.into(), bytes.into())
+    }
+}
+
+impl<H, M: Storage<PacketMetadata<H>>, B: Storage<u8>> fmt::Debug for PacketsOver<H, M, B> {
+    fn fmt(&self, f: &mut fmt::Formatter) -> fmt::Result {
+        f.debug_struct("PacketBuffer")
+            .field("packet_capacity", &self.packet_capacity())
+            .field("slots_used", &self.slots_used())
+            .field("payload_capacity", &self.payload_capacity())
+            .field("payload_bytes_count", &self.payload_bytes_count())
+            .finish()
+    }
+}
+
+impl Assembler {
+    /// Returns an assembler with no position, which has room for [`ASSEMBLER_MAX_SEGMENT_COUNT`] runs, as smoltcp's.
+    ///
+    /// ```
+    /// # use net_base::storage::Assembler;
+    /// assert!(Assembler::new().is_empty());
+    /// ```
+    #[must_use]
+    pub const fn new() -> Assembler {
+        Assembler::empty()
+    }
+}
+
+impl<const N: usize> Clone for Assembler<N> {
+    fn clone(&self) -> Self {
+        match crate::rattle::Clone::clone(self) {
+            Ok(same) => same,
+            Err(_) => unreachable!(),
+        }
+    }
+}
+
+impl<const N: usize> Default for Assembler<N> {
+    fn default() -> Self {
+        Self::empty()
+    }
+}
+
+/// A hole and the data after it, as smoltcp prints them.
+#[derive(Debug)]
+#[allow(dead_code)]
+struct Contig {
+    hole_size: usize,
+    data_size: usize,
+}
+
+impl<const N: usize> fmt::Debug for Assembler<N> {
+    fn fmt(&self, f: &mut fmt::Formatter) -> fmt::Result {
+        f.debug_struct("Assembler").field("contigs", &Listed(|| self.contigs())).finish()
+    }
+}
+
+impl<const N: usize> Assembler<N> {
+    fn contigs(&self) -> impl Iterator<Item = Contig> + '_ {
+        let mut from = 0;
+        let stored = self.iter_data().map(move |(start, end)| {
+            let contig = Contig { hole_size: start - from, data_size: end - start };
+            from = end;
+            contig
+        });
+        stored.chain(iter::repeat_with(|| Contig { hole_size: 0, data_size: 0 })).take(N)
+    }
+}
+
+impl fmt::Debug for RunIter<'_> {
+    fn fmt(&self, f: &mut fmt::Formatter) -> fmt::Result {
+        f.debug_list().entries(self.clone()).finish()
+    }
+}
+
+impl fmt::Debug for HoleIter<'_> {
+    fn fmt(&self, f: &mut fmt::Formatter) -> fmt::Result {
+        f.debug_list().entries(self.clone()).finish()
+    }
+}
+
+impl ExactSizeIterator for RunIter<'_> {}
+
+impl iter::FusedIterator for RunIter<'_> {}
+
+impl ExactSizeIterator for HoleIter<'_> {}
+
+impl iter::FusedIterator for HoleIter<'_> {}
+
+impl From<TooManyHolesError> for FragmentError {
+    fn from(_error: TooManyHolesError) -> Self {
+        FragmentError::TooManyHoles
+    }
+}
+
+impl<'a> FragmentBuffer<'a> {
+    /// Returns a buffer with no byte, which has room for [`ASSEMBLER_MAX_SEGMENT_COUNT`] runs.
+    ///
+    /// ```
+    /// # use net_base::storage::FragmentBuffer;
+    /// # use net_base::time::Instant;
+    /// # let mut bytes = [0u8; 8];
+    /// assert!(FragmentBuffer::new(&mut bytes[..], Instant::ZERO).is_empty());
+    /// ```
+    #[must_use]
+    pub fn new<S: Into<ManagedSlice<'a, u8>>>(storage: S, expires_at: Instant) -> Self {
+        FragmentBuffer::empty(storage, expires_at)
+    }
+}
+
+impl<'a, const N: usize> FragmentBuffer<'a, N> {
+    /// Returns a buffer with no byte, which has room for `N` runs.
+    ///
+    /// ```
+    /// # use net_base::storage::FragmentBuffer;
+    /// # use net_base::time::Instant;
+    /// # let mut bytes = [0u8; 8];
+    /// assert!(FragmentBuffer::<8>::empty(&mut bytes[..], Instant::ZERO).is_empty());
+    /// ```
+    #[must_use]
+    pub fn empty<S: Into<ManagedSlice<'a, u8>>>(storage: S, expires_at: Instant) -> Self {
+        FragmentBuffer::over(storage.into(), expires_at)
+    }
+}
+
+impl<K: fmt::Debug, B: Storage<u8>, const N: usize> fmt::Debug for FragmentSlot<K, B, N> {
+    fn fmt(&self, f: &mut fmt::Formatter) -> fmt::Result {
+        f.debug_struct("FragmentSlot")
+            .field("key", &self.key)
+            .field("buffer", &self.buffer)
+            .finish()
+    }
+}
+
+impl<B: Storage<u8>, const N: usize> fmt::Debug for FragmentsOver<B, N> {
+    fn fmt(&self, f: &mut fmt::Formatter) -> fmt::Result {
+        f.debug_struct("FragmentBuffer")
+            .field("capacity", &self.capacity())
+            .field("total_size", &self.total_size())
+            .field("expires_at", &self.expires_at())
+            .finish()
+    }
+}
+
+/// An array of its own as storage: then the constructors `over` can make a `static`, as in the example `interrupt`.
+///
+/// ```
+/// use net_base::storage::RingOver;
+///
+/// const RING: RingOver<u8, [u8; 4]> = RingOver::over([0; 4]);
+/// let mut ring = RING;
+/// assert_eq!((ring.enqueue_slice(b"abcde"), ring.get_allocated(1, 9)), (4, &b"bcd"[..]));
+/// ```
+impl<T, const N: usize> Storage<T> for [T; N] {
+    fn count(&self) -> usize {
+        N
+    }
+
+    fn part(&self, from: usize, to: usize) -> &[T] {
+        &self[from..to]
+    }
+
+    fn part_mut(&mut self, from: usize, to: usize) -> &mut [T] {
+        &mut self[from..to]
+    }
+
+    fn element_mut(&mut self, at: usize) -> &mut T {
+        &mut self[at]
+    }
+
+    fn element(&self, at: usize) -> &T {
+        &self[at]
+    }
+}
+
+/// Prints what a closure's iterator yields, as a list.
+pub(crate) struct Listed<F>(pub(crate) F);
+
+impl<F: Fn() -> I, I: Iterator<Item: fmt::Debug>> fmt::Debug for Listed<F> {
+    fn fmt(&self, f: &mut fmt::Formatter) -> fmt::Result {
+        f.debug_list().entries((self.0)()).finish()
+    }
+}
+
+#[cfg(test)]
+mod tests {
+    use super::*;
+    use std::format;
+
+    #[test]
+    fn debug_text() {
+        let mut storage = [0u8; 4];
+        let mut ring = RingBuffer::new(&mut storage[..]);
+        ring.enqueue_unallocated(3);
+        ring.dequeue_allocated(2);
+        assert_eq!(format!("{ring:?}"), "RingBuffer { capacity: 4, read_at: 2, length: 1 }");
+    }
+
+    #[test]
+    fn debug_text_of_many_runs() {
+        static ASSEMBLER: Assembler<100_000> = Assembler::empty();
+        let print = || format!("{ASSEMBLER:?}").len();
+        let thread = std::thread::Builder::new().stack_size(128 << 10).spawn(print);
+        assert_eq!(thread.unwrap().join().unwrap(), 25 + 39 * 100_000 - 2);
+    }
+}

@@ -1,0 +1,358 @@
+// Written by tools/erase.py from crates/net_base/src/storage/fragments.rt: a change here would be lost.
+//! A packet that arrives in fragments: a buffer of its bytes and runs, its head, and a table of such buffers.
+
+use crate::rattle::prelude::*;
+use crate::time::Instant;
+use crate::storage::Run;
+use crate::storage::{ManagedSlice, Storage};
+
+mod head;
+pub mod table;
+
+pub use head::FragmentsHead;
+
+/// Why a fragment or a size is refused.
+///
+/// Contracts: `crates/net_base/src/storage/fragments.rt`.
+#[derive(Debug, Clone, Copy, PartialEq, Eq, Hash)]
+pub enum FragmentError {
+    /// It reaches past the end of the buffer.
+    TooLong,
+    /// It would leave more maximal runs of bytes, with holes between them, than there is room for.
+    TooManyHoles,
+    /// It contradicts the packet's size: another size is known, or a byte at that size or above has arrived; or the
+    /// fragment reaches past a known size.
+    OtherSize,
+}
+
+/// A [`FragmentBuffer`] over any storage.
+///
+/// `N` is how many maximal runs of bytes it has room for. Fragments may overlap: at each position the
+/// byte is that of the last fragment there.
+///
+/// ```text
+/// add(0, "abcde")    abcde.....
+/// add(7, "hij")      abcde..hij
+/// add(3, "DEFG")     abcDEFGhij
+/// ```
+///
+/// Contracts: `crates/net_base/src/storage/fragments.rt`.
+#[derive(Clone)]
+pub struct FragmentsOver<B: Storage<u8>, const N: usize> {
+    // Invariant: the runs are those of an assembler, the positions of the bytes that arrived. They end
+    // within the storage and, if the total is known, within that, for which the storage has room. The
+    // head is exact.
+    head: FragmentsHead,
+    bytes: B,
+    runs: [Run; N],
+}
+
+/// A packet that arrives in fragments, in any order, as those of IPv4 do, over lent or owned bytes. Its
+/// calls are those of [`FragmentsOver`].
+pub type FragmentBuffer<'a, const N: usize = ASSEMBLER_MAX_SEGMENT_COUNT> = FragmentsOver<ManagedSlice<'a, u8>, N>;
+
+impl<B: Storage<u8>, const N: usize> FragmentsOver<B, N> {
+    /// Returns an empty buffer over storage of any type, which expires after `expires_at`.
+    ///
+    /// A program in which `N` is 0 does not compile.
+    pub const fn over(bytes: B, expires_at: Instant) -> Self {
+        prove!(N >= 1, "N is at least 1");
+        FragmentsOver {
+            head: FragmentsHead::new(expires_at.total_micros()),
+            bytes,
+            runs: [Run { start: 0, end: 0 }; N],
+        }
+    }
+
+    /// Returns the bytes, as fragments were written to them. smoltcp has no such call.
+    pub fn into_storage(self) -> B {
+        let FragmentsOver {
+            head: _,
+            bytes,
+            runs: _,
+        } = self;
+        bytes
+    }
+
+    /// Returns the number of bytes of the buffer: the size of the longest packet that fits.
+    ///
+    /// ```
+    /// # use net_base::storage::FragmentBuffer;
+    /// # use net_base::time::Instant;
+    /// # let mut bytes = [0u8; 8];
+    /// assert_eq!(FragmentBuffer::new(&mut bytes[..], Instant::ZERO).capacity(), 8);
+    /// ```
+    #[must_use]
+    pub fn capacity(&self) -> usize {
+        self.bytes.count()
+    }
+
+    /// Returns whether no byte has arrived since the buffer was made or reset: no packet is begun. A fragment of no
+    /// bytes begins none.
+    ///
+    /// ```
+    /// # use net_base::storage::FragmentBuffer;
+    /// # use net_base::time::Instant;
+    /// # let mut bytes = [0u8; 8];
+    /// # let mut buffer = FragmentBuffer::new(&mut bytes[..], Instant::ZERO);
+    /// assert!(buffer.add(2, b"").is_ok() && buffer.is_empty());
+    /// assert!(buffer.add(2, b"c").is_ok() && !buffer.is_empty());
+    /// ```
+    #[must_use]
+    pub fn is_empty(&self) -> bool {
+        self.head.present.is_empty()
+    }
+
+    /// Returns the moment up to which the packet is waited for. It is not expired at that moment, but at each later
+    /// one.
+    ///
+    /// ```
+    /// # use net_base::storage::FragmentBuffer;
+    /// # use net_base::time::Instant;
+    /// # let mut bytes = [0u8; 8];
+    /// let buffer = FragmentBuffer::new(&mut bytes[..], Instant::from_millis(5));
+    /// assert_eq!(buffer.expires_at(), Instant::from_millis(5));
+    /// ```
+    #[must_use]
+    pub fn expires_at(&self) -> Instant {
+        moment_of(&self.head)
+    }
+
+    /// Adds a fragment, whose first byte is that of the packet at `offset`.
+    ///
+    /// The end of an accepted fragment fits `usize`.
+    ///
+    /// ```
+    /// # use net_base::storage::{FragmentBuffer, FragmentError};
+    /// # use net_base::time::Instant;
+    /// # let mut bytes = [0u8; 8];
+    /// let mut buffer = FragmentBuffer::<1>::empty(&mut bytes[..], Instant::ZERO);
+    /// assert_eq!(buffer.add(6, b"ghi"), Err(FragmentError::TooLong));
+    /// assert_eq!(buffer.add(6, b"gh"), Ok(()));
+    /// assert_eq!(buffer.add(0, b"ab"), Err(FragmentError::TooManyHoles));
+    /// ```
+    ///
+    /// # Errors
+    ///
+    /// It is refused, and nothing changes, exactly if it reaches past the buffer's end, which is
+    /// `TooLong`, or else past the packet's, which is `OtherSize`, or else would leave more than `N`
+    /// maximal runs, which is `TooManyHoles`. A fragment without bytes has its end at `offset`.
+    pub fn add(&mut self, offset: usize, data: &[u8]) -> Result<(), FragmentError> {
+        let count = self.bytes.count();
+        let bytes = self.bytes.part_mut(0, count);
+        self.head.add(bytes, &mut self.runs, offset, data)
+    }
+
+    /// Adds a fragment, as `add` does, and takes its end as the packet's if it is the last one.
+    ///
+    /// ```
+    /// # use net_base::storage::{FragmentBuffer, FragmentError};
+    /// # use net_base::time::Instant;
+    /// # let mut bytes = [0u8; 8];
+    /// # let mut buffer = FragmentBuffer::new(&mut bytes[..], Instant::ZERO);
+    /// buffer.add_fragment(3, b"de", true)?;
+    /// assert_eq!(buffer.add_fragment(0, b"abc", true), Err(FragmentError::OtherSize));
+    /// buffer.add_fragment(0, b"abc", false)?;
+    /// assert_eq!(buffer.assemble(), Some(&b"abcde"[..]));
+    /// # Ok::<(), FragmentError>(())
+    /// ```
+    ///
+    /// # Errors
+    ///
+    /// It is refused, and nothing changes, exactly if it reaches past the buffer's end, which is
+    /// `TooLong`, or else past the packet's, or is the last one and the packet can't end there, which is
+    /// `OtherSize`, or else would leave more than `N` maximal runs, which is `TooManyHoles`.
+    pub fn add_fragment(
+        &mut self,
+        offset: usize,
+        data: &[u8],
+        is_last: bool,
+    ) -> Result<(), FragmentError> {
+        let count = self.bytes.count();
+        let bytes = self.bytes.part_mut(0, count);
+        self.head
+            .add_fragment(bytes, &mut self.runs, offset, data, is_last)
+    }
+
+    /// Starts over for another packet, which is waited for up to `expires_at`, with this fragment of it.
+    /// If it is refused, nothing changes.
+    ///
+    /// ```
+    /// # use net_base::storage::{FragmentBuffer, FragmentError};
+    /// # use net_base::time::Instant;
+    /// # let mut bytes = [0u8; 8];
+    /// # let mut buffer = FragmentBuffer::new(&mut bytes[..], Instant::ZERO);
+    /// buffer.add(0, b"abc")?;
+    /// let refused = buffer.reset_with(7, b"de", true, Instant::ZERO);
+    /// assert_eq!(refused, Err(FragmentError::TooLong));
+    /// buffer.reset_with(0, b"de", true, Instant::ZERO)?;
+    /// assert_eq!(buffer.assemble(), Some(&b"de"[..]));
+    /// # Ok::<(), FragmentError>(())
+    /// ```
+    ///
+    /// # Errors
+    ///
+    /// It is refused as `add_fragment` refuses it in an empty buffer.
+    pub fn reset_with(
+        &mut self,
+        offset: usize,
+        data: &[u8],
+        is_last: bool,
+        expires_at: Instant,
+    ) -> Result<(), FragmentError> {
+        let until = expires_at.total_micros();
+        let count = self.bytes.count();
+        let bytes = self.bytes.part_mut(0, count);
+        self.head
+            .reset_with(bytes, &mut self.runs, offset, data, is_last, until)
+    }
+
+    /// Sets the packet's size to `size` bytes.
+    ///
+    /// ```
+    /// # use net_base::storage::{FragmentBuffer, FragmentError};
+    /// # use net_base::time::Instant;
+    /// # let mut bytes = [0u8; 8];
+    /// # let mut buffer = FragmentBuffer::new(&mut bytes[..], Instant::ZERO);
+    /// buffer.add(0, b"abc")?;
+    /// assert_eq!(buffer.set_total_size(9), Err(FragmentError::TooLong));
+    /// assert_eq!(buffer.set_total_size(2), Err(FragmentError::OtherSize));
+    /// assert_eq!(buffer.set_total_size(3), Ok(()));
+    /// assert_eq!(buffer.add(3, b"d"), Err(FragmentError::OtherSize));
+    /// assert_eq!(buffer.assemble(), Some(&b"abc"[..]));
+    /// # Ok::<(), FragmentError>(())
+    /// ```
+    ///
+    /// # Errors
+    ///
+    /// It is refused, and nothing changes, exactly if the buffer has fewer bytes, which is
+    /// `TooLong`, or else if another size is known, or a byte at `size` or above has arrived, which is
+    /// `OtherSize`.
+    pub fn set_total_size(&mut self, size: usize) -> Result<(), FragmentError> {
+        self.head
+            .set_total_size(self.bytes.count(), &self.runs, size)
+    }
+
+    /// Returns the packet's size, once it is known. smoltcp has no such call.
+    #[must_use]
+    pub fn total_size(&self) -> Option<usize> {
+        self.head.total_size()
+    }
+
+    /// Returns whether one of the `len` positions from `offset` on has arrived: whether a fragment there
+    /// overlaps bytes that are present. They need not be within the buffer.
+    ///
+    /// It is asked before `add`, by callers who refuse a packet whose fragments overlap (RFC 5722). A
+    /// fragment that arrives twice overlaps too: to allow that, ask `differs`. smoltcp has no such call.
+    #[must_use]
+    pub fn overlaps(&self, offset: usize, len: usize) -> bool {
+        self.head.overlaps(&self.runs, offset, len)
+    }
+
+    /// Returns whether a byte that arrived differs from that of the fragment whose first byte is that of the packet at
+    /// `offset`. The fragment need not be within the buffer.
+    ///
+    /// It is asked before `add`, by callers who refuse a packet whose fragments disagree, and take one that
+    /// arrives twice. smoltcp has no such call.
+    ///
+    /// ```
+    /// # use net_base::storage::{FragmentBuffer, FragmentError};
+    /// # use net_base::time::Instant;
+    /// # let mut bytes = [0u8; 8];
+    /// # let mut buffer = FragmentBuffer::new(&mut bytes[..], Instant::ZERO);
+    /// buffer.add(2, b"cd")?;
+    /// assert!(!buffer.differs(2, b"cd") && !buffer.differs(0, b"abcdef"));
+    /// assert!(buffer.differs(3, b"De") && !buffer.differs(4, b"De"));
+    /// # Ok::<(), FragmentError>(())
+    /// ```
+    #[must_use]
+    pub fn differs(&self, offset: usize, data: &[u8]) -> bool {
+        let bytes = self.bytes.part(0, self.bytes.count());
+        self.head.differs(bytes, &self.runs, offset, data)
+    }
+
+    /// Shows the bytes of the packet. `None` exactly if its size is not known or one of its bytes
+    /// is missing.
+    ///
+    /// ```
+    /// # use net_base::storage::{FragmentBuffer, FragmentError};
+    /// # use net_base::time::Instant;
+    /// # let mut bytes = [0u8; 8];
+    /// # let mut buffer = FragmentBuffer::new(&mut bytes[..], Instant::ZERO);
+    /// buffer.add(0, b"abc")?;
+    /// assert_eq!(buffer.assemble(), None);
+    /// buffer.set_total_size(3)?;
+    /// assert_eq!(buffer.assemble(), Some(&b"abc"[..]));
+    /// # Ok::<(), FragmentError>(())
+    /// ```
+    #[must_use]
+    pub fn assemble(&self) -> Option<&[u8]> {
+        match self.head.complete(&self.runs) {
+            Some(size) => Some(self.bytes.part(0, size)),
+            None => None,
+        }
+    }
+
+    /// Shows the `len` bytes of the packet from `offset` on, whether the packet is whole or not. `None` exactly if
+    /// they aren't within the buffer or one of them is missing.
+    ///
+    /// A message that a packet was given up (RFC 792's "time exceeded") has its first bytes. smoltcp has no such call.
+    ///
+    /// ```
+    /// # use net_base::storage::{FragmentBuffer, FragmentError};
+    /// # use net_base::time::Instant;
+    /// # let mut bytes = [0u8; 8];
+    /// # let mut buffer = FragmentBuffer::new(&mut bytes[..], Instant::ZERO);
+    /// buffer.add(2, b"cdef")?;
+    /// assert_eq!(buffer.get(3, 2), Some(&b"de"[..]));
+    /// assert_eq!((buffer.get(1, 2), buffer.get(5, 2)), (None, None));
+    /// # Ok::<(), FragmentError>(())
+    /// ```
+    #[must_use]
+    pub fn get(&self, offset: usize, len: usize) -> Option<&[u8]> {
+        let count = self.bytes.count();
+        if offset > count || len > count - offset || !self.head.has(&self.runs, offset, len) {
+            return None;
+        }
+        Some(self.bytes.part(offset, offset + len))
+    }
+
+    /// Returns whether `now` is after the moment up to which the packet is waited for.
+    ///
+    /// ```
+    /// # use net_base::storage::FragmentBuffer;
+    /// # use net_base::time::Instant;
+    /// # let mut bytes = [0u8; 8];
+    /// let buffer = FragmentBuffer::new(&mut bytes[..], Instant::from_millis(5));
+    /// assert!(!buffer.is_expired(Instant::from_millis(5)));
+    /// assert!(buffer.is_expired(Instant::from_micros(5_001)));
+    /// ```
+    #[must_use]
+    pub fn is_expired(&self, now: Instant) -> bool {
+        self.head.is_expired(now.total_micros())
+    }
+
+    /// Starts over for another packet, which is waited for up to `expires_at`.
+    ///
+    /// ```
+    /// # use net_base::storage::{FragmentBuffer, FragmentError};
+    /// # use net_base::time::Instant;
+    /// # let mut bytes = [0u8; 8];
+    /// # let mut buffer = FragmentBuffer::new(&mut bytes[..], Instant::ZERO);
+    /// buffer.add(0, b"abc")?;
+    /// buffer.set_total_size(3)?;
+    /// buffer.reset(Instant::from_millis(5));
+    /// assert!(buffer.is_empty() && buffer.assemble().is_none());
+    /// # Ok::<(), FragmentError>(())
+    /// ```
+    pub fn reset(&mut self, expires_at: Instant) {
+        self.head.reset(expires_at.total_micros());
+    }
+}
+
+/// The last moment at which the packet is waited for.
+fn moment_of(head: &FragmentsHead) -> Instant {
+    Instant::from_micros(head.expires_at)
+}
+
+crate::rattle::error_text!(FragmentError, FragmentError::TooLong => "past the end of the buffer", FragmentError::TooManyHoles => "too many holes", FragmentError::OtherSize => "contradicts the packet's size");

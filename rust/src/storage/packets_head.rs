@@ -1,0 +1,411 @@
+// Written by tools/erase.py from crates/net_packets/src/head.rt: a change here would be lost.
+//! The head of a packet queue, which is a queue without its storages: where packets are placed, and how
+//! they are taken off.
+//!
+//! [`PacketsOver`](crate::storage::PacketsOver) places packets by the rule here. A caller that has slots and bytes
+//! elsewhere, as a program in C, calls these functions with the number of slots, or the slots, and with
+//! the number of bytes.
+//!
+//! What is `#[inline]` was chosen by counted instructions and bytes (docs/PERFORMANCE.md); no clause is about it.
+
+use crate::rattle::prelude::*;
+use crate::storage::packet_slot::PacketSlot;
+use crate::storage::RingHead;
+
+/// The head of a packet queue: the heads of its two rings.
+///
+/// A packet uses one slot, and a gap one more, before it. A head is sound for storages if its heads are
+/// sound for them, as [`is_sound`](PacketsHead::is_sound) tells. The other calls require a head that is
+/// sound for the number of slots and of bytes that they take, and leave such a head. smoltcp has no
+/// such type.
+#[repr(C)]
+#[derive(Debug, Clone, Copy)]
+pub struct PacketsHead {
+    /// The head of the ring of slots.
+    pub slots: RingHead,
+    /// The head of the ring of bytes.
+    pub bytes: RingHead,
+}
+
+/// Where a packet was placed.
+#[repr(C)]
+#[derive(Debug, Clone, Copy)]
+pub struct PacketPlace {
+    /// How many bytes are skipped before the packet: 0, or those up to the storage's end.
+    pub gap: usize,
+    /// The index of the slot of the gap. If the gap has 0 bytes, it has no slot, and this is `slot`.
+    pub gap_slot: usize,
+    /// The index of the packet's slot.
+    pub slot: usize,
+    /// The index of the packet's first byte.
+    pub from: usize,
+}
+
+/// Where the first packet is.
+#[repr(C)]
+#[derive(Debug, Clone, Copy)]
+pub struct FirstPacket {
+    /// How many bytes are skipped before the packet.
+    pub gap: usize,
+    /// The index of the packet's slot.
+    pub slot: usize,
+    /// The index of the packet's first byte.
+    pub from: usize,
+    /// How many bytes the packet has.
+    pub size: usize,
+}
+
+/// The calls that take the number of slots.
+impl PacketsHead {
+    /// Returns the head of a queue with no packets.
+    #[inline]
+    pub const fn new() -> Self {
+        PacketsHead {
+            slots: RingHead::new(),
+            bytes: RingHead::new(),
+        }
+    }
+
+    /// Returns whether the head is sound for `slot_count` slots and `capacity` bytes.
+    #[inline]
+    pub fn is_sound(self, slot_count: usize, capacity: usize) -> bool {
+        self.slots.is_sound(slot_count) && self.bytes.is_sound(capacity)
+    }
+
+    /// Returns how many bytes are skipped before a packet of `size` bytes; `None` if there are no
+    /// `size` contiguous free bytes, or no slot for the packet or its gap.
+    #[inline]
+    pub(crate) fn placement(self, slot_count: usize, capacity: usize, size: usize) -> Option<usize> {
+        let contiguous = contiguous_if_placed(self.bytes, capacity);
+        let gap = gap_for(size, contiguous, capacity - self.bytes.length);
+        if_slots(slot_count - self.slots.length, gap)
+    }
+
+    /// Appends a packet of `size` bytes, and returns where its slots and its bytes are; `None`, and
+    /// nothing changes, if [`placement`](PacketsHead::placement) returns that.
+    ///
+    /// An empty queue begins at the storage's beginning. The caller writes the size of the gap, if
+    /// it has a slot, and size and header of the packet to their slots.
+    #[inline]
+    pub(crate) fn place(
+        &mut self,
+        slot_count: usize,
+        capacity: usize,
+        size: usize,
+    ) -> Option<PacketPlace> {
+        let gap = self.placement(slot_count, capacity, size)?;
+        let used = slots_for(gap);
+        let gap_slot = self.slots.index(slot_count, self.slots.length);
+        prove!(
+            self.slots.length + (used - 1) <= slot_count,
+            "in any `usize`"
+        );
+        let slot = self.slots.index(slot_count, self.slots.length + (used - 1));
+        self.slots.enqueue(slot_count, used);
+        self.bytes.rewind_if_empty();
+        prove!(self.bytes.length + gap <= capacity, "in any `usize`");
+        let from = self.bytes.index(capacity, self.bytes.length + gap);
+        prove!(gap + size <= capacity, "in any `usize`");
+        self.bytes.enqueue(capacity, gap + size);
+        Some(PacketPlace {
+            gap,
+            gap_slot,
+            slot,
+            from,
+        })
+    }
+
+    /// Takes the first slot and its `size` bytes off, and returns the index of the first of these
+    /// bytes: of a gap before the first packet, or of the first packet.
+    ///
+    /// # Requires
+    ///
+    /// The head is sound, a slot is used, and at least `size` bytes are.
+    #[inline]
+    pub(crate) fn take(&mut self, slot_count: usize, capacity: usize, size: usize) -> usize {
+        let from = self.bytes.read_at;
+        self.slots.dequeue(slot_count, 1);
+        self.bytes.dequeue(capacity, size);
+        from
+    }
+
+    /// Takes the last `count` bytes off the last packet, after a closure or another program wrote
+    /// fewer bytes than were placed. The caller lowers the size in the packet's slot.
+    ///
+    /// # Requires
+    ///
+    /// At least `count` bytes are used.
+    #[inline]
+    pub(crate) fn shorten_last(&mut self, count: usize) {
+        self.bytes.drop_last(count);
+    }
+}
+
+/// The calls that take slots without headers, as a slice or one of them.
+impl PacketsHead {
+    /// Returns whether head and slots are those of a queue over `capacity` bytes: the numbers are
+    /// those of a ring of the slots and of one of the bytes; the packets and gaps of the slots in
+    /// use take the bytes in use; each packet is contiguous; and a gap has bytes, ends at the
+    /// storage's end and has a packet after it. It looks at each slot in use.
+    pub fn has_sound_slots(self, slots: &[PacketSlot], capacity: usize) -> bool {
+        if !self.is_sound(slots.len(), capacity) {
+            return false;
+        }
+        let mut done = Progress { offset: 0, gap: 0 };
+        for k in 0..self.slots.length {
+            let slot = &slots[self.slots.index(slots.len(), k)];
+            let Some(next) = self.progress(capacity, done, slot) else {
+                return false;
+            };
+            done = next;
+        }
+        done.gap == 0 && done.offset == self.bytes.length
+    }
+
+    /// Returns how far the test has come after a slot, if that can follow. A gap can't follow a gap, has bytes, and
+    /// ends at the storage's end; a packet ends there or before.
+    #[inline]
+    fn progress(self, capacity: usize, done: Progress, slot: &PacketSlot) -> Option<Progress> {
+        if slot.size > self.bytes.length - done.offset - done.gap {
+            return None;
+        }
+        prove!(
+            done.offset + done.gap <= self.bytes.length,
+            "in any `usize`"
+        );
+        let from = self.bytes.index(capacity, done.offset + done.gap);
+        if slot.size > capacity - from {
+            return None;
+        }
+        if slot.is_gap == 0 {
+            prove!(
+                done.offset + done.gap + slot.size <= self.bytes.length,
+                "in any `usize`"
+            );
+            return Some(Progress {
+                offset: done.offset + done.gap + slot.size,
+                gap: 0,
+            });
+        }
+        if done.gap > 0 || slot.size == 0 || slot.size < capacity - from {
+            return None;
+        }
+        Some(Progress {
+            offset: done.offset,
+            gap: slot.size,
+        })
+    }
+
+    /// Returns whether `first` can be the first slot in use: its bytes are used and contiguous, and
+    /// a gap has some and ends at the storage's end.
+    #[inline]
+    pub fn can_take(self, slot_count: usize, capacity: usize, first: &PacketSlot) -> bool {
+        let to_end = capacity - self.bytes.read_at;
+        let fits = self.slots.length > 0 && first.size <= self.bytes.length && first.size <= to_end;
+        fits && (first.is_gap == 0 || (first.size > 0 && first.size == to_end))
+    }
+
+    /// Takes the first slot in use, `first`, off with its bytes, and returns the index of the first of
+    /// these bytes: of the gap before the first packet, or of the first packet.
+    ///
+    /// # Requires
+    ///
+    /// The head is sound, and [`can_take`](PacketsHead::can_take) returns true.
+    #[inline]
+    pub fn take_slot(&mut self, slot_count: usize, capacity: usize, first: &PacketSlot) -> usize {
+        self.take(slot_count, capacity, first.size)
+    }
+
+    /// Returns whether `last` can be the slot of the last packet, and has at least `count` bytes.
+    #[inline]
+    fn can_shorten(self, last: &PacketSlot, count: usize) -> bool {
+        self.slots.length > 0
+            && last.is_gap == 0
+            && last.size <= self.bytes.length
+            && count <= last.size
+    }
+
+    /// Takes the last `count` bytes off the last packet, whose slot is `last`, and lowers the size
+    /// there.
+    #[inline]
+    fn shorten_slot(&mut self, last: &mut PacketSlot, count: usize) {
+        self.shorten_last(count);
+        last.size -= count;
+    }
+
+    /// Takes the last `count` bytes off the last packet, lowers the size in its slot, and returns
+    /// true. It is for a caller that wrote fewer bytes than it placed.
+    ///
+    /// Returns false, and changes nothing, if no slot is in use, if the last one is a gap's, or if
+    /// its size is below `count` or above the number of bytes in use.
+    #[inline]
+    pub fn shorten_last_in(
+        &mut self,
+        slots: &mut [PacketSlot],
+        capacity: usize,
+        count: usize,
+    ) -> bool {
+        if self.slots.length == 0 {
+            return false;
+        }
+        let last = self.slots.index(slots.len(), self.slots.length - 1);
+        if !self.can_shorten(&slots[last], count) {
+            return false;
+        }
+        self.shorten_slot(&mut slots[last], count);
+        true
+    }
+
+    /// Appends a packet of `size` bytes as [`place`](PacketsHead::place) does, and writes its slots.
+    #[inline]
+    pub fn enqueue(
+        &mut self,
+        slots: &mut [PacketSlot],
+        capacity: usize,
+        size: usize,
+    ) -> Option<PacketPlace> {
+        let place = self.place(slots.len(), capacity, size)?;
+        write_slots(slots, place, size);
+        Some(place)
+    }
+
+    /// Takes the first packet off, and the gap before it, and returns where it is.
+    ///
+    /// `None`, and nothing changes, if no slot is in use, or the first ones can't be those of a
+    /// packet.
+    #[inline]
+    pub fn dequeue(&mut self, slots: &[PacketSlot], capacity: usize) -> Option<FirstPacket> {
+        self.take_first(slots, capacity)
+    }
+
+    /// Returns where the first packet is.
+    ///
+    /// `None` if no slot is in use, or the first ones can't be those of a packet.
+    #[inline]
+    pub fn peek(self, slots: &[PacketSlot], capacity: usize) -> Option<FirstPacket> {
+        let mut head = self;
+        head.dequeue(slots, capacity)
+    }
+
+    /// Takes the first packet off, and the gap before it, and returns where it is.
+    #[inline]
+    fn take_first(&mut self, slots: &[PacketSlot], capacity: usize) -> Option<FirstPacket> {
+        let mut head = *self;
+        let gap = head.skip_gap(slots, capacity)?;
+        let packet = head.take_packet(slots, capacity, gap)?;
+        *self = head;
+        Some(packet)
+    }
+
+    /// Takes the gap before the first packet off, if there is one, and returns how many bytes it
+    /// has. `None`, and nothing changes, if no slot is in use, or the first one can't be a gap's.
+    #[inline]
+    fn skip_gap(&mut self, slots: &[PacketSlot], capacity: usize) -> Option<usize> {
+        if self.slots.length == 0 {
+            return None;
+        }
+        let first = &slots[self.slots.read_at];
+        if first.is_gap == 0 {
+            return Some(0);
+        }
+        if !self.can_take(slots.len(), capacity, first) {
+            return None;
+        }
+        self.take_slot(slots.len(), capacity, first);
+        Some(first.size)
+    }
+
+    /// Takes the first packet off, after a gap of `gap` bytes that is gone, and returns where it is.
+    #[inline]
+    fn take_packet(
+        &mut self,
+        slots: &[PacketSlot],
+        capacity: usize,
+        gap: usize,
+    ) -> Option<FirstPacket> {
+        if self.slots.length == 0 {
+            return None;
+        }
+        let slot = self.slots.read_at;
+        let first = &slots[slot];
+        if first.is_gap != 0 || !self.can_take(slots.len(), capacity, first) {
+            return None;
+        }
+        let from = self.take_slot(slots.len(), capacity, first);
+        Some(FirstPacket {
+            gap,
+            slot,
+            from,
+            size: first.size,
+        })
+    }
+}
+
+/// Returns how many free bytes are contiguous for a packet that is placed. In an empty ring all are
+/// contiguous, since it is then read from the storage's beginning.
+#[inline]
+fn contiguous_if_placed(bytes: RingHead, capacity: usize) -> usize {
+    if bytes.length == 0 {
+        capacity
+    } else {
+        bytes.contiguous_window(capacity)
+    }
+}
+
+/// Returns the gap before a packet of `size` bytes, if `window` bytes are free, of which the first
+/// `contiguous` are contiguous; `None` if it does not fit.
+#[inline]
+fn gap_for(size: usize, contiguous: usize, window: usize) -> Option<usize> {
+    // `p` are the bytes of the packet, `x` and `y` those of others, and `-` the gap.
+    if size <= contiguous {
+        // [ . . . x x x y y p p . ]
+        Some(0)
+    } else if size <= window - contiguous {
+        // [ p p p x x x y y - - - ]
+        Some(contiguous)
+    } else {
+        // [ . . . x x x y y . . . ]    four bytes have no room
+        None
+    }
+}
+
+/// Returns how many slots a packet after a gap of `gap` bytes uses.
+#[inline]
+pub(crate) fn slots_for(gap: usize) -> usize {
+    if gap == 0 { 1 } else { 2 }
+}
+
+/// Returns the gap, if `free` slots are enough for it and its packet.
+#[inline]
+fn if_slots(free: usize, gap: Option<usize>) -> Option<usize> {
+    match gap {
+        Some(gap) => {
+            if slots_for(gap) <= free {
+                Some(gap)
+            } else {
+                None
+            }
+        }
+        None => None,
+    }
+}
+
+/// Writes the slots of a packet of `size` bytes and of its gap, if that has one.
+#[inline]
+fn write_slots(slots: &mut [PacketSlot], place: PacketPlace, size: usize) {
+    if place.gap > 0 {
+        slots[place.gap_slot] = PacketSlot {
+            size: place.gap,
+            is_gap: 1,
+        };
+    }
+    slots[place.slot] = PacketSlot { size, is_gap: 0 };
+}
+
+/// How far a test of the slots has come: packets and their gaps before it take `offset` bytes, and a
+/// gap of `gap` bytes follows them, if that isn't 0.
+#[derive(Debug, Clone, Copy)]
+struct Progress {
+    offset: usize,
+    gap: usize,
+}

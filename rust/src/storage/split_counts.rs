@@ -1,0 +1,239 @@
+// Written by tools/erase.py from crates/net_split_ring/src/split_counts.rt: a change here would be lost.
+//! A ring of which each end has a count of its own: an interrupt and a program, or two threads, use it without a lock.
+
+use crate::rattle::prelude::*;
+use crate::storage::width::most;
+use crate::storage::{RingHead, Span};
+
+/// The two counts of a ring, as one of its ends knows them: its own, and the other's as it last loaded it.
+///
+/// Each end alone stores its own count: the end that writes elements stores `written`, and the end that reads them
+/// `taken`. Both are 0 at first. A count stays below twice the capacity and begins at 0 again there, so that a full
+/// ring isn't taken for an empty one, and the capacity is any number up to half of the greatest `usize`.
+///
+/// What an end loaded of the other's count may be old: then the end knows of less room, or of fewer elements, than
+/// there are, and of none that isn't there. It may not be older than what it loaded before.
+///
+/// The order of memory is the caller's: an end loads the other's count by `Ordering::Acquire`, and stores its own by
+/// `Ordering::Release` once it has written or read the elements. Between an interrupt and what it interrupts on one
+/// processor, `Relaxed` and `compiler_fence` are enough. smoltcp has no such ring.
+///
+/// ```
+/// use net_base::storage::SplitCounts;
+///
+/// let mut storage = [0; 4];
+/// // The end that writes has room for four bytes, and writes two.
+/// let lent = SplitCounts::new().free(4, 2);
+/// storage[lent.span.from..][..lent.span.count].copy_from_slice(b"ab");
+/// let written = lent.next;
+/// // The end that reads loads that count, and finds them.
+/// let lent = SplitCounts { written, taken: 0 }.queued(4, 4);
+/// assert_eq!(&storage[lent.span.from..][..lent.span.count], b"ab");
+/// let taken = lent.next;
+/// // Until the end that writes loads that one, it has room for two more.
+/// assert_eq!(SplitCounts { written, taken: 0 }.free(4, 4).span.count, 2);
+/// assert_eq!(SplitCounts { written, taken }.free(4, 4).span.count, 4);
+/// ```
+///
+/// Contracts: `crates/net_split_ring/src/split_counts.rt`.
+#[repr(C)]
+#[derive(Debug, Clone, Copy)]
+pub struct SplitCounts {
+    /// How many elements were written, modulo twice the capacity.
+    pub written: usize,
+    /// How many elements were taken, modulo twice the capacity.
+    pub taken: usize,
+}
+
+/// The elements that one end may write or read, and its count after them. An end that wrote or read fewer of them
+/// stores the count that it gets for so many, by the same counts.
+///
+/// Contracts: `crates/net_split_ring/src/split_counts.rt`.
+#[repr(C)]
+#[derive(Debug, Clone, Copy)]
+pub struct SplitSpan {
+    /// Where they are.
+    pub span: Span,
+    /// The count that the end stores once it has written or read them.
+    pub next: usize,
+}
+
+impl SplitCounts {
+    /// Returns the counts of an empty ring.
+    #[inline]
+    #[must_use]
+    pub const fn new() -> Self {
+        SplitCounts {
+            written: 0,
+            taken: 0,
+        }
+    }
+
+    /// Returns whether the counts are those of a ring of `capacity` elements: twice the capacity is a `usize`, each
+    /// count is below it, or 0, and at most `capacity` elements were written and not taken.
+    #[inline(always)]
+    #[must_use]
+    pub fn is_sound(self, capacity: usize) -> bool {
+        if capacity > most() / 2 {
+            return false;
+        }
+        is_count(capacity, self.written)
+            && is_count(capacity, self.taken)
+            && distance(capacity, self.taken, self.written) <= capacity
+    }
+
+    /// Returns the head of the ring as this end knows it.
+    #[inline]
+    fn head(self, capacity: usize) -> RingHead {
+        RingHead {
+            read_at: index(capacity, self.taken),
+            length: distance(capacity, self.taken, self.written),
+        }
+    }
+
+    /// Returns where the end that writes may write at most `size` elements, and the count to store once it has.
+    ///
+    /// # Panics
+    ///
+    /// Panics unless the counts are those of a ring of `capacity` elements, as `is_sound` tests.
+    #[inline(always)]
+    #[track_caller]
+    #[must_use]
+    pub fn free(self, capacity: usize, size: usize) -> SplitSpan {
+        prove!(
+            self.is_sound(capacity),
+            "the counts are not those of such a ring"
+        );
+        let room = capacity - distance(capacity, self.taken, self.written);
+        span(capacity, self.written, room.min(size))
+    }
+
+    /// Returns where the end that reads finds at most `size` elements, and the count to store once it has read them.
+    ///
+    /// # Panics
+    ///
+    /// Panics unless the counts are those of a ring of `capacity` elements, as `is_sound` tests.
+    #[inline(always)]
+    #[track_caller]
+    #[must_use]
+    pub fn queued(self, capacity: usize, size: usize) -> SplitSpan {
+        prove!(
+            self.is_sound(capacity),
+            "the counts are not those of such a ring"
+        );
+        let length = distance(capacity, self.taken, self.written);
+        span(capacity, self.taken, length.min(size))
+    }
+
+    /// Writes as many elements of `data` as there is room for, and returns the count to store: the steps of the end
+    /// that writes, where nothing else uses the storage meanwhile.
+    ///
+    /// # Panics
+    ///
+    /// Panics unless the counts are those of a ring of as many elements as the storage has, as
+    /// `is_sound` tests.
+    #[inline]
+    #[track_caller]
+    #[must_use]
+    pub fn write<T: Copy>(self, storage: &mut [T], data: &[T]) -> usize {
+        prove!(
+            self.is_sound(storage.len()),
+            "the counts are not those of such a ring"
+        );
+        let count = self.head(storage.len()).write_unallocated(storage, 0, data);
+        after(storage.len(), self.written, count)
+    }
+
+    /// Copies as many elements as there are and `into` has room for to its beginning, and returns the count to store:
+    /// the step of the end that reads. The rest of `into` stays as it is.
+    ///
+    /// # Panics
+    ///
+    /// Panics unless the counts are those of a ring of as many elements as the storage has, as
+    /// `is_sound` tests.
+    #[inline]
+    #[track_caller]
+    #[must_use]
+    pub fn read<T: Copy>(self, storage: &[T], into: &mut [T]) -> usize {
+        prove!(
+            self.is_sound(storage.len()),
+            "the counts are not those of such a ring"
+        );
+        let count = self.head(storage.len()).read_allocated(storage, 0, into);
+        after(storage.len(), self.taken, count)
+    }
+}
+
+/// Returns where as many elements are as are counted after a count, and the count after them.
+#[inline(always)]
+fn span(capacity: usize, at: usize, count: usize) -> SplitSpan {
+    let round = round(capacity);
+    if at < capacity {
+        let next = at + count;
+        prove!(next <= round, "in any `usize`");
+        let contiguous = count.min(capacity - at);
+        return SplitSpan {
+            span: Span {
+                from: at,
+                count,
+                contiguous,
+            },
+            next,
+        };
+    }
+    SplitSpan {
+        span: Span {
+            from: at - capacity,
+            count,
+            contiguous: count.min(round - at),
+        },
+        next: after(capacity, at, count),
+    }
+}
+
+/// Returns the index in the storage of the element after a count.
+#[inline(always)]
+fn index(capacity: usize, count: usize) -> usize {
+    if count < capacity {
+        count
+    } else {
+        count - capacity
+    }
+}
+
+/// Returns twice the capacity, where counts begin at 0 again.
+#[inline(always)]
+fn round(capacity: usize) -> usize {
+    let round = capacity + capacity;
+    prove!(round <= most(), "in any `usize`");
+    round
+}
+
+/// Returns whether a count is below twice the capacity, or 0.
+#[inline(always)]
+fn is_count(capacity: usize, count: usize) -> bool {
+    count < round(capacity) || count == 0
+}
+
+/// Returns how far the count `to` is ahead of `from`.
+#[inline(always)]
+fn distance(capacity: usize, from: usize, to: usize) -> usize {
+    if from <= to {
+        to - from
+    } else {
+        round(capacity) - (from - to)
+    }
+}
+
+/// Returns the count `n` elements after `count`.
+#[inline(always)]
+fn after(capacity: usize, count: usize, n: usize) -> usize {
+    let round = round(capacity);
+    let to_end = round - count;
+    if n < to_end {
+        prove!(count + n <= round, "in any `usize`");
+        count + n
+    } else {
+        n - to_end
+    }
+}

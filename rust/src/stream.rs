@@ -1,0 +1,51 @@
+//! A stream of bytes: what receives it, what sends it, and what is lost on the way. Public are [`crate::receiver`],
+//! [`crate::sender`], [`crate::finite`], [`crate::scoreboard`] and [`crate::sequence_number`], and loss recovery in [`crate::tcp`].
+erased! {
+    pub(crate) mod duplicate_block;
+    pub(crate) mod equal_acknowledgement;
+    pub(crate) mod finite_receiver;
+    pub(crate) mod finite_receiver_head;
+    pub(crate) mod finite_sender;
+    pub(crate) mod finite_sender_head;
+    pub(crate) mod held_runs;
+    pub(crate) mod kept;
+    pub(crate) mod laws;
+    pub(crate) mod loss_recovery;
+    pub(crate) mod numbering;
+    pub(crate) mod plan;
+    pub(crate) mod receiver;
+    pub(crate) mod receiver_head;
+    pub(crate) mod scoreboard;
+    pub(crate) mod scoreboard_head;
+    pub(crate) mod sender;
+    pub(crate) mod sender_head;
+    pub(crate) mod sent_numbers;
+    pub(crate) mod sequence_number;
+}
+
+pub use duplicate_block::is_duplicate_block;
+pub use equal_acknowledgement::is_equal_acknowledgement;
+pub use finite_receiver::{FiniteReceiver, FiniteReceiverOver};
+pub use finite_sender::{FiniteSender, FiniteSenderOver};
+pub use held_runs::{HeldRunIter, HeldRuns, MissingRunIter, NewestRunIter};
+pub use kept::{FiniteError, Kept, KeptBytes, SegmentParts};
+pub use loss_recovery::{Answer, LossRecovery, RecoveryParts};
+pub use numbering::Numbering;
+pub use plan::Plan;
+pub use receiver::{Receiver, ReceiverOver};
+pub use scoreboard::Scoreboard;
+pub use scoreboard_head::ReportError;
+pub use sender::{Sender, SenderOver};
+pub use sent_numbers::SentNumbers;
+pub use sequence_number::SequenceNumber;
+
+// Names for other modules, and those for the exports alone.
+#[cfg(feature = "c")]
+pub(crate) use finite_receiver_head::FiniteReceiverHead;
+#[cfg(feature = "c")]
+pub(crate) use finite_sender_head::FiniteSenderHead;
+#[cfg(feature = "c")]
+pub(crate) use held_runs::HeldRun;
+#[cfg(feature = "c")]
+pub(crate) use receiver_head::ReceiverHead;
+pub(crate) use scoreboard_head::ScoreboardHead;

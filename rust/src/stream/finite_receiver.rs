@@ -1,0 +1,360 @@
+// Written by tools/erase.py from crates/net_receiver/src/finite_receiver.rt: a change here would be lost.
+//! A receiver of a stream that ends.
+
+use crate::rattle::prelude::*;
+use crate::stream::finite_receiver_head::{
+    NO_END, acknowledged, count_below, end_or_max, is_reached, number_after,
+};
+use crate::stream::kept::{FiniteError, KeptBytes, SegmentParts};
+use crate::stream::receiver::ReceiverOver;
+use crate::storage::{ManagedSlice, Storage};
+
+/// A [`FiniteReceiver`] over any storage.
+///
+/// It is a `Receiver` that knows where the stream ends, once a segment has said so. The end is the
+/// position after the last byte. It has a number, as a byte has (that of TCP's FIN), and needs no room.
+/// Segments may arrive in any order, the last one too. `receiver` lends the receiver of the bytes, for
+/// all that isn't about the end: how many are queued, a look at them, the window, the held runs. The
+/// list of held runs doesn't show an end that came early, so its sender sends it again.
+///
+/// Contracts: `crates/net_receiver/src/finite_receiver.rt`.
+#[derive(Clone)]
+pub struct FiniteReceiverOver<S: Storage<u8>, const N: usize> {
+    // Invariant: the first missing position and the end of each held run are at most the end, and below
+    // `u64::MAX`, so that an end there has a number after it.
+    receiver: ReceiverOver<S, N>,
+    // The number after the end's, or 0 while the end isn't known.
+    after_end: u64,
+}
+
+/// A receiver of one stream of bytes that ends, over storage that is lent or owned. Its calls are those
+/// of [`FiniteReceiverOver`].
+pub type FiniteReceiver<'a, const N: usize = ASSEMBLER_MAX_SEGMENT_COUNT> = FiniteReceiverOver<ManagedSlice<'a, u8>, N>;
+
+impl<S: Storage<u8>, const N: usize> FiniteReceiverOver<S, N> {
+    /// Returns a receiver of a stream that begins at position 0: `over_at` with 0.
+    ///
+    /// A program in which `N` is 0 does not compile.
+    #[must_use]
+    pub const fn over(storage: S) -> Self {
+        prove!(N >= 1, "N is at least 1");
+        Self::over_at(storage, 0)
+    }
+
+    /// Returns a receiver of a stream that begins at position `first`; nothing has arrived.
+    ///
+    /// A program in which `N` is 0 does not compile.
+    ///
+    /// # Panics
+    ///
+    /// Panics unless `first` is below `u64::MAX`: an end there would have no number after it.
+    #[must_use]
+    #[track_caller]
+    pub const fn over_at(storage: S, first: u64) -> Self {
+        prove!(N >= 1, "N is at least 1");
+        prove!(first < u64::MAX, "no number is left for an end");
+        FiniteReceiverOver {
+            receiver: ReceiverOver::over_at(storage, first),
+            after_end: 0,
+        }
+    }
+
+    /// Returns the storage. Its bytes can be any.
+    #[must_use]
+    pub fn into_storage(self) -> S {
+        let FiniteReceiverOver {
+            receiver,
+            after_end: _,
+        } = self;
+        receiver.into_storage()
+    }
+
+    /// Lends the receiver of the bytes, for reading. Bytes are kept and read by the calls of this type
+    /// alone, so none is kept after the end.
+    ///
+    /// ```
+    /// # use net_base::finite::FiniteReceiver;
+    /// # let mut storage = [0u8; 16];
+    /// # let mut receiver = FiniteReceiver::<4>::empty_at(&mut storage[..], 0);
+    /// assert!(receiver.keep(0, b"abc", true).is_ok());
+    /// assert_eq!((receiver.receiver().queued(), receiver.receiver().window()), (3, 13));
+    /// ```
+    #[must_use]
+    pub fn receiver(&self) -> &ReceiverOver<S, N> {
+        &self.receiver
+    }
+
+    /// Begins again over the same storage: a receiver of a stream that begins at position `first`;
+    /// nothing has arrived.
+    ///
+    /// # Panics
+    ///
+    /// Panics unless `first` is below `u64::MAX`: an end there would have no number after it.
+    #[track_caller]
+    pub fn reset_at(&mut self, first: u64) {
+        prove!(first < u64::MAX, "no number is left for an end");
+        self.receiver.reset_at(first);
+        self.after_end = 0;
+    }
+
+    /// Returns whether the stream can end at a position: it is the end that is known, or none is, and it
+    /// isn't below the first missing position or a held run's end. No stream ends at `u64::MAX`, which
+    /// has no number after it.
+    #[must_use]
+    pub fn can_end(&self, pos: u64) -> bool {
+        match self.end() {
+            Some(end) => pos == end,
+            None => pos < NO_END && self.receiver.has_all_below(pos),
+        }
+    }
+
+    /// Keeps the bytes of a segment that are in the free window and below the end, as
+    /// `ReceiverOver::keep` does. `is_last` says that the stream ends after the segment. Any segment may
+    /// arrive: bytes after which an end has no number, which no stream has, are left out.
+    ///
+    /// The end is taken if it is at most the end of the free window. An end beyond that is left out, as
+    /// the bytes there are, and the sender sends it again. An end without bytes at the first missing
+    /// position is taken even if nothing is free.
+    ///
+    /// An end in order is never refused: that of a last segment which begins at or below the first missing
+    /// position, and ends at or above it and within the free window, while something is missing. What was held
+    /// beyond the queue goes then, and so does an end that was known and isn't reached: a peer's true end is
+    /// taken, whatever came before it. TCP wants that. A QUIC stream has one final size, so its receiver asks
+    /// `can_end` first.
+    ///
+    /// ```
+    /// # use net_base::finite::{FiniteError, FiniteReceiver};
+    /// # let mut storage = [0u8; 16];
+    /// # let mut receiver = FiniteReceiver::<4>::empty_at(&mut storage[..], 0);
+    /// assert!(receiver.keep(0, b"abc", false).is_ok());
+    /// assert!(receiver.keep(9, b"forged", true).is_ok());
+    /// assert_eq!(receiver.keep(4, b"e", true), Err(FiniteError::OtherEnd));
+    /// assert!(receiver.keep(3, b"d", true).is_ok());
+    /// assert_eq!((receiver.end(), receiver.is_complete()), (Some(4), true));
+    /// ```
+    ///
+    /// # Errors
+    ///
+    /// `OtherEnd` if the segment says that the stream ends where it can't (`can_end`), and not in order; else
+    /// `TooManyHoles` if its bytes are refused. Then nothing changes.
+    ///
+    /// # [Guarantees](crate#guarantees)
+    ///
+    /// - if `is_last` and `ends_in_order(old(self), pos, pos + bytes.len())`, then `result.is_ok()`
+    /// - `old(self).acknowledged() <= self.acknowledged()`
+    pub fn keep(&mut self, pos: u64, bytes: &[u8], is_last: bool) -> Result<KeptBytes, FiniteError> {
+        // A sum above 64 bits becomes `u64::MAX`, where no stream ends.
+        let last = pos.saturating_add(bytes.len() as u64);
+        if is_last && self.ends_in_order(pos, last) {
+            self.keep_queue_alone();
+        }
+        self.keep_usual(pos, bytes, is_last)
+    }
+
+    /// Returns whether a last segment from `pos` to `last` ends the stream in order, while something is
+    /// missing.
+    #[inline]
+    fn ends_in_order(&self, pos: u64, last: u64) -> bool {
+        let next = self.receiver.next();
+        pos <= next
+            && next <= last
+            && is_reached(next, self.receiver.window(), last)
+            && last < NO_END
+            && !self.is_complete()
+    }
+
+    /// Lets go of what is held, and of the end.
+    #[inline]
+    fn keep_queue_alone(&mut self) {
+        self.receiver.release_held();
+        self.after_end = 0;
+    }
+
+    /// Keeps a segment by what the receiver has.
+    fn keep_usual(
+        &mut self,
+        pos: u64,
+        bytes: &[u8],
+        is_last: bool,
+    ) -> Result<KeptBytes, FiniteError> {
+        // A sum above 64 bits becomes `u64::MAX`, which `can_end` refuses.
+        let last = pos.saturating_add(bytes.len() as u64);
+        if is_last && !self.can_end(last) {
+            return Err(FiniteError::OtherEnd);
+        }
+        let after_end = self.after_end_with(last, is_last);
+        let count = count_below(self.after_end, pos, bytes.len());
+        match self.receiver.keep_part(pos, &bytes[..count]) {
+            Ok(kept) => {
+                self.after_end = after_end;
+                Ok(kept)
+            }
+            Err(_) => Err(FiniteError::TooManyHoles),
+        }
+    }
+
+    /// Returns `after_end` after a segment that ends at `last`.
+    #[inline]
+    fn after_end_with(&self, last: u64, is_last: bool) -> u64 {
+        if is_last && is_reached(self.receiver.next(), self.receiver.window(), last) {
+            number_after(last)
+        } else {
+            self.after_end
+        }
+    }
+
+    /// Moves bytes from the head of the queue to the beginning of `into`, and returns how many: as
+    /// many as are queued and as `into` has room for. The rest of `into` stays as it is.
+    ///
+    /// # [Guarantees](crate#guarantees)
+    ///
+    /// - `result == min(into.len(), old(self).queue.len())`
+    /// - `into == old(self).queue[..into.len()] ++ old(into)[old(self).queue.len()..]`
+    pub fn read(&mut self, into: &mut [u8]) -> usize {
+        self.receiver.read(into)
+    }
+
+    /// Calls `f` on the first part of the queue, as `ReceiverOver::as_slices` shows it, takes as many
+    /// bytes off the queue as `f` counts, and returns what `f` returned. The part is empty only if the
+    /// queue is.
+    ///
+    /// ```
+    /// # use net_base::finite::FiniteReceiver;
+    /// # let mut storage = [0u8; 16];
+    /// # let mut receiver = FiniteReceiver::<4>::empty_at(&mut storage[..], 0);
+    /// assert!(receiver.keep(0, b"abc", true).is_ok());
+    /// assert_eq!(receiver.read_with(|bytes| (2, bytes.len())), (2, 3));
+    /// assert_eq!((receiver.receiver().queued(), receiver.has_read_all()), (1, false));
+    /// ```
+    ///
+    /// # Panics
+    ///
+    /// Panics unless `f` takes that part, and counts no more bytes than it is lent.
+    #[track_caller]
+    pub fn read_with<R, F: FnOnce(&[u8]) -> (usize, R)>(&mut self, f: F) -> (usize, R) {
+        let part = self.receiver.first_slice();
+        let lent = part.len();
+        let answer = f(part);
+        prove!(answer.0 <= lent, "more bytes than were lent");
+        self.receiver.remove_part(answer.0);
+        answer
+    }
+
+    /// Takes the first `count` bytes off the queue and copies none, as `ReceiverOver::remove` does.
+    ///
+    /// # Panics
+    ///
+    /// Panics unless at least `count` bytes are queued.
+    #[track_caller]
+    pub fn remove(&mut self, count: usize) {
+        prove!(
+            count <= self.receiver().queued(),
+            "more bytes than are queued"
+        );
+        self.receiver.remove_part(count);
+    }
+
+    /// Returns the position after the last byte, once it is known.
+    #[must_use]
+    pub fn end(&self) -> Option<u64> {
+        self.after_end.checked_sub(1)
+    }
+
+    /// Returns whether all bytes and the end have arrived. Once it is so it stays so, until `reset_at`.
+    #[must_use]
+    pub fn is_complete(&self) -> bool {
+        self.receiver.next() == end_or_max(self.after_end)
+    }
+
+    /// Returns the number that an acknowledgement carries: the first missing position, or, once all
+    /// bytes and the end have arrived, the end plus 1, since the end has a number.
+    #[must_use]
+    pub fn acknowledged(&self) -> u64 {
+        acknowledged(self.receiver.next(), self.after_end)
+    }
+
+    /// Returns whether all bytes were read, up to the end. Once it is so it stays so, until `reset_at`.
+    #[must_use]
+    pub fn has_read_all(&self) -> bool {
+        self.receiver.first_unread() == end_or_max(self.after_end)
+    }
+
+    /// Returns the end of the window to announce: that of the free window, or `acknowledged` if that is
+    /// greater, as where the end is acknowledged and the storage is full. `None` if the free window's end
+    /// doesn't fit 64 bits.
+    ///
+    /// ```
+    /// # use net_base::finite::FiniteReceiver;
+    /// # let mut storage = [0u8; 3];
+    /// # let mut receiver = FiniteReceiver::<4>::empty_at(&mut storage[..], 0);
+    /// assert!(receiver.keep(0, b"abc", false).is_ok());
+    /// assert_eq!((receiver.acknowledged(), receiver.window_end()), (3, Some(3)));
+    /// assert!(receiver.keep(3, b"", true).is_ok());
+    /// assert_eq!((receiver.acknowledged(), receiver.window_end()), (4, Some(4)));
+    /// ```
+    #[must_use]
+    pub fn window_end(&self) -> Option<u64> {
+        let end = self.receiver.window_end()?;
+        Some(end.max(self.acknowledged()))
+    }
+
+    /// Returns whether a byte that is queued or held differs from that of the segment at its position, as
+    /// `ReceiverOver::differs` does. Neither bytes that were read are compared, nor those past the end.
+    ///
+    /// ```
+    /// # use net_base::finite::FiniteReceiver;
+    /// # let mut storage = [0u8; 16];
+    /// # let mut receiver = FiniteReceiver::<4>::empty_at(&mut storage[..], 0);
+    /// assert!(receiver.keep(1, b"bc", true).is_ok());
+    /// assert!(receiver.differs(0, b"aB") && !receiver.differs(0, b"abcd"));
+    /// ```
+    #[must_use]
+    pub fn differs(&self, pos: u64, bytes: &[u8]) -> bool {
+        self.receiver.differs(pos, bytes)
+    }
+
+    /// Returns where the bytes of a segment of `len` bytes at `pos` are, as `ReceiverOver::parts_of` does. Bytes at
+    /// the end or above it are counted as `past_end` alone. While no end is known, that counts bytes which leave no
+    /// number for an end after them: no stream has such.
+    ///
+    /// It is asked before the segment is kept, by callers who refuse a peer that sends bytes past the end, as
+    /// QUIC's do, or past the free window.
+    ///
+    /// ```
+    /// # use net_base::finite::FiniteReceiver;
+    /// # let mut storage = [0u8; 8];
+    /// # let mut receiver = FiniteReceiver::<4>::empty_at(&mut storage[..], 0);
+    /// assert!(receiver.keep(3, b"d", true).is_ok());
+    /// let parts = receiver.parts_of(2, 9);
+    /// assert_eq!((parts.in_window, parts.beyond, parts.past_end), (2, 0, 7));
+    /// ```
+    ///
+    /// # [Guarantees](crate#guarantees)
+    ///
+    /// - `old(result) + result.in_window + result.beyond + result.past_end == len`
+    #[must_use]
+    pub fn parts_of(&self, pos: u64, len: usize) -> SegmentParts {
+        let below = count_below(self.after_end, pos, len);
+        SegmentParts {
+            past_end: len - below,
+            ..self.receiver.parts_of(pos, below)
+        }
+    }
+
+    /// Returns how many bytes of a segment of `len` bytes at `position` would be new: those in the
+    /// free window and below the end whose positions are not held. Positions that leave no number for an end
+    /// after them, which no stream has, aren't counted.
+    #[must_use]
+    pub fn count_new(&self, position: u64, len: usize) -> usize {
+        let count = count_below(self.after_end, position, len);
+        self.receiver.count_part(position, count)
+    }
+
+    /// Returns whether two receivers of a stream that ends are equal in first position, count of
+    /// bytes read, queued bytes, held runs and end.
+    #[must_use]
+    pub fn same_state<O: Storage<u8>>(&self, other: &FiniteReceiverOver<O, N>) -> bool {
+        end_or_max(self.after_end) == end_or_max(other.after_end)
+            && self.receiver.same_state(&other.receiver)
+    }
+}

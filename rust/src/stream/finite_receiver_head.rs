@@ -1,0 +1,268 @@
+// Written by tools/erase.py from crates/net_receiver/src/finite_receiver_head.rt: a change here would be lost.
+//! A receiver of a stream that ends, in parts.
+
+use crate::stream::kept::{FiniteError, KeptBytes};
+use crate::stream::receiver_head::ReceiverHead;
+use crate::storage::Run;
+
+/// The end's position while that isn't known: no stream ends there.
+pub(crate) const NO_END: u64 = u64::MAX;
+
+/// What a receiver of a stream that ends has besides its storage and its held runs: numbers.
+///
+/// The end is the position after the stream's last byte. It has a number, as a byte has (a TCP
+/// segment with FIN has one sequence number more than bytes), and needs no room. It is known once a
+/// segment has said so, in whatever order the segments arrive; then no byte at or above it is kept.
+///
+/// Head, storage and runs are *sound* if they are those of such a receiver, as `is_sound` tests:
+/// `HasSoundFinite` in contracts, where `finite_of` is what is stored. A head of zeros is new, of a stream
+/// that begins at position 0. smoltcp has no such type.
+#[repr(C)]
+#[derive(Debug, Clone, Copy)]
+pub struct FiniteReceiverHead {
+    /// The receiver of the bytes.
+    pub receiver: ReceiverHead,
+    /// The number after the end's, which is acknowledged once all has arrived, or 0 while the end isn't known.
+    pub after_end: u64,
+}
+
+// These are functions of `after_end`, the number after the end's. A head and a `FiniteReceiverOver` call them.
+
+/// Returns the position after the last byte, or the greatest number of 64 bits while it isn't known: no byte
+/// that is kept has that position.
+#[inline(always)]
+pub(crate) fn end_or_max(after_end: u64) -> u64 {
+    after_end.wrapping_sub(1)
+}
+
+/// Returns the number after that of an end, or 0 for `NO_END`.
+#[inline(always)]
+pub(crate) fn number_after(end: u64) -> u64 {
+    end.wrapping_add(1)
+}
+
+/// Returns whether an end is at most the end of the free window, which has `window` bytes from `next` on.
+#[inline(always)]
+pub(crate) fn is_reached(next: u64, window: usize, end: u64) -> bool {
+    end.saturating_sub(next) <= window as u64
+}
+
+/// Returns how many of `len` bytes at `pos` are below the end, or while that isn't known below the
+/// greatest number that an end can have.
+#[inline(always)]
+pub(crate) fn count_below(after_end: u64, pos: u64, len: usize) -> usize {
+    let end = end_or_max(after_end).min(NO_END - 1);
+    (len as u64).min(end.saturating_sub(pos)) as usize
+}
+
+/// Returns the number that an acknowledgement carries, where `next` is the first missing position.
+#[inline(always)]
+pub(crate) fn acknowledged(next: u64, after_end: u64) -> u64 {
+    let end = end_or_max(after_end);
+    if next == end { next + 1 } else { next }
+}
+
+impl FiniteReceiverHead {
+    /// Returns the head of a receiver of a stream that begins at position `first`; nothing has
+    /// arrived. It is sound with every storage and all runs.
+    ///
+    /// # Requires
+    ///
+    /// `first` is below `u64::MAX`: an end there would have no number after it.
+    pub const fn new(first: u64) -> Self {
+        FiniteReceiverHead {
+            receiver: ReceiverHead::new(first),
+            after_end: 0,
+        }
+    }
+
+    /// Returns whether this head, a storage of `capacity` bytes and runs are sound: they are those of
+    /// a receiver, and the position after its last byte, held ones too, is at most the end, if that
+    /// is known, and below 2^64 - 1. It looks at each held run, and at no byte.
+    pub fn is_sound(&self, capacity: usize, runs: &[Run]) -> bool {
+        let end = end_or_max(self.after_end).min(NO_END - 1);
+        self.receiver.is_sound(capacity, runs) && self.receiver.has_all_below(runs, end)
+    }
+
+    /// Returns the position after the last byte, once it is known.
+    fn end(&self) -> Option<u64> {
+        self.after_end.checked_sub(1)
+    }
+
+    /// Returns whether the stream can end at `pos`: it is the end that is known, or none is, and it
+    /// isn't below the first missing position or a held run's end. 2^64 - 1 is no end.
+    ///
+    /// # Requires
+    ///
+    /// Head and runs are sound, as `is_sound` tests, with a storage of some length.
+    pub fn can_end(&self, runs: &[Run], pos: u64) -> bool {
+        match self.end() {
+            Some(end) => pos == end,
+            None => pos < NO_END && self.receiver.has_all_below(runs, pos),
+        }
+    }
+
+    /// Returns `after_end` after a segment that ends at `last`, where the storage has `capacity` bytes.
+    #[inline]
+    fn after_end_with(&self, capacity: usize, last: u64, is_last: bool) -> u64 {
+        if is_last && is_reached(self.receiver.next(), self.receiver.window(capacity), last) {
+            number_after(last)
+        } else {
+            self.after_end
+        }
+    }
+
+    /// Keeps the bytes of a segment that are in the free window and below the end, and takes the end, as
+    /// `FiniteReceiverOver::keep` does. If it is refused, head, storage and runs stay as they were.
+    ///
+    /// # Requires
+    ///
+    /// Head, storage and runs are sound, as `is_sound` tests.
+    #[inline]
+    pub fn keep(
+        &mut self,
+        storage: &mut [u8],
+        runs: &mut [Run],
+        pos: u64,
+        bytes: &[u8],
+        is_last: bool,
+    ) -> Result<KeptBytes, FiniteError> {
+        // A sum above 64 bits becomes `u64::MAX`, where no stream ends.
+        let last = pos.saturating_add(bytes.len() as u64);
+        if is_last && self.ends_in_order(storage.len(), pos, last) {
+            self.keep_queue_alone();
+        }
+        self.keep_usual(storage, runs, pos, bytes, is_last)
+    }
+
+    /// Returns whether a last segment from `pos` to `last` ends the stream in order, while something is
+    /// missing.
+    #[inline]
+    fn ends_in_order(&self, capacity: usize, pos: u64, last: u64) -> bool {
+        let next = self.receiver.next();
+        pos <= next
+            && next <= last
+            && is_reached(next, self.receiver.window(capacity), last)
+            && last < NO_END
+            && !self.is_complete()
+    }
+
+    /// Lets go of what is held, and of the end.
+    #[inline]
+    fn keep_queue_alone(&mut self) {
+        self.receiver.release_held();
+        self.after_end = 0;
+    }
+
+    /// Keeps a segment by what the receiver has.
+    #[inline]
+    fn keep_usual(
+        &mut self,
+        storage: &mut [u8],
+        runs: &mut [Run],
+        pos: u64,
+        bytes: &[u8],
+        is_last: bool,
+    ) -> Result<KeptBytes, FiniteError> {
+        // A sum above 64 bits becomes `u64::MAX`, which `can_end` refuses.
+        let last = pos.saturating_add(bytes.len() as u64);
+        if is_last && !self.can_end(runs, last) {
+            return Err(FiniteError::OtherEnd);
+        }
+        let after_end = self.after_end_with(storage.len(), last, is_last);
+        let count = count_below(self.after_end, pos, bytes.len());
+        match self.receiver.keep(storage, runs, pos, &bytes[..count]) {
+            Ok(kept) => {
+                self.after_end = after_end;
+                Ok(kept)
+            }
+            Err(_) => Err(FiniteError::TooManyHoles),
+        }
+    }
+
+    /// Returns whether all bytes and the end have arrived. Once it is so it stays so.
+    ///
+    /// # Requires
+    ///
+    /// The first missing position and the one after it fit 64 bits, as they do where head, storage
+    /// and runs are sound.
+    #[inline]
+    pub fn is_complete(&self) -> bool {
+        self.receiver.next() == end_or_max(self.after_end)
+    }
+
+    /// Returns the number that an acknowledgement carries: the first missing position, or, once all
+    /// bytes and the end have arrived, the end plus 1, since the end has a number.
+    ///
+    /// # Requires
+    ///
+    /// The first missing position and the one after it fit 64 bits, as they do where head, storage
+    /// and runs are sound.
+    #[inline]
+    pub fn acknowledged(&self) -> u64 {
+        acknowledged(self.receiver.next(), self.after_end)
+    }
+
+    /// Returns whether all bytes were read, up to the end. Once it is so it stays so.
+    ///
+    /// # Requires
+    ///
+    /// The first missing position and the one after it fit 64 bits, as they do where head, storage
+    /// and runs are sound.
+    #[inline]
+    pub fn has_read_all(&self) -> bool {
+        self.receiver.first + self.receiver.count_read == end_or_max(self.after_end)
+    }
+
+    /// Returns the end of the window to announce, where the storage has `capacity` bytes: that of the free
+    /// window, or `acknowledged` if that is greater, as where the end is acknowledged and the storage is
+    /// full. `None` if the free window's end doesn't fit 64 bits.
+    ///
+    /// # Requires
+    ///
+    /// The first missing position and the one after it fit 64 bits, as they do where head, storage
+    /// and runs are sound.
+    #[inline]
+    pub fn window_end(&self, capacity: usize) -> Option<u64> {
+        let end = self.receiver.window_end(capacity)?;
+        Some(end.max(self.acknowledged()))
+    }
+
+    /// Moves bytes from the head of the queue to the beginning of `into`, and returns how many: as
+    /// many as are queued and as `into` has room for. The rest of `into` stays as it is.
+    ///
+    /// # Requires
+    ///
+    /// The queue is in the storage, and the first missing position fits 64 bits, as they do where
+    /// head, storage and runs are sound.
+    #[inline]
+    pub fn read(&mut self, storage: &[u8], into: &mut [u8]) -> usize {
+        self.receiver.read(storage, into)
+    }
+
+    /// Removes the first `count` bytes of the queue, as `read` does, and copies none. `capacity` is
+    /// how many bytes the storage has.
+    ///
+    /// # Requires
+    ///
+    /// The queue is in the storage, it has `count` bytes, and the first missing position fits 64
+    /// bits, as they do where head, storage and runs are sound.
+    #[inline]
+    pub fn remove(&mut self, capacity: usize, count: usize) {
+        self.receiver.remove(capacity, count);
+    }
+
+    /// Returns how many bytes of a segment of `len` bytes at `position` would be new, where the
+    /// storage has `capacity` bytes: those in the free window and below the end whose positions are
+    /// not held. It is asked before the segment is kept, since the bytes whose positions are held
+    /// are kept again, and counted. The result is 0 for a duplicate, which TCP may report, for a
+    /// segment that is beyond the free window, and for one without bytes. It looks at each held run.
+    ///
+    /// # Requires
+    ///
+    /// Head, storage and runs are sound, as `is_sound` tests.
+    pub fn count_new(&self, capacity: usize, runs: &[Run], position: u64, len: usize) -> usize {
+        let count = count_below(self.after_end, position, len);
+        self.receiver.count_part(capacity, runs, position, count)
+    }
+}

@@ -1,0 +1,235 @@
+// Written by tools/erase.py from crates/net_receiver/src/finite_sender.rt: a change here would be lost.
+//! A sender of a stream that ends.
+
+use crate::rattle::prelude::*;
+use crate::stream::finite_sender_head::FiniteSenderHead;
+use crate::stream::laws;
+use crate::stream::SentNumbers;
+use crate::storage::{ManagedSlice, Storage};
+
+/// A [`FiniteSender`] over any storage.
+///
+/// It is a `Sender` that can be closed. Once it is closed nothing can be written, and the end has the
+/// number after the last byte's (that of TCP's FIN): it is sent, reported and acknowledged as a byte
+/// is, and takes no room. A number is kept for it, so that it can always be closed. The sender keeps
+/// the mark of what was sent itself, which counts the end.
+///
+/// No call takes memory. smoltcp has no such type.
+///
+/// Contracts: `crates/net_receiver/src/finite_sender.rt`.
+#[derive(Clone)]
+pub struct FiniteSenderOver<S: Storage<u8>> {
+    // Invariant: the end is acknowledged only once the sender is closed and its queue is empty. What
+    // was sent ends between what is acknowledged and what was written, the end counted. The end's
+    // number fits 64 bits.
+    head: FiniteSenderHead,
+    storage: S,
+}
+
+/// A sender of a stream that ends, over storage that is lent or owned. Its calls are those of
+/// [`FiniteSenderOver`].
+pub type FiniteSender<'a> = FiniteSenderOver<ManagedSlice<'a, u8>>;
+
+impl<S: Storage<u8>> FiniteSenderOver<S> {
+    /// Returns a sender of a stream that begins at position 0: `over_at` with 0.
+    #[must_use]
+    pub const fn over(storage: S) -> Self {
+        Self::over_at(storage, 0)
+    }
+
+    /// Returns a sender of a stream that begins at position `first`, to which nothing was written.
+    ///
+    /// # Panics
+    ///
+    /// Panics unless `first` is below `u64::MAX`: an end there would have no number after it.
+    #[must_use]
+    #[track_caller]
+    pub const fn over_at(storage: S, first: u64) -> Self {
+        prove!(first < u64::MAX, "no number is left for an end");
+        FiniteSenderOver {
+            head: FiniteSenderHead::new(first),
+            storage,
+        }
+    }
+
+    /// Returns the storage. Its bytes can be any.
+    #[must_use]
+    pub fn into_storage(self) -> S {
+        let FiniteSenderOver { head: _, storage } = self;
+        storage
+    }
+
+    /// Begins again over the same storage: a stream that begins at position `first`, to which nothing
+    /// was written.
+    ///
+    /// # Panics
+    ///
+    /// Panics unless `first` is below `u64::MAX`: an end there would have no number after it.
+    #[track_caller]
+    pub fn reset_at(&mut self, first: u64) {
+        prove!(first < u64::MAX, "no number is left for an end");
+        self.head = FiniteSenderHead::new(first);
+    }
+
+    /// Returns the first number that isn't acknowledged: TCP's SND.UNA. It is the first unacknowledged
+    /// position, or the one after it once the end is acknowledged.
+    #[must_use]
+    pub fn first_number(&self) -> u64 {
+        self.head.first_number()
+    }
+
+    /// Returns the number after the last byte's, and after the end's once the sender is closed.
+    #[must_use]
+    pub fn numbers_end(&self) -> u64 {
+        self.head.numbers_end()
+    }
+
+    /// Returns the number after the last one that was ever sent: TCP's SND.MAX.
+    #[must_use]
+    pub fn sent(&self) -> u64 {
+        self.head.sent
+    }
+
+    /// Returns `first_number` and `sent`, as windows and timers take them.
+    ///
+    /// ```
+    /// # use net_base::finite::FiniteSender;
+    /// # use net_base::tcp::{Announcement, PeerWindow};
+    /// # let mut storage = [0u8; 8];
+    /// # let mut sender = FiniteSender::new_at(&mut storage[..], 100);
+    /// let mut peer = PeerWindow::new();
+    /// let it = Announcement { seq: 1, ack: 100, window: 9 };
+    /// assert!(peer.update(sender.sent_numbers(), it) && peer.edge() == 109);
+    /// ```
+    #[must_use]
+    pub fn sent_numbers(&self) -> SentNumbers {
+        self.is_sound();
+        SentNumbers {
+            first_unacknowledged: self.first_number(),
+            sent: self.sent(),
+        }
+    }
+
+    /// Returns how many bytes are queued.
+    #[must_use]
+    pub fn len(&self) -> usize {
+        self.head.sender.place.length
+    }
+
+    /// Returns whether all bytes that were written are acknowledged.
+    #[must_use]
+    pub fn is_empty(&self) -> bool {
+        self.len() == 0
+    }
+
+    /// Returns the most bytes that are queued: the storage's length.
+    #[must_use]
+    pub fn capacity(&self) -> usize {
+        self.storage.count()
+    }
+
+    /// Returns the window: how many bytes `write` would take: 0 once the sender is closed. A number
+    /// is kept for the end.
+    #[must_use]
+    pub fn window(&self) -> usize {
+        self.head.room(self.storage.count())
+    }
+
+    /// Enqueues the first of these bytes, as many as `window` says, and returns how many.
+    ///
+    /// # [Guarantees](crate#guarantees)
+    ///
+    /// - `result == min(bytes.len(), old(self).window())`
+    #[must_use]
+    pub fn write(&mut self, bytes: &[u8]) -> usize {
+        let capacity = self.storage.count();
+        self.head.write(self.storage.part_mut(0, capacity), bytes)
+    }
+
+    /// Ends the stream after what was written. A second call changes nothing.
+    pub fn close(&mut self) {
+        self.head.close();
+    }
+
+    /// Lends the bytes of a segment from `pos` on, as `Sender::peek_at` does, and returns whether the
+    /// segment ends the stream (TCP's FIN): the sender is closed, the bytes end where it does, and the
+    /// end isn't acknowledged. A segment without bytes that ends the stream is the end alone.
+    ///
+    /// All its numbers, the end's among them, are below `limit`: the end of the window is one, as
+    /// `PeerWindow::send_limit` gives it, and `(pos + mss).min(send_limit)` keeps a segment size too.
+    ///
+    /// Clause `later` says that the segment is one of the stream whatever is written later; law `lent_segments`,
+    /// which numbers it has.
+    #[must_use]
+    pub fn peek_at(&self, pos: u64, limit: u64) -> (&[u8], bool) {
+        laws::matches_stream();
+        let lent = self.head.peek_at(self.storage.count(), pos, limit);
+        let from = lent.0.from;
+        (self.storage.part(from, from + lent.0.contiguous), lent.1)
+    }
+
+    /// Lends and returns what `peek_at` does, and notes that the segment was sent: `sent` becomes the
+    /// number after its last one, the end's counted, unless `sent` is above that. A segment without
+    /// numbers changes nothing.
+    ///
+    /// ```
+    /// # use net_base::finite::FiniteSender;
+    /// # let mut storage = [0u8; 8];
+    /// # let mut sender = FiniteSender::new_at(&mut storage[..], 100);
+    /// assert_eq!(sender.write(b"hello"), 5);
+    /// sender.close();
+    /// assert_eq!(sender.send_at(100, 105), (&b"hello"[..], false)); // the end's number is 105
+    /// assert_eq!(sender.send_at(105, 106), (&b""[..], true));
+    /// assert_eq!(sender.sent(), 106);
+    /// ```
+    pub fn send_at(&mut self, pos: u64, limit: u64) -> (&[u8], bool) {
+        laws::matches_stream();
+        let lent = self.head.send_at(self.storage.count(), pos, limit);
+        let from = lent.0.from;
+        (self.storage.part(from, from + lent.0.contiguous), lent.1)
+    }
+
+    /// Notes that all numbers below `pos` were sent, the end's among them if `pos` is past it, and
+    /// returns true. Returns false, and changes nothing, if `pos` is above `numbers_end`.
+    #[must_use]
+    pub fn mark_sent(&mut self, pos: u64) -> bool {
+        self.head.mark_sent(self.storage.count(), pos)
+    }
+
+    /// Dequeues the bytes below `next`, notes that the end is acknowledged if `next` is past it, and
+    /// returns true. Returns false, and changes nothing, if `next` is below `first_number` or above
+    /// `sent`.
+    ///
+    /// # [Guarantees](crate#guarantees)
+    ///
+    /// - `result` exactly if `old(self).first_number() <= next` and `next <= old(self).sent()`
+    /// - if `result`, then `self.first_number() == next`
+    #[must_use]
+    pub fn acknowledge(&mut self, next: u64) -> bool {
+        self.head.acknowledge(self.storage.count(), next)
+    }
+
+    /// Returns whether a SACK block can be right: it has a number, and none above those that were
+    /// sent, of which the end's is one.
+    #[must_use]
+    pub fn is_block(&self, start: u64, end: u64) -> bool {
+        self.head.is_block(start, end)
+    }
+
+    /// Returns whether the sender is closed.
+    #[must_use]
+    pub fn is_closed(&self) -> bool {
+        self.head.is_closed()
+    }
+
+    /// Returns whether all bytes and the end are acknowledged. Once it is so it stays so, until `reset_at`.
+    #[must_use]
+    pub fn is_closed_and_acknowledged(&self) -> bool {
+        self.head.is_closed_and_acknowledged()
+    }
+
+    /// States what is true of every sender; it does nothing. Callers use `laws::is_sound_sent`.
+    pub(crate) fn is_sound(&self) {
+        let _ = &self.head;
+    }
+}

@@ -1,0 +1,156 @@
+// Written by tools/erase.py from crates/net_receiver/src/held_runs.rt: a change here would be lost.
+//! The held runs of a receiver, one after another: in rising order, and in the order in which a selective
+//! acknowledgement lists them; and the holes before them.
+
+use crate::rattle::prelude::*;
+use crate::storage::RunIter;
+use crate::storage::assembler::Turns;
+use crate::rattle::std::mem;
+
+/// An iterator over the held runs of a receiver, made by `held`.
+///
+/// It yields (start, end) of each run as absolute positions in rising order, the end not included,
+/// and then ends.
+///
+/// Contracts: `crates/net_receiver/src/held_runs.rt`.
+#[derive(Clone)]
+pub struct HeldRunIter<'a> {
+    runs: RunIter<'a>,
+    from: u64,
+}
+
+/// The iterator of a `Receiver<N>`, which yields at most `N` runs.
+pub type HeldRuns<'a, const N: usize = ASSEMBLER_MAX_SEGMENT_COUNT> = HeldRunIter<'a>;
+
+impl<'a> HeldRunIter<'a> {
+    /// Returns these runs, counted from the position `from`.
+    #[inline]
+    pub(crate) fn over(runs: RunIter<'a>, from: u64) -> Self {
+        HeldRunIter { runs, from }
+    }
+}
+
+impl<'a> Iterator for HeldRunIter<'a> {
+    type Item = (u64, u64);
+
+    #[inline]
+    fn next(&mut self) -> Option<(u64, u64)> {
+        let (start, end) = self.runs.next()?;
+        Some((self.from + start as u64, self.from + end as u64))
+    }
+
+    #[inline]
+    fn size_hint(&self) -> (usize, Option<usize>) {
+        self.runs.size_hint()
+    }
+}
+
+/// An iterator over the holes of a receiver, made by `holes`.
+///
+/// It yields (start, end) of each hole as absolute positions in rising order, the end not included,
+/// and then ends.
+///
+/// Contracts: `crates/net_receiver/src/held_runs.rt`.
+#[derive(Clone)]
+pub struct MissingRunIter<'a> {
+    // The held runs that are left, and where the queue or the run before them ended.
+    runs: HeldRunIter<'a>,
+    from: u64,
+}
+
+impl<'a> MissingRunIter<'a> {
+    /// Returns the hole before each of these runs. The first hole begins at `from`.
+    #[inline]
+    pub(crate) fn before(runs: HeldRunIter<'a>, from: u64) -> Self {
+        MissingRunIter { runs, from }
+    }
+}
+
+impl<'a> Iterator for MissingRunIter<'a> {
+    type Item = (u64, u64);
+
+    #[inline]
+    fn next(&mut self) -> Option<(u64, u64)> {
+        let (start, end) = self.runs.next()?;
+        let from = mem::replace(&mut self.from, end);
+        Some((from, start))
+    }
+
+    #[inline]
+    fn size_hint(&self) -> (usize, Option<usize>) {
+        self.runs.size_hint()
+    }
+}
+
+/// A held run, by absolute positions: from `start` on, up to `end`, which is not included.
+///
+/// Contracts: `crates/net_receiver/src/held_runs.rt`.
+#[repr(C)]
+#[derive(Debug, Clone, Copy, PartialEq, Eq)]
+pub struct HeldRun {
+    /// The first position.
+    pub start: u64,
+    /// The position after the last one.
+    pub end: u64,
+}
+
+/// An iterator over held runs, the newest first, made by `newest_runs`: at most `K`.
+///
+/// It yields (start, end) of each run as absolute positions, the end not included.
+///
+/// Contracts: `crates/net_receiver/src/held_runs.rt`.
+#[derive(Debug)]
+pub struct NewestRunIter<const K: usize> {
+    runs: [HeldRun; K],
+    from: usize,
+    count: usize,
+}
+
+impl<const K: usize> NewestRunIter<K> {
+    /// Returns the first `count` of these runs.
+    pub(crate) fn over(runs: [HeldRun; K], count: usize) -> Self {
+        NewestRunIter {
+            runs,
+            from: 0,
+            count,
+        }
+    }
+}
+
+impl<const K: usize> Iterator for NewestRunIter<K> {
+    type Item = (u64, u64);
+
+    #[inline]
+    fn next(&mut self) -> Option<(u64, u64)> {
+        if self.from >= self.count {
+            return None;
+        }
+        let run = &self.runs[self.from];
+        let item = (run.start, run.end);
+        self.from += 1;
+        prove!(self.from <= self.count, "in any `usize`");
+        Some(item)
+    }
+}
+
+/// Returns whether one of these runs has a position.
+pub(crate) fn is_listed(listed: &[HeldRun], position: u64) -> bool {
+    listed
+        .iter()
+        .any(|run| run.start <= position && position < run.end)
+}
+
+/// Writes the starts of these runs to the beginning of `recent`, as many as it has room for.
+pub(crate) fn remember(recent: &mut [u64], listed: &[HeldRun]) {
+    for i in 0..listed.len().min(recent.len()) {
+        let run = &listed[i];
+        recent[i] = run.start;
+    }
+}
+
+/// States that a loop over runs looked at no more of them than `most`. It does nothing.
+#[inline(always)]
+pub(crate) fn were_at_most(turns: &Turns, most: usize) {
+    let _ = turns;
+    let _ = most;
+}

@@ -1,0 +1,689 @@
+// Written by tools/erase.py from crates/net_recovery/src/loss_recovery.rt: a change here would be lost.
+//! What a sender sends next where segments are lost.
+
+use crate::stream::SentNumbers;
+use crate::stream::Scoreboard;
+use crate::rattle::std::ops::Range;
+
+/// How many segments above a position tell that it is lost, as long as nothing came twice (RFC 6675's DupThresh).
+const DUPLICATES: usize = 3;
+
+/// The most that `duplicated` makes of it.
+const MOST_DUPLICATES: usize = 1024;
+
+/// What an acknowledgement answers, for `LossRecovery::find_losses`.
+///
+/// Contracts: `crates/net_recovery/src/loss_recovery.rt`.
+#[derive(Copy, Clone, Debug, PartialEq, Eq)]
+pub struct Answer {
+    /// The first number that wasn't acknowledged before it.
+    pub first: u64,
+    /// What `LossRecovery::unsent` said before it.
+    pub unsent: u64,
+    /// Whether a block of it reports what wasn't known.
+    pub reports: bool,
+    /// Whether it is an equal one, as `is_equal_acknowledgement` says: something has arrived, it doesn't say where.
+    pub is_equal: bool,
+}
+
+/// All that a recovery knows.
+///
+/// Contracts: `crates/net_recovery/src/loss_recovery.rt`.
+#[derive(Copy, Clone, Debug, PartialEq, Eq, Hash)]
+pub struct RecoveryParts {
+    /// The recovery lasts until all positions below this one are acknowledged.
+    pub until: u64,
+    /// What is below this position and isn't reported is lost.
+    pub lost: u64,
+    /// What is lost below this position was sent again in this pass.
+    pub again: u64,
+    /// What is lost from this position on and below `resume` was sent again before this pass, which leaves it out.
+    pub turn: u64,
+    /// All that was sent again below this position was sent before what was sent again from there on.
+    pub resume: u64,
+    /// The number after the last one that was sent when `resume` was set.
+    pub sent: u64,
+    /// How many positions were sent again from `resume` on since then.
+    pub later: u64,
+    /// Where the probe begins that wasn't answered.
+    pub probe: Option<u64>,
+    /// The number after the last one that was sent when the probe was.
+    pub asked: u64,
+    /// Whether the peer doesn't report what has arrived.
+    pub is_blind: bool,
+    /// How many positions have arrived that it doesn't report.
+    pub unknown: u64,
+    /// How many segments above a position tell that it is lost.
+    pub duplicates: usize,
+    /// Until all positions below this one are acknowledged, `duplicates` stays.
+    pub round: u64,
+}
+
+/// What a sender of TCP sends next where segments are lost: first what is lost, then what was never sent.
+///
+/// It knows no bytes and no time: it reads the sender's numbers, the scoreboard, and a limit, which the peer's window
+/// sets. A recovery begins when a loss is found or when the timer has expired, and lasts until all is
+/// acknowledged that was sent by then. How large the congestion window is, and when it is halved, is the
+/// caller's choice. smoltcp has no such type: its TCP socket sends again from the first unacknowledged
+/// position on.
+///
+/// What was sent for the first time is lost by RFC 6675's rule, whose threshold rises where reordering made a sender
+/// send for nothing. What was sent again is lost by the order of sending, as RFC 8985 has it, without a time for each
+/// segment: it is sent again in passes, each from the lowest position on, and if enough of what was sent after a pass
+/// has been reported, all is lost that was sent before and is missing. Where no answer comes, a probe asks for one; an
+/// answer to it tells the same. Where what was lost arrives without having been sent again, finding it lost was wrong:
+/// what wasn't sent again isn't lost then, and the threshold rises (after a timeout that is RFC 5682's F-RTO).
+///
+/// Of a peer that reports nothing, the third equal acknowledgement loses the first segment, and in a recovery each one
+/// of something new the next (RFC 5681, RFC 6582). An equal one tells that a segment has arrived, so one less is in
+/// flight.
+///
+/// ```
+/// use net_base::scoreboard::Scoreboard;
+/// use net_base::tcp::{Answer, LossRecovery, SentNumbers};
+///
+/// // Of 800 bytes in segments of 100, all sent, those from 100 to 399 were reported.
+/// let numbers = SentNumbers { first_unacknowledged: 0, sent: 800 };
+/// let mut scoreboard = Scoreboard::<4>::empty();
+/// assert_eq!(scoreboard.report(100, 400, 800), Ok(()));
+/// let mut recovery = LossRecovery::new();
+/// let answer = Answer { first: 0, unsent: 0, reports: true, is_equal: false };
+/// assert!(recovery.find_losses(numbers, &scoreboard, 100, answer));
+/// // The first segment is lost. The peer's window ends at 1000, and 500 bytes may be in flight.
+/// let next = recovery.next_segment(numbers, &scoreboard, 1000, 500, 100);
+/// assert_eq!(next, Some((0, 100)));
+/// recovery.sent(numbers, 0..100);
+/// // 400 bytes are neither reported nor lost, and 100 that are lost were sent again.
+/// assert_eq!(recovery.in_flight(numbers, &scoreboard), 500);
+/// assert_eq!(recovery.next_segment(numbers, &scoreboard, 1000, 500, 100), None);
+/// assert_eq!(recovery.next_segment(numbers, &scoreboard, 1000, 600, 100), Some((800, 900)));
+/// // No answer comes: a probe asks for one, and when it is answered, the first segment is lost again.
+/// assert!(!recovery.find_overdue(numbers, &scoreboard));
+/// assert_eq!(recovery.next_probe(numbers, &scoreboard, 800, 100), Some((0, 100)));
+/// ```
+///
+/// Contracts: `crates/net_recovery/src/loss_recovery.rt`.
+#[derive(Copy, Clone, Debug, PartialEq, Eq, Hash)]
+pub struct LossRecovery {
+    // It lasts until all positions below this one are acknowledged.
+    until: u64,
+    // What is below this position and isn't reported is lost.
+    lost: u64,
+    // What is lost below this position was sent again in this pass.
+    again: u64,
+    // What is lost from `turn` on and below `resume` was sent again before this pass, which leaves it out. All that was
+    // sent again below `resume` was sent before what was sent again from there on.
+    turn: u64,
+    resume: u64,
+    // The number after the last one that was sent when `resume` was set, and how many positions were sent again from
+    // `resume` on since then.
+    sent: u64,
+    later: u64,
+    // Where the probe begins that wasn't answered.
+    probe: Option<u64>,
+    // The number after the last one that was sent when the probe was.
+    asked: u64,
+    // Whether the peer doesn't report what has arrived, and how many positions have that it doesn't.
+    is_blind: bool,
+    unknown: u64,
+    // How many segments above a position tell that it is lost, and until which number is acknowledged that stays so.
+    duplicates: usize,
+    round: u64,
+}
+
+impl LossRecovery {
+    /// Returns that no recovery is active, and nothing came twice.
+    #[must_use]
+    pub const fn new() -> Self {
+        LossRecovery {
+            until: 0,
+            lost: 0,
+            again: 0,
+            turn: 0,
+            resume: 0,
+            sent: 0,
+            later: 0,
+            probe: None,
+            asked: 0,
+            is_blind: false,
+            unknown: 0,
+            duplicates: DUPLICATES,
+            round: 0,
+        }
+    }
+
+    /// Returns the recovery of these parts.
+    #[must_use]
+    pub const fn from_parts(parts: RecoveryParts) -> Self {
+        LossRecovery {
+            until: parts.until,
+            lost: parts.lost,
+            again: parts.again,
+            turn: parts.turn,
+            resume: parts.resume,
+            sent: parts.sent,
+            later: parts.later,
+            probe: parts.probe,
+            asked: parts.asked,
+            is_blind: parts.is_blind,
+            unknown: parts.unknown,
+            duplicates: parts.duplicates,
+            round: parts.round,
+        }
+    }
+
+    /// Returns its parts.
+    #[must_use]
+    pub const fn parts(&self) -> RecoveryParts {
+        RecoveryParts {
+            until: self.until,
+            lost: self.lost,
+            again: self.again,
+            turn: self.turn,
+            resume: self.resume,
+            sent: self.sent,
+            later: self.later,
+            probe: self.probe,
+            asked: self.asked,
+            is_blind: self.is_blind,
+            unknown: self.unknown,
+            duplicates: self.duplicates,
+            round: self.round,
+        }
+    }
+
+    /// Returns whether a recovery lasts: not all is acknowledged that was sent when it began.
+    #[must_use]
+    pub fn is_active(&self, numbers: SentNumbers) -> bool {
+        numbers.first_unacknowledged < self.until
+    }
+
+    /// Returns how many segments above a position tell that it is lost: 3 at first.
+    #[must_use]
+    pub fn duplicates(&self) -> usize {
+        self.duplicates
+    }
+
+    /// Takes notice that the peer reports what it has already (RFC 2883): something was sent again for nothing. From
+    /// now on twice as many segments above a position tell that it is lost, up to 1024. Once that has happened, nothing
+    /// changes until all is acknowledged that was sent by then: a round trip makes it twice as many once.
+    pub fn duplicated(&mut self, numbers: SentNumbers) {
+        if numbers.first_unacknowledged < self.round {
+            return;
+        }
+        self.duplicates = self.duplicates.saturating_mul(2).min(MOST_DUPLICATES);
+        self.round = numbers.sent;
+    }
+
+    /// Takes notice whether the peer reports what arrives, as its SYN says: until it does, or an equal acknowledgement
+    /// reports nothing.
+    pub fn expect_reports(&mut self, reports: bool) {
+        self.is_blind = !reports;
+        self.unknown = 0;
+    }
+
+    /// Returns whether the peer reports nothing: then no probe is answered, and none is to be sent.
+    #[must_use]
+    pub fn is_blind(&self) -> bool {
+        self.is_blind
+    }
+
+    /// Returns how many positions are lost and weren't sent again. `find_losses` wants it as it was before the
+    /// acknowledgement.
+    #[must_use]
+    pub fn unsent<const N: usize>(&self, numbers: SentNumbers, scoreboard: &Scoreboard<N>) -> u64 {
+        if self.is_active(numbers) {
+            self.unsent_lost(numbers, scoreboard)
+        } else {
+            0
+        }
+    }
+
+    fn unsent_lost<const N: usize>(&self, numbers: SentNumbers, scoreboard: &Scoreboard<N>) -> u64 {
+        let from = self.again.max(numbers.first_unacknowledged);
+        let of_pass = scoreboard.missing_between(from, self.turn.min(self.lost));
+        let others = scoreboard.missing_between(from.max(self.resume), self.lost);
+        of_pass.saturating_add(others)
+    }
+
+    /// Finds what is lost. Call it after each acknowledgement, with the sender's numbers after it, once the scoreboard
+    /// has it, and with what it answers.
+    ///
+    /// What was sent once is lost as `Scoreboard::lost_below` says for as many segments as `duplicates` has. What was
+    /// sent before a pass is lost, and what was sent again in it again, once more than `duplicates() - 1` segments are
+    /// reported of what was sent after it. Once a probe is answered, all that was sent before it, and isn't reported,
+    /// is lost. If what was lost and wasn't sent again has arrived, it wasn't: nothing that wasn't sent again is lost,
+    /// and it is as if something came twice, as `duplicated` says. If the peer reports nothing, the first segment is
+    /// lost after `duplicates` equal acknowledgements, and in a recovery where something new is acknowledged. An equal
+    /// one of what a recovery lasted for answers a copy: it counts as a report of what came twice.
+    ///
+    /// Returns whether this call begins a recovery: then halve the congestion window.
+    pub fn find_losses<const N: usize>(
+        &mut self,
+        numbers: SentNumbers,
+        scoreboard: &Scoreboard<N>,
+        segment_size: usize,
+        answer: Answer,
+    ) -> bool {
+        self.take(numbers, scoreboard, segment_size, answer);
+        self.find(numbers, scoreboard, segment_size, answer.first)
+    }
+
+    /// Takes what an acknowledgement answers.
+    fn take<const N: usize>(
+        &mut self,
+        numbers: SentNumbers,
+        scoreboard: &Scoreboard<N>,
+        segment_size: usize,
+        answer: Answer,
+    ) {
+        self.take_copy(numbers, answer);
+        self.hear(numbers, segment_size, answer);
+        self.take_arrival(numbers, scoreboard, answer.unsent);
+    }
+
+    /// Takes an equal acknowledgement of all that was sent before a recovery as a report of what came twice: it answers
+    /// a copy.
+    fn take_copy(&mut self, numbers: SentNumbers, answer: Answer) {
+        if answer.is_equal && !answer.reports && numbers.first_unacknowledged == self.until {
+            self.duplicated(numbers);
+        }
+    }
+
+    /// Takes notice whether the peer reports, and of what has arrived that it doesn't.
+    fn hear(&mut self, numbers: SentNumbers, segment_size: usize, answer: Answer) {
+        let size = segment_size as u64;
+        let first = numbers.first_unacknowledged;
+        let end = if self.is_active(numbers) {
+            self.until
+        } else {
+            numbers.sent
+        };
+        let known = first.saturating_sub(answer.first).saturating_sub(size);
+        let most = end.saturating_sub(first).saturating_sub(size);
+        let unknown = self.heard_of(size, answer.reports, answer.is_equal && first != self.until);
+        self.unknown = unknown.saturating_sub(known).min(most);
+        self.is_blind = !answer.reports && (answer.is_equal || self.is_blind);
+    }
+
+    fn heard_of(&self, size: u64, reports: bool, is_equal: bool) -> u64 {
+        if reports {
+            0
+        } else if is_equal {
+            self.unknown.saturating_add(size)
+        } else {
+            self.unknown
+        }
+    }
+
+    /// Loses nothing that wasn't sent again, if such a thing has arrived.
+    fn take_arrival<const N: usize>(
+        &mut self,
+        numbers: SentNumbers,
+        scoreboard: &Scoreboard<N>,
+        unsent: u64,
+    ) {
+        if !self.is_blind && self.unsent_lost(numbers, scoreboard) < unsent {
+            self.withdraw();
+            self.duplicated(numbers);
+        }
+    }
+
+    /// What is lost and wasn't sent again isn't lost.
+    fn withdraw(&mut self) {
+        self.turn = self.again;
+        self.lost = self.lost.min(self.again.max(self.resume));
+    }
+
+    /// Finds what is lost by what was reported, or heard of.
+    fn find<const N: usize>(
+        &mut self,
+        numbers: SentNumbers,
+        scoreboard: &Scoreboard<N>,
+        segment_size: usize,
+        before: u64,
+    ) -> bool {
+        let highest = scoreboard.highest_reported();
+        let lost = scoreboard.lost_below(self.duplicates, segment_size);
+        let blind = self.blind_lost(numbers, segment_size, before);
+        self.take_losses(numbers, scoreboard, segment_size, lost.max(blind), highest)
+    }
+
+    /// Returns below which position all is lost, if the peer reports nothing.
+    fn blind_lost(&self, numbers: SentNumbers, segment_size: usize, before: u64) -> u64 {
+        let first = numbers.first_unacknowledged;
+        let is_lost = if self.is_active(numbers) {
+            before < first
+        } else {
+            self.most_later(segment_size) < self.unknown
+        };
+        if self.is_blind && is_lost {
+            numbers.sent.min(first.saturating_add(segment_size as u64))
+        } else {
+            0
+        }
+    }
+
+    /// Returns how much of what was sent later may have arrived before something is lost.
+    fn most_later(&self, segment_size: usize) -> u64 {
+        (self.duplicates.saturating_sub(1) as u64).saturating_mul(segment_size as u64)
+    }
+
+    /// Finds what is lost, by the scoreboard's two limits.
+    fn take_losses<const N: usize>(
+        &mut self,
+        numbers: SentNumbers,
+        scoreboard: &Scoreboard<N>,
+        segment_size: usize,
+        lost: u64,
+        highest: u64,
+    ) -> bool {
+        if self.is_answered(scoreboard) {
+            self.probe = None;
+            let asked = if self.is_blind { 0 } else { self.asked };
+            return self.lose(
+                numbers,
+                scoreboard,
+                segment_size,
+                lost.max(highest).max(asked),
+                true,
+            );
+        }
+        self.lose(numbers, scoreboard, segment_size, lost, false)
+    }
+
+    /// Loses what is below a position, and what was overtaken.
+    fn lose<const N: usize>(
+        &mut self,
+        numbers: SentNumbers,
+        scoreboard: &Scoreboard<N>,
+        segment_size: usize,
+        lost: u64,
+        is_answered: bool,
+    ) -> bool {
+        if self.is_active(numbers) {
+            self.lost = self.lost.max(lost);
+            self.end_pass(numbers, scoreboard, segment_size, is_answered);
+            return false;
+        }
+        let begins = numbers.first_unacknowledged < lost;
+        if begins {
+            self.begin(numbers, lost);
+        }
+        begins
+    }
+
+    /// Begins a pass, if what was sent again is lost again.
+    fn end_pass<const N: usize>(
+        &mut self,
+        numbers: SentNumbers,
+        scoreboard: &Scoreboard<N>,
+        segment_size: usize,
+        is_answered: bool,
+    ) {
+        if is_answered {
+            self.pass(numbers, self.again.max(self.resume));
+        } else if scoreboard.missing_between(numbers.first_unacknowledged, self.resume) == 0 {
+            self.mark(numbers);
+        } else if self.is_overtaken(numbers, scoreboard, segment_size) {
+            self.lose_earlier();
+            self.pass(numbers, self.resume);
+        }
+    }
+
+    /// Loses what was sent before the pass, if the peer would have reported it.
+    fn lose_earlier(&mut self) {
+        if !self.is_blind {
+            self.lost = self.lost.max(self.sent);
+        }
+    }
+
+    /// Returns whether enough is reported of what was sent after a pass.
+    fn is_overtaken<const N: usize>(
+        &self,
+        numbers: SentNumbers,
+        scoreboard: &Scoreboard<N>,
+        segment_size: usize,
+    ) -> bool {
+        self.most_later(segment_size) < self.reported_later(numbers, scoreboard)
+    }
+
+    /// Returns whether the probe was reported.
+    fn is_answered<const N: usize>(&self, scoreboard: &Scoreboard<N>) -> bool {
+        match self.probe {
+            Some(start) => scoreboard.contains(start),
+            None => false,
+        }
+    }
+
+    /// Returns how many positions are reported of what was sent after a pass.
+    fn reported_later<const N: usize>(
+        &self,
+        numbers: SentNumbers,
+        scoreboard: &Scoreboard<N>,
+    ) -> u64 {
+        let again = scoreboard.missing_between(self.resume, self.again);
+        let first = scoreboard.missing_between(self.sent, numbers.sent);
+        let all = self
+            .later
+            .saturating_add(numbers.sent.saturating_sub(self.sent));
+        all.saturating_sub(again).saturating_sub(first)
+    }
+
+    /// Begins a pass up to a position: what was sent again from there on stays sent again.
+    fn pass(&mut self, numbers: SentNumbers, turn: u64) {
+        self.turn = turn;
+        self.mark(numbers);
+        self.again = numbers.first_unacknowledged;
+    }
+
+    /// Counts what is sent from now on as sent later than all that was sent again.
+    fn mark(&mut self, numbers: SentNumbers) {
+        self.resume = self.again.max(self.resume);
+        self.sent = numbers.sent;
+        self.later = 0;
+    }
+
+    /// Finds what is lost where the timer's probe is due: all below the highest position that was reported, since
+    /// nothing was for two round trips. Then send as `next_segment` says; if that sends nothing, `next_probe`.
+    ///
+    /// Returns whether this call begins a recovery: then halve the congestion window.
+    pub fn find_overdue<const N: usize>(
+        &mut self,
+        numbers: SentNumbers,
+        scoreboard: &Scoreboard<N>,
+    ) -> bool {
+        let lost = scoreboard.highest_reported();
+        if self.is_active(numbers) {
+            self.lost = self.lost.max(lost);
+            return false;
+        }
+        let begins = numbers.first_unacknowledged < lost;
+        if begins {
+            self.begin(numbers, lost);
+        }
+        begins
+    }
+
+    /// Returns what a probe sends below `limit`, whatever is in flight. Outside of a recovery that is a new segment,
+    /// or, if the limit allows none, the last one that was sent above all that was reported. If there is neither, in a
+    /// recovery, or if the last position that was sent is reported, it is the first segment that isn't reported. A
+    /// `segment_size` of 0 counts as 1. Call `probed` once it is sent.
+    #[must_use]
+    pub fn next_probe<const N: usize>(
+        &self,
+        numbers: SentNumbers,
+        scoreboard: &Scoreboard<N>,
+        limit: u64,
+        segment_size: usize,
+    ) -> Option<(u64, u64)> {
+        let size = segment_size.max(1) as u64;
+        let (first, sent) = (numbers.first_unacknowledged, numbers.sent);
+        let highest = scoreboard.highest_reported();
+        let end = sent.min(limit);
+        if !self.is_active(numbers) && highest < sent {
+            if sent < limit {
+                return Some((sent, limit.min(sent.saturating_add(size))));
+            }
+            let start = first.max(highest).max(end.saturating_sub(size));
+            if start < end {
+                return Some((start, end));
+            }
+        }
+        match scoreboard.next_hole(first, end) {
+            Some((start, end)) => Some((start, end.min(start.saturating_add(size)))),
+            None => None,
+        }
+    }
+
+    /// Takes notice that a probe is sent, whose first position is `start`. `numbers` are the sender's before that.
+    pub fn probed(&mut self, numbers: SentNumbers, start: u64) {
+        self.probe = Some(start);
+        self.asked = numbers.sent;
+    }
+
+    /// Begins a recovery where the peer has dropped what it had reported: it acknowledges up to a number that was
+    /// reported (RFC 2018, section 8). All below the highest position that was reported is lost. Call it before the
+    /// scoreboard begins again.
+    ///
+    /// Returns whether none lasted: then halve the congestion window.
+    pub fn lose_dropped<const N: usize>(
+        &mut self,
+        numbers: SentNumbers,
+        scoreboard: &Scoreboard<N>,
+    ) -> bool {
+        let begins = !self.is_active(numbers);
+        let lost = self.lost.max(scoreboard.highest_reported());
+        self.begin(numbers, lost);
+        begins
+    }
+
+    /// Begins a recovery in which all that was sent and isn't reported is lost, as when the timer has expired. Three
+    /// segments above a position tell again that it is lost.
+    pub fn lose_all(&mut self, numbers: SentNumbers) {
+        self.duplicates = DUPLICATES;
+        self.unknown = 0;
+        self.begin(numbers, numbers.sent);
+    }
+
+    fn begin(&mut self, numbers: SentNumbers, lost: u64) {
+        *self = LossRecovery {
+            until: numbers.sent,
+            lost,
+            again: numbers.first_unacknowledged,
+            turn: numbers.first_unacknowledged,
+            resume: numbers.first_unacknowledged,
+            sent: numbers.sent,
+            later: 0,
+            probe: None,
+            asked: 0,
+            is_blind: self.is_blind,
+            unknown: self.unknown,
+            duplicates: self.duplicates,
+            round: self.round,
+        };
+    }
+
+    /// Returns how many positions may be in flight: of those which were sent and aren't reported, the ones that
+    /// aren't lost or were sent again, less those that have arrived and the peer doesn't report.
+    #[must_use]
+    pub fn in_flight<const N: usize>(&self, numbers: SentNumbers, scoreboard: &Scoreboard<N>) -> u64 {
+        let first = numbers.first_unacknowledged;
+        if !self.is_active(numbers) {
+            let all = scoreboard.missing_between(first, numbers.sent);
+            return all.saturating_sub(self.unknown);
+        }
+        let from = self.again.max(first);
+        let turn = self.turn.min(self.lost).max(from);
+        let resume = self.resume.max(from);
+        let lost = self.lost.max(resume);
+        // Lost and not sent again is what is missing from `from` to `turn`, and from `resume` to `lost`.
+        if turn <= resume && lost <= numbers.sent {
+            let again = scoreboard.missing_between(first, from);
+            let before = scoreboard.missing_between(turn, resume);
+            let after = scoreboard.missing_between(lost, numbers.sent);
+            return (again + before + after).saturating_sub(self.unknown);
+        }
+        let all = scoreboard.missing_between(first, numbers.sent);
+        let of_pass = scoreboard.missing_between(from, turn);
+        let others = scoreboard.missing_between(resume, lost);
+        all.saturating_sub(self.unknown)
+            .saturating_sub(of_pass)
+            .saturating_sub(others)
+    }
+
+    /// Returns what to send next, as a start and an end, the end not included, at most a segment. In a
+    /// recovery that is what is lost and wasn't sent again; else what was never sent. Outside of one it is what was
+    /// never sent. It is below `limit`, as `PeerWindow::send_limit` returns it. A `segment_size` of 0 counts as 1.
+    ///
+    /// `None` if there is nothing to send, or if with a whole segment more than `window` positions, the
+    /// congestion window, would be in flight. The first unacknowledged number is sent whatever is in flight.
+    ///
+    /// # [Guarantees](crate#guarantees)
+    ///
+    /// - on `Some(segment)`: `segment.0 < segment.1` and `segment.1 <= limit` and `segment.1 <= segment.0 + max(1, segment_size)`
+    #[must_use]
+    pub fn next_segment<const N: usize>(
+        &self,
+        numbers: SentNumbers,
+        scoreboard: &Scoreboard<N>,
+        limit: u64,
+        window: u64,
+        segment_size: usize,
+    ) -> Option<(u64, u64)> {
+        let Some((start, end)) = self.next_range(numbers, scoreboard, limit) else {
+            return None;
+        };
+        let size = segment_size.max(1) as u64;
+        if start > numbers.first_unacknowledged {
+            let in_flight = self.in_flight(numbers, scoreboard);
+            if window < in_flight || window - in_flight < size {
+                return None;
+            }
+        }
+        Some((start, end.min(start.saturating_add(size))))
+    }
+
+    /// Returns the range of which the next segment is a part.
+    fn next_range<const N: usize>(
+        &self,
+        numbers: SentNumbers,
+        scoreboard: &Scoreboard<N>,
+        limit: u64,
+    ) -> Option<(u64, u64)> {
+        if !self.is_active(numbers) {
+            return unsent(numbers.sent, limit);
+        }
+        let from = self.again.max(numbers.first_unacknowledged);
+        if let Some(hole) = scoreboard.next_hole(from, self.turn.min(self.lost).min(limit)) {
+            return Some(hole);
+        }
+        if let Some(hole) = scoreboard.next_hole(from.max(self.resume), self.lost.min(limit)) {
+            return Some(hole);
+        }
+        unsent(numbers.sent, limit)
+    }
+
+    /// Takes notice that these positions are sent now: those of `next_segment`, or fewer from its start on. All
+    /// that is lost below their end then counts as sent again. `numbers` are the sender's before that. Nothing
+    /// changes outside of a recovery, or if none of them was sent before.
+    pub fn sent(&mut self, numbers: SentNumbers, positions: Range<u64>) {
+        if self.is_active(numbers) && positions.start < positions.end.min(numbers.sent) {
+            self.again = self.again.max(positions.end);
+            if self.resume <= numbers.first_unacknowledged {
+                self.mark(numbers);
+            } else if self.resume <= positions.start {
+                self.later = self.later.saturating_add(positions.end - positions.start);
+            }
+        }
+    }
+}
+
+/// Returns what was never sent, up to a limit.
+fn unsent(sent: u64, limit: u64) -> Option<(u64, u64)> {
+    if sent < limit {
+        Some((sent, limit))
+    } else {
+        None
+    }
+}

@@ -1,0 +1,687 @@
+// Written by tools/erase.py from crates/net_receiver/src/receiver.rt: a change here would be lost.
+//! The receiver.
+
+use crate::rattle::prelude::*;
+use crate::stream::held_runs::{HeldRun, HeldRuns, MissingRunIter, NewestRunIter};
+use crate::stream::kept::{Kept, KeptBytes, SegmentParts};
+use crate::stream::plan::Plan;
+use crate::stream::receiver_head::{ReceiverHead, count_existing};
+use crate::storage::{Run, TooManyHolesError};
+use crate::storage::{ManagedSlice, Storage};
+
+/// A [`Receiver`] over any storage.
+///
+/// It stores the bytes in a ring until they are read. It serves as the receiving half of a TCP socket,
+/// or of any protocol that names bytes by their positions.
+///
+/// Positions are absolute and counted in bytes; the stream's first byte has the position `first`.
+/// `next` is the first missing one: the bytes after those read, up to `next`, are queued and can be
+/// read. The free window is the positions from `next` on for which there is room, TCP's receive
+/// window. Bytes beyond `next` wait in the ring at their places, in at most `N` runs, until the bytes
+/// before them have arrived:
+///
+/// ```text
+/// position  first           next                       window_end
+///           |  read  | queued |      |held |   |held|      |
+///                    |------------- capacity --------------|
+/// ```
+///
+/// The stream's byte number i, counted from 0, has the index i modulo the capacity in the storage.
+///
+/// No call takes memory. smoltcp's TCP socket joins ring and assembler in its own `process`; this is
+/// the part of it that stores what was received.
+///
+/// Contracts: `crates/net_receiver/src/receiver.rt`.
+#[derive(Clone)]
+pub struct ReceiverOver<S: Storage<u8>, const N: usize> {
+    // Invariant: the queue is that of the ring, whose read index is the count of bytes read modulo the
+    // capacity. At most N runs are held, each after the first missing position and within the free
+    // window. All positions fit 64 bits.
+    head: ReceiverHead,
+    storage: S,
+    runs: [Run; N],
+}
+
+/// A receiver of one stream of bytes, over storage that is lent or owned. Its calls are those of
+/// [`ReceiverOver`].
+///
+/// ```
+/// use net_base::receiver::Receiver;
+///
+/// let mut storage = [0u8; 8];
+/// let mut receiver = Receiver::new_at(&mut storage[..], 100);
+/// assert_eq!(receiver.segment(103, b"de").map(|it| it.queued), Ok(0));
+/// assert_eq!(receiver.segment(100, b"abc").map(|it| it.queued), Ok(5));
+/// let mut into = [0; 8];
+/// assert_eq!((receiver.read(&mut into), &into[..5]), (5, &b"abcde"[..]));
+/// ```
+pub type Receiver<'a, const N: usize = ASSEMBLER_MAX_SEGMENT_COUNT> = ReceiverOver<ManagedSlice<'a, u8>, N>;
+
+impl<S: Storage<u8>, const N: usize> ReceiverOver<S, N> {
+    /// Returns a receiver of a stream that begins at position 0: `over_at` with 0.
+    ///
+    /// A program in which `N` is 0 does not compile.
+    #[must_use]
+    pub const fn over(storage: S) -> Self {
+        prove!(N >= 1, "N is at least 1");
+        Self::over_at(storage, 0)
+    }
+
+    /// Returns a receiver of a stream that begins at position `first`; nothing is read, queued or
+    /// held.
+    ///
+    /// Its capacity is the length of `storage` in bytes, of which 0 is allowed.
+    ///
+    /// A program in which `N` is 0 does not compile.
+    #[must_use]
+    pub const fn over_at(storage: S, first: u64) -> Self {
+        prove!(N >= 1, "N is at least 1");
+        ReceiverOver {
+            head: ReceiverHead::new(first),
+            storage,
+            runs: [Run { start: 0, end: 0 }; N],
+        }
+    }
+
+    /// Returns the head, the storage and the runs, which represent the receiver. smoltcp has no such
+    /// call.
+    pub(crate) fn into_parts(self) -> (ReceiverHead, S, [Run; N]) {
+        let ReceiverOver {
+            head,
+            storage,
+            runs,
+        } = self;
+        (head, storage, runs)
+    }
+
+    /// Returns the storage. Its bytes can be any.
+    #[must_use]
+    pub fn into_storage(self) -> S {
+        let (_head, storage, _runs) = self.into_parts();
+        storage
+    }
+
+    /// Begins again over the same storage: a receiver of a stream that begins at position `first`;
+    /// nothing is read, queued or held.
+    pub fn reset_at(&mut self, first: u64) {
+        self.head.reset_at(first);
+    }
+
+    /// Returns whether `pos + len` fits `u64`, as `segment` requires for a segment of `len` bytes.
+    ///
+    /// ```
+    /// # use net_base::receiver::Receiver;
+    /// assert!(Receiver::<4>::fits(u64::MAX - 2, 2) && !Receiver::<4>::fits(u64::MAX - 2, 3));
+    /// ```
+    #[must_use]
+    pub const fn fits(pos: u64, len: usize) -> bool {
+        len as u64 <= u64::MAX - pos
+    }
+
+    /// Keeps the bytes of a segment that are in the free window: from `next` on, and below `next`
+    /// plus `window`. Returns how many, by how many `next` moved, and the first three held runs; `keep`
+    /// does the same, and lists no runs.
+    ///
+    /// They are written at their positions, over those held there, and all bytes that are then
+    /// contiguous from `next` on join the queue. If there are none, nothing changes.
+    ///
+    /// ```
+    /// # use net_base::receiver::Receiver;
+    /// # use net_base::storage::TooManyHolesError;
+    /// let mut storage = [0u8; 16];
+    /// let mut receiver = Receiver::<1>::empty(&mut storage[..]);
+    /// assert_eq!(receiver.segment(4, b"e").map(|it| it.sack), Ok([Some((4, 5)), None, None]));
+    /// assert_eq!(receiver.segment(6, b"g"), Err(TooManyHolesError));
+    /// assert_eq!(receiver.segment(0, b"abcd").map(|it| it.queued), Ok(5));
+    /// ```
+    ///
+    /// # Errors
+    ///
+    /// The segment is refused, and nothing changes, exactly if the bytes do not begin at `next` and
+    /// together with those held would make more than `N` runs. So a segment that begins at or below
+    /// `next` is never refused, and its kept bytes join the queue.
+    ///
+    /// # Panics
+    ///
+    /// Panics unless the segment ends within 64 bits, as `fits` tests.
+    ///
+    /// # [Guarantees](crate#guarantees)
+    ///
+    /// - on `Err`: `self == old(self)`
+    /// - on `Ok(it)`: `self.next() == old(self).next() + it.queued`
+    /// - if `pos <= old(self).next()`, then `result.is_ok()`
+    // Inlined, so that a caller that doesn't look at `sack` doesn't pay for it.
+    #[inline(always)]
+    #[track_caller]
+    pub fn segment(&mut self, pos: u64, bytes: &[u8]) -> Result<Kept, TooManyHolesError> {
+        prove!(
+            Self::fits(pos, bytes.len()),
+            "the segment's end is above `u64::MAX`"
+        );
+        let bytes = self.keep_part(pos, bytes)?;
+        let sack = self.first_runs();
+        Ok(Kept {
+            kept: bytes.kept,
+            queued: bytes.queued,
+            sack,
+        })
+    }
+
+    /// Returns the first three held runs.
+    #[inline(always)]
+    fn first_runs(&self) -> [Option<(u64, u64)>; 3] {
+        self.head.first_runs(&self.runs)
+    }
+
+    /// Keeps the bytes of a segment that are in the free window, as `segment` does, and lists no runs. Any
+    /// segment may arrive: bytes from position `u64::MAX` on, which no stream has, are left out.
+    ///
+    /// ```
+    /// # use net_base::receiver::{KeptBytes, Receiver};
+    /// let mut storage = [0u8; 16];
+    /// let mut receiver = Receiver::new(&mut storage[..]);
+    /// assert_eq!(receiver.keep(2, b"cd"), Ok(KeptBytes { kept: 2, queued: 0 }));
+    /// assert_eq!(receiver.keep(0, b"ab"), Ok(KeptBytes { kept: 2, queued: 4 }));
+    /// ```
+    ///
+    /// # Errors
+    ///
+    /// A segment is refused exactly if `segment` refuses it, and then nothing changes.
+    ///
+    /// # [Guarantees](crate#guarantees)
+    ///
+    /// - on `Err`: `self == old(self)`
+    /// - on `Ok(it)`: `self.next() == old(self).next() + it.queued`
+    /// - if `pos <= old(self).next()`, then `result.is_ok()`
+    #[inline]
+    pub fn keep(&mut self, pos: u64, bytes: &[u8]) -> Result<KeptBytes, TooManyHolesError> {
+        self.keep_part(pos, existing(pos, bytes))
+    }
+
+    /// Returns the receiver's numbers and its held runs, of which `Plan::keep` says what would be kept of
+    /// segments, one after another. It copies the N runs, and no bytes. smoltcp has no such call.
+    #[must_use]
+    pub fn plan(&self) -> Plan<N> {
+        Plan::over(self.head, self.runs, self.storage.count())
+    }
+
+    /// Keeps a segment that ends within 64 bits.
+    #[inline]
+    pub(crate) fn keep_part(
+        &mut self,
+        pos: u64,
+        bytes: &[u8],
+    ) -> Result<KeptBytes, TooManyHolesError> {
+        let count = self.storage.count();
+        let storage = self.storage.part_mut(0, count);
+        self.head.keep(storage, &mut self.runs, pos, bytes)
+    }
+
+    /// Lets go of the held runs.
+    #[inline]
+    pub(crate) fn release_held(&mut self) {
+        self.head.release_held();
+    }
+
+    /// Moves bytes from the head of the queue to the beginning of `into`, and returns how many: as
+    /// many as are queued and as `into` has room for. The rest of `into` stays as it is.
+    ///
+    /// ```text
+    /// if Receiver::<4>::fits(pos, payload.len()) {
+    ///     let _accepted = receiver.segment(pos, payload).is_ok();
+    /// }
+    /// receiver.read(into)
+    /// ```
+    ///
+    /// ```
+    /// # use net_base::receiver::Receiver;
+    /// # let mut storage = [0u8; 16];
+    /// # let mut receiver = Receiver::new(&mut storage[..]);
+    /// assert!(receiver.segment(0, b"abc").is_ok());
+    /// let mut into = *b"--";
+    /// assert_eq!((receiver.read(&mut into), &into, receiver.queued()), (2, b"ab", 1));
+    /// ```
+    ///
+    /// # [Guarantees](crate#guarantees)
+    ///
+    /// - `result == min(into.len(), old(self).queued())`
+    /// - `into == old(self).queue[..into.len()] ++ old(into)[old(self).queued()..]`
+    /// - `self.next() == old(self).next()`
+    pub fn read(&mut self, into: &mut [u8]) -> usize {
+        self.head.read(whole(&self.storage), into)
+    }
+
+    /// Copies bytes from the head of the queue to the beginning of `into`, and returns how many:
+    /// as many as are queued and as `into` has room for. The rest of `into` stays as it is, and
+    /// the queue too: the bytes are those that a `read` would take.
+    ///
+    /// ```
+    /// # use net_base::receiver::Receiver;
+    /// # let mut storage = [0u8; 16];
+    /// # let mut receiver = Receiver::new(&mut storage[..]);
+    /// assert!(receiver.segment(0, b"abc").is_ok());
+    /// let mut into = *b"--";
+    /// assert_eq!((receiver.peek_slice(&mut into), &into, receiver.queued()), (2, b"ab", 3));
+    /// ```
+    ///
+    /// # [Guarantees](crate#guarantees)
+    ///
+    /// - `result == min(into.len(), self.queued())`
+    /// - `into == self.queue[..into.len()] ++ old(into)[self.queued()..]`
+    pub fn peek_slice(&self, into: &mut [u8]) -> usize {
+        self.head.peek_slice(whole(&self.storage), into)
+    }
+
+    /// Lends a slice of at most `size` queued bytes from `offset`, cut at the end of queue or storage.
+    /// It is empty only if `size` is 0 or the queue has no byte `offset`.
+    ///
+    /// The stream's byte number i, counted from 0, has the index `i` modulo the capacity in the
+    /// storage, so a caller knows where a part ends. smoltcp's `peek` lends from the head on.
+    ///
+    /// ```
+    /// # use net_base::receiver::Receiver;
+    /// # let mut storage = [0u8; 16];
+    /// # let mut receiver = Receiver::new(&mut storage[..]);
+    /// assert!(receiver.segment(0, b"abc").is_ok());
+    /// assert_eq!(receiver.peek(1, 9), b"bc");
+    /// ```
+    ///
+    /// # [Guarantees](crate#guarantees)
+    ///
+    /// - if `offset < self.queued()` and `0 < size`, then `0 < result.len()`
+    /// - `result == self.queue[offset..][..result.len()]`
+    #[must_use]
+    pub fn peek(&self, offset: usize, size: usize) -> &[u8] {
+        self.head.peek(whole(&self.storage), offset, size)
+    }
+
+    /// Shows at most `size` bytes of the queue, from its byte `offset` on, in two parts: those up to the
+    /// storage's end, and those from its beginning on. The second part is empty unless the bytes wrap.
+    ///
+    /// `peek` shows the first of them alone. smoltcp has no such call.
+    ///
+    /// # [Guarantees](crate#guarantees)
+    ///
+    /// - `result.0 ++ result.1 == self.queue[offset..][..size]`
+    #[must_use]
+    pub fn peek_slices(&self, offset: usize, size: usize) -> (&[u8], &[u8]) {
+        self.head.peek_slices(whole(&self.storage), offset, size)
+    }
+
+    /// Shows the queue, in order, in two parts: the bytes up to the storage's end, and those from its
+    /// beginning on. The second part is empty unless the queue wraps.
+    ///
+    /// smoltcp has no such call; std's `VecDeque` has it.
+    ///
+    /// ```
+    /// # use net_base::receiver::Receiver;
+    /// # let mut storage = [0u8; 4];
+    /// # let mut receiver = Receiver::new(&mut storage[..]);
+    /// assert!(receiver.segment(0, b"abc").is_ok());
+    /// assert_eq!(receiver.read(&mut [0; 2]), 2);
+    /// assert!(receiver.segment(3, b"def").is_ok());
+    /// assert_eq!(receiver.as_slices(), (&b"cd"[..], &b"ef"[..]));
+    /// ```
+    ///
+    /// # [Guarantees](crate#guarantees)
+    ///
+    /// - `result.0 ++ result.1 == self.queue`
+    #[must_use]
+    pub fn as_slices(&self) -> (&[u8], &[u8]) {
+        self.head.as_slices(whole(&self.storage))
+    }
+
+    /// Calls `f` on the first part of the queue, as `as_slices` shows it, takes as many bytes off the
+    /// queue as `f` counts, and returns what `f` returned. The part is empty only if the queue is.
+    ///
+    /// smoltcp's `recv` lends the bytes for writing too.
+    ///
+    /// ```
+    /// # use net_base::receiver::Receiver;
+    /// # let mut storage = [0u8; 16];
+    /// # let mut receiver = Receiver::new(&mut storage[..]);
+    /// assert!(receiver.segment(0, b"abc").is_ok());
+    /// assert_eq!(receiver.read_with(|bytes| (2, bytes.len())), (2, 3));
+    /// assert_eq!(receiver.peek(0, 9), b"c");
+    /// ```
+    ///
+    /// # Panics
+    ///
+    /// Panics unless `f` takes that part, and counts no more bytes than it is lent.
+    #[track_caller]
+    pub fn read_with<R, F: FnOnce(&[u8]) -> (usize, R)>(&mut self, f: F) -> (usize, R) {
+        let part = self.first_slice();
+        let lent = part.len();
+        let answer = f(part);
+        prove!(answer.0 <= lent, "more bytes than were lent");
+        self.head.remove(self.storage.count(), answer.0);
+        answer
+    }
+
+    /// Takes the first `count` bytes off the queue, as `read` does, and copies none: `peek` and
+    /// `as_slices` show them before.
+    ///
+    /// # Panics
+    ///
+    /// Panics unless at least `count` bytes are queued.
+    ///
+    /// # [Guarantees](crate#guarantees)
+    ///
+    /// - `self.next() == old(self).next()`
+    #[track_caller]
+    pub fn remove(&mut self, count: usize) {
+        prove!(count <= self.queued(), "more bytes than are queued");
+        self.head.remove(self.storage.count(), count);
+    }
+
+    /// Takes bytes off the queue that are there.
+    pub(crate) fn remove_part(&mut self, count: usize) {
+        self.head.remove(self.storage.count(), count);
+    }
+
+    /// Shows the first part of the queue, which is empty only if the queue is.
+    pub(crate) fn first_slice(&self) -> &[u8] {
+        self.head.peek(whole(&self.storage), 0, self.head.queued())
+    }
+
+    /// Returns the first missing position: the first position, plus the count of bytes read, plus
+    /// those queued.
+    ///
+    /// ```
+    /// # use net_base::receiver::Receiver;
+    /// # let mut storage = [0u8; 16];
+    /// # let mut receiver = Receiver::new(&mut storage[..]);
+    /// assert!(receiver.segment(0, b"abc").is_ok());
+    /// assert_eq!(receiver.next(), 3);
+    /// ```
+    #[must_use]
+    pub fn next(&self) -> u64 {
+        self.head.next()
+    }
+
+    /// Returns how many bytes are queued.
+    ///
+    /// ```
+    /// # use net_base::receiver::Receiver;
+    /// # let mut storage = [0u8; 16];
+    /// # let mut receiver = Receiver::new(&mut storage[..]);
+    /// assert!(receiver.segment(0, b"abc").is_ok());
+    /// assert_eq!(receiver.queued(), 3);
+    /// ```
+    #[must_use]
+    pub fn queued(&self) -> usize {
+        self.head.queued()
+    }
+
+    /// Returns the window: how many bytes have room after the queue, held ones among them. `queued`
+    /// and `window` together are the capacity.
+    ///
+    /// ```
+    /// # use net_base::receiver::Receiver;
+    /// # let mut storage = [0u8; 16];
+    /// # let mut receiver = Receiver::new(&mut storage[..]);
+    /// assert!(receiver.segment(0, b"abc").is_ok());
+    /// assert_eq!(receiver.window(), 13);
+    /// ```
+    #[must_use]
+    pub fn window(&self) -> usize {
+        self.head.window(self.storage.count())
+    }
+
+    /// Returns the end of the free window, `next` plus `window`: the first position for which there
+    /// is no room. `None` if it doesn't fit 64 bits. It never falls.
+    ///
+    /// ```
+    /// # use net_base::receiver::Receiver;
+    /// # let mut storage = [0u8; 16];
+    /// # let mut receiver = Receiver::new_at(&mut storage[..], 100);
+    /// assert!(receiver.segment(100, b"abc").is_ok());
+    /// assert_eq!(receiver.window_end(), Some(116));
+    /// assert_eq!(receiver.read(&mut [0; 3]), 3);
+    /// assert_eq!(receiver.window_end(), Some(119));
+    /// ```
+    #[must_use]
+    pub fn window_end(&self) -> Option<u64> {
+        self.head.window_end(self.storage.count())
+    }
+
+    /// Returns how many bytes have room, queued and held ones included: the storage's length.
+    ///
+    /// ```
+    /// # use net_base::receiver::Receiver;
+    /// let mut storage = [0u8; 16];
+    /// assert_eq!(Receiver::new(&mut storage[..]).capacity(), 16);
+    /// ```
+    #[must_use]
+    pub fn capacity(&self) -> usize {
+        self.storage.count()
+    }
+
+    /// Returns whether no byte is queued; bytes may be held.
+    ///
+    /// ```
+    /// # use net_base::receiver::Receiver;
+    /// # let mut storage = [0u8; 16];
+    /// # let mut receiver = Receiver::new(&mut storage[..]);
+    /// assert!(receiver.segment(1, b"b").is_ok());
+    /// assert!(receiver.is_empty());
+    /// ```
+    #[must_use]
+    pub fn is_empty(&self) -> bool {
+        self.queued() == 0
+    }
+
+    /// Returns the held runs as absolute (start, end), the end not included, in rising order, at
+    /// most `N`. Each begins above `next` and ends within the free window. `newest_runs` lists them in
+    /// the order of a selective acknowledgement.
+    ///
+    /// ```
+    /// # use net_base::receiver::Receiver;
+    /// # let mut storage = [0u8; 16];
+    /// # let mut receiver = Receiver::new_at(&mut storage[..], 100);
+    /// assert!(receiver.segment(105, b"abc").is_ok());
+    /// assert!(receiver.held().eq([(105, 108)]));
+    /// ```
+    #[must_use]
+    pub fn held(&self) -> HeldRuns<'_, N> {
+        self.head.held(&self.runs)
+    }
+
+    /// Returns the holes between the queue and the last held byte, as absolute (start, end), the end not
+    /// included, in rising order: one before each held run, so at most `N`. The first begins at `next`. A byte
+    /// in one of them is missing, and a later one was kept. smoltcp has no such call.
+    ///
+    /// ```
+    /// # use net_base::receiver::Receiver;
+    /// # let mut storage = [0u8; 16];
+    /// # let mut receiver = Receiver::new(&mut storage[..]);
+    /// assert!(receiver.keep(2, b"cd").is_ok() && receiver.keep(7, b"h").is_ok());
+    /// assert!(receiver.holes().eq([(0, 2), (4, 7)]));
+    /// ```
+    #[must_use]
+    pub fn holes(&self) -> MissingRunIter<'_> {
+        self.head.holes(&self.runs)
+    }
+
+    /// Returns how many runs are held, without a look at them: as many as `held` yields, at most `N`.
+    #[must_use]
+    pub fn held_count(&self) -> usize {
+        self.head.held_count()
+    }
+
+    /// Returns at most `K` held runs, the newest first, as absolute start and end, the end not
+    /// included: the order that RFC 2018, section 4, wants of a selective acknowledgement.
+    ///
+    /// The first is the run that has `position`, that of the segment just taken, if it is held. Then
+    /// come the runs of the starts in `recent`, in their order, and then the others, in rising order;
+    /// each comes once. The caller keeps `recent` from call to call, zeros at first. The iterator doesn't
+    /// tell how many are left, and is no `ExactSizeIterator`.
+    ///
+    /// A sender that is told the first runs again and again learns late of others. smoltcp reports the
+    /// first run alone.
+    ///
+    /// ```
+    /// # use net_base::receiver::Receiver;
+    /// # let mut storage = [0u8; 16];
+    /// # let mut receiver = Receiver::new_at(&mut storage[..], 100);
+    /// let mut recent = [0; 3];
+    /// assert!(receiver.segment(108, b"i").is_ok());
+    /// assert!(receiver.newest_runs(108, &mut recent).eq([(108, 109)]));
+    /// assert!(receiver.segment(104, b"ef").is_ok());
+    /// assert!(receiver.newest_runs(104, &mut recent).eq([(104, 106), (108, 109)]));
+    /// ```
+    pub fn newest_runs<const K: usize>(
+        &self,
+        position: u64,
+        recent: &mut [u64; K],
+    ) -> NewestRunIter<K> {
+        let mut runs = [HeldRun { start: 0, end: 0 }; K];
+        let count = self
+            .head
+            .newest_runs(&self.runs, position, recent, &mut runs);
+        NewestRunIter::over(runs, count)
+    }
+
+    /// Returns what of a segment of `len` bytes at `pos` was kept before, as a start and an end, the end not
+    /// included: what is below `next`, or else the first part that is held. `None` if all of it is new. It is
+    /// asked before the segment is kept. TCP reports such a part once, as the first block of the next
+    /// acknowledgement (RFC 2883): it is below what is acknowledged, or within a held run. smoltcp has no such
+    /// call.
+    ///
+    /// ```
+    /// # use net_base::receiver::Receiver;
+    /// # let mut storage = [0u8; 16];
+    /// # let mut receiver = Receiver::new(&mut storage[..]);
+    /// assert!(receiver.keep(0, b"abc").is_ok() && receiver.keep(6, b"ghi").is_ok());
+    /// assert_eq!(receiver.duplicate_of(1, 4), Some((1, 3)));
+    /// assert_eq!((receiver.duplicate_of(4, 3), receiver.duplicate_of(3, 3)), (Some((6, 7)), None));
+    /// ```
+    #[must_use]
+    pub fn duplicate_of(&self, pos: u64, len: usize) -> Option<(u64, u64)> {
+        let count = count_existing(pos, len);
+        self.head.duplicate_of(&self.runs, pos, pos + count as u64)
+    }
+
+    /// Returns whether a byte that is queued or held differs from that of the segment at its position. Bytes that were
+    /// read aren't known any more: a segment doesn't differ from them.
+    ///
+    /// It is asked before the segment is kept, which writes over what is held, by callers who refuse a peer that
+    /// sends two texts for one position. It finds the first held run that the segment meets by a search, and looks
+    /// at those that it meets, and at most two more. smoltcp has no such call.
+    ///
+    /// ```
+    /// # use net_base::receiver::Receiver;
+    /// # let mut storage = [0u8; 16];
+    /// # let mut receiver = Receiver::new(&mut storage[..]);
+    /// assert!(receiver.keep(0, b"ab").is_ok() && receiver.keep(4, b"ef").is_ok());
+    /// assert!(!receiver.differs(1, b"bcdefg") && receiver.differs(1, b"bcdeF"));
+    /// assert!(receiver.differs(0, b"A"));
+    /// assert_eq!(receiver.read(&mut [0; 1]), 1);
+    /// assert!(!receiver.differs(0, b"A"));
+    /// ```
+    #[must_use]
+    pub fn differs(&self, pos: u64, bytes: &[u8]) -> bool {
+        self.head
+            .differs(whole(&self.storage), &self.runs, pos, bytes)
+    }
+
+    /// Returns where the bytes of a segment of `len` bytes at `pos` are: below `next`, in the free window, or above
+    /// it. Any segment may be asked for. `keep` then keeps those in the free window, unless it refuses the
+    /// segment. It is asked before the segment is kept, by callers who refuse a peer that sends more than it was
+    /// offered room for. smoltcp has no such call.
+    ///
+    /// ```
+    /// # use net_base::receiver::Receiver;
+    /// # let mut storage = [0u8; 4];
+    /// # let mut receiver = Receiver::new(&mut storage[..]);
+    /// assert!(receiver.keep(0, b"ab").is_ok());
+    /// let parts = receiver.parts_of(1, 5);
+    /// assert_eq!((parts.old, parts.in_window, parts.beyond), (1, 2, 2));
+    /// ```
+    ///
+    /// # [Guarantees](crate#guarantees)
+    ///
+    /// - `old(result) + result.in_window + result.beyond == len`
+    #[must_use]
+    pub fn parts_of(&self, pos: u64, len: usize) -> SegmentParts {
+        self.head.parts_of(self.storage.count(), pos, len)
+    }
+
+    /// Returns how many bytes of a segment of `len` bytes at `position` would be new: those in the
+    /// free window whose positions are not held. `segment` keeps the others of the free window too,
+    /// and counts them. If all that it brings was read, queued or held, there are none: a duplicate,
+    /// which TCP may report (RFC 2883). It is asked before `segment`; smoltcp has no such call.
+    ///
+    /// ```
+    /// # use net_base::receiver::Receiver;
+    /// # let mut storage = [0u8; 16];
+    /// # let mut receiver = Receiver::new(&mut storage[..]);
+    /// assert!(receiver.segment(4, b"ef").is_ok());
+    /// assert_eq!((receiver.count_new(3, 4), receiver.count_new(4, 2)), (2, 0));
+    /// ```
+    ///
+    /// Positions from `u64::MAX` on, which no stream has, aren't counted.
+    #[must_use]
+    pub fn count_new(&self, position: u64, len: usize) -> usize {
+        self.count_part(position, count_existing(position, len))
+    }
+
+    /// Counts those of a segment that ends within 64 bits.
+    pub(crate) fn count_part(&self, position: u64, len: usize) -> usize {
+        self.head
+            .count_part(self.storage.count(), &self.runs, position, len)
+    }
+
+    /// Returns the position of the first byte that wasn't read: that of the stream's first byte, plus the count of
+    /// bytes read. The queue begins there, and ends at `next`. smoltcp has no such call.
+    ///
+    /// ```
+    /// # use net_base::receiver::Receiver;
+    /// # let mut storage = [0u8; 16];
+    /// # let mut receiver = Receiver::new_at(&mut storage[..], 100);
+    /// assert!(receiver.keep(100, b"abc").is_ok());
+    /// assert_eq!(receiver.read(&mut [0; 2]), 2);
+    /// assert_eq!((receiver.first_unread(), receiver.next()), (102, 103));
+    /// ```
+    #[must_use]
+    pub fn first_unread(&self) -> u64 {
+        let head = &self.head;
+        head.first + head.count_read
+    }
+
+    /// Returns whether the first missing position and the end of each held run are at most a position.
+    pub(crate) fn has_all_below(&self, pos: u64) -> bool {
+        self.head.has_all_below(&self.runs, pos)
+    }
+
+    /// Returns whether first position, count of bytes read, queued bytes and held runs are equal.
+    /// The held bytes are not compared, nor are the capacities.
+    ///
+    /// `states` says which states of a schedule differ by it. `converges` says that two receivers
+    /// of one stream are found equal if the same number of bytes was read from both and the same
+    /// positions were kept, in whatever order the segments arrived.
+    ///
+    /// ```
+    /// # use net_base::receiver::Receiver;
+    /// let (mut storage, mut other) = ([0u8; 4], [0u8; 8]);
+    /// let receiver = Receiver::new(&mut storage[..]);
+    /// assert!(receiver.same_state(&Receiver::new(&mut other[..])));
+    /// ```
+    #[must_use]
+    pub fn same_state<O: Storage<u8>>(&self, other: &ReceiverOver<O, N>) -> bool {
+        let storage = whole(&self.storage);
+        let other_storage = whole(&other.storage);
+        self.head.is_same_state(storage, &self.runs, &other.head, other_storage, &other.runs)
+    }
+}
+
+/// Shows the bytes of a segment at positions that a stream can have.
+#[inline]
+fn existing(pos: u64, bytes: &[u8]) -> &[u8] {
+    &bytes[..count_existing(pos, bytes.len())]
+}
+
+/// Shows all bytes of a storage.
+fn whole<S: Storage<u8>>(storage: &S) -> &[u8] {
+    storage.part(0, storage.count())
+}

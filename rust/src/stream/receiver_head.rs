@@ -1,0 +1,652 @@
+// Written by tools/erase.py from crates/net_receiver/src/receiver_head.rt: a change here would be lost.
+//! A receiver in parts: a head of numbers, a storage, and runs that are kept elsewhere.
+
+use crate::rattle::prelude::*;
+use crate::stream::held_runs::{HeldRun, HeldRunIter, MissingRunIter, is_listed, remember};
+use crate::stream::kept::{KeptBytes, SegmentParts};
+use crate::storage::assembler::Turns;
+use crate::storage::width::most;
+use crate::storage::{AssemblerHead, Run, TooManyHolesError};
+use crate::storage::RingHead;
+
+/// What a receiver has besides its storage and its held runs: numbers.
+///
+/// It serves callers who keep both elsewhere, as in the memory of a program in C. Each call takes
+/// them as slices: as many bytes can be stored as the storage has, and as many runs can be held as
+/// the slice of runs has elements.
+///
+/// A head, a storage and runs are *sound* if they are those of a receiver, as `is_sound` tests:
+/// `HasSoundParts` in contracts, where `receiver_of` is what they store. Only the storage's length
+/// matters, not its bytes. A call that requires this can't be made with a head and the runs of
+/// another one, or a storage of another length. smoltcp has no such type.
+#[repr(C)]
+#[derive(Debug, Clone, Copy)]
+pub struct ReceiverHead {
+    /// The position of the stream's first byte.
+    pub first: u64,
+    /// How many bytes were read.
+    pub count_read: u64,
+    /// Where the queue is in the storage.
+    pub place: RingHead,
+    /// What the held runs are counted from, and how many there are.
+    pub held: AssemblerHead,
+}
+
+impl ReceiverHead {
+    /// Returns the head of a receiver of a stream that begins at position `first`; nothing is read,
+    /// queued or held. It is sound with every storage and all runs.
+    pub const fn new(first: u64) -> Self {
+        ReceiverHead {
+            first,
+            count_read: 0,
+            place: RingHead {
+                read_at: 0,
+                length: 0,
+            },
+            held: AssemblerHead::new(),
+        }
+    }
+
+    /// Begins again: the head of a receiver of a stream that begins at position `first`, as `new`
+    /// returns it.
+    #[inline]
+    pub(crate) fn reset_at(&mut self, first: u64) {
+        *self = ReceiverHead::new(first);
+    }
+
+    /// Lets go of the held runs.
+    #[inline]
+    pub(crate) fn release_held(&mut self) {
+        self.held = AssemblerHead::new();
+    }
+
+    /// Returns whether this head, a storage of `capacity` bytes and runs are sound: `place` is that
+    /// of a ring of the storage, whose `read_at` is `count_read` modulo the capacity; the first
+    /// missing position fits 64 bits; `held` and the runs are those of an assembler without
+    /// position 0; and each held position is in the free window, and the one after it fits 64 bits.
+    /// It looks at each held run, and at no byte.
+    pub fn is_sound(&self, capacity: usize, runs: &[Run]) -> bool {
+        if !self.place.is_sound(capacity) {
+            return false;
+        }
+        if !self.held.is_sound(runs) {
+            return false;
+        }
+        if !self.reads_in_turn(capacity) {
+            return false;
+        }
+        if !self.next_fits() {
+            return false;
+        }
+        let positions = u64::MAX - self.next();
+        let window = self.window(capacity);
+        self.is_held_below((window as u64).min(positions), runs)
+    }
+
+    /// Returns whether the queue begins where the byte after those read has its index.
+    fn reads_in_turn(&self, capacity: usize) -> bool {
+        if capacity == 0 {
+            return true;
+        }
+        self.place.read_at as u64 == self.count_read % capacity as u64
+    }
+
+    /// Returns whether the first missing position fits 64 bits.
+    fn next_fits(&self) -> bool {
+        let rest = u64::MAX - self.first;
+        if self.count_read > rest {
+            return false;
+        }
+        self.place.length as u64 <= rest - self.count_read
+    }
+
+    /// Returns whether the offset of each held byte is above 0 and below `limit`.
+    fn is_held_below(&self, limit: u64, runs: &[Run]) -> bool {
+        let used = self.held.used;
+        if used == 0 {
+            return true;
+        }
+        if self.held.first_start == 0 {
+            return false;
+        }
+        let last = &runs[used - 1];
+        let end = self.held.first_start + last.end;
+        prove!(end <= most(), "in any `usize`");
+        end as u64 <= limit
+    }
+
+    /// Returns the first three held runs.
+    #[inline(always)]
+    pub(crate) fn first_runs(&self, runs: &[Run]) -> [Option<(u64, u64)>; 3] {
+        let mut held = self.held(runs);
+        [held.next(), held.next(), held.next()]
+    }
+
+    /// Keeps the bytes of a segment that are in the free window, as `ReceiverOver::keep` does. If it is
+    /// refused, head, storage and runs stay as they were, with the runs that aren't in use.
+    ///
+    /// # Requires
+    ///
+    /// Head, storage and runs are sound, as `is_sound` tests, and the segment ends within 64 bits,
+    /// as `ReceiverOver::fits` tests.
+    #[inline(always)]
+    pub fn keep(
+        &mut self,
+        storage: &mut [u8],
+        runs: &mut [Run],
+        pos: u64,
+        bytes: &[u8],
+    ) -> Result<KeptBytes, TooManyHolesError> {
+        let place = self.place;
+        let it = self.admit(runs, storage.len(), pos, bytes.len())?;
+        if it.counts.kept == 0 {
+            // Numbers written out: with `it.counts` this path is three times as slow.
+            return Ok(KeptBytes { kept: 0, queued: 0 });
+        }
+        let rest = &bytes[it.skip..];
+        let part = &rest[..it.counts.kept];
+        place.write_unallocated(storage, it.offset, part);
+        Ok(it.counts)
+    }
+
+    /// Takes the numbers of a segment of `len` bytes, as `keep` does, where the storage has `capacity` bytes. It writes
+    /// no byte: what it returns says which bytes are kept, and where.
+    #[inline(always)]
+    pub(crate) fn admit(
+        &mut self,
+        runs: &mut [Run],
+        capacity: usize,
+        pos: u64,
+        len: usize,
+    ) -> Result<Admitted, TooManyHolesError> {
+        let next = self.next();
+        let window = self.window(capacity);
+        let late = next.saturating_sub(pos);
+        let ahead = pos.saturating_sub(next);
+        if late >= len as u64 || ahead >= window as u64 {
+            let counts = KeptBytes { kept: 0, queued: 0 };
+            return Ok(Admitted {
+                skip: 0,
+                offset: 0,
+                counts,
+            });
+        }
+        prove!(late <= len as u64, "in any `usize`");
+        let skip = late as usize;
+        prove!(ahead <= window as u64, "in any `usize`");
+        let offset = ahead as usize;
+        let kept = (len - skip).min(window - offset);
+        crate::storage::laws::is_usize(window);
+        let queued = self.held.add_then_remove_front(runs, offset, kept)?;
+        self.place.enqueue(capacity, queued);
+        Ok(Admitted {
+            skip,
+            offset,
+            counts: KeptBytes { kept, queued },
+        })
+    }
+
+    /// Moves bytes from the head of the queue to the beginning of `into`, and returns how many: as
+    /// many as are queued and as `into` has room for. The rest of `into` stays as it is.
+    ///
+    /// # Requires
+    ///
+    /// The queue is in the storage, and the first missing position fits 64 bits, as they do where
+    /// head, storage and runs are sound.
+    #[inline]
+    pub fn read(&mut self, storage: &[u8], into: &mut [u8]) -> usize {
+        let count = self.place.dequeue_slice(storage, into);
+        self.count_read += count as u64;
+        count
+    }
+
+    /// Copies bytes from the head of the queue to the beginning of `into`, and returns how many: as
+    /// many as are queued and as `into` has room for. The rest of `into` stays as it is, and the
+    /// queue too.
+    ///
+    /// # Requires
+    ///
+    /// The queue is in the storage.
+    #[inline]
+    pub fn peek_slice(&self, storage: &[u8], into: &mut [u8]) -> usize {
+        self.place.read_allocated(storage, 0, into)
+    }
+
+    /// Shows bytes of the queue that are contiguous, from its byte `offset` on: `size`, or as many
+    /// as there are up to the end of the queue or of the storage.
+    ///
+    /// # Requires
+    ///
+    /// The queue is in the storage.
+    #[inline]
+    pub(crate) fn peek<'a>(&self, storage: &'a [u8], offset: usize, size: usize) -> &'a [u8] {
+        let span = self.place.allocated(storage.len(), offset, size);
+        &storage[span.from..span.from + span.contiguous]
+    }
+
+    /// Shows at most `size` bytes of the queue, from its byte `offset` on, in two parts: those up to the
+    /// storage's end, and those from its beginning on. The second part is empty unless the bytes wrap.
+    ///
+    /// # Requires
+    ///
+    /// The queue is in the storage.
+    #[inline]
+    pub(crate) fn peek_slices<'a>(
+        &self,
+        storage: &'a [u8],
+        offset: usize,
+        size: usize,
+    ) -> (&'a [u8], &'a [u8]) {
+        let span = self.place.allocated(storage.len(), offset, size);
+        (
+            &storage[span.from..span.from + span.contiguous],
+            &storage[..span.count - span.contiguous],
+        )
+    }
+
+    /// Shows the queue, in order, in two parts: the bytes up to the storage's end, and those from
+    /// its beginning on. The second part is empty unless the queue wraps.
+    ///
+    /// # Requires
+    ///
+    /// The queue is in the storage.
+    #[inline]
+    pub(crate) fn as_slices<'a>(&self, storage: &'a [u8]) -> (&'a [u8], &'a [u8]) {
+        let span = self.place.allocated(storage.len(), 0, self.place.length);
+        (
+            &storage[span.from..span.from + span.contiguous],
+            &storage[..span.count - span.contiguous],
+        )
+    }
+
+    /// Removes the first `count` bytes of the queue, as `read` does, and copies none. `capacity` is
+    /// how many bytes the storage has.
+    ///
+    /// # Requires
+    ///
+    /// The queue is in the storage, it has `count` bytes, and the first missing position fits 64
+    /// bits.
+    #[inline]
+    pub fn remove(&mut self, capacity: usize, count: usize) {
+        self.place.dequeue(capacity, count);
+        self.count_read += count as u64;
+    }
+
+    /// Returns the first missing position: the first position, plus the count of bytes read, plus
+    /// those queued.
+    ///
+    /// # Requires
+    ///
+    /// The sum fits 64 bits, as it does where head, storage and runs are sound.
+    #[inline(always)]
+    pub fn next(&self) -> u64 {
+        self.first + self.count_read + self.place.length as u64
+    }
+
+    /// Returns how many bytes are queued.
+    #[inline(always)]
+    pub(crate) fn queued(&self) -> usize {
+        self.place.length
+    }
+
+    /// Returns the window, where the storage has `capacity` bytes: how many bytes have room after
+    /// the queue, held ones among them.
+    ///
+    /// # Requires
+    ///
+    /// No more is queued than the capacity, as is so where head, storage and runs are sound.
+    #[inline(always)]
+    pub fn window(&self, capacity: usize) -> usize {
+        capacity - self.place.length
+    }
+
+    /// Returns the end of the free window, where the storage has `capacity` bytes: the first
+    /// position for which there is no room. `None` if it doesn't fit 64 bits.
+    #[inline(always)]
+    pub fn window_end(&self, capacity: usize) -> Option<u64> {
+        let read = self.first.checked_add(self.count_read)?;
+        read.checked_add(capacity as u64)
+    }
+
+    /// Returns the held runs, as `ReceiverOver::held` does: at most as many as `runs` has elements.
+    ///
+    /// # Requires
+    ///
+    /// Head and runs are sound, as `is_sound` tests, with a storage of some length.
+    #[inline(always)]
+    pub fn held<'a>(&self, runs: &'a [Run]) -> HeldRunIter<'a> {
+        HeldRunIter::over(self.held.iter_data(runs), self.next())
+    }
+
+    /// Returns the holes between the queue and the last held byte, as `ReceiverOver::holes` does.
+    ///
+    /// # Requires
+    ///
+    /// Head and runs are sound, as `is_sound` tests, with a storage of some length.
+    #[inline(always)]
+    pub(crate) fn holes<'a>(&self, runs: &'a [Run]) -> MissingRunIter<'a> {
+        MissingRunIter::before(self.held(runs), self.next())
+    }
+
+    /// Returns how many runs are held, without a look at them.
+    #[inline(always)]
+    pub(crate) fn held_count(&self) -> usize {
+        self.held.used
+    }
+
+    /// Lists held runs at the beginning of `into`, the newest first, and returns how many: as many
+    /// as are held, or as `into` has elements. The rest of `into` stays as it is.
+    ///
+    /// The first is the run that has `position`, that of the segment just taken, if it is held;
+    /// then come the runs that have the positions in `recent`, in their order, and then the others,
+    /// in rising order; each comes once. The call writes the starts of the runs that it lists to
+    /// the beginning of `recent`, as many as there is room for. The caller sets `recent` to zeros
+    /// before the first call, and doesn't change it afterwards. It is enough if `recent` and `into`
+    /// have as many elements in each call as the longest acknowledgement has SACK blocks; a shorter
+    /// one has the first of them. RFC 2018, section 4, wants this order. Each run that is listed is found by a search.
+    ///
+    /// # Requires
+    ///
+    /// Head and runs are sound, as `is_sound` tests, with a storage of some length.
+    pub fn newest_runs(
+        &self,
+        runs: &[Run],
+        position: u64,
+        recent: &mut [u64],
+        into: &mut [HeldRun],
+    ) -> usize {
+        let count = self.list_runs(runs, position, recent, into);
+        remember(recent, &into[..count]);
+        count
+    }
+
+    /// Lists the runs as `newest_runs` does, and leaves `recent` as it is.
+    fn list_runs(&self, runs: &[Run], position: u64, recent: &[u64], into: &mut [HeldRun]) -> usize {
+        let mut count = self.list_run(runs, position, into, 0);
+        for i in 0..recent.len() {
+            count = self.list_run(runs, recent[i], into, count);
+        }
+        for (start, _) in self.held(runs) {
+            if count == into.len() {
+                return count;
+            }
+            count = self.list_run(runs, start, into, count);
+        }
+        count
+    }
+
+    /// Lists the run that has a position after the first `count`, unless one of them has it, and
+    /// returns how many are listed then.
+    fn list_run(&self, runs: &[Run], position: u64, into: &mut [HeldRun], count: usize) -> usize {
+        if count == into.len() || is_listed(&into[..count], position) {
+            return count;
+        }
+        match self.run_at(runs, position) {
+            Some((start, end)) => {
+                into[count] = HeldRun { start, end };
+                prove!(count + 1 <= into.len(), "in any `usize`");
+                count + 1
+            }
+            None => count,
+        }
+    }
+
+    /// Returns the held run that has a position, as (start, end), the end not included; `None` if
+    /// the position isn't held.
+    fn run_at(&self, runs: &[Run], position: u64) -> Option<(u64, u64)> {
+        let next = self.next();
+        if position < next {
+            return None;
+        }
+        let offset = (position - next).min(most() as u64) as usize;
+        let count = self.held.runs_by(runs, offset);
+        if count == 0 {
+            return None;
+        }
+        match self.held.run_at(runs, count - 1) {
+            Some((start, end)) => {
+                if offset < end {
+                    Some((next + start as u64, next + end as u64))
+                } else {
+                    None
+                }
+            }
+            None => None,
+        }
+    }
+
+    /// Returns what of the positions from `pos` on and below `end` came before, as
+    /// `ReceiverOver::duplicate_of` does.
+    ///
+    /// # Requires
+    ///
+    /// Head and runs are sound, as `is_sound` tests, with a storage of some length.
+    pub fn duplicate_of(&self, runs: &[Run], pos: u64, end: u64) -> Option<(u64, u64)> {
+        let next = self.next();
+        let start = pos.max(self.first);
+        let stop = end.min(next);
+        if start < stop {
+            return Some((start, stop));
+        }
+        self.held_part(runs, pos.max(next), end)
+    }
+
+    /// Returns the first of the positions from `from` on and below `end` that are held, up to the end of
+    /// their run.
+    fn held_part(&self, runs: &[Run], from: u64, end: u64) -> Option<(u64, u64)> {
+        let next = self.next();
+        let offset = (from - next).min(most() as u64) as usize;
+        match self.first_held(runs, offset) {
+            Some(start) => {
+                let missing = self.held.first_missing(runs, start);
+                let begin = next + start as u64;
+                let stop = end.min(next + missing as u64);
+                if begin < stop {
+                    Some((begin, stop))
+                } else {
+                    None
+                }
+            }
+            None => None,
+        }
+    }
+
+    /// Returns the first offset of a held byte from `offset` on.
+    fn first_held(&self, runs: &[Run], offset: usize) -> Option<usize> {
+        let (missing, after) = self.held.next_hole(runs, offset);
+        if missing > offset {
+            return Some(offset);
+        }
+        after
+    }
+
+    /// Returns whether a byte that is queued or held differs from that of a segment, as `ReceiverOver::differs` does.
+    ///
+    /// # Requires
+    ///
+    /// Head, storage and runs are sound, as `is_sound` tests.
+    pub(crate) fn differs(&self, storage: &[u8], runs: &[Run], pos: u64, bytes: &[u8]) -> bool {
+        // The segment's bytes that weren't read, and where the first of them is, counted from the first
+        // position that wasn't.
+        let unread = self.first + self.count_read;
+        let late = unread.saturating_sub(pos).min(bytes.len() as u64) as usize;
+        let ahead = pos.saturating_sub(unread).min(storage.len() as u64) as usize;
+        let rest = &bytes[late..];
+        if self.part_differs(storage, 0, self.place.length, ahead, rest) {
+            return true;
+        }
+        self.held_differs(storage, runs, ahead, rest)
+    }
+
+    /// Returns whether a held byte differs from that of `data`, whose first byte is at `offset`, counted from the
+    /// first position that wasn't read.
+    fn held_differs(&self, storage: &[u8], runs: &[Run], offset: usize, data: &[u8]) -> bool {
+        let queued = self.place.length;
+        let mut turns = Turns::new();
+        // The runs before the last one that starts by `offset` end by then.
+        let first = self
+            .held
+            .runs_by(runs, offset.saturating_sub(queued))
+            .saturating_sub(1);
+        for k in first..self.held.run_count() {
+            turns.step();
+            turns.were_a_pass(runs);
+            let Some((start, end)) = self.held.run_at(runs, k) else {
+                return false;
+            };
+            let start = queued + start;
+            prove!(start <= storage.len(), "in any `usize`");
+            let end = queued + end;
+            prove!(end <= storage.len(), "in any `usize`");
+            if start.saturating_sub(offset) >= data.len() {
+                return false;
+            }
+            if self.part_differs(storage, start, end, offset, data) {
+                return true;
+            }
+        }
+        false
+    }
+
+    /// Returns whether one of the bytes from `start` on and below `end` differs from that of `data`, whose first byte
+    /// is at `offset`. All are counted from the first position that wasn't read.
+    fn part_differs(
+        &self,
+        storage: &[u8],
+        start: usize,
+        end: usize,
+        offset: usize,
+        data: &[u8],
+    ) -> bool {
+        let first = start.saturating_sub(offset);
+        let last = end.saturating_sub(offset).min(data.len());
+        if first >= last {
+            return false;
+        }
+        let place = RingHead {
+            read_at: self.place.read_at,
+            length: storage.len(),
+        };
+        let whole = ReceiverHead { place, ..*self };
+        let (one, two) = whole.peek_slices(storage, start.max(offset), last - first);
+        !is_joined(one, two, &data[first..last])
+    }
+
+    /// Returns where the bytes of a segment are, where the storage has `capacity` bytes, as
+    /// `ReceiverOver::parts_of` does.
+    ///
+    /// # Requires
+    ///
+    /// No more is queued than the capacity, and the first missing position fits 64 bits, as is so where head,
+    /// storage and runs are sound.
+    #[inline]
+    pub(crate) fn parts_of(&self, capacity: usize, pos: u64, len: usize) -> SegmentParts {
+        let next = self.next();
+        let old = (len as u64).min(next.saturating_sub(pos)) as usize;
+        let from = pos.max(next) - next;
+        let room = (self.window(capacity) as u64).min(u64::MAX - next);
+        let rest = len - old;
+        let in_window = (rest as u64).min(room.saturating_sub(from)) as usize;
+        SegmentParts {
+            old,
+            in_window,
+            beyond: rest - in_window,
+            past_end: 0,
+        }
+    }
+
+    /// Returns how many bytes of a segment of `len` bytes at `position` would be new, where the
+    /// storage has `capacity` bytes, as `ReceiverOver::count_new` does.
+    ///
+    /// # Requires
+    ///
+    /// Head, storage and runs are sound, as `is_sound` tests.
+    pub fn count_new(&self, capacity: usize, runs: &[Run], position: u64, len: usize) -> usize {
+        self.count_part(capacity, runs, position, count_existing(position, len))
+    }
+
+    /// Counts those of a segment that ends within 64 bits.
+    pub(crate) fn count_part(
+        &self,
+        capacity: usize,
+        runs: &[Run],
+        position: u64,
+        len: usize,
+    ) -> usize {
+        // The part in the free window, counted from the first missing position.
+        let next = self.next();
+        let window = self.window(capacity);
+        let from = position.saturating_sub(next).min(window as u64) as usize;
+        let end = position + len as u64;
+        let to = end.saturating_sub(next).min(window as u64) as usize;
+        to.saturating_sub(from) - self.held.count_between(runs, from, to)
+    }
+
+    /// Returns whether the first missing position and the end of each held run are at most a position.
+    ///
+    /// # Requires
+    ///
+    /// Head and runs are sound, as `is_sound` tests, with a storage of some length.
+    pub(crate) fn has_all_below(&self, runs: &[Run], pos: u64) -> bool {
+        let next = self.next();
+        next <= pos && self.is_held_below(pos - next, runs)
+    }
+
+    /// Compares two receivers, as `ReceiverOver::same_state` does.
+    ///
+    /// # Requires
+    ///
+    /// Both heads are sound with their storages and runs, as `is_sound` tests.
+    pub(crate) fn is_same_state(
+        &self,
+        storage: &[u8],
+        runs: &[Run],
+        other: &ReceiverHead,
+        other_storage: &[u8],
+        other_runs: &[Run],
+    ) -> bool {
+        self.first == other.first
+            && self.count_read == other.count_read
+            && self.is_same_queue(storage, other, other_storage)
+            && self.held.is_same(runs, &other.held, other_runs)
+    }
+
+    /// Returns whether two receivers have equal queues, compared slice by slice.
+    fn is_same_queue(&self, storage: &[u8], other: &ReceiverHead, other_storage: &[u8]) -> bool {
+        let length = self.place.length;
+        if length != other.place.length {
+            return false;
+        }
+        let mut at = 0;
+        while at < length {
+            let here = self.peek(storage, at, length - at);
+            let there = other.peek(other_storage, at, here.len());
+            let here = &here[..there.len()];
+            if here != there {
+                return false;
+            }
+            at += there.len();
+            prove!(at <= length, "in any `usize`");
+        }
+        true
+    }
+}
+
+/// Returns whether these bytes are two parts, one after the other.
+fn is_joined(one: &[u8], two: &[u8], bytes: &[u8]) -> bool {
+    one == &bytes[..one.len()] && two == &bytes[one.len()..]
+}
+
+/// The part of a segment that is kept: how many bytes are before it, how far after the queue it goes, and the counts.
+#[derive(Debug, Clone, Copy)]
+pub(crate) struct Admitted {
+    pub skip: usize,
+    pub offset: usize,
+    pub counts: KeptBytes,
+}
+
+/// Returns how many of `len` positions from `pos` on a stream can have.
+#[inline]
+pub(crate) fn count_existing(pos: u64, len: usize) -> usize {
+    (len as u64).min(u64::MAX - pos) as usize
+}

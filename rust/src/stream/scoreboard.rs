@@ -1,0 +1,303 @@
+// Written by tools/erase.py from crates/net_receiver/src/scoreboard.rt: a change here would be lost.
+//! A scoreboard: which positions a sender knows that the other end has.
+
+use crate::rattle::prelude::*;
+use crate::stream::held_runs::HeldRuns;
+use crate::stream::scoreboard_head::{ReportError, ScoreboardHead};
+use crate::stream::sequence_number::SequenceNumber;
+use crate::storage::Run;
+
+/// What a sender knows of the positions that the other end has, as acknowledgements and their SACK
+/// blocks report them: a scoreboard.
+///
+/// Positions are absolute. At most `N` runs are stored beyond the first position that wasn't reported;
+/// what is below that needs none. No call takes memory. `next_lost` gives what is lost, range by
+/// range, and `next_hole` all that isn't reported, of which most may only be in flight; when it is
+/// sent again is the caller's choice. smoltcp has no such type: its TCP socket sends again from the
+/// first unacknowledged position on.
+///
+/// ```
+/// use net_base::scoreboard::Scoreboard;
+///
+/// // Of the bytes from 100 to 199, all sent, those below 120 and those from 140 to 159 have arrived.
+/// let mut scoreboard = Scoreboard::<4>::empty();
+/// scoreboard.acknowledge(120);
+/// assert_eq!(scoreboard.report(140, 160, 200), Ok(()));
+/// assert_eq!(scoreboard.next_hole(120, 200), Some((120, 140)));
+/// assert_eq!(scoreboard.next_hole(140, 200), Some((160, 200)));
+/// ```
+///
+/// Contracts: `crates/net_receiver/src/scoreboard.rt`.
+#[derive(Clone)]
+pub struct Scoreboard<const N: usize> {
+    // Invariant: the runs are those of an assembler, counted from the first position that wasn't
+    // reported, which is in none of them. Each end fits 64 bits. If there is no run, that assembler's head
+    // is 0 in both numbers.
+    head: ScoreboardHead,
+    runs: [Run; N],
+}
+
+impl<const N: usize> Scoreboard<N> {
+    /// Returns a scoreboard of a stream that begins at position 0, to which nothing was reported.
+    ///
+    /// ```
+    /// # use net_base::scoreboard::Scoreboard;
+    /// assert!(!Scoreboard::<4>::empty().contains(0));
+    /// ```
+    ///
+    /// ```compile_fail,E0080
+    /// # use net_base::scoreboard::Scoreboard;
+    /// let scoreboard = Scoreboard::<0>::empty();
+    /// ```
+    ///
+    /// A program in which `N` is 0 does not compile.
+    #[must_use]
+    pub const fn empty() -> Self {
+        prove!(N >= 1, "N is at least 1");
+        Scoreboard {
+            head: ScoreboardHead::new(),
+            runs: [Run { start: 0, end: 0 }; N],
+        }
+    }
+
+    /// Returns a scoreboard of a stream that begins at position `first`, to which nothing was reported.
+    /// All positions below `first` count as reported.
+    ///
+    /// A program in which `N` is 0 does not compile.
+    #[must_use]
+    pub const fn empty_at(first: u64) -> Self {
+        prove!(N >= 1, "N is at least 1");
+        Scoreboard {
+            head: ScoreboardHead::new_at(first),
+            runs: [Run { start: 0, end: 0 }; N],
+        }
+    }
+
+    /// Returns the scoreboard that a head and runs represent.
+    ///
+    /// # Requires
+    ///
+    /// They are sound, as `ScoreboardHead::is_sound` tests.
+    pub(crate) fn from_parts(head: ScoreboardHead, runs: [Run; N]) -> Self {
+        // The head of an assembler without runs may have any start. A scoreboard's is canonical: 0 in both numbers.
+        if head.reported.used == 0 {
+            return Scoreboard {
+                head: ScoreboardHead::new_at(head.base),
+                runs,
+            };
+        }
+        Scoreboard { head, runs }
+    }
+
+    /// Returns the head and the runs, which represent the scoreboard.
+    pub(crate) fn into_parts(self) -> (ScoreboardHead, [Run; N]) {
+        let Scoreboard { head, runs } = self;
+        (head, runs)
+    }
+
+    /// Begins again: a stream that begins at position `first`, to which nothing was reported. All
+    /// positions below `first` count as reported. A sender that forgets what was reported, as when its timer
+    /// ends (RFC 2018, section 8), gives the first unacknowledged position.
+    ///
+    /// ```
+    /// # use net_base::scoreboard::Scoreboard;
+    /// # let mut scoreboard = Scoreboard::<4>::empty();
+    /// assert_eq!(scoreboard.report(5, 9, 20), Ok(()));
+    /// scoreboard.reset_at(2);
+    /// assert!(scoreboard.contains(1) && !scoreboard.contains(5));
+    /// ```
+    pub fn reset_at(&mut self, first: u64) {
+        self.head.reset_at(first);
+    }
+
+    /// Reports the positions from `start` on and below `end`, as a SACK block of an acknowledgement
+    /// does. Blocks may overlap. `sent` is the position after the last byte that was ever sent, as
+    /// `Sender::mark_sent` keeps it.
+    ///
+    /// ```
+    /// # use net_base::scoreboard::{ReportError, Scoreboard};
+    /// let mut scoreboard = Scoreboard::<1>::empty();
+    /// assert_eq!(scoreboard.report(5, 9, 8), Err(ReportError::NoBlock));
+    /// assert_eq!((scoreboard.report(5, 9, 9), scoreboard.report(8, 12, 20)), (Ok(()), Ok(())));
+    /// assert_eq!(scoreboard.report(14, 15, 20), Err(ReportError::TooManyHoles));
+    /// assert!(scoreboard.contains(11) && !scoreboard.contains(14));
+    /// ```
+    ///
+    /// # Errors
+    ///
+    /// `NoBlock`, and nothing changes, exactly if no such block can be: if `start` isn't below `end`, `end`
+    /// is above `sent`, or it begins beyond the first position that wasn't reported, and ends 2^32 or more
+    /// above it: TCP's numbers have 32 bits.
+    ///
+    /// `TooManyHoles`, and nothing changes, exactly if such a block can be, it begins beyond the first
+    /// position that wasn't reported, and there would be more than `N` runs beyond that: then the block
+    /// isn't known, and its bytes are sent again.
+    ///
+    /// # [Guarantees](crate#guarantees)
+    ///
+    /// - on `Err`: `self == old(self)`
+    pub fn report(&mut self, start: u64, end: u64, sent: u64) -> Result<(), ReportError> {
+        self.head.report(&mut self.runs, start, end, sent)
+    }
+
+    /// Reports a SACK block as `report` does, from its numbers: of each it takes the position nearest to
+    /// the first one that wasn't reported, if position 0 has the number `initial`. Call it after
+    /// `acknowledge`.
+    ///
+    /// ```
+    /// # use net_base::scoreboard::{ReportError, Scoreboard};
+    /// # use net_base::sequence_number::SequenceNumber;
+    /// let [initial, start, end] = [7, 12, 16].map(SequenceNumber::new);
+    /// let mut scoreboard = Scoreboard::<4>::empty();
+    /// assert_eq!(scoreboard.report_block(initial, start, end, 20), Ok(()));
+    /// assert_eq!(scoreboard.next_hole(0, 20), Some((0, 5)));
+    /// let old = scoreboard.report_block(initial, initial, start, 20);
+    /// assert_eq!(old, Err(ReportError::NoBlock));
+    /// ```
+    ///
+    /// # Errors
+    ///
+    /// `NoBlock`, and nothing changes, exactly if a number has no position there, `start` isn't above that
+    /// first one, so that the block is of what came twice (RFC 2883), `start` isn't below `end`, or `end` is
+    /// above `sent`. `TooManyHoles`, and nothing changes, exactly if there would be more than `N` runs
+    /// beyond the first position that wasn't reported.
+    pub fn report_block(
+        &mut self,
+        initial: SequenceNumber,
+        start: SequenceNumber,
+        end: SequenceNumber,
+        sent: u64,
+    ) -> Result<(), ReportError> {
+        let first = self.first_unreported();
+        let Some(start) = start.position(initial, first) else {
+            return Err(ReportError::NoBlock);
+        };
+        let Some(end) = end.position(initial, first) else {
+            return Err(ReportError::NoBlock);
+        };
+        if start <= first {
+            return Err(ReportError::NoBlock);
+        }
+        self.report(start, end, sent)
+    }
+
+    /// Reports all positions below `next`. It is never refused.
+    ///
+    /// ```
+    /// # use net_base::scoreboard::Scoreboard;
+    /// # let mut scoreboard = Scoreboard::<4>::empty();
+    /// assert_eq!(scoreboard.report(5, 9, 20), Ok(()));
+    /// scoreboard.acknowledge(7);
+    /// assert_eq!(scoreboard.next_hole(0, 20), Some((9, 20)));
+    /// ```
+    pub fn acknowledge(&mut self, next: u64) {
+        self.head.acknowledge(&mut self.runs, next);
+    }
+
+    /// Returns the first position that wasn't reported.
+    #[must_use]
+    pub fn first_unreported(&self) -> u64 {
+        self.head.first_unreported()
+    }
+
+    /// Returns whether a position was reported.
+    ///
+    /// ```
+    /// # use net_base::scoreboard::Scoreboard;
+    /// # let mut scoreboard = Scoreboard::<4>::empty();
+    /// assert_eq!(scoreboard.report(5, 9, 20), Ok(()));
+    /// assert!(scoreboard.contains(8) && !scoreboard.contains(9));
+    /// ```
+    #[must_use]
+    pub fn contains(&self, pos: u64) -> bool {
+        self.head.contains(&self.runs, pos)
+    }
+
+    /// Returns the runs beyond the first position that wasn't reported, as absolute (start, end), the end
+    /// not included, in rising order, at most `N`.
+    #[must_use]
+    pub fn reported(&self) -> HeldRuns<'_, N> {
+        self.head.reported(&self.runs)
+    }
+
+    /// Returns the position after the last one that was reported; 0 if none was.
+    #[must_use]
+    pub fn highest_reported(&self) -> u64 {
+        self.head.highest_reported(&self.runs)
+    }
+
+    /// Returns how many positions were reported beyond the first one that wasn't.
+    #[must_use]
+    pub fn count_beyond(&self) -> usize {
+        self.head.count_beyond(&self.runs)
+    }
+
+    /// Returns the first position from `pos` on that wasn't reported.
+    #[must_use]
+    pub fn first_missing(&self, pos: u64) -> u64 {
+        self.head.first_missing(&self.runs, pos)
+    }
+
+    /// Returns how many positions from `start` on and below `end` weren't reported.
+    ///
+    /// ```
+    /// # use net_base::scoreboard::Scoreboard;
+    /// # let mut scoreboard = Scoreboard::<4>::empty();
+    /// assert_eq!((scoreboard.report(5, 9, 20), scoreboard.report(12, 20, 20)), (Ok(()), Ok(())));
+    /// assert_eq!(scoreboard.missing_between(6, 15), 3);
+    /// ```
+    #[must_use]
+    pub fn missing_between(&self, start: u64, end: u64) -> u64 {
+        self.head.missing_between(&self.runs, start, end)
+    }
+
+    /// Returns the next range that wasn't reported, as a start and an end, the end not included: it
+    /// begins at the first position from `pos` on that wasn't, and ends at the next one that was, or at
+    /// `limit`. `None` if there is none below `limit`. Of these bytes most may only be in flight.
+    ///
+    /// ```
+    /// # use net_base::scoreboard::Scoreboard;
+    /// # let mut scoreboard = Scoreboard::<4>::empty();
+    /// assert_eq!((scoreboard.report(5, 9, 20), scoreboard.report(12, 20, 20)), (Ok(()), Ok(())));
+    /// assert_eq!(scoreboard.next_hole(6, 20), Some((9, 12)));
+    /// assert_eq!(scoreboard.next_hole(12, 20), None);
+    /// ```
+    #[must_use]
+    pub fn next_hole(&self, pos: u64, limit: u64) -> Option<(u64, u64)> {
+        let (start, end) = self.head.next_hole(&self.runs, pos, limit);
+        if start < end {
+            Some((start, end))
+        } else {
+            None
+        }
+    }
+
+    /// Returns the position below which all that wasn't reported is lost, by the rule of RFC 6675,
+    /// section 4: from it on `duplicates` runs were reported (3 in TCP; 0 counts as 1), or more bytes than
+    /// `duplicates - 1` segments of `segment_size` bytes have. It is 0 if nothing is lost. A run counts as
+    /// above a position if it begins above it; of a position that wasn't reported that is the RFC's rule
+    /// exactly.
+    #[must_use]
+    pub fn lost_below(&self, duplicates: usize, segment_size: usize) -> u64 {
+        self.head.lost_below(&self.runs, duplicates, segment_size)
+    }
+
+    /// Returns the next range to send again, as `next_hole` does, of that which is lost, as `lost_below`
+    /// says: it begins at `pos` or above. `None` if nothing from `pos` on is lost.
+    ///
+    /// A caller sends it, passes its end as the next `pos`, and begins again at the first unacknowledged
+    /// position with the next recovery.
+    ///
+    /// ```
+    /// # use net_base::scoreboard::Scoreboard;
+    /// # let mut scoreboard = Scoreboard::<4>::empty();
+    /// // Segments of 100 bytes: the first is missing, the three after it have arrived, four are in flight.
+    /// assert_eq!(scoreboard.report(100, 400, 800), Ok(()));
+    /// assert_eq!(scoreboard.next_lost(0, 3, 100), Some((0, 100)));
+    /// assert_eq!(scoreboard.next_lost(100, 3, 100), None);
+    /// ```
+    #[must_use]
+    pub fn next_lost(&self, pos: u64, duplicates: usize, segment_size: usize) -> Option<(u64, u64)> {
+        self.next_hole(pos, self.lost_below(duplicates, segment_size))
+    }
+}

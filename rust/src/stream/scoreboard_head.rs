@@ -1,0 +1,274 @@
+// Written by tools/erase.py from crates/net_receiver/src/scoreboard_head.rt: a change here would be lost.
+//! A scoreboard in parts: a head, and runs that are kept elsewhere.
+
+use crate::rattle::prelude::*;
+use crate::stream::held_runs::{HeldRunIter, were_at_most};
+use crate::storage::assembler::{Turns, laws};
+use crate::storage::width::most;
+use crate::storage::{AssemblerHead, Run};
+
+/// Why a SACK block isn't taken. Nothing changes then.
+#[derive(Debug, Clone, Copy, PartialEq, Eq, Hash)]
+pub enum ReportError {
+    /// No such block can be: it has no position, or one that was never sent, or it ends too far above the
+    /// first position that wasn't reported.
+    NoBlock,
+    /// It would make more runs than there is room for. Its bytes are sent again.
+    TooManyHoles,
+}
+
+/// What a scoreboard has besides its runs.
+///
+/// Positions are absolute. `base` is the first one that wasn't reported: all below it were, most often
+/// as acknowledged. `reported` and the runs, which the caller keeps, are an assembler of the positions
+/// beyond, counted from `base`. The slice's length is the most runs that are stored. In contracts
+/// `reported_by` is the set of the reported positions.
+///
+/// A scoreboard is *sound* with runs if its assembler is, if `base` isn't reported, and if each end is
+/// a number of 64 bits, as `is_sound` tests. smoltcp has no such type: its TCP socket sends again from
+/// the first unacknowledged position on.
+#[repr(C)]
+#[derive(Debug, Clone, Copy)]
+pub struct ScoreboardHead {
+    /// The first position that wasn't reported.
+    pub base: u64,
+    /// The positions beyond that were, counted from `base`: the head of an assembler.
+    pub reported: AssemblerHead,
+}
+
+impl ScoreboardHead {
+    /// Returns a scoreboard of a stream that begins at position `first`, to which nothing was reported,
+    /// whatever its runs. All positions below `first` count as reported.
+    pub const fn new_at(first: u64) -> Self {
+        ScoreboardHead {
+            base: first,
+            reported: AssemblerHead::new(),
+        }
+    }
+
+    /// Returns a scoreboard to which nothing was reported, whatever its runs: `new_at` with 0.
+    pub(crate) const fn new() -> Self {
+        ScoreboardHead::new_at(0)
+    }
+
+    /// Begins again: a scoreboard of a stream that begins at position `first`, as `new_at` returns it.
+    pub(crate) fn reset_at(&mut self, first: u64) {
+        *self = ScoreboardHead::new_at(first);
+    }
+
+    /// Returns whether the scoreboard is sound with these runs, for any numbers in both: `reported`
+    /// and they are those of an assembler, `base` isn't reported, and each end fits 64 bits. It
+    /// looks at each used run.
+    pub fn is_sound(&self, runs: &[Run]) -> bool {
+        if !self.reported.is_sound(runs) {
+            return false;
+        }
+        if self.reported.peek_front(runs) != 0 {
+            return false;
+        }
+        self.reported.end(runs) as u64 <= u64::MAX - self.base
+    }
+
+    /// Reports the positions from `start` on and below `end`, as a SACK block of an acknowledgement
+    /// does. Blocks may overlap. Positions below `base` are known already. `sent` is the position
+    /// after the last byte that was ever sent.
+    ///
+    /// Returns `NoBlock`, and changes nothing, if no such block can be: `start` isn't below `end`,
+    /// `end` is above `sent`, or the block begins beyond `base` and ends 2^32 or more above it,
+    /// while TCP's numbers have 32 bits.
+    ///
+    /// Returns `TooManyHoles`, and changes nothing, if such a block can be, it begins beyond
+    /// `base`, and there would be more runs than the slice has elements. Then the block isn't
+    /// known, and its bytes are sent again.
+    ///
+    /// # Requires
+    ///
+    /// The scoreboard is sound with the runs.
+    pub fn report(
+        &mut self,
+        runs: &mut [Run],
+        start: u64,
+        end: u64,
+        sent: u64,
+    ) -> Result<(), ReportError> {
+        if !is_report(self.base, start, end, sent) {
+            return Err(ReportError::NoBlock);
+        }
+        if start <= self.base {
+            self.acknowledge(runs, end);
+            return Ok(());
+        }
+        prove!(end - self.base <= most() as u64, "in any `usize`");
+        prove!(start - self.base <= most() as u64, "in any `usize`");
+        prove!(end - start <= most() as u64, "in any `usize`");
+        let offset = (start - self.base) as usize;
+        let size = (end - start) as usize;
+        match self.reported.add(runs, offset, size) {
+            Ok(()) => Ok(()),
+            Err(_) => Err(ReportError::TooManyHoles),
+        }
+    }
+
+    /// Reports all positions below `next`, whatever the number of runs.
+    ///
+    /// # Requires
+    ///
+    /// The scoreboard is sound with the runs.
+    pub fn acknowledge(&mut self, runs: &mut [Run], next: u64) {
+        if next <= self.base {
+            return;
+        }
+        // All offsets are below the greatest `usize`.
+        let count = (next - self.base).min(most() as u64) as usize;
+        self.reported.shift(runs, count);
+        let front = self.reported.remove_front(runs);
+        self.base = next + front as u64;
+    }
+
+    /// Returns the first position that wasn't reported.
+    pub(crate) fn first_unreported(&self) -> u64 {
+        self.base
+    }
+
+    /// Returns whether `pos` was reported.
+    ///
+    /// # Requires
+    ///
+    /// The scoreboard is sound with the runs.
+    pub fn contains(&self, runs: &[Run], pos: u64) -> bool {
+        if pos < self.base {
+            return true;
+        }
+        let offset = pos - self.base;
+        if offset > most() as u64 {
+            return false;
+        }
+        prove!(offset <= most() as u64, "in any `usize`");
+        self.reported.contains(runs, offset as usize)
+    }
+
+    /// Returns the runs beyond the first position that wasn't reported, as absolute (start, end), the end
+    /// not included, in rising order.
+    ///
+    /// # Requires
+    ///
+    /// The scoreboard is sound with the runs.
+    pub(crate) fn reported<'a>(&self, runs: &'a [Run]) -> HeldRunIter<'a> {
+        laws::maximal_runs();
+        HeldRunIter::over(self.reported.iter_data(runs), self.base)
+    }
+
+    /// Returns the position after the last one that was reported; 0 if none was.
+    ///
+    /// # Requires
+    ///
+    /// The scoreboard is sound with the runs.
+    pub fn highest_reported(&self, runs: &[Run]) -> u64 {
+        self.base + self.reported.end(runs) as u64
+    }
+
+    /// Returns how many positions were reported beyond the first one that wasn't, which is `base`.
+    ///
+    /// # Requires
+    ///
+    /// The scoreboard is sound with the runs.
+    pub fn count_beyond(&self, runs: &[Run]) -> usize {
+        let mut count = 0;
+        for (start, end) in self.reported.iter_data(runs) {
+            count += end.saturating_sub(start);
+            prove!(count <= most(), "in any `usize`");
+        }
+        count
+    }
+
+    /// Returns the first position from `pos` on that wasn't reported.
+    ///
+    /// # Requires
+    ///
+    /// The scoreboard is sound with the runs.
+    pub(crate) fn first_missing(&self, runs: &[Run], pos: u64) -> u64 {
+        let from = pos.max(self.base);
+        let missing = self.reported.first_missing(runs, self.offset_of(from));
+        from.max(self.base + missing as u64)
+    }
+
+    /// Returns how many positions from `start` on and below `end` weren't reported. It looks only at runs that start
+    /// below `end` and at the one before them, which it finds by a search.
+    ///
+    /// # Requires
+    ///
+    /// The scoreboard is sound with the runs.
+    pub fn missing_between(&self, runs: &[Run], start: u64, end: u64) -> u64 {
+        let from = start.max(self.base);
+        let reported = self
+            .reported
+            .count_between(runs, self.offset_of(from), self.offset_of(end));
+        end.saturating_sub(from) - reported as u64
+    }
+
+    /// Returns the offset of a position, 0 if it is below `base`, and the greatest `usize` if the offset is above
+    /// that: no position is reported there.
+    #[inline(always)]
+    fn offset_of(&self, pos: u64) -> usize {
+        pos.saturating_sub(self.base).min(most() as u64) as usize
+    }
+
+    /// Returns the position below which all that wasn't reported is lost, by the rule of RFC 6675,
+    /// section 4: from it on `duplicates` runs were reported (3 in TCP; 0 counts as 1), or more
+    /// bytes than `duplicates - 1` segments of `segment_size` bytes have. It is the start of a run,
+    /// the last one of which this is so, or 0 if nothing is lost. A run counts as above a position
+    /// if it begins above it; of a position that wasn't reported that is the RFC's rule exactly, by
+    /// law `losses` of `net_receiver`.
+    ///
+    /// # Requires
+    ///
+    /// The scoreboard is sound with the runs.
+    pub fn lost_below(&self, runs: &[Run], duplicates: usize, segment_size: usize) -> u64 {
+        let most = (duplicates.saturating_sub(1) as u64).saturating_mul(segment_size as u64);
+        let used = self.reported.used;
+        let enough = duplicates.max(1);
+        let mut turns = Turns::new();
+        let mut bytes = 0;
+        // From the last run down, and no more of them than are enough.
+        for above in 0..used.min(enough) {
+            turns.look();
+            let Some((start, end)) = self.reported.run_at(runs, used - 1 - above) else {
+                return 0;
+            };
+            bytes += (end - start) as u64;
+            prove!(above + 1 <= enough, "in any `usize`");
+            if above + 1 == enough || bytes > most {
+                were_at_most(&turns, enough);
+                return self.base + start as u64;
+            }
+        }
+        were_at_most(&turns, enough);
+        0
+    }
+
+    /// Returns the next range that wasn't reported, as a start and an end: it begins at the first
+    /// position from `pos` on that wasn't reported, and ends at the next one that was, or at
+    /// `limit`. If there is none below `limit`, both are `limit`. Most of it may be in flight:
+    /// `lost_below` gives the limit of what is lost.
+    ///
+    /// # Requires
+    ///
+    /// The scoreboard is sound with the runs.
+    pub fn next_hole(&self, runs: &[Run], pos: u64, limit: u64) -> (u64, u64) {
+        let from = pos.max(self.base);
+        let (start, end) = self.reported.next_hole(runs, self.offset_of(from));
+        let start = from.max(self.base + start as u64).min(limit);
+        match end {
+            Some(end) => (start, limit.min(self.base + end as u64)),
+            None => (start, limit),
+        }
+    }
+}
+
+/// Returns whether a SACK block can be right: it has a position, and none from `sent` on; and if it
+/// begins beyond `first`, the first position that wasn't reported, it ends less than 2^32 above it.
+fn is_report(first: u64, start: u64, end: u64, sent: u64) -> bool {
+    start < end && end <= sent && (start <= first || end - first <= u64::from(u32::MAX))
+}
+
+crate::rattle::error_text!(ReportError, ReportError::NoBlock => "not a block of what was sent", ReportError::TooManyHoles => "too many holes");

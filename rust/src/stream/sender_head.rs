@@ -1,0 +1,163 @@
+// Written by tools/erase.py from crates/net_receiver/src/sender_head.rt: a change here would be lost.
+//! A sender in parts: a head of numbers, and a storage that is kept elsewhere.
+
+use crate::rattle::prelude::*;
+use crate::storage::{RingHead, Span};
+
+/// What a sender has besides its storage: numbers.
+///
+/// It serves callers who keep the storage elsewhere, as in the memory of a program in C. Each call
+/// takes it as a slice, or takes how many bytes it has.
+///
+/// A head is *sound* for a storage if it is that of a sender over it, as `is_sound` tests:
+/// `IsSoundHead` in contracts, where `sender_of` is what is stored. A call that requires this can't
+/// be made with the storage of another head. smoltcp has no such type.
+#[repr(C)]
+#[derive(Debug, Clone, Copy)]
+pub struct SenderHead {
+    /// The position of the queue's first byte.
+    pub first_unacknowledged: u64,
+    /// Where the queue is in the storage.
+    pub place: RingHead,
+}
+
+impl SenderHead {
+    /// Returns the head of a sender of a stream that begins at position `first`, to which nothing
+    /// was written. It is sound for every storage.
+    pub const fn new(first: u64) -> Self {
+        SenderHead {
+            first_unacknowledged: first,
+            place: RingHead {
+                read_at: 0,
+                length: 0,
+            },
+        }
+    }
+
+    /// Returns whether this head is sound for a storage of `capacity` bytes: `place` is that of a
+    /// ring of as many, and the position after the queue fits 64 bits.
+    pub fn is_sound(&self, capacity: usize) -> bool {
+        self.place.is_sound(capacity) && self.end_fits()
+    }
+
+    /// Returns whether the position after the last byte that was written fits 64 bits.
+    #[inline]
+    pub(crate) fn end_fits(&self) -> bool {
+        self.place.length as u64 <= u64::MAX - self.first_unacknowledged
+    }
+
+    /// Returns the position after the last byte that was written.
+    ///
+    /// # Requires
+    ///
+    /// It fits 64 bits, as `end_fits` tests, and as it does where the head is sound for a storage.
+    #[inline]
+    pub(crate) fn end(&self) -> u64 {
+        self.first_unacknowledged + self.place.length as u64
+    }
+
+    /// Returns how many bytes `write` would take: as many as have room in a storage of `capacity`
+    /// bytes and below the last position, 2^64 - 1.
+    ///
+    /// # Requires
+    ///
+    /// The head is sound for a storage of `capacity` bytes.
+    #[inline]
+    pub(crate) fn room(&self, capacity: usize) -> usize {
+        let free = (capacity - self.place.length) as u64;
+        free.min(u64::MAX - self.end()) as usize
+    }
+
+    /// Enqueues the first of these bytes, as many as `room` says, and returns how many. An empty
+    /// queue is rewound before, also for no bytes.
+    ///
+    /// # Requires
+    ///
+    /// The head is sound for the storage.
+    #[inline]
+    pub(crate) fn write(&mut self, storage: &mut [u8], bytes: &[u8]) -> usize {
+        let count = bytes.len().min(self.room(storage.len()));
+        self.place.enqueue_slice(storage, &bytes[..count])
+    }
+
+    /// Returns where at most `max` queued bytes are, from the one at `pos` on; none if the byte at
+    /// `pos` isn't queued. The storage has `capacity` bytes.
+    ///
+    /// # Requires
+    ///
+    /// The head is sound for a storage of `capacity` bytes.
+    #[inline]
+    pub(crate) fn peek_at(&self, capacity: usize, pos: u64, max: usize) -> Span {
+        if pos < self.first_unacknowledged {
+            return Span {
+                from: 0,
+                count: 0,
+                contiguous: 0,
+            };
+        }
+        let offset = (pos - self.first_unacknowledged).min(self.place.length as u64) as usize;
+        self.place.allocated(capacity, offset, max)
+    }
+
+    /// Drops the bytes below `next`, and returns whether it did: false, and nothing changes, if
+    /// `next` is below `first_unacknowledged` or above `end`. The storage has `capacity` bytes.
+    ///
+    /// # Requires
+    ///
+    /// The head is sound for a storage of `capacity` bytes.
+    #[inline]
+    pub(crate) fn acknowledge(&mut self, capacity: usize, next: u64) -> bool {
+        if !is_acknowledgeable(self.first_unacknowledged, self.end(), next) {
+            return false;
+        }
+        prove!(
+            next - self.first_unacknowledged <= self.place.length as u64,
+            "in any `usize`"
+        );
+        let count = (next - self.first_unacknowledged) as usize;
+        self.place.dequeue(capacity, count);
+        self.first_unacknowledged = next;
+        true
+    }
+
+    /// Moves `sent`, the position after the last byte that was ever sent, up to `pos`, if that is
+    /// above it. Returns false, and changes nothing, if `sent` or `pos` is above `end`: no such byte
+    /// was written.
+    ///
+    /// The caller keeps this mark. It begins as the position of the stream's first byte.
+    ///
+    /// # Requires
+    ///
+    /// The position after the last byte that was written fits 64 bits, as `end_fits` tests.
+    #[inline]
+    pub(crate) fn mark_sent(&self, sent: &mut u64, pos: u64) -> bool {
+        let end = self.end();
+        if *sent > end || pos > end {
+            return false;
+        }
+        *sent = pos.max(*sent);
+        true
+    }
+
+    /// Drops the bytes below `next`, as `acknowledge` does, if they were sent: `sent` is the position
+    /// after the last byte that was ever sent, as `mark_sent` keeps it. Returns false, and changes
+    /// nothing, if `next` is below `first_unacknowledged` or above `sent`, or `sent` is above `end`.
+    ///
+    /// # Requires
+    ///
+    /// The head is sound for a storage of `capacity` bytes.
+    #[inline]
+    pub(crate) fn acknowledge_sent(&mut self, capacity: usize, next: u64, sent: u64) -> bool {
+        if next > sent || sent > self.end() {
+            return false;
+        }
+        self.acknowledge(capacity, next)
+    }
+}
+
+/// Returns whether an acknowledgement of the bytes below `next` is accepted, where those from
+/// `first` up to `end` are queued.
+#[inline]
+fn is_acknowledgeable(first: u64, end: u64, next: u64) -> bool {
+    first <= next && next <= end
+}

@@ -1,0 +1,116 @@
+// Written by tools/erase.py from crates/net_tcp/src/arriving.rt: a change here would be lost.
+//! What to do with an arriving segment.
+
+use crate::stream::SentNumbers;
+
+/// The positions and the flags of an arriving segment.
+///
+/// Contracts: `crates/net_tcp/src/arriving.rt`.
+#[repr(C)]
+#[derive(Copy, Clone, Debug, PartialEq, Eq, Hash)]
+pub struct Segment {
+    /// The position of its first byte, or of its SYN.
+    pub seq: u64,
+    /// How many positions it has: its bytes, and one each for a SYN and a FIN.
+    pub len: u64,
+    /// Whether its flag SYN is set.
+    pub syn: bool,
+    /// Whether its flag ACK is set.
+    pub ack: bool,
+    /// Whether its flag RST is set.
+    pub rst: bool,
+}
+
+impl Segment {
+    /// Returns the segment of so many bytes, with the flags of a TCP header: bit 0 is FIN, bit 1 SYN, bit 2
+    /// RST and bit 4 ACK, and others don't count. A SYN and a FIN have a position each.
+    #[must_use]
+    pub const fn new(seq: u64, bytes: usize, flags: u8) -> Self {
+        Segment {
+            seq,
+            len: (bytes as u64).saturating_add((flags / 2 % 2 + flags % 2) as u64),
+            syn: flags / 2 % 2 == 1,
+            ack: flags / 16 % 2 == 1,
+            rst: flags / 4 % 2 == 1,
+        }
+    }
+}
+
+/// What to do with a segment that arrives on a connection that both ends have opened.
+///
+/// Contracts: `crates/net_tcp/src/arriving.rt`.
+#[derive(Copy, Clone, Debug, PartialEq, Eq)]
+pub enum Arrival {
+    /// Take what it acknowledges, its window, its bytes and its end.
+    Take,
+    /// Take what it acknowledges and its window, but not its bytes, and answer it: the own window is
+    /// shut, and the peer asks whether it has opened.
+    AcknowledgementOnly,
+    /// Send an acknowledgement, and take nothing.
+    Answer,
+    /// Take nothing, and send nothing.
+    Ignore,
+    /// The peer has reset the connection.
+    Reset,
+}
+
+/// Returns whether a segment is acceptable to a receiver whose first missing position is `next`, and
+/// which announced `window` positions from there on. The segment's first position is `seq`, and it
+/// has `len` positions: its bytes, and one each for a SYN and a FIN.
+///
+/// It is if it has a position within the window. If it has none at all it must be within the window
+/// itself, or at `next` if the window is empty.
+#[must_use]
+pub fn is_acceptable(next: u64, window: u64, seq: u64, len: u64) -> bool {
+    if seq < next {
+        window > 0 && next - seq < len
+    } else if len == 0 && window == 0 {
+        seq == next
+    } else {
+        seq - next < window
+    }
+}
+
+/// Returns what to do with a segment, for a receiver whose first missing position is `next`, and which
+/// announced `window` positions from there on, as RFC 9293, section 3.10.7.4, has it. Resets and SYNs
+/// are answered as RFC 5961 has it: a reset counts only at `next`.
+///
+/// No position is in a window that is shut. Of a segment with positions that begins at `next` then, as
+/// a probe does, the acknowledgement is taken all the same: otherwise two ends that both fill the
+/// other's window never hear of one another. Whether a segment may acknowledge what it does is tested
+/// afterwards, by `is_acknowledgement`.
+#[must_use]
+pub fn classify(next: u64, window: u64, segment: Segment) -> Arrival {
+    let is_acceptable = is_acceptable(next, window, segment.seq, segment.len);
+    let is_probe = window == 0 && segment.len > 0 && segment.seq == next;
+    if segment.rst {
+        if segment.seq == next {
+            Arrival::Reset
+        } else if is_acceptable {
+            Arrival::Answer
+        } else {
+            Arrival::Ignore
+        }
+    } else if segment.syn || !is_acceptable && !is_probe {
+        Arrival::Answer
+    } else if !segment.ack {
+        Arrival::Ignore
+    } else if is_acceptable {
+        Arrival::Take
+    } else {
+        Arrival::AcknowledgementOnly
+    }
+}
+
+/// Returns whether a segment may acknowledge `ack`: it isn't above what was sent, nor below the first
+/// unacknowledged position by more than the greatest window that the peer ever announced (RFC 5961,
+/// section 5). If it may not, nothing of the segment is taken, and it is answered.
+///
+/// # [Guarantees](crate#guarantees)
+///
+/// - `result` exactly if `numbers.first_unacknowledged <= ack + greatest_window` and `ack <= numbers.sent`
+#[must_use]
+pub fn is_acknowledgement(numbers: SentNumbers, greatest_window: u64, ack: u64) -> bool {
+    let behind = numbers.first_unacknowledged.saturating_sub(ack);
+    behind <= greatest_window && ack <= numbers.sent
+}

@@ -1,0 +1,264 @@
+// Written by tools/erase.py from crates/net_tcp/src/internet_sum.rt: a change here would be lost.
+//! The Internet checksum (RFC 1071), over one part or several, and its update (RFC 1624).
+
+use crate::storage::width::most;
+
+/// The sum of the 16-bit words of a message, which is given in parts of any lengths, one after another.
+/// One of zeros is that of no bytes.
+///
+/// Contracts: `crates/net_tcp/src/internet_sum.rt`.
+#[repr(C)]
+#[derive(Copy, Clone, Debug, PartialEq, Eq, Hash)]
+pub struct PartsSum {
+    /// The sum of the words, folded to 16 bits; 0 only if that sum is 0.
+    sum: u16,
+    /// Whether the next byte is the low byte of a word.
+    odd: bool,
+}
+
+impl PartsSum {
+    /// Returns the sum of no bytes.
+    #[must_use]
+    pub const fn new() -> Self {
+        PartsSum { sum: 0, odd: false }
+    }
+
+    /// Adds the bytes that follow those which were added.
+    pub fn add(&mut self, part: &[u8]) {
+        *self = self.with(part);
+    }
+
+    /// Returns the sum of the bytes that were added and of those that follow them.
+    #[must_use]
+    pub fn with(self, part: &[u8]) -> Self {
+        let sum = u32::from(swapped(self.sum));
+        if !self.odd {
+            return sum_from(sum, part);
+        }
+        match part.split_first() {
+            Some((low, words)) => sum_from(sum + u32::from(*low) * 256, words),
+            None => self,
+        }
+    }
+
+    /// Returns the sum of the bytes that were added and of the two bytes of a word that follow them, the
+    /// high one first: what `with(&word.to_be_bytes())` returns, as of a word of a pseudo-header.
+    ///
+    /// ```
+    /// # use net_base::checksum::PartsSum;
+    /// let (even, odd) = (PartsSum::new(), PartsSum::new().with(&[7]));
+    /// assert_eq!(even.with_word(0x1234), even.with(&[0x12, 0x34]));
+    /// assert_eq!(odd.with_word(0x1234), odd.with(&[0x12, 0x34]));
+    /// ```
+    #[must_use]
+    pub fn with_word(self, word: u16) -> Self {
+        self.joined(PartsSum {
+            sum: word,
+            odd: false,
+        })
+    }
+
+    /// Returns the sum of the bytes that were added, and of those of which `after` is the sum.
+    #[must_use]
+    pub fn joined(self, after: PartsSum) -> Self {
+        if self.odd {
+            PartsSum {
+                sum: folded_sum(self.sum, swapped(after.sum)),
+                odd: !after.odd,
+            }
+        } else {
+            PartsSum {
+                sum: folded_sum(self.sum, after.sum),
+                odd: after.odd,
+            }
+        }
+    }
+
+    /// Returns the checksum of the bytes that were added. It is a number: in a message its high byte comes
+    /// first.
+    #[must_use]
+    pub fn checksum(&self) -> u16 {
+        u16::MAX - self.sum
+    }
+
+    /// Returns the checksum of the bytes that were added as UDP sends it: 65535 in place of 0, which says
+    /// that there is none (RFC 768). A message with either is valid.
+    ///
+    /// ```
+    /// # use net_base::checksum::PartsSum;
+    /// let sum = PartsSum::new().with(&[0xff, 0xff]);
+    /// assert_eq!((sum.checksum(), sum.udp_checksum()), (0, 0xffff));
+    /// ```
+    ///
+    /// # [Guarantees](crate#guarantees)
+    ///
+    /// - `0 < result`
+    #[must_use]
+    pub fn udp_checksum(&self) -> u16 {
+        if self.sum == u16::MAX {
+            u16::MAX
+        } else {
+            u16::MAX - self.sum
+        }
+    }
+
+    /// Returns whether the bytes that were added, with a checksum among them at an even offset, are
+    /// valid. No bytes are not.
+    #[must_use]
+    pub fn is_valid(&self) -> bool {
+        self.sum == u16::MAX
+    }
+}
+
+/// Returns the checksum of these bytes.
+#[must_use]
+pub fn checksum(bytes: &[u8]) -> u16 {
+    u16::MAX - turned(sum_words(0, bytes))
+}
+
+/// Returns whether these bytes, with their checksum among them at an even offset, are valid.
+#[must_use]
+pub fn is_valid(bytes: &[u8]) -> bool {
+    turned(sum_words(0, bytes)) == u16::MAX
+}
+
+/// Returns the checksum of a message in which the word `old`, at an even offset, became `new`, from
+/// its checksum before (RFC 1624, equation 3); of one that is all zeros then, 0 in place of 65535.
+/// Checksums and words are numbers: in a message the high byte comes first.
+#[must_use]
+pub fn updated_checksum(checksum: u16, old: u16, new: u16) -> u16 {
+    let without = u32::from(u16::MAX - checksum) + u32::from(u16::MAX - old);
+    u16::MAX - fold(without + u32::from(new))
+}
+
+/// Returns the sum of some words, whose low byte comes first, and of these bytes, the first of which is a high byte.
+fn sum_from(start: u32, bytes: &[u8]) -> PartsSum {
+    PartsSum {
+        sum: turned(sum_words(start, bytes)),
+        odd: bytes.len() % 2 == 1,
+    }
+}
+
+/// How many bytes are summed with no fold: their sum has room in 32 bits.
+const BLOCK: usize = 1 << 16;
+
+/// Adds the words of these bytes to a sum. It sums words whose low byte comes first: 256 times their sum folds to that
+/// of the words whose high byte does, since 256 times 256 is one more than a multiple of 65535.
+fn sum_words(start: u32, bytes: &[u8]) -> u32 {
+    let mut sum = start;
+    let mut rest = bytes;
+    while rest.len() > BLOCK {
+        let (block, after) = rest.split_at(BLOCK);
+        sum = u32::from(fold(sum_block(sum, block)));
+        rest = after;
+    }
+    sum_block(sum, rest)
+}
+
+/// Adds the words of a block to a sum.
+#[inline]
+fn sum_block(start: u32, bytes: &[u8]) -> u32 {
+    if has_wide_registers() {
+        sum_eights(start, bytes)
+    } else {
+        sum_fours(start, bytes)
+    }
+}
+
+/// Returns whether registers have 64 bits, as a `usize` has then. It has no contract: both ways are proved for all.
+#[inline]
+const fn has_wide_registers() -> bool {
+    most() as u64 > 0xffff_ffff
+}
+
+/// Adds the words of a block to a sum, eight bytes at a time. The loop has no carries, so that it is done by vectors.
+#[inline]
+fn sum_eights(start: u32, bytes: &[u8]) -> u32 {
+    let mut low = u64::from(start);
+    let mut high = 0;
+    let mut rest = bytes;
+    while let Some((eight, after)) = rest.split_first_chunk::<8>() {
+        let word = u64::from_le_bytes(*eight);
+        low += word % (1 << 32);
+        high += word / (1 << 32);
+        rest = after;
+    }
+    sum_few(halved(low + high), rest)
+}
+
+/// Returns a number of 18 bits that folds as a sum does.
+#[inline]
+fn halved(sum: u64) -> u32 {
+    let sum = sum / (1 << 32) + sum % (1 << 32);
+    (sum / (1 << 16)) as u32 + (sum % (1 << 16)) as u32
+}
+
+/// Adds the words of at most seven bytes to a sum.
+#[inline]
+fn sum_few(start: u32, bytes: &[u8]) -> u32 {
+    match bytes.split_first_chunk::<4>() {
+        Some((four, after)) => sum_last(start + halves(u32::from_le_bytes(*four)), after),
+        None => sum_last(start, bytes),
+    }
+}
+
+/// Adds the words of a block to a sum, four bytes at a time.
+#[inline]
+fn sum_fours(start: u32, bytes: &[u8]) -> u32 {
+    let mut sum = start;
+    let mut rest = bytes;
+    while let Some((four, after)) = rest.split_first_chunk::<4>() {
+        sum += halves(u32::from_le_bytes(*four));
+        rest = after;
+    }
+    sum_last(sum, rest)
+}
+
+/// Returns the sum of the halves of a number.
+#[inline]
+fn halves(word: u32) -> u32 {
+    word % (1 << 16) + word / (1 << 16)
+}
+
+/// Adds the words of at most three bytes to a sum.
+#[inline]
+fn sum_last(start: u32, bytes: &[u8]) -> u32 {
+    match bytes.split_first_chunk::<2>() {
+        Some((two, after)) => sum_byte(start + u32::from(u16::from_le_bytes(*two)), after),
+        None => sum_byte(start, bytes),
+    }
+}
+
+/// Adds the word of at most one byte to a sum.
+#[inline]
+fn sum_byte(start: u32, bytes: &[u8]) -> u32 {
+    match bytes.first() {
+        Some(low) => start + u32::from(*low),
+        None => start,
+    }
+}
+
+/// Folds a sum of words whose low byte comes first to a word whose high byte does.
+#[inline]
+fn turned(sum: u32) -> u16 {
+    swapped(fold(sum))
+}
+
+/// Adds two words, and folds their sum.
+#[inline]
+fn folded_sum(a: u16, b: u16) -> u16 {
+    fold(u32::from(a) + u32::from(b))
+}
+
+/// Returns a word with its bytes exchanged.
+#[inline]
+fn swapped(word: u16) -> u16 {
+    word % 256 * 256 + word / 256
+}
+
+/// Folds a sum to one word.
+#[inline]
+fn fold(sum: u32) -> u16 {
+    let sum = sum / (1 << 16) + sum % (1 << 16);
+    (sum / (1 << 16) + sum % (1 << 16)) as u16
+}

@@ -1,0 +1,172 @@
+// Written by tools/erase.py from crates/net_tcp/src/retransmission.rt: a change here would be lost.
+//! The time until a retransmission.
+
+use crate::time::{Duration, Instant};
+
+/// The longest round trip that counts, in microseconds: 2^60, some 36,000 years.
+const LONGEST_SAMPLE: u64 = 1 << 60;
+
+/// An estimate of the time of a round trip: the smoothed time, in eighths of a microsecond, and its
+/// variation, in quarters.
+///
+/// Contracts: `crates/net_tcp/src/retransmission.rt`.
+#[derive(Copy, Clone, Debug, PartialEq, Eq, Hash)]
+pub struct RttEstimate {
+    srtt_8: u64,
+    rttvar_4: u64,
+}
+
+/// The bounds of a timeout, the tick of the clock that the samples are read from, and how long a peer delays an
+/// acknowledgement.
+///
+/// Contracts: `crates/net_tcp/src/retransmission.rt`.
+#[derive(Copy, Clone, Debug, PartialEq, Eq, Hash)]
+pub struct TimeoutBounds {
+    /// The least timeout.
+    pub least: Duration,
+    /// The greatest, unless `least` is above it.
+    pub most: Duration,
+    /// The time between two ticks of the clock.
+    pub tick: Duration,
+    /// The longest time for which the peer delays the acknowledgement of one segment: 200 ms for TCP (RFC 8985, 7.2), and
+    /// 25 ms for QUIC, unless its peer says another.
+    pub ack_delay: Duration,
+}
+
+/// When an acknowledged segment was sent. A segment that was sent again gives no sample: which of
+/// the copies was acknowledged is not known (Karn).
+///
+/// Contracts: `crates/net_tcp/src/retransmission.rt`.
+#[derive(Copy, Clone, Debug, PartialEq, Eq, Hash)]
+pub enum Transmission {
+    /// Once, at this moment.
+    Once(Instant),
+    /// More than once.
+    Repeated,
+}
+
+impl RttEstimate {
+    /// Returns the estimate after the first sample.
+    #[must_use]
+    pub fn first(time: Duration) -> Self {
+        let time = time.total_micros().min(LONGEST_SAMPLE);
+        RttEstimate {
+            srtt_8: time * 8,
+            rttvar_4: time * 2,
+        }
+    }
+
+    /// Returns the estimate after one more sample.
+    #[must_use]
+    pub fn with_sample(self, time: Duration) -> Self {
+        let time = time.total_micros().min(LONGEST_SAMPLE);
+        RttEstimate {
+            srtt_8: self.srtt_8 - (self.srtt_8 >> 3) + time,
+            rttvar_4: self.rttvar_4 - (self.rttvar_4 >> 2) + (self.srtt_8 >> 3).abs_diff(time),
+        }
+    }
+
+    /// Returns the estimate of these numbers: eight times the smoothed time, of which no more than 2^63
+    /// count, and four times its variation, of which no more than 2^62 do. Samples give no more.
+    #[must_use]
+    pub fn from_scaled(srtt_8: u64, rttvar_4: u64) -> Self {
+        RttEstimate {
+            srtt_8: srtt_8.min(1 << 63),
+            rttvar_4: rttvar_4.min(1 << 62),
+        }
+    }
+
+    /// Returns eight times the smoothed time, and four times its variation, in microseconds.
+    #[must_use]
+    pub fn scaled(self) -> (u64, u64) {
+        (self.srtt_8, self.rttvar_4)
+    }
+
+    /// Returns the smoothed time.
+    #[must_use]
+    pub fn srtt(self) -> Duration {
+        Duration::from_micros(self.srtt_8 >> 3)
+    }
+
+    /// Returns the timeout that it gives: at least the smoothed time, but for the greatest timeout.
+    #[must_use]
+    pub fn timeout(self, bounds: TimeoutBounds) -> Duration {
+        let variation = bounds.tick.total_micros().max(self.rttvar_4);
+        let time = (self.srtt_8 >> 3).saturating_add(variation);
+        bounded(bounds, time)
+    }
+}
+
+/// The time until a retransmission.
+///
+/// Contracts: `crates/net_tcp/src/retransmission.rt`.
+#[derive(Copy, Clone, Debug, PartialEq, Eq, Hash)]
+pub struct RetransmissionTimeout {
+    estimate: Option<RttEstimate>,
+    timeout: Duration,
+}
+
+impl RetransmissionTimeout {
+    /// Returns a timeout before any sample. The RFC has 1 second.
+    #[must_use]
+    pub const fn new(timeout: Duration) -> Self {
+        RetransmissionTimeout {
+            estimate: None,
+            timeout,
+        }
+    }
+
+    /// Returns a timeout with the estimate of the samples so far, if there were any.
+    #[must_use]
+    pub const fn from_parts(estimate: Option<RttEstimate>, timeout: Duration) -> Self {
+        RetransmissionTimeout { estimate, timeout }
+    }
+
+    /// Returns the estimate, if there was a sample.
+    #[must_use]
+    pub fn rtt(&self) -> Option<RttEstimate> {
+        self.estimate
+    }
+
+    /// Returns the timeout.
+    #[must_use]
+    pub fn timeout(&self) -> Duration {
+        self.timeout
+    }
+
+    /// Takes over the sample of a segment that was acknowledged now, if it was sent once.
+    pub fn acknowledged(&mut self, bounds: TimeoutBounds, sent: Transmission, now: Instant) {
+        match sent {
+            Transmission::Once(at) => self.take_sample(bounds, now.saturating_duration_since(at)),
+            Transmission::Repeated => {}
+        }
+    }
+
+    /// Takes over a sample, the time from when a segment was sent until it was acknowledged. The
+    /// segment was sent once: of one that was sent again it is not known which of the copies was
+    /// acknowledged.
+    pub fn take_sample(&mut self, bounds: TimeoutBounds, time: Duration) {
+        let estimate = updated(self.estimate, time);
+        self.estimate = Some(estimate);
+        self.timeout = estimate.timeout(bounds);
+    }
+
+    /// Doubles the timeout within the bounds, after it passed.
+    pub fn expired(&mut self, bounds: TimeoutBounds) {
+        self.timeout = bounded(bounds, self.timeout.total_micros().saturating_mul(2));
+    }
+}
+
+/// Returns the estimate after a sample.
+fn updated(estimate: Option<RttEstimate>, time: Duration) -> RttEstimate {
+    match estimate {
+        Some(estimate) => estimate.with_sample(time),
+        None => RttEstimate::first(time),
+    }
+}
+
+/// Returns a time within the bounds.
+fn bounded(bounds: TimeoutBounds, time: u64) -> Duration {
+    let most = bounds.most.total_micros().min(time);
+    Duration::from_micros(bounds.least.total_micros().max(most))
+}

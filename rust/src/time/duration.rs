@@ -1,0 +1,482 @@
+// Written by tools/erase.py from crates/net_base/src/time/duration.rt: a change here would be lost.
+//! Lengths of time, in whole microseconds.
+
+use crate::rattle::prelude::*;
+use crate::time::LONGEST_TEXT;
+use crate::rattle::std::fmt::{self, InlineText, Write};
+use crate::rattle::std::ops::{
+    Add, AddAssign, Div, DivAssign, Mul, MulAssign, Shl, ShlAssign, Shr, ShrAssign, Sub, SubAssign,
+};
+
+/// A length of time, in microseconds. By default it is zero. It serves for timeouts, and for the
+/// distance between two moments.
+///
+/// It has 0 to 2^64 - 1 microseconds. Quotients are cut to whole numbers.
+///
+/// ```
+/// use net_base::time::Duration;
+///
+/// let timeout = Duration::from_millis(13) * 22;
+/// assert_eq!((timeout.total_micros(), timeout.to_string()), (286_000, "0.286s".into()));
+/// ```
+///
+/// Contracts: `crates/net_base/src/time/duration.rt`.
+#[derive(Debug, Default, Copy, Clone, PartialEq, Eq, PartialOrd, Ord, Hash)]
+pub struct Duration {
+    micros: u64,
+}
+
+impl Duration {
+    /// No time.
+    ///
+    /// ```
+    /// # use net_base::time::Duration;
+    /// assert_eq!(Duration::ZERO, Duration::default());
+    /// ```
+    pub const ZERO: Duration = Duration { micros: 0 };
+
+    /// The greatest length, of 2^64 - 1 microseconds.
+    ///
+    /// ```
+    /// # use net_base::time::Duration;
+    /// assert_eq!(Duration::MAX.total_micros(), u64::MAX);
+    /// ```
+    pub const MAX: Duration = Duration { micros: u64::MAX };
+
+    /// Returns a length of `micros` microseconds.
+    ///
+    /// ```
+    /// # use net_base::time::Duration;
+    /// assert_eq!(Duration::from_micros(1_500).total_millis(), 1);
+    /// ```
+    #[inline]
+    #[must_use]
+    pub const fn from_micros(micros: u64) -> Duration {
+        Duration { micros }
+    }
+
+    /// Returns whether the value fits; precondition of `from_millis`.
+    #[inline]
+    #[must_use]
+    pub const fn fits_millis(millis: u64) -> bool {
+        matches!(millis.checked_mul(1_000), Some(_))
+    }
+
+    /// Returns a length of `millis` milliseconds.
+    ///
+    /// ```
+    /// # use net_base::time::Duration;
+    /// assert_eq!(Duration::from_millis(5).total_micros(), 5_000);
+    /// ```
+    ///
+    /// # Panics
+    ///
+    /// Panics unless the microseconds fit 64 bits, as `fits_millis` tests.
+    #[inline]
+    #[track_caller]
+    #[must_use]
+    pub const fn from_millis(millis: u64) -> Duration {
+        prove!(
+            Self::fits_millis(millis),
+            "attempt to multiply with overflow"
+        );
+        Duration {
+            micros: millis * 1_000,
+        }
+    }
+
+    /// Returns whether the value fits; precondition of `from_secs`.
+    #[inline]
+    #[must_use]
+    pub const fn fits_secs(secs: u64) -> bool {
+        matches!(secs.checked_mul(1_000_000), Some(_))
+    }
+
+    /// Returns a length of `secs` seconds.
+    ///
+    /// ```
+    /// # use net_base::time::Duration;
+    /// assert_eq!(Duration::from_secs(5).total_millis(), 5_000);
+    /// ```
+    ///
+    /// # Panics
+    ///
+    /// Panics unless the microseconds fit 64 bits, as `fits_secs` tests.
+    #[inline]
+    #[track_caller]
+    #[must_use]
+    pub const fn from_secs(secs: u64) -> Duration {
+        prove!(Self::fits_secs(secs), "attempt to multiply with overflow");
+        Duration {
+            micros: secs * 1_000_000,
+        }
+    }
+
+    /// Returns the whole milliseconds beyond the whole seconds.
+    ///
+    /// ```
+    /// # use net_base::time::Duration;
+    /// assert_eq!(Duration::from_millis(4_934).millis(), 934);
+    /// ```
+    #[inline]
+    #[must_use]
+    pub const fn millis(&self) -> u64 {
+        self.micros / 1_000 % 1_000
+    }
+
+    /// Returns the microseconds beyond the whole seconds.
+    ///
+    /// ```
+    /// # use net_base::time::Duration;
+    /// assert_eq!(Duration::from_millis(4_934).micros(), 934_000);
+    /// ```
+    #[inline]
+    #[must_use]
+    pub const fn micros(&self) -> u64 {
+        self.micros % 1_000_000
+    }
+
+    /// Returns the whole seconds.
+    ///
+    /// ```
+    /// # use net_base::time::Duration;
+    /// assert_eq!(Duration::from_millis(4_934).secs(), 4);
+    /// ```
+    #[inline]
+    #[must_use]
+    pub const fn secs(&self) -> u64 {
+        self.micros / 1_000_000
+    }
+
+    /// Returns the whole milliseconds.
+    ///
+    /// ```
+    /// # use net_base::time::Duration;
+    /// assert_eq!(Duration::from_micros(4_934).total_millis(), 4);
+    /// ```
+    #[inline]
+    #[must_use]
+    pub const fn total_millis(&self) -> u64 {
+        self.micros / 1_000
+    }
+
+    /// Returns all of the microseconds.
+    ///
+    /// ```
+    /// # use net_base::time::Duration;
+    /// assert_eq!(Duration::from_millis(4).total_micros(), 4_000);
+    /// ```
+    #[inline]
+    #[must_use]
+    pub const fn total_micros(&self) -> u64 {
+        self.micros
+    }
+
+    /// Returns whether the value fits; precondition of `from_core`.
+    #[must_use]
+    pub fn fits_core(duration: crate::rattle::std::time::Duration) -> bool {
+        u64::try_from(duration.as_micros()).is_ok()
+    }
+
+    /// Returns the whole microseconds of a duration of the standard library; the nanoseconds beyond
+    /// them are dropped.
+    ///
+    /// # Panics
+    ///
+    /// Panics unless so many microseconds fit 64 bits, as `fits_core` tests.
+    #[track_caller]
+    #[must_use]
+    pub fn from_core(duration: crate::rattle::std::time::Duration) -> Duration {
+        prove!(
+            Self::fits_core(duration),
+            "attempt to multiply with overflow"
+        );
+        Duration {
+            micros: duration.as_micros() as u64,
+        }
+    }
+
+    /// Returns whether the sum fits; precondition of `+` and `+=`.
+    #[inline]
+    #[must_use]
+    pub fn can_add(&self, duration: Duration) -> bool {
+        self.micros.checked_add(duration.micros).is_some()
+    }
+
+    /// Returns whether the difference isn't below 0; precondition of `-` and `-=`.
+    #[inline]
+    #[must_use]
+    pub fn can_sub(&self, duration: Duration) -> bool {
+        duration.micros <= self.micros
+    }
+
+    /// Returns whether the product fits; precondition of `*` and `*=`.
+    #[inline]
+    #[must_use]
+    pub fn can_mul(&self, factor: u32) -> bool {
+        self.micros.checked_mul(u64::from(factor)).is_some()
+    }
+
+    /// Returns the sum, or `None` exactly if it is above the greatest length.
+    ///
+    /// ```
+    /// # use net_base::time::Duration;
+    /// assert_eq!(Duration::MAX.checked_add(Duration::from_micros(1)), None);
+    /// ```
+    #[inline]
+    pub fn checked_add(self, rhs: Duration) -> Option<Duration> {
+        self.micros
+            .checked_add(rhs.micros)
+            .map(Duration::from_micros)
+    }
+
+    /// Returns the difference, or `None` exactly if `rhs` is the longer one.
+    ///
+    /// ```
+    /// # use net_base::time::Duration;
+    /// assert_eq!(Duration::ZERO.checked_sub(Duration::from_micros(1)), None);
+    /// ```
+    #[inline]
+    pub fn checked_sub(self, rhs: Duration) -> Option<Duration> {
+        self.micros
+            .checked_sub(rhs.micros)
+            .map(Duration::from_micros)
+    }
+
+    /// Returns the product, or `None` exactly if it is above the greatest length.
+    ///
+    /// ```
+    /// # use net_base::time::Duration;
+    /// assert_eq!(Duration::MAX.checked_mul(2), None);
+    /// ```
+    #[inline]
+    pub fn checked_mul(self, rhs: u32) -> Option<Duration> {
+        self.micros
+            .checked_mul(u64::from(rhs))
+            .map(Duration::from_micros)
+    }
+
+    /// Returns the quotient, or `None` exactly if the divisor is 0.
+    ///
+    /// ```
+    /// # use net_base::time::Duration;
+    /// assert_eq!(Duration::MAX.checked_div(0), None);
+    /// ```
+    #[inline]
+    pub fn checked_div(self, rhs: u32) -> Option<Duration> {
+        self.micros
+            .checked_div(u64::from(rhs))
+            .map(Duration::from_micros)
+    }
+
+    /// Returns the sum, or the greatest length if the sum is above it.
+    ///
+    /// ```
+    /// # use net_base::time::Duration;
+    /// assert_eq!(Duration::MAX.saturating_add(Duration::from_micros(1)), Duration::MAX);
+    /// ```
+    #[inline]
+    #[must_use]
+    pub fn saturating_add(self, rhs: Duration) -> Duration {
+        Duration::from_micros(self.micros.saturating_add(rhs.micros))
+    }
+
+    /// Returns the difference, or zero if `rhs` is the longer one.
+    ///
+    /// ```
+    /// # use net_base::time::Duration;
+    /// assert_eq!(Duration::ZERO.saturating_sub(Duration::from_micros(1)), Duration::ZERO);
+    /// ```
+    #[inline]
+    #[must_use]
+    pub fn saturating_sub(self, rhs: Duration) -> Duration {
+        Duration::from_micros(self.micros.saturating_sub(rhs.micros))
+    }
+
+    /// Returns the product, or the greatest length if the product is above it.
+    ///
+    /// ```text
+    /// self.timeout = self.timeout.saturating_mul(2);
+    /// self.deadline = now.saturating_add(self.timeout);
+    /// ```
+    ///
+    /// ```
+    /// # use net_base::time::Duration;
+    /// assert_eq!(Duration::MAX.saturating_mul(2), Duration::MAX);
+    /// ```
+    #[inline]
+    #[must_use]
+    pub fn saturating_mul(self, rhs: u32) -> Duration {
+        Duration::from_micros(self.micros.saturating_mul(u64::from(rhs)))
+    }
+
+    /// Returns the text of the length, whatever the options.
+    fn text(&self) -> Result<InlineText<LONGEST_TEXT>, fmt::Error> {
+        let secs = self.secs();
+        let millis = self.millis();
+        let mut text = InlineText::new();
+        write!(text, "{secs}.{millis:0>3}s")?;
+        Ok(text)
+    }
+}
+
+/// `{secs}.{millis}s`, the milliseconds filled on the left by the digit 0 to three places:
+/// `4.934s`. Options such as a width change nothing.
+impl fmt::Display for Duration {
+    fn fmt(&self, f: &mut fmt::Formatter<'_>) -> fmt::Result {
+        let text = self.text()?;
+        f.write_str(text.as_str())
+    }
+}
+
+/// Returns the sum. `can_add` tells whether it is a length.
+impl Add for Duration {
+    type Output = Duration;
+
+    #[inline]
+    #[track_caller]
+    fn add(self, rhs: Duration) -> Duration {
+        prove!(self.can_add(rhs), "attempt to add with overflow");
+        Duration {
+            micros: self.micros + rhs.micros,
+        }
+    }
+}
+
+/// Adds a length. `can_add` tells whether the sum is one.
+impl AddAssign for Duration {
+    #[inline]
+    #[track_caller]
+    fn add_assign(&mut self, rhs: Duration) {
+        prove!(self.can_add(rhs), "attempt to add with overflow");
+        self.micros += rhs.micros;
+    }
+}
+
+/// Returns the difference. `can_sub` tells whether it is a length.
+impl Sub for Duration {
+    type Output = Duration;
+
+    #[inline]
+    #[track_caller]
+    fn sub(self, rhs: Duration) -> Duration {
+        prove!(self.can_sub(rhs), "overflow when subtracting durations");
+        Duration {
+            micros: self.micros - rhs.micros,
+        }
+    }
+}
+
+/// Subtracts a length. `can_sub` tells whether the difference is one.
+impl SubAssign for Duration {
+    #[inline]
+    #[track_caller]
+    fn sub_assign(&mut self, rhs: Duration) {
+        prove!(self.can_sub(rhs), "overflow when subtracting durations");
+        self.micros -= rhs.micros;
+    }
+}
+
+/// Returns the product. `can_mul` tells whether it is a length.
+impl Mul<u32> for Duration {
+    type Output = Duration;
+
+    #[inline]
+    #[track_caller]
+    fn mul(self, rhs: u32) -> Duration {
+        prove!(self.can_mul(rhs), "attempt to multiply with overflow");
+        Duration {
+            micros: self.micros * u64::from(rhs),
+        }
+    }
+}
+
+/// Multiplies the length. `can_mul` tells whether the product is one.
+impl MulAssign<u32> for Duration {
+    #[inline]
+    #[track_caller]
+    fn mul_assign(&mut self, rhs: u32) {
+        prove!(self.can_mul(rhs), "attempt to multiply with overflow");
+        self.micros *= u64::from(rhs);
+    }
+}
+
+/// Returns the quotient. The divisor must not be 0.
+impl Div<u32> for Duration {
+    type Output = Duration;
+
+    #[inline]
+    #[track_caller]
+    fn div(self, rhs: u32) -> Duration {
+        prove!(rhs > 0, "attempt to divide by zero");
+        Duration {
+            micros: self.micros / u64::from(rhs),
+        }
+    }
+}
+
+/// Divides the length. The divisor must not be 0.
+impl DivAssign<u32> for Duration {
+    #[inline]
+    #[track_caller]
+    fn div_assign(&mut self, rhs: u32) {
+        prove!(rhs > 0, "attempt to divide by zero");
+        self.micros /= u64::from(rhs);
+    }
+}
+
+/// Returns the low 64 bits of the microseconds, shifted left. The shift must be below 64.
+impl Shl<u32> for Duration {
+    type Output = Duration;
+
+    #[inline]
+    #[track_caller]
+    fn shl(self, rhs: u32) -> Duration {
+        prove!(rhs < 64, "attempt to shift left with overflow");
+        Duration {
+            micros: self.micros << rhs,
+        }
+    }
+}
+
+/// Shifts the microseconds left, and keeps the low 64 bits. The shift must be below 64.
+impl ShlAssign<u32> for Duration {
+    #[inline]
+    #[track_caller]
+    fn shl_assign(&mut self, rhs: u32) {
+        prove!(rhs < 64, "attempt to shift left with overflow");
+        self.micros <<= rhs;
+    }
+}
+
+/// Returns the microseconds, shifted right. The shift must be below 64.
+impl Shr<u32> for Duration {
+    type Output = Duration;
+
+    #[inline]
+    #[track_caller]
+    fn shr(self, rhs: u32) -> Duration {
+        prove!(rhs < 64, "attempt to shift right with overflow");
+        Duration {
+            micros: self.micros >> rhs,
+        }
+    }
+}
+
+/// Shifts the microseconds right. The shift must be below 64.
+impl ShrAssign<u32> for Duration {
+    #[inline]
+    #[track_caller]
+    fn shr_assign(&mut self, rhs: u32) {
+        prove!(rhs < 64, "attempt to shift right with overflow");
+        self.micros >>= rhs;
+    }
+}
+
+/// Returns the same length as a duration of the standard library.
+impl From<Duration> for crate::rattle::std::time::Duration {
+    #[inline]
+    fn from(duration: Duration) -> crate::rattle::std::time::Duration {
+        crate::rattle::std::time::Duration::from_micros(duration.micros)
+    }
+}
