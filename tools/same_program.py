@@ -12,13 +12,16 @@ through a reference, a branch, a panic, or the return, and both have to come to 
 equal arguments, the same place with an equal value, the same condition with the same ends. Equal means the same
 expression over parameters, results of the same calls, and memory as it was after the same event. Before each event but
 a store both have dropped the same values. Where ways meet, or a loop comes round, what is equal on each way stays
-equal, and all else is a new symbol: a function is the same if no pair of places that is reached differs.
+equal, and all else is a new symbol: a function is the same if no pair of places that is reached differs. A sum, a
+quotient, a shift, an element or a part that may panic in Rust is one that the prover's program has done by then.
 
-Not compared are the order of drops between events, and the ghosts of proofs (`Snapshot`); what is derived; the text of
-a panic; rustc's tests of sums and indices, which are proved to hold; types that a callee is given; and the functions of
-`LEFT`. Names that the two have otherwise are in `SAME`, and what one side has alone in `ALONE`. A form that isn't known
-is an error. The status is 1 if a function differs or isn't understood, 2 if there is no compiler.
+Not compared are the order of drops between events, and the ghosts of proofs (`Snapshot`); what is derived, but for
+orders and defaults; the text of a panic; types that a callee is given; and the functions of `LEFT`. Names that the two
+have otherwise are in `SAME`, and what one side has alone in `ALONE`. A form that isn't known is an error, and so is a
+line that another build would read otherwise. The status is 1 if a function differs or isn't understood, 2 if there is
+no compiler.
 """
+import hashlib
 import json
 import re
 import sys
@@ -29,9 +32,11 @@ sys.dont_write_bytecode = True
 import libraries
 import widths
 from parts import erase_list as given
+from parts.mir_text import erased_files
 from parts.same_compiled import NUMBERS, Compiled, CompiledSide
 from parts.same_proved import Proved, ProvedSide
-from parts.same_terms import FALSE, UNIT, Differ, Unknown, any_part, discriminant, holds_ref, is_test, mentions, met, negated, operation, shown
+from parts.same_terms import (FALSE, UNIT, Differ, Unknown, any_part, discriminant, holds_ref, is_test, mentions, met,
+                              negated, operation, shown)
 
 REPOSITORY, SCHEDULE, PROGRAM = widths.REPOSITORY, given.SCHEDULE.replace('/', '::'), 'toolchain/mir.json'
 # Rustc's word, and the one here. `from_micros` and its like are by hand.
@@ -74,6 +79,17 @@ LEFT = re.compile('|'.join(['net_ends::receiving_end::ReceivingEndOver::reported
     'net_bench_lib::bench::run_lines: a part of .*',
     'net_bench_lib::(?:mode::Mode::from_words|stream::reply_lines::show_kept): size of .*',
     'net_bench_lib::ring::ring_line: .* KeyError: .*']))
+
+
+# What is derived and compared: an order, and what a default is.
+DERIVED = r'::(?:default|cmp|partial_cmp)$'
+
+
+def digest(proved, rust, name, there):
+    """Of both texts of a function, without its places."""
+    item = re.sub(r'//[^\n]*|<impl at [^>]*>|@[^}]*\}', '', rust.functions.get(there) or rust.constants.get(there, ''))
+    body = json.dumps(proved.all[proved.functions[name]]['body'], sort_keys=True)
+    return hashlib.sha256((body + item).encode()).hexdigest()[:12]
 
 
 def common(name, traits):
@@ -138,7 +154,8 @@ class Pair:
         """A symbol that nothing holds."""
         used = set()
         note = lambda one: one[:1] == ('sym',) and one[1] == key and used.add(one[2])
-        for value in [*(value for name, value in state.items() if name != 'facts'), *state['facts']]:
+        held = [value for name, value in state.items() if name not in ('facts', 'done')]
+        for value in [*held, *state['facts'], *state['done']]:
             any_part(value, note)
         return ('sym', key, next(k for k in range(len(used) + 1) if k not in used))
 
@@ -153,20 +170,23 @@ class Pair:
     def joined(self, key, old, new):
         """What two states have in common; nothing if that is the old one."""
         pairs, memo_old, memo_new, ones = {}, {}, {}, {}
-        before = {name: self.settle(value, old['facts'], memo_old) for name, value in old.items() if name != 'facts'}
+        before = {name: self.settle(value, old['facts'], memo_old)
+                  for name, value in old.items() if name not in ('facts', 'done')}
         out = {name: met(value, self.settle(new[name], new['facts'], memo_new), key, pairs)
                for name, value in before.items() if name in new}
         facts = {value: known for value, known in old['facts'].items() if new['facts'].get(value) == known
                  and not mentions(value, key)}
         is_less = any(not (one[:1] == ('sym',) and one[1] == key) or ones.setdefault(one, two) != two
                       for one, two in pairs)
-        is_less |= len(out) + 1 != len(old) or len(facts) != len(old['facts']) or \
+        done = frozenset(one for one in old['done'] & new['done'] if not mentions(one, key))
+        is_less |= len(done) != len(old['done'])
+        is_less |= len(out) + 2 != len(old) or len(facts) != len(old['facts']) or \
             any(before[name] != old[name] for name in before)
-        return {**out, 'facts': facts} if is_less else None
+        return {**out, 'facts': facts, 'done': done} if is_less else None
 
     def compare(self):
         """Raises `Differ` or `Unknown`; gives how many pairs of places are reached."""
-        state, count = {'ver': ('sym', 'ver', 0), 'facts': {}}, self.a.function['params']
+        state, count = {'ver': ('sym', 'ver', 0), 'facts': {}, 'done': frozenset()}, self.a.function['params']
         state |= {(word, k): ('par', k) for k in range(1, count + 1)
                   for word in 'AB'} | {(word, 'drops'): UNIT for word in 'AB'}
         if count != self.b.parameters:
@@ -219,6 +239,7 @@ class Pair:
         """From a pair of places to the next ones."""
         one, two = self.event(self.a, node[0], state), self.event(self.b, node[1], state)
         kind = one[0]
+        self.partial(state, two[0])
         if kind != 'store':
             self.drops(state)
         if 'never' in (kind, two[0]):
@@ -238,6 +259,14 @@ class Pair:
             self.branch(one, two, state)
         elif kind == 'call':
             self.call(node, one[1:], two[1:], state)
+
+    def partial(self, state, kind):
+        """What may panic in Rust is done by the prover's program too, by then."""
+        due, done = state.pop('due', frozenset()), {self.settle(one, state['facts']) for one in state['done']}
+        for one in due if kind not in ('panic', 'never') else ():
+            one = self.settle(one, state['facts'])
+            if one not in done and not any(self.same(other, one, state) for other in done):
+                raise Differ(f'compiled: may panic: {shown(one)}')
 
     def drops(self, state):
         """What was dropped since the last event but a store, in whichever order."""
@@ -347,7 +376,7 @@ def compared(proved, rust, within):
     for name in sorted(proved.functions):
         there = place(proved, rust, name)
         if not name.startswith(f'{within}::') or within != SCHEDULE and name.startswith(f'{SCHEDULE}::') or \
-                there in rust.derived - rust.twice:
+                there in rust.derived - rust.twice and not re.search(DERIVED, there):
             continue
         if there in rust.functions or there in rust.constants:
             how, reason = why(proved, rust, name, there)
@@ -359,6 +388,15 @@ def compared(proved, rust, within):
     found['differ'] += [(name, 'not proved')
                         for name in sorted(own - proved.functions.keys()) if not ALONE.fullmatch(f'{name}: not proved')]
     return found['same'], found['differ'], found['unknown']
+
+
+def conditional(root):
+    """The lines of the erased text that another build would read otherwise, but for those of the eraser's list."""
+    own = {line.strip() for _, new, _ in given.ATTRIBUTES for line in new.split('\n')}
+    lines = ((file, line.split('//')[0].strip()) for folder in ('src', 'examples/net_bench')
+             for file in erased_files(root, folder) for line in (root / file).read_text().split('\n'))
+    return [(file, f'another build: {line}') for file, line in lines
+            if re.search(r'\b(?:cfg\w*|debug_assert\w*|target_\w+|env|option_env)\b', line) and line not in own]
 
 
 def kept(crate):
@@ -397,7 +435,8 @@ def programs(arguments, temporary):
 def main(arguments):
     with tempfile.TemporaryDirectory() as temporary:
         proved, sides = programs(arguments, Path(temporary))
-    bad = 0
+    bad = len(found := conditional(REPOSITORY / 'rust'))
+    print(*(f'{name}: {reason}' for name, reason in found), sep='\n', end='\n' * bool(found))
     for within, rust in sides:
         same, differ, unknown = compared(proved[within.split('::')[0]], rust, within)
         left = {name for name, reason in differ + unknown if LEFT.fullmatch(f'{name}: {reason}')}

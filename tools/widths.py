@@ -177,6 +177,8 @@ class Reader:
             source = types.get(local[1], '?') if local else literal[1] if literal else '?'
             if cast[2] == 'usize' and source != 'usize' and source not in NARROW:
                 return f'cast {source} to usize'
+            if cast[2] == 'isize' and source not in ('isize', 'usize', 'u8', 'u16', 'i8', 'i16', 'i32', 'bool'):
+                return f'cast {source} to isize'
             return f'cast usize to {cast[2]}' if source == 'usize' and cast[2] in ('isize', 'u64') else None
         if call := re.search(r'impl usize>::(\w+)', value):
             return f'call {call[1]}'

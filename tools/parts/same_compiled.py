@@ -7,7 +7,7 @@ import re
 
 import widths
 from parts.mir_text import called, closing, depths, erased_files, split, without
-from parts.same_proved import WRAPPING, bits, tail
+from parts.same_proved import WRAPPING, bits, numbers_of, tail
 from parts.same_terms import FALSE, SIGNS, TRUE, UNIT, Side, Unknown, cast, discriminant, length, negated, operation, pointer, sliced, take
 
 WIDTHS = {'bool': 1, 'char': 32, 'usize': 64, 'isize': -64} | {f'{sign}{n}': n * (1 if sign == 'u' else -1)
@@ -15,6 +15,8 @@ WIDTHS = {'bool': 1, 'char': 32, 'usize': 64, 'isize': -64} | {f'{sign}{n}': n *
 NUMBERS = r'(?:[iu](?:8|16|32|64|128|size))'
 VARIANTS = {'Option': ['None', 'Some'], 'Result': ['Ok', 'Err'], 'ControlFlow': ['Continue', 'Break'],
             'Ordering': ['Less', 'Equal', 'Greater']}
+# What is by hand in Rust in the place of the kit's: src/rattle.rs and the example's.
+BY_HAND = {'Snapshot', 'InlineText', 'time', 'Vec', 'String', 'ArrayString', 'memchr', 'hex', 'laws'}
 SILENT = re.compile(r'Storage|//|PlaceMention|FakeRead|AscribeUser|Retag|Coverage|nop|ConstEvalCounter')
 
 
@@ -130,6 +132,8 @@ class Compiled:
             path = f'net_base::{impl[1]}{path[closing(path, impl.end()) + 2:]}'
         parts = without(path).split('::')
         of_library = self.library.get('::'.join(parts[-2:])) if parts[0] == 'net_base' else None
+        if parts[0] not in ('core', 'std', 'alloc', 'proved', 'net_base') and len(parts) > 1 and not parts[-2] in BY_HAND:
+            return '/'.join(parts)
         return of_library or '::'.join(parts[1:]) if of_library or parts[0] == 'proved' else '.'.join(parts[-2:])
 
     @staticmethod
@@ -271,10 +275,16 @@ class CompiledSide(Side):
             one, two = split(sign[3])
             width = WIDTHS.get(self.kind_of(one) or (sign[1] != 'Shr' and sign[1] != 'Shl' and self.kind_of(two)), 64)
             made = operation(SIGNS[sign[1]], self.value(state, one), self.value(state, two), width)
+            if sign[2] == 'WithOverflow' or sign[1] in ('Div', 'Rem', 'Shl', 'Shr'):
+                self.partial(state, made)
             return ('agg', None, made, FALSE) if sign[2] == 'WithOverflow' else made
         if sign and sign[1] == 'Not':
             of, one = self.kind_of(sign[3]), self.value(state, sign[3])
             return ('op', f'! {abs(WIDTHS[of])}', one, UNIT) if of in WIDTHS and of != 'bool' else negated(one)
+        if sign and sign[1] == 'Neg':
+            made = operation('-', ('int', 0), self.value(state, sign[3]), WIDTHS.get(self.kind_of(sign[3]), 64))
+            self.partial(state, made)
+            return made
         if sign and sign[1] == 'discriminant':
             return discriminant(self.read(state, self.at_place(state, sign[3])))
         if sign and sign[1] == 'Len':
@@ -382,6 +392,8 @@ class CompiledSide(Side):
         arguments = [self.value(state, one) for one in words]
         made = self.pure(state, head, name, arguments, words)
         if made is None:
+            if head.lstrip('<').startswith(('proved::', 'net_base::')) or '::' in name:
+                arguments += numbers_of(re.findall(r'[<,] ?(\d+)(?=[>,])', head))
             return ('call', name, arguments, self.at_place(state, place), after)
         if made[0] == 'next':
             return (*made, self.at_place(state, place), after)
@@ -409,7 +421,9 @@ class CompiledSide(Side):
         if name == 'slice.len':
             return length(arguments[0])
         if name == 'slice of a range':
-            return self.part(head, *arguments)
+            made = self.part(head, *arguments)
+            self.partial(state, made)
+            return made
         if wraps:
             return operation(wraps[3], *arguments, bits(wraps[2]))
         if name == 'mem.drop':

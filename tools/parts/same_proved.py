@@ -21,6 +21,11 @@ def is_own(name):
     return name.split('::')[0] in (*given.CRATES, *given.PROGRAM)
 
 
+def numbers_of(words):
+    """The numbers that a callee is given between angles, as an argument."""
+    return [('agg', None, *(('int', number) for number in sorted({int(word) for word in words})))] if words else []
+
+
 def plain(name):
     """A function's name without what the type of its impl is made of."""
     return re.sub(r'Over\+\w+Over[\w+]*(?=::)', 'Over', name.replace('fn::', ''))
@@ -86,7 +91,7 @@ class Proved:
         *_, owner, method = name.split('::')
         impl = IMPL.fullmatch(owner)
         if impl and owner not in ('PartialOrd', 'PartialEq', 'TryFrom'):
-            is_plain = impl[1][1:].isdigit() or impl[1] in ('Usize', 'Slice', 'Bool', 'Char')
+            is_plain = impl[1][1:].isdigit() or impl[1] in ('Usize', 'Isize', 'Slice', 'Bool', 'Char')
             return f'{impl[1].lower() if is_plain else impl[1]}:{impl[2]}.{method}'
         return f'{owner.replace("slice+T", "slice").replace("str+", "str")}.{method}'
 
@@ -282,17 +287,24 @@ class ProvedSide(Side):
                 return cast(rest[0]['Cast'][2], 1 if of == 'Bool' else self.of(of, 'Int') or 0, one,
                             rest[0]['Cast'][0] == 'Signed')
         if tag == 'Op2' and rest[0] == 'Offset':
-            return self.offset(self.value(state, rest[1]), self.value(state, rest[2]),
+            made = self.offset(self.value(state, rest[1]), self.value(state, rest[2]),
                                (self.of(self.kind_of(rest[1]), 'Ref') or [None])[-1])
+            self.partial(state, ('at', made[1], made[2][:-1], made[2][-1][1]) if made[0] == 'addr'
+                         else ('at', None, made[3][-1][1]))
+            return made
         if tag == 'Op2':
             sign, way = next(iter(rest[0].items())) if isinstance(rest[0], dict) else (rest[0], '')
             width = (self.of(kind, 'Int') or 64) * (-1 if way == 'Signed' else 1)
             if sign in SIGNS:
-                return operation(SIGNS[sign], self.value(state, rest[1]), self.value(state, rest[2]), width)
+                made = operation(SIGNS[sign], self.value(state, rest[1]), self.value(state, rest[2]), width)
+                self.partial(state, made)
+                return made
         if tag == 'Aggregate':
             parts = [self.value(state, one) for one in rest]
             if self.of(kind, 'Struct') and kind['Struct'][0] == '&[]':
-                return sliced(*parts)
+                made = sliced(*parts)
+                self.partial(state, made)
+                return made
             name = kind['Named'][0]['name'] if self.of(kind, 'Named') else ''
             if name.endswith('+Self'):
                 return ('agg', None, *(one for one in parts if one != UNIT),
@@ -377,6 +389,8 @@ class ProvedSide(Side):
         if made:
             store = self.write(state, self.at_place(state, place), made)
             return (*store, after) if store else None
+        if is_own(plain(head.get('Fn', [''])[0])):
+            arguments += numbers_of(re.findall(r'"Const": (\d+)', json.dumps(head['Fn'][1]['types'])))
         lent = {one['Impl'][0].partition('::')[2].rpartition('+Fn')[0].replace('++', '::')
                 for one in (head.get('Fn') or ['', {}])[1].get('dicts', ()) if '+Fn' in one.get('Impl', [''])[0]}
         if len(lent) == 1 and operands.count('Unit') == 1:                          # a function as a value

@@ -172,6 +172,7 @@ class Side:
                 at = ('value', length(value) if step[1] else value[1] if value[0] == 'slice' else ('sp', value))
             elif step[0] == 'i':
                 index = step[1] if isinstance(step[1], tuple) else self.read(state, ('local', step[1], ()))
+                self.partial(state, ('at', *(at[1:] if at[0] == 'mem' else (None,)), index))
                 at = (*at[:2], at[2] + (('i', index),))
             else:
                 at = ('value', take(at[1], step)) if at[0] == 'value' else (*at[:2], at[2] + (step,))
@@ -200,6 +201,12 @@ class Side:
         if at[1][0] == 'agg':
             return ('constant', at[1])
         raise Unknown('the address of a value')
+
+    def partial(self, state, term):
+        """Notes what may panic in Rust: a sum, a quotient, a shift, an element, a part."""
+        name = 'done' if self.word == 'A' else 'due'
+        if term[0] != 'int':
+            state[name] = state.get(name, frozenset()) | {term}
 
     def dropped(self, state, *values):
         """Notes that a value is dropped, and what else is said of it."""

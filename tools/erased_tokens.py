@@ -1,0 +1,164 @@
+#!/usr/bin/env python3
+"""Compares the erased text with Rattle's, token by token, by a reader of its own: what tools/erase.py takes out are
+contracts, ghosts, the functions and modules of tools/parts/erase_list.py, and names of imports; what it puts in the
+place of a token are that list's texts and the paths of the Cargo crate. So attributes, visibility, derives and defaults
+are Rattle's, but that `pub` may be `pub(crate)`. The status is 1 if a file has anything else.
+"""
+import re
+import sys
+from pathlib import Path
+
+sys.dont_write_bytecode = True
+import erase
+from parts import erase_list as given
+
+TOKEN = re.compile(r'''//[^\n]*|b?"(?:\\.|[^"\\])*"|b?'(?:\\(?:x..|u\{[^}]*\}|.)|[^\\'])'|'\w+|[A-Za-z_]\w*|'''
+                   r'''\d\w*(?:\.\d\w*)?|::|->|=>|\s+|.''', re.S)
+GHOST = re.compile(r'(?:requires|ensures\*?)(?:\s+[a-z_]\w*)?\s*(?=\{)|ghost\s+(?:use\b[^;]*;|\w+\s*)')
+LOGIC = re.compile(r'\{-.*?-\}|--[^\n]*|"(?:\\.|[^"\\\n])*"|.', re.S)
+
+PRELUDE = 'use crate :: rattle :: prelude :: * ;'
+
+
+def logic(text, at):
+    """Where a bracket of logic ends."""
+    depth = 0
+    for found in LOGIC.finditer(text, at):
+        depth += (found[0] in ('{', '[', '(')) - (found[0] in ('}', ']', ')'))
+        if not depth:
+            return found.end()
+
+
+def tokens(text, is_rattle):
+    """The tokens of a text without comments, contracts and ghosts."""
+    out, at = [], 0
+    while at < len(text):
+        ghost = GHOST.match(text, at) if is_rattle and not re.match(r'\w', text[at - 1:at]) else None
+        if ghost:
+            at, is_member = ghost.end(), ghost[0].startswith('ghost')
+            while ghost[0][-1] != ';' and text[at] in ':={':
+                at = re.compile(r'\s*').match(text, logic(text, text.index('{', at))).end() if is_member else \
+                    logic(text, at)
+                if not is_member:
+                    break
+            at += is_member and ghost[0][-1] != ';'
+        else:
+            word = TOKEN.match(text, at)[0]
+            at += len(word)
+            out += [word] if word.strip() and not word.startswith('//') else []
+    return out
+
+
+def end_of(words, k, sign=None):
+    """The place after the bracket that opens at k, or the next sign that is in no bracket."""
+    depth = 0
+    while sign is None or depth or words[k] != sign:
+        depth += (words[k] in ('(', '[', '{')) - (words[k] in (')', ']', '}'))
+        k += 1
+        if sign is None and not depth:
+            break
+    return k
+
+
+def read(words, path=None, gone=None, is_export=False):
+    """The tokens of a text's items, those of its imports, and its texts of errors: of the erased text, or as they are
+    when it is erased, from Rattle's, of whose functions some are `gone`."""
+    out, imports, texts, k, head = [], [], [], 0, 0
+    path = path or (lambda words, k: words[k])
+    while k < len(words):
+        word, follows, inner = words[k], words[k + 1:k + 2], None
+        if word == '#':
+            bracket = k + 1 + (follows == ['!'])
+            end, name = end_of(words, bracket), words[bracket + 1]
+            inner = words[k:end]
+            if gone and name in ('tactic', 'error'):
+                texts += [one for one in inner if name == 'error' and one[0] == '"']
+                inner = []
+            elif gone and name == 'derive':
+                kept = [one for one in inner[4:-2] if one not in ('Drop', 'Error', ',')]
+                inner = [*inner[:4], *' , '.join(kept).split(), ')', ']'] if kept else []
+            elif gone and name == 'unsafe' and is_export:
+                inner = '# [ inline ( always ) ]'.split()
+        elif word in ('pub', 'const'):
+            end = end_of(words, k + 1) if follows == ['('] else k + 1
+            inner = words[k:end]
+        elif word == 'extern' and gone and is_export:
+            end, inner = end_of(words, k, 'fn'), []
+        if inner is not None:
+            out, k = out + inner, end
+            continue
+        end = k
+        if word == 'use' or word == 'mod' and words[k + 2] == ';':
+            end = end_of(words, k, ';') + 1
+            imports += out[head:] + [path(words, j) for j in range(k, end)]
+        elif word == 'fn' and gone and gone(follows[0]) or word == 'impl' and gone and \
+                re.search(r'\b(?:Drop|Model) for\b', ' '.join(words[k:end_of(words, k, '{')])):
+            end = end_of(words, end_of(words, k, '{'))
+        elif word == 'error_text' and not gone:
+            end = end_of(words, k + 2) + 1
+            texts += [one for one in words[k:end] if one[0] == '"']
+            del out[-4:]                           # `crate::rattle::`
+        if end > k:
+            del out[head:]
+        else:
+            out.append(path(words, k))
+        k, head = max(end, k + 1), len(out)
+    return ' '.join(out).split(), ' '.join(imports).split(), texts
+
+
+def rattle_path(crate, by_hand):
+    """What is erased to another token: the first word of a path, and two traits."""
+    def path(words, k):
+        word, follows, is_first = words[k], words[k + 1] if k + 1 < len(words) else '', words[k - 1] not in ('::', '.')
+        own = crate if word == 'crate' else word
+        if follows == '::' and is_first and (own in by_hand or own == 'std'):
+            return f'crate :: rattle :: {own}'
+        if follows == '::' and is_first and own in given.CRATES + [crate]:
+            return f'crate :: proved :: {own}'
+        if word == 'Clone' and follows == 'for':
+            return 'crate :: rattle :: Clone'
+        return 'Sized' if word == 'Drop' and words[k - 1] != '::' else word
+    return path
+
+
+def differences(crate, path, text, rust, by_hand):
+    """What the erased text of a file has otherwise."""
+    file = f'{crate}/{path.with_suffix("")}'
+    for old, new, files in given.REPLACED:
+        text = text.replace(old, new) if file in files else text
+    two, imports, texts = read(tokens(rust, False))
+    two = ' '.join(two).replace('::', ' :: ').split()
+    defined = {name for fn, name in zip(two, two[1:]) if fn == 'fn'}
+    gone = lambda name: name in given.UNCALLED.get(file, ()) or path.stem == 'laws' and name not in defined
+    one, every, said = read(tokens(text, True), rattle_path(crate, by_hand), gone, crate == given.EXPORTS)
+    one, every = (' '.join(words).replace(' :: ', '::') for words in (one, every))
+    one, every = ((text if by_hand else erase.relocated(text)).replace('::', ' :: ').split() for text in (one, every))
+    for k, word in enumerate(one):
+        if two[k:k + 4] == 'pub ( crate )'.split() and one[k:k + 2] != ['pub', '(']:
+            del two[k + 1:k + 4]
+        if two[k:k + 1] != [word]:
+            return [f'{" ".join(one[k - 8:k + 12])} -> {" ".join(two[k - 8:k + 12])}']
+    left = iter(every)
+    missing = [word for word in ' '.join(imports).replace(PRELUDE, '').split() if word not in left]
+    return [f'more: {" ".join(two[len(one):])}'] * (len(two) > len(one)) + \
+        [f'imports: {" ".join(imports)}'] * bool(missing) + [f'texts: {texts}'] * (len(said) != len(texts))
+
+
+def main():
+    bad, count = [], 0
+    for out, by_hand, sources in ((erase.OUT, [], erase.sources()), (erase.EXAMPLE, given.BY_HAND, erase.program())):
+        written = {text.partition('\n')[0]: (file, text) for file in out.rglob('*.rs') for text in [file.read_text()]}
+        for crate, path, text in sources:
+            first = erase.HEADER.format(f'crates/{crate}/src/{path}').strip()
+            if first in written:
+                file, rust = written[first]
+                count += 1
+                bad += [f'{file.relative_to(erase.REPOSITORY)}: {one}'
+                        for one in differences(crate, path, text, rust, by_hand)]
+    print(*bad, sep='\n', end='\n' * bool(bad))
+    print(f'{count} erased files, {len(bad)} differ from Rattle\'s text')
+    return bool(bad)
+
+
+if __name__ == '__main__':
+    sys.exit(main())
