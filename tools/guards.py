@@ -23,7 +23,6 @@ from parts import erase_list as given
 TOP = '''//! Checked calls of the functions with guards.
 #![tactic(auto)]
 
-use net_assembler::laws::is_usize;
 use net_assembler::{Assembler, Turns};
 use net_base::phy::DeviceCapabilities;
 use net_base::time::{Duration, Instant};
@@ -31,8 +30,8 @@ use net_base::storage::FragmentsOver;
 use net_base::storage::fragments::table::FragmentSlot;
 use net_ends::{ReceivingEndOver, SendBufferOver, SendingEndOver};
 use net_receiver::{FiniteReceiverOver, FiniteSenderOver, ReceiverOver, Scoreboard};
-use net_ring::{RingOver, Storage};
-use net_split_ring::SplitCounts;
+use net_ring::laws::is_usize;
+use net_ring::{RingOver, SplitCounts, Storage};
 use net_tcp::{AdvertisedWindow, TimeoutBounds};
 use std::ops::{Add, AddAssign, Div, DivAssign, Mul, MulAssign, Shl, ShlAssign, Shr, ShrAssign, Sub, SubAssign};
 

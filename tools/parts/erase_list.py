@@ -2,9 +2,8 @@
 text."""
 # The crates that are erased, and the folder of rust/src that each one's modules are in.
 FOLDERS = {
-    'net_ring': 'storage', 'net_packets': 'storage', 'net_assembler': 'storage', 'net_split_ring': 'storage',
-    'net_numbers': 'stream', 'net_receiver': 'stream', 'net_base': '', 'net_tcp': 'tcp', 'net_recovery': 'stream',
-    'net_ends': 'ends', 'net_ffi': 'exports',
+    'net_ring': 'storage', 'net_packets': 'storage', 'net_assembler': 'storage', 'net_receiver': 'stream',
+    'net_base': '', 'net_tcp': 'tcp', 'net_recovery': 'stream', 'net_ends': 'ends', 'net_ffi': 'exports',
 }
 CRATES = [*FOLDERS]
 

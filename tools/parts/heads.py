@@ -530,11 +530,12 @@ CODE = {name: module for module, names in {
     "crate::refusals": "NET_BASE_ACKNOWLEDGEMENT_ONLY NET_BASE_ANSWER NET_BASE_IGNORE NET_BASE_RESET NET_BASE_TAKE NET_BASE_DONE NET_BASE_REFUSED ArrivalStatus FragmentStatus RoomStatus SizeStatus no_number refused_front_length refused_hole refused_run refused_segment_span refused_span refused_split_span",
     "crate::results": "FrontLength Hole SegmentSpan front_length number_of run_of segment_span status_of status_of_fragment status_of_report",
     "crate::receiver": "has_next has_runs", "crate::finite_receiver": "has_number",
-    "net_assembler": "AssemblerHead Run", "net_ring": "RingHead Span", "net_split_ring": "SplitCounts SplitSpan",
+    "net_assembler": "AssemblerHead Run", "net_ring": "RingHead Span SplitCounts SplitSpan",
     "net_base::storage": "FragmentsHead",
     "net_packets": "PacketSlot PacketsHead",
-    "net_receiver": "FiniteReceiverHead FiniteSenderHead HeldRun ReceiverHead ReportError ScoreboardHead",
-    "net_numbers": "SentNumbers", "net_tcp": "AdvertisedWindow Announcement PartsSum PeerWindow Segment",
+    "net_receiver":
+        "FiniteReceiverHead FiniteSenderHead HeldRun ReceiverHead ReportError ScoreboardHead SentNumbers",
+    "net_tcp": "AdvertisedWindow Announcement PartsSum PeerWindow Segment",
 }.items() for name in names.split()}
 
 

@@ -12,7 +12,7 @@ use Rattle.net_assembler.specs.Positions.{EndsHole, IsEnd, contains, first_missi
 use Rattle.net_assembler.specs.Positions.{present_count, runs_shifted_up}
 use Rattle.net_assembler.specs.RunLists.{AreRuns, HasSoundRuns, IsRising, SplitsRuns, end_at, runs_of, set_of}
 use Rattle.net_assembler.specs.RunLists.{set_of_runs, start_at, used_runs}
-use Rattle.net_assembler.specs.Width.{shortfall}
+use Rattle.net_ring.specs.Width.{shortfall}
 use Rattle.net_assembler.proofs.Runs.{in_runs, not_in_runs, rising_from, contains-set_of_runs}
 use Rattle.net_assembler.proofs.Joins.{apart, at_run, in_run_at, not_before, rest_rises, starts_rise}
 use Rattle.net_assembler.proofs.Sets.{either, first_missing-is}

@@ -6,7 +6,7 @@ use Rattle.std.proofs.lemmas.List.{drop-map, length-map, get_or-map, map-id, len
 use Rattle.std.proofs.lemmas.List.{get_or-drop, get_or-take}
 use Rattle.std.proofs.lemmas.Bool.{cases_lt, cond_both, false≢true, or_cases}
 use Rattle.std.proofs.lemmas.Bool.Decides.{nat_tests}
-use Rattle.net_assembler.specs.Width.{shortfall, IsUsize}
+use Rattle.net_ring.specs.Width.{shortfall, IsUsize}
 use Rattle.net_assembler.specs.Positions.{runs_shifted_up}
 use Rattle.net_assembler.specs.RunLists.{start_at, end_at, IsRising, AreRuns, StartsAtZero, FitsFrom}
 use Rattle.net_assembler.specs.RunLists.{runs_shifted_down, AreUsize, runs_wrapped, wrapped_run}

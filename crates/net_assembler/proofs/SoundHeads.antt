@@ -17,7 +17,7 @@ use Rattle.net_assembler.proofs.ShiftedRuns.{runs-up, down-up, fits-at, start-up
 use Rattle.net_assembler.proofs.ShiftedRuns.{fits-less, rising-cut, fits-cut, down-cut, in_runs-fits}
 use Rattle.std.specs.Prelude.{false, suc, Some, None, Result, Ok, Err, IsOk, IsErr, IsTrue}
 use Rattle.std.proofs.lemmas.List.{nil_from_length, length-take-le, get_or-take}
-use Rattle.net_assembler.specs.Width.{shortfall}
+use Rattle.net_ring.specs.Width.{shortfall}
 use Rattle.net_assembler.specs.declared.assembler.error.TooManyHolesError.{TooManyHolesError}
 use Rattle.net_assembler.specs.declared.assembler.head.AssemblerHead.{AssemblerHead}
 use Rattle.net_assembler.specs.AssemblerLaws.{Adds, AddsThenRemovesFront}

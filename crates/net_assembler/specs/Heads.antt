@@ -11,7 +11,7 @@ use Rattle.net_assembler.specs.Positions.{front, runs, shift_down, with_range}
 use Rattle.net_assembler.specs.RunLists.{HasSoundRuns, IsCanonical, runs_of, runs_shifted_down, set_of, set_of_runs}
 use Rattle.net_assembler.specs.RunLists.{start_at}
 use Rattle.net_assembler.specs.Turns.{TurnsWithin, binary_digits}
-use Rattle.net_assembler.specs.Width.{IsUsize}
+use Rattle.net_ring.specs.Width.{IsUsize}
 
 -- a range that isn't empty starts before the last run
 abbrev pub StartsInRuns : AssemblerHead → List (ℕ × ℕ) → ℕ → ℕ → Type 0

@@ -1,7 +1,6 @@
 pub mod Positions
 pub mod RunLists
 pub mod Turns
-pub mod Width
 pub mod Assembler
 pub mod AssemblerLaws
 pub mod Heads

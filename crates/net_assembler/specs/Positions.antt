@@ -20,7 +20,7 @@ use Rattle.std.specs.Ordering.{nat_cmp}
 use Rattle.std.specs.Cmp.Lexicographic.{pointwise}
 use Rattle.std.specs.FinSet.{FinSet}
 use Rattle.std.specs.FinMap.{keys, contains_key, from_entries, empty}
-use Rattle.net_assembler.specs.Width.{IsUsize}
+use Rattle.net_ring.specs.Width.{IsUsize}
 
 -- a finite set of positions: two with the same members are equal
 abbrev pub Positions : Type 0

@@ -12,7 +12,7 @@ use Rattle.std.specs.Prelude.{◌≡◌, ℕ, ◌+◌, ◌-◌, ◌<◌, ◌≤�
 use Rattle.std.specs.Prelude.{get_or}
 use Rattle.std.specs.List.{range_with_len}
 use Rattle.net_assembler.specs.Positions.{Positions, set_of_list, runs_shifted_up}
-use Rattle.net_assembler.specs.Width.{IsUsize}
+use Rattle.net_ring.specs.Width.{IsUsize}
 use Rattle.net_assembler.specs.declared.assembler.head.AssemblerHead.{AssemblerHead}
 
 -- where the run k starts

@@ -23,9 +23,9 @@ mod new;
 mod run;
 mod turns;
 
-use crate::width::most;
 pub use error::TooManyHolesError;
 pub use head::AssemblerHead;
+use net_ring::width::most;
 pub use run::Run;
 use std::alloc::AllocError;
 use std::marker::Model;

@@ -7,7 +7,6 @@ ghost use Rattle.std.specs.Prelude.{◌≡◌, ◌||◌, ℕ, List};
 ghost use Rattle.std.specs.List.Sorted.{IsPermutation};
 ghost use Rattle.net_assembler.specs.Positions.{Positions, contains, front, shift_down};
 ghost use Rattle.net_assembler.specs.AssemblerLaws.{with_ranges, lies_in_some};
-ghost use Rattle.net_assembler.specs.Width.{IsUsize};
 
 use crate::assembler::laws::{front as front_is_least, members};
 
@@ -31,12 +30,4 @@ pub fn ranges_in_any_order()
         with_ranges s ranges ≡ with_ranges s others }
     ensures reordered { (s : Positions) (ranges others : List (ℕ × ℕ)) →
         IsPermutation ranges others → with_ranges s ranges ≡ with_ranges s others }
-{}
-
-/// States that a number of type `usize` is a number of the machine's `usize`, however many bits that has.
-///
-/// It is given a parameter, a field, a length or what a call returned, and no sum: a sum has to be shown to
-/// be one.
-pub fn is_usize(n: usize)
-    ensures { IsUsize n }
 {}

@@ -3,7 +3,6 @@
 
 pub mod assembler;
 pub mod laws;
-pub mod width;
 
 pub use assembler::{
     Assembler, AssemblerHead, HoleIter, IterData, Run, RunIter, TooManyHolesError, Turns,

@@ -7,7 +7,7 @@ use Rattle.std.specs.Prelude.{decimal, if◌then◌else◌, Option, Some, None, 
 use Rattle.std.specs.Prelude.{option_map}
 use Rattle.net_assembler.specs.Positions.{Positions, with_range, front, shift_down}
 use Rattle.net_assembler.specs.Assembler.{display_text, makes_too_many_runs}
-use Rattle.net_assembler.specs.Width.{shortfall}
+use Rattle.net_ring.specs.Width.{shortfall}
 use Rattle.net_bench_lib.specs.Numeral.{number_of}
 use Rattle.net_bench_lib.specs.Transcript.{Rules}
 use Rattle.net_bench_lib.specs.declared.asm.AsmLine.{AsmLine}

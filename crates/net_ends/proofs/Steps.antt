@@ -13,7 +13,7 @@ use Rattle.net_assembler.specs.Positions.{Positions, contains}
 use Rattle.net_assembler.proofs.Sets.{contains-with_range, contains-nothing}
 use Rattle.net_ends.specs.Ends.{End, Heard, Sent, after_event, heard, kept, is_acceptable, first, limit, may_send}
 use Rattle.net_ends.specs.Ends.{is_due, is_worth, hurries}
-use Rattle.net_numbers.specs.declared.sent_numbers.SentNumbers.{SentNumbers}
+use Rattle.net_receiver.specs.declared.sent_numbers.SentNumbers.{SentNumbers}
 use Rattle.net_ends.specs.Acknowledgements.{is_sought, numbers_of}
 use Rattle.net_ends.specs.Ends.{told, sampled, synchronized, greatest_of}
 

@@ -18,7 +18,7 @@ use Rattle.std.specs.Prelude.{IsTrue, IsFalse, if◌then◌else◌, List, [], �
 use Rattle.std.specs.List.{list_any}
 use Rattle.net_assembler.specs.Assembler.{makes_too_many_runs}
 use Rattle.net_assembler.specs.Positions.{Positions, first_missing, front, with_range}
-use Rattle.net_numbers.specs.declared.sent_numbers.SentNumbers.{SentNumbers}
+use Rattle.net_receiver.specs.declared.sent_numbers.SentNumbers.{SentNumbers}
 use Rattle.net_receiver.specs.Scoreboards.{beyond, IsLossBound, IsEnd}
 use Rattle.net_recovery.specs.LossRecovery.{is_active, unsent_lost, is_equal_acknowledgement, is_duplicate_block}
 use Rattle.net_recovery.specs.LossRecovery.{after_duplicate, after_answer, after_report, after_silence, blind_lost}

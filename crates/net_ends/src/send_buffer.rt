@@ -19,8 +19,7 @@ ghost use Rattle.net_ends.specs.Acknowledgements.{after_segment, after_wait};
 
 use crate::stream_sender::StreamSender;
 use net_assembler::Run;
-use net_numbers::SentNumbers;
-use net_receiver::{FiniteSender, FiniteSenderOver, Scoreboard, ScoreboardHead};
+use net_receiver::{FiniteSender, FiniteSenderOver, Scoreboard, ScoreboardHead, SentNumbers};
 use net_recovery::{Answer, LossRecovery, is_duplicate_block, is_equal_acknowledgement};
 use net_ring::Storage;
 use std::marker::Model;

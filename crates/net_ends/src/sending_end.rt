@@ -27,8 +27,7 @@ ghost use Rattle.net_tcp.specs.Windows.{after_update, acknowledgement_number};
 use crate::send_buffer::{BufferParts, SendBufferOver};
 use crate::stream_sender::StreamSender;
 use net_base::time::{Duration, Instant};
-use net_numbers::SentNumbers;
-use net_receiver::{FiniteSender, FiniteSenderOver};
+use net_receiver::{FiniteSender, FiniteSenderOver, SentNumbers};
 use net_ring::Storage;
 use net_tcp::{
     Announcement, Expiry, PeerWindow, RetransmissionTimer, TimeoutBounds, is_acknowledgement,

@@ -4,8 +4,7 @@ ghost use Rattle.net_receiver.specs.FiniteSender.{FiniteSenderState, IsSoundSent
 ghost use Rattle.net_receiver.specs.FiniteSender.{sender_after_command, Marks, Acknowledges};
 ghost use Rattle.net_ends.specs.Acknowledgements.{numbers_of};
 
-use net_numbers::SentNumbers;
-use net_receiver::FiniteSenderOver;
+use net_receiver::{FiniteSenderOver, SentNumbers};
 use net_ring::Storage;
 
 /// A sender of a stream that ends, as the rules of a sending end know it: by its numbers. A `FiniteSender` is one, over

@@ -1,7 +1,6 @@
 //! A send buffer: what is sent, what is lost, and what is done.
 use net_ends::SendBufferOver;
-use net_numbers::SentNumbers;
-use net_receiver::FiniteSenderOver;
+use net_receiver::{FiniteSenderOver, SentNumbers};
 
 /// The numbers once all of a stream was sent that has four bytes from position 7 on.
 const ALL: SentNumbers = SentNumbers {

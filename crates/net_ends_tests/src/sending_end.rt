@@ -1,8 +1,7 @@
 //! A sending end: what is sent at first, and what its bytes are.
 use net_base::time::{Duration, Instant};
 use net_ends::{Outgoing, SendingEndOver};
-use net_numbers::SentNumbers;
-use net_receiver::FiniteSenderOver;
+use net_receiver::{FiniteSenderOver, SentNumbers};
 use net_recovery::LossRecovery;
 use net_tcp::{Announcement, TimeoutBounds};
 

@@ -3,8 +3,7 @@ ghost use Rattle.std.specs.Prelude.{◌<◌, ◌≤◌, ℕ, min, IsTrue, IsFals
 ghost use Rattle.net_recovery.specs.LossRecovery.{is_active, is_answered, was_sent_again, after_answer};
 ghost use Rattle.net_receiver.specs.Scoreboards.{IsLossBound, IsEnd};
 
-use net_numbers::SentNumbers;
-use net_receiver::Scoreboard;
+use net_receiver::{Scoreboard, SentNumbers};
 use net_recovery::{Answer, LossRecovery};
 
 /// Notes that what is lost is sent again: its positions count as sent again.

@@ -1,8 +1,8 @@
 //! What the law of a ring of two counts says of a call: one end reads what the other wrote, in order.
 ghost use Rattle.std.specs.Prelude.{◌≡◌, ◌++◌, ℕ, List, length, min, take, drop};
-ghost use Rattle.net_split_ring.specs.SplitRing.{AreCounts, Step, after_steps, counts, fresh, reader};
+ghost use Rattle.net_ring.specs.SplitRing.{AreCounts, Step, after_steps, counts, fresh, reader};
 
-use net_split_ring::{SplitCounts, laws};
+use net_ring::{SplitCounts, laws};
 
 /// Reads at one end of a ring, whatever both ends did before. What is read is what was written after what was taken.
 pub fn read_written(ends: SplitCounts, storage: &[u8], into: &mut [u8]) -> usize

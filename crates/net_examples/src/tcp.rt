@@ -5,7 +5,7 @@ ghost use Rattle.net_tcp.specs.Windows.{BothEnds, IsInTable};
 ghost use Rattle.net_tcp.specs.declared.retransmission_timer.Expiry.TheVariants.{Probe};
 
 use net_base::time::{Duration, Instant};
-use net_numbers::SentNumbers;
+use net_receiver::SentNumbers;
 use net_tcp::{
     AdvertisedWindow, Announcement, Expiry, PartsSum, PeerWindow, RetransmissionTimeout,
     RetransmissionTimer, TimeoutBounds, checksum, is_acceptable, laws, scale_for, updated_checksum,

@@ -4,10 +4,9 @@ ghost use Rattle.net_ffi.specs.Refusals.{no_number, nowhere};
 
 use crate::results::{FrontLength, Hole, SegmentSpan};
 use net_assembler::Run;
-use net_assembler::width::most;
 use net_receiver::HeldRun;
-use net_ring::Span;
-use net_split_ring::SplitSpan;
+use net_ring::width::most;
+use net_ring::{Span, SplitSpan};
 
 /// What a call answers that can be done, refused, or more: each kind of call one of some of these numbers.
 pub type Status = u32;

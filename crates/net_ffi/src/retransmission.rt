@@ -13,7 +13,7 @@ ghost use Rattle.net_ffi.specs.Retransmission.{given_or, pos_of, since_of, due_o
 
 use crate::refusals::{ExpiryStatus, NET_BASE_DONE, NET_BASE_PROBE, NET_BASE_TIMEOUT};
 use net_base::time::{Duration, Instant};
-use net_numbers::SentNumbers;
+use net_receiver::SentNumbers;
 use net_tcp::{Expiry, TimedSegment, TimerParts};
 
 /// What a timeout of 0 counts as, and a least one: 1 second.

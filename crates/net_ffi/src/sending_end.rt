@@ -41,8 +41,7 @@ use crate::retransmission::{
 use net_assembler::Run;
 use net_base::time::{Duration, Instant};
 use net_ends::{Acknowledged, BufferParts, Expired, Outgoing, SendingEndOver, SendingParts};
-use net_numbers::SentNumbers;
-use net_receiver::{FiniteSenderHead, HeldRun, ScoreboardHead};
+use net_receiver::{FiniteSenderHead, HeldRun, ScoreboardHead, SentNumbers};
 use net_recovery::RecoveryParts;
 use net_tcp::{Announcement, PeerWindow};
 

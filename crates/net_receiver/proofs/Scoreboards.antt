@@ -14,7 +14,7 @@ use Rattle.net_receiver.proofs.Words.{beyond, HasNoRoom, IsSoundBoard, IsSoundSc
 use Rattle.net_receiver.proofs.Words.{MakesTooManyRuns, makes_too_many_runs, TooManyHolesError, IsRising, set_of}
 use Rattle.net_receiver.proofs.Words.{length-runs_of, from_bool, sum_by-cons, AssemblerHead, EndBelow, runs_of, no_runs}
 use Rattle.net_receiver.proofs.Words.{HasSoundRuns}
-use Rattle.net_assembler.specs.Width.{shortfall}
+use Rattle.net_ring.specs.Width.{shortfall}
 use Rattle.std.specs.List.{count_by}
 use Rattle.net_assembler.specs.Positions.{front}
 use Rattle.net_assembler.proofs.Sets.{positions-set_of_list}

@@ -11,7 +11,7 @@ ghost use Rattle.net_receiver.specs.{with_bytes, closed_sender, acknowledged_bel
 
 use crate::finite_sender_head::FiniteSenderHead;
 use crate::laws;
-use net_numbers::SentNumbers;
+use crate::sent_numbers::SentNumbers;
 use net_ring::{ManagedSlice, Storage};
 use std::marker::Model;
 

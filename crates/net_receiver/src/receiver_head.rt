@@ -24,9 +24,9 @@ ghost use Rattle.net_receiver.specs.NewestRuns.{newest_runs, with_starts, run_at
 use crate::held_runs::{HeldRun, HeldRunIter, MissingRunIter, is_listed, remember};
 use crate::kept::{KeptBytes, SegmentParts};
 use net_assembler::assembler::Turns;
-use net_assembler::width::most;
 use net_assembler::{AssemblerHead, Run, TooManyHolesError};
 use net_ring::RingHead;
+use net_ring::width::most;
 
 /// What a receiver has besides its storage and its held runs: numbers.
 ///
@@ -266,7 +266,7 @@ impl ReceiverHead {
         prove!(ahead <= window as u64, "in any `usize`");
         let offset = ahead as usize;
         let kept = (len - skip).min(window - offset);
-        net_assembler::laws::is_usize(window);
+        net_ring::laws::is_usize(window);
         let queued = self.held.add_then_remove_front(runs, offset, kept)?;
         self.place.enqueue(capacity, queued);
         Ok(Admitted {

@@ -5,15 +5,15 @@ ghost use Rattle.std.specs.Prelude.{◌≡◌, ◌↔◌, ◌-◌, ◌≤◌, �
 ghost use Rattle.net_assembler.specs.Positions.{contains, first_missing, front, maximal_runs, missing_count};
 ghost use Rattle.net_assembler.specs.Positions.{nothing, positions, with_range};
 ghost use Rattle.net_assembler.specs.RunLists.{IsCanonical};
-ghost use Rattle.net_assembler.specs.Width.{shortfall};
+ghost use Rattle.net_ring.specs.Width.{shortfall};
 ghost use Rattle.net_receiver.specs.Scoreboards.{HasNoRoom, IsEnd, IsNextHole, IsReport, IsSoundBoard, beyond};
 ghost use Rattle.net_receiver.specs.Scoreboards.{reported_by, IsLossBound};
 ghost use Rattle.net_receiver.specs.NewHeads.{scoreboard_head};
 
 use crate::held_runs::{HeldRunIter, were_at_most};
 use net_assembler::assembler::{Turns, laws};
-use net_assembler::width::most;
 use net_assembler::{AssemblerHead, Run};
+use net_ring::width::most;
 use thiserror::Error;
 
 /// Why a SACK block isn't taken. Nothing changes then.

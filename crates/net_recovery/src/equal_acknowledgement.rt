@@ -2,7 +2,7 @@
 ghost use Rattle.std.specs.Prelude.{◌≡◌};
 ghost use Rattle.net_recovery.specs.LossRecovery.{is_equal_acknowledgement};
 
-use net_numbers::SentNumbers;
+use net_receiver::SentNumbers;
 
 /// Returns whether an acknowledgement of all below `next` is an equal one (RFC 5681, section 2): it says again what was
 /// acknowledged, while something isn't; its segment `is_bare`, that is, it has no byte, no SYN, no FIN and no block;

@@ -13,8 +13,7 @@ ghost use Rattle.net_recovery.specs.LossRecovery.{most_later, heard_of, after_co
 ghost use Rattle.net_recovery.specs.LossRecovery.{unsent, next_range, next_segment, resumed, gone_on, begins_at};
 ghost use Rattle.net_recovery.specs.LossRecovery.{next_probe};
 
-use net_numbers::SentNumbers;
-use net_receiver::Scoreboard;
+use net_receiver::{Scoreboard, SentNumbers};
 use std::ops::Range;
 
 /// How many segments above a position tell that it is lost, as long as nothing came twice (RFC 6675's DupThresh).

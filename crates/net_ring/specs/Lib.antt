@@ -1,3 +1,4 @@
+pub mod Width
 pub mod Overwrite
 pub mod Managed
 pub mod StorageLaws
@@ -8,6 +9,7 @@ pub mod RingCalls
 pub mod Log
 pub mod RingHead
 pub mod RingHistory
+pub mod SplitRing
 pub use Overwrite.*
 pub use Ring.*
 pub use RingHead.*

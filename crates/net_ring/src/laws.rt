@@ -1,4 +1,4 @@
-//! A law whose premise is an equation, as the contracts of calls state it, and laws of refusals.
+//! A law whose premise is an equation, as the contracts of calls state it, laws of refusals, and of each `usize`.
 //!
 //! No function here does anything. A law of `ring_buffer::laws` is about `overwrite xs i ws`
 //! itself; `element_after_overwrite` and `element_set` are about any list that is equal to it, such
@@ -7,6 +7,7 @@ ghost use Rattle.std.specs.Prelude.{◌≡◌, ◌+◌, ◌-◌, ◌<◌, ◌≤
 ghost use Rattle.std.specs.Prelude.{if◌then◌else◌, IsTrue, ◌≢◌, ◌∷◌, [], slice_get, slice_set, Some};
 ghost use Rattle.net_ring.specs.{overwrite, ring, place, ring_at, IsSound, free_index, queued_index, rewound};
 ghost use Rattle.net_ring.specs.{enqueued_place, dequeued_place};
+ghost use Rattle.net_ring.specs.Width.{IsUsize};
 ghost use Rattle.net_ring.specs.declared.head.RingHead.{RingHead};
 
 use crate::error::{Empty, Full};
@@ -65,4 +66,12 @@ pub fn refusals(full: &Full, other_full: &Full, empty: &Empty, other_empty: &Emp
         × IsTrue (⟦<Empty as PartialEq>⟧.eq empty.now other_empty.now) }
     ensures never_refused { ⟦<Full as Clone>⟧.is_infallible full.now
         × ⟦<Empty as Clone>⟧.is_infallible empty.now }
+{}
+
+/// States that a number of type `usize` is a number of the machine's `usize`, however many bits that has.
+///
+/// It is given a parameter, a field, a length or what a call returned, and no sum: a sum has to be shown to
+/// be one.
+pub fn is_usize(n: usize)
+    ensures { IsUsize n }
 {}

@@ -2,7 +2,7 @@
 ghost use Rattle.std.specs.Prelude.{◌≡◌, ◌↔◌, ◌+◌, ◌-◌, ◌^◌, ◌≤◌, min, IsTrue};
 ghost use Rattle.net_tcp.specs.Windows.{IsAcceptable, IsArrival, flag_at};
 
-use net_numbers::SentNumbers;
+use net_receiver::SentNumbers;
 
 /// The positions and the flags of an arriving segment.
 #[repr(C)]

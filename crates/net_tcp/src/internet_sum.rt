@@ -6,7 +6,7 @@ ghost use Rattle.std.specs.Prelude.{◌⊎◌, length, nat_eq, if◌then◌else�
 ghost use Rattle.net_tcp.specs.InternetChecksum.{folded, word_sum, internet_checksum, updated, Sums, is_odd};
 ghost use Rattle.net_tcp.specs.InternetChecksum.{sum_joined, sum_with, word_bytes};
 
-use net_assembler::width::most;
+use net_ring::width::most;
 
 /// The sum of the 16-bit words of a message, which is given in parts of any lengths, one after another.
 /// One of zeros is that of no bytes.

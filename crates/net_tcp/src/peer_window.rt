@@ -4,7 +4,7 @@ ghost use Rattle.net_tcp.specs.Windows.{shift_count, Replaces, replaces, window_
 ghost use Rattle.net_tcp.specs.Windows.{acknowledgement_number, no_window};
 
 use crate::advertised_window::MAX_SCALE;
-use net_numbers::SentNumbers;
+use net_receiver::SentNumbers;
 
 /// What a segment announces: the window from the position that it acknowledges on, and the numbers by
 /// which its age is told.

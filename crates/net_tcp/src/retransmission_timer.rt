@@ -8,7 +8,7 @@ ghost use Rattle.net_tcp.specs.Retransmission.{prompt_after, prompt_wait};
 
 use crate::retransmission::{RetransmissionTimeout, RttEstimate, TimeoutBounds};
 use net_base::time::{Duration, Instant};
-use net_numbers::SentNumbers;
+use net_receiver::SentNumbers;
 use std::ops::Range;
 
 /// The least time without an answer after which a probe is sent, in microseconds.

@@ -4,8 +4,7 @@
 use crate::rattle::prelude::*;
 use crate::ends::stream_sender::StreamSender;
 use crate::storage::Run;
-use crate::stream::SentNumbers;
-use crate::stream::{FiniteSender, FiniteSenderOver, Scoreboard, ScoreboardHead};
+use crate::stream::{FiniteSender, FiniteSenderOver, Scoreboard, ScoreboardHead, SentNumbers};
 use crate::stream::{Answer, LossRecovery, is_duplicate_block, is_equal_acknowledgement};
 use crate::storage::Storage;
 

@@ -5,8 +5,7 @@ use crate::rattle::prelude::*;
 use crate::ends::send_buffer::{BufferParts, SendBufferOver};
 use crate::ends::stream_sender::StreamSender;
 use crate::time::{Duration, Instant};
-use crate::stream::SentNumbers;
-use crate::stream::{FiniteSender, FiniteSenderOver};
+use crate::stream::{FiniteSender, FiniteSenderOver, SentNumbers};
 use crate::storage::Storage;
 use crate::tcp::{
     Announcement, Expiry, PeerWindow, RetransmissionTimer, TimeoutBounds, is_acknowledgement,

@@ -1,8 +1,7 @@
 // Written by tools/erase.py from crates/net_ends/src/stream_sender.rt: a change here would be lost.
 //! What the rules of a sending end know of its sender.
 
-use crate::stream::SentNumbers;
-use crate::stream::FiniteSenderOver;
+use crate::stream::{FiniteSenderOver, SentNumbers};
 use crate::storage::Storage;
 
 /// A sender of a stream that ends, as the rules of a sending end know it: by its numbers. A `FiniteSender` is one, over

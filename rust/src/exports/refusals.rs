@@ -1,10 +1,9 @@
 // Written by tools/erase.py from crates/net_ffi/src/refusals.rt: a change here would be lost.
 use crate::exports::results::{FrontLength, Hole, SegmentSpan};
 use crate::storage::Run;
-use crate::storage::width::most;
 use crate::stream::HeldRun;
-use crate::storage::Span;
-use crate::storage::SplitSpan;
+use crate::storage::width::most;
+use crate::storage::{Span, SplitSpan};
 
 pub type Status = u32;
 

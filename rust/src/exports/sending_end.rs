@@ -12,8 +12,7 @@ use crate::exports::retransmission::{
 use crate::storage::Run;
 use crate::time::{Duration, Instant};
 use crate::ends::{Acknowledged, BufferParts, Expired, Outgoing, SendingEndOver, SendingParts};
-use crate::stream::SentNumbers;
-use crate::stream::{FiniteSenderHead, HeldRun, ScoreboardHead};
+use crate::stream::{FiniteSenderHead, HeldRun, ScoreboardHead, SentNumbers};
 use crate::stream::RecoveryParts;
 use crate::tcp::{Announcement, PeerWindow};
 

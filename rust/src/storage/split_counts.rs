@@ -1,9 +1,9 @@
-// Written by tools/erase.py from crates/net_split_ring/src/split_counts.rt: a change here would be lost.
+// Written by tools/erase.py from crates/net_ring/src/split_counts.rt: a change here would be lost.
 //! A ring of which each end has a count of its own: an interrupt and a program, or two threads, use it without a lock.
 
 use crate::rattle::prelude::*;
+use crate::storage::ring_head::{RingHead, Span};
 use crate::storage::width::most;
-use crate::storage::{RingHead, Span};
 
 /// The two counts of a ring, as one of its ends knows them: its own, and the other's as it last loaded it.
 ///
@@ -35,7 +35,7 @@ use crate::storage::{RingHead, Span};
 /// assert_eq!(SplitCounts { written, taken }.free(4, 4).span.count, 4);
 /// ```
 ///
-/// Contracts: `crates/net_split_ring/src/split_counts.rt`.
+/// Contracts: `crates/net_ring/src/split_counts.rt`.
 #[repr(C)]
 #[derive(Debug, Clone, Copy)]
 pub struct SplitCounts {
@@ -48,7 +48,7 @@ pub struct SplitCounts {
 /// The elements that one end may write or read, and its count after them. An end that wrote or read fewer of them
 /// stores the count that it gets for so many, by the same counts.
 ///
-/// Contracts: `crates/net_split_ring/src/split_counts.rt`.
+/// Contracts: `crates/net_ring/src/split_counts.rt`.
 #[repr(C)]
 #[derive(Debug, Clone, Copy)]
 pub struct SplitSpan {

@@ -1,4 +1,4 @@
-// Written by tools/erase.py from crates/net_assembler/src/width.rt: a change here would be lost.
+// Written by tools/erase.py from crates/net_ring/src/width.rt: a change here would be lost.
 //! The greatest `usize`. No other function, but one law, knows how many bits a `usize` has.
 
 /// Returns the greatest `usize`, which has at least 32 bits.

@@ -4,7 +4,7 @@
 use crate::rattle::prelude::*;
 use crate::stream::finite_sender_head::FiniteSenderHead;
 use crate::stream::laws;
-use crate::stream::SentNumbers;
+use crate::stream::sent_numbers::SentNumbers;
 use crate::storage::{ManagedSlice, Storage};
 
 /// A [`FiniteSender`] over any storage.

@@ -1,8 +1,7 @@
 // Written by tools/erase.py from crates/net_recovery/src/loss_recovery.rt: a change here would be lost.
 //! What a sender sends next where segments are lost.
 
-use crate::stream::SentNumbers;
-use crate::stream::Scoreboard;
+use crate::stream::{Scoreboard, SentNumbers};
 use crate::rattle::std::ops::Range;
 
 /// How many segments above a position tell that it is lost, as long as nothing came twice (RFC 6675's DupThresh).

@@ -5,9 +5,9 @@ use crate::rattle::prelude::*;
 use crate::stream::held_runs::{HeldRun, HeldRunIter, MissingRunIter, is_listed, remember};
 use crate::stream::kept::{KeptBytes, SegmentParts};
 use crate::storage::assembler::Turns;
-use crate::storage::width::most;
 use crate::storage::{AssemblerHead, Run, TooManyHolesError};
 use crate::storage::RingHead;
+use crate::storage::width::most;
 
 /// What a receiver has besides its storage and its held runs: numbers.
 ///

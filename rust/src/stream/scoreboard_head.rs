@@ -4,8 +4,8 @@
 use crate::rattle::prelude::*;
 use crate::stream::held_runs::{HeldRunIter, were_at_most};
 use crate::storage::assembler::{Turns, laws};
-use crate::storage::width::most;
 use crate::storage::{AssemblerHead, Run};
+use crate::storage::width::most;
 
 /// Why a SACK block isn't taken. Nothing changes then.
 #[derive(Debug, Clone, Copy, PartialEq, Eq, Hash)]

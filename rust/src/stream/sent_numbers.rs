@@ -1,10 +1,10 @@
-// Written by tools/erase.py from crates/net_numbers/src/sent_numbers.rt: a change here would be lost.
+// Written by tools/erase.py from crates/net_receiver/src/sent_numbers.rt: a change here would be lost.
 //! The numbers of a sender.
 
 /// What a sender sent of its stream, and what was acknowledged: the numbers that RFC 9293 calls SND.UNA and
 /// SND.NXT, as positions.
 ///
-/// Contracts: `crates/net_numbers/src/sent_numbers.rt`.
+/// Contracts: `crates/net_receiver/src/sent_numbers.rt`.
 #[repr(C)]
 #[derive(Copy, Clone, Debug, PartialEq, Eq, Hash)]
 pub struct SentNumbers {

@@ -17,12 +17,12 @@ ghost use Rattle.net_assembler.specs.RunLists.{SplitsRuns};
 ghost use Rattle.net_assembler.specs.RunLists.{end_at, runs_of, runs_shifted_down, runs_wrapped};
 ghost use Rattle.net_assembler.specs.RunLists.{set_of, set_of_runs, start_at, used_runs, wrapped_run};
 ghost use Rattle.net_assembler.specs.Turns.{TurnsWithin, binary_digits};
-ghost use Rattle.net_assembler.specs.Width.{IsUsize};
+ghost use Rattle.net_ring.specs.Width.{IsUsize};
 
 use super::run::{Run, end_of, start_of};
 use super::turns::Turns;
 use super::{HoleIter, RunIter, TooManyHolesError};
-use crate::width::most;
+use net_ring::width::most;
 
 /// What an assembler has besides its runs: how many there are, and where the first of them starts.
 ///

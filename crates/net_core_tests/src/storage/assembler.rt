@@ -1,7 +1,7 @@
 //! An assembler that is taken into its parts, a head and runs, and is made of them again; and the counts of its turns.
 use crate::assertions::assert_holds;
-use net_assembler::laws::is_usize;
 use net_assembler::{Assembler, AssemblerHead, Run, Turns};
+use net_ring::laws::is_usize;
 
 /// Returns whether an assembler has these two runs, and its parts show the same.
 fn has_two(assembler: &Assembler<2>) -> bool {

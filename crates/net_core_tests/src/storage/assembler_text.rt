@@ -1,7 +1,7 @@
 //! What no clause says of the text of an assembler: where a write fails, it ends.
 use crate::assertions::assert_holds;
 use net_assembler::Assembler;
-use net_assembler::laws::is_usize;
+use net_ring::laws::is_usize;
 use std::fmt::{self, Write};
 
 /// Takes `left` more writes, and refuses those after them.

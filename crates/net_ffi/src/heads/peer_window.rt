@@ -6,7 +6,7 @@
 ghost use Rattle.net_tcp.specs.Windows.{Replaces, acknowledgement_number, after_update, no_window};
 ghost use Rattle.std.specs.Prelude.{IsFalse, IsTrue, max, min, ◌-◌, ◌<◌, ◌↔◌, ◌≡◌, ◌≤◌};
 
-use net_numbers::SentNumbers;
+use net_receiver::SentNumbers;
 use net_tcp::{Announcement, PeerWindow};
 
 /// Makes `peer` the window before any segment: nothing may be sent but a probe, and no segment is

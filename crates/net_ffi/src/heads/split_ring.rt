@@ -15,11 +15,11 @@
 // Written by tools/ffi.py.
 ghost use Rattle.net_ffi.specs.Refusals.{nowhere};
 ghost use Rattle.net_ring.specs.RingHead.{IsWithin, free_index, queued_index};
-ghost use Rattle.net_split_ring.specs.SplitRing.{AreCounts, count_after, counts, seen};
+ghost use Rattle.net_ring.specs.SplitRing.{AreCounts, count_after, counts, seen};
 ghost use Rattle.std.specs.Prelude.{IsTrue, min, ◌-◌, ◌↔◌, ◌≡◌, ◌≤◌};
 
 use crate::refusals::refused_split_span;
-use net_split_ring::{SplitCounts, SplitSpan};
+use net_ring::{SplitCounts, SplitSpan};
 
 /// Returns whether the counts are those of a ring of `capacity` elements: twice the capacity is a
 /// `usize`, each count is below it, or 0, and at most `capacity` elements were written and not

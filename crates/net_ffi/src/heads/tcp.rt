@@ -9,7 +9,7 @@ use crate::refusals::{
     NET_BASE_TAKE,
 };
 use crate::results::number_of;
-use net_numbers::SentNumbers;
+use net_receiver::SentNumbers;
 use net_tcp::Segment;
 
 /// Returns what to do with a segment, for a receiver whose first missing position is `next`, and

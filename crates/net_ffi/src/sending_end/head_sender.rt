@@ -4,8 +4,7 @@ ghost use Rattle.net_receiver.specs.FiniteSender.{finite_sender_of, IsSoundFinit
 ghost use Rattle.net_receiver.specs.FiniteSender.{Marks, Acknowledges};
 
 use net_ends::StreamSender;
-use net_numbers::SentNumbers;
-use net_receiver::FiniteSenderHead;
+use net_receiver::{FiniteSenderHead, SentNumbers};
 use std::marker::Model;
 
 /// A head, and the bytes of its sender, which nothing writes.

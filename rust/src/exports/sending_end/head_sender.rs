@@ -1,7 +1,6 @@
 // Written by tools/erase.py from crates/net_ffi/src/sending_end/head_sender.rt: a change here would be lost.
 use crate::ends::StreamSender;
-use crate::stream::SentNumbers;
-use crate::stream::FiniteSenderHead;
+use crate::stream::{FiniteSenderHead, SentNumbers};
 
 pub struct HeadSender<'a> {
     head: FiniteSenderHead,

@@ -159,7 +159,7 @@ impl FragmentsHead {
         if ends_above(self.limit(capacity), offset, data.len()) {
             return Err(FragmentError::OtherSize);
         }
-        net_assembler::laws::is_usize(capacity);
+        net_ring::laws::is_usize(capacity);
         let Ok(()) = self.present.add(runs, offset, data.len()) else {
             return Err(FragmentError::TooManyHoles);
         };

@@ -1,4 +1,4 @@
-use Rattle.net_assembler.specs.Width.{shortfall}
+use Rattle.net_ring.specs.Width.{shortfall}
 use Rattle.net_receiver.specs.Duplicates.{came, TellsPart}
 use Rattle.net_receiver.specs.{next_at, held_at}
 use Rattle.net_receiver.proofs.Duplicates.{low_part, high_part}

@@ -1,4 +1,4 @@
-use Rattle.net_assembler.specs.Width.{shortfall}
+use Rattle.net_ring.specs.Width.{shortfall}
 use Rattle.net_receiver.specs.Duplicates.{TellsFirst, TellsPart}
 use Rattle.net_receiver.specs.{HasSoundHeld, next_at}
 use Rattle.net_receiver.specs.declared.receiver_head.ReceiverHead.{ReceiverHead}

@@ -1,7 +1,7 @@
 use Rattle.net_receiver.proofs.Words.{◌≡◌, ℕ, ◌+◌, ◌-◌, ◌<◌, ◌^◌, min, List, arith, set_of, position_fits, shift_up}
 use Rattle.net_receiver.proofs.Words.{run_at, IsTrue, Some, None}
 use Rattle.net_receiver.proofs.Words.{contains, subst}
-use Rattle.net_assembler.specs.Width.{shortfall}
+use Rattle.net_ring.specs.Width.{shortfall}
 use Rattle.net_receiver.specs.{HasSoundHeld}
 use Rattle.net_receiver.specs.declared.receiver_head.ReceiverHead.{ReceiverHead}
 use Rattle.net_receiver.proofs.HeldSearches.{before_all, end_is, ends_fit, none_has, none_stored, one_has}

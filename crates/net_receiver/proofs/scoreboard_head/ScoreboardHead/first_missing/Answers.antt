@@ -1,5 +1,5 @@
 use Rattle.net_receiver.proofs.Words.{◌-◌, ◌^◌, arith, set_of, position_fits}
-use Rattle.net_assembler.specs.Width.{shortfall}
+use Rattle.net_ring.specs.Width.{shortfall}
 use Rattle.net_receiver.proofs.BoardSearches.{missing_fits, missing_place}
 use Rattle.net_receiver.proofs.scoreboard_head.ScoreboardHead.first_missing.Goals as goal
 

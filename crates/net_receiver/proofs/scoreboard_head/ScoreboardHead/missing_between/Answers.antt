@@ -1,5 +1,5 @@
 use Rattle.net_receiver.proofs.Words.{◌-◌, ◌^◌, arith, set_of, position_fits}
-use Rattle.net_assembler.specs.Width.{shortfall}
+use Rattle.net_ring.specs.Width.{shortfall}
 use Rattle.net_receiver.proofs.BoardSearches.{missing_is, none_from}
 use Rattle.net_receiver.proofs.scoreboard_head.ScoreboardHead.missing_between.Goals as goal
 

@@ -1,7 +1,7 @@
 use Rattle.net_receiver.proofs.Words.{◌≡◌, ◌+◌, ◌-◌, ◌^◌, ℕ, min, max, first_missing, arith, set_of, position_fits}
 use Rattle.net_receiver.proofs.Words.{subst, reported_by, IsNextHole, Some, None}
 use Rattle.net_assembler.specs.Positions.{EndsHole}
-use Rattle.net_assembler.specs.Width.{shortfall}
+use Rattle.net_ring.specs.Width.{shortfall}
 use Rattle.net_receiver.proofs.BoardSearches.{hole_place, missing_fits, open_place}
 use Rattle.net_receiver.proofs.scoreboard_head.ScoreboardHead.next_hole.Goals as goal
 

@@ -1,15 +1,17 @@
 //! A ring of which each end has a count of its own: an interrupt and a program, or two threads, use it without a lock.
-#![tactic(auto, using(crate::proofs::Counts::counts))]
+#![tactic(auto, using(crate::proofs::SplitNumbers::counts))]
 
 ghost use Rattle.std.specs.Prelude.{◌≡◌, ◌↔◌, ◌≤◌, ◌-◌, ◌+◌, ℕ, IsTrue, min, length, take, drop, ◌++◌};
-ghost use Rattle.net_assembler.specs.Width.{IsUsize};
+ghost use Rattle.net_ring.specs.Width.{IsUsize};
 ghost use Rattle.net_ring.specs.RingHead.{IsSound, IsWithin, free_index, queued_index, ring_at};
 ghost use Rattle.net_ring.specs.Ring.{queue, window};
-ghost use Rattle.net_split_ring.specs.SplitRing.{IsCount, AreCounts, ahead, count_after, counts, index_of, seen};
-ghost use Rattle.net_split_ring.specs.SplitRing.{written_over};
+ghost use Rattle.net_ring.specs.SplitRing.{IsCount, AreCounts, ahead, count_after, counts, index_of, seen};
+ghost use Rattle.net_ring.specs.SplitRing.{written_over};
 
-use net_assembler::width::most;
-use net_ring::{RingHead, Span};
+use crate::head::{RingHead, Span};
+use crate::width::most;
+
+pub mod laws;
 
 /// The two counts of a ring, as one of its ends knows them: its own, and the other's as it last loaded it.
 ///

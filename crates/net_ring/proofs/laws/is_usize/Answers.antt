@@ -1,6 +1,6 @@
 use Rattle.std.proofs.Common.{arith}
-use Rattle.net_assembler.specs.Width.{shortfall}
-use Rattle.net_assembler.proofs.laws.is_usize.Goals as goal
+use Rattle.net_ring.specs.Width.{shortfall}
+use Rattle.net_ring.proofs.laws.is_usize.Goals as goal
 
 pub returns : goal.returns
 unfolding shortfall

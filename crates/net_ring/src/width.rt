@@ -1,6 +1,6 @@
 //! The greatest `usize`. No other function, but one law, knows how many bits a `usize` has.
 ghost use Rattle.std.specs.Prelude.{◌≡◌, ◌+◌, ◌≤◌, ◌^◌};
-ghost use Rattle.net_assembler.specs.Width.{shortfall};
+ghost use Rattle.net_ring.specs.Width.{shortfall};
 
 /// Returns the greatest `usize`, which has at least 32 bits.
 #[inline(always)]

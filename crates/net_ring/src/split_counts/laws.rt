@@ -1,11 +1,11 @@
 //! Laws of rings whose ends run apart. The functions do nothing: a contract is the law.
 ghost use Rattle.std.specs.Prelude.{◌≡◌, ◌≢◌, ◌<◌, ◌≤◌, ◌+◌, ◌-◌, ◌++◌, ℕ, List, All, length, take};
-ghost use Rattle.net_assembler.specs.Width.{IsUsize};
+ghost use Rattle.net_ring.specs.Width.{IsUsize};
 ghost use Rattle.net_ring.specs.Overwrite.{overwrite};
 ghost use Rattle.net_ring.specs.Ring.{queue, spare, window, storage_index};
-ghost use Rattle.net_split_ring.specs.SplitRing.{SplitState, Step, Writes, fresh, after_step, after_steps, whole};
-ghost use Rattle.net_split_ring.specs.SplitRing.{writer, reader};
-ghost use Rattle.net_split_ring.specs.SplitRing.{AreCounts, counts, IsOfWriter, IsOfReader};
+ghost use Rattle.net_ring.specs.SplitRing.{SplitState, Step, Writes, fresh, after_step, after_steps, whole};
+ghost use Rattle.net_ring.specs.SplitRing.{writer, reader};
+ghost use Rattle.net_ring.specs.SplitRing.{AreCounts, counts, IsOfWriter, IsOfReader};
 
 /// States of each list of steps of the two ends, in any order, in which an end may read an older value of the other's
 /// count, but none older than it read before:
@@ -21,7 +21,7 @@ ghost use Rattle.net_split_ring.specs.SplitRing.{AreCounts, counts, IsOfWriter, 
 /// - `lent_to_read`, `lent_to_write`: what one end was lent stays as it is, and where it is, whatever the other does:
 ///   so a device may hold it over any calls of the other end.
 /// - `sound`: what each end knows meets what its calls require.
-#[tactic(auto, using(crate::proofs::Steps::steps))]
+#[tactic(auto, using(crate::proofs::SplitSteps::steps))]
 pub fn ends_run_apart<T>()
     ensures order { (storage : List T) (steps : List (Step T)) →
         let s = after_steps (fresh storage) steps in

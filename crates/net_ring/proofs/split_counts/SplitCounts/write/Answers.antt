@@ -1,5 +1,5 @@
-use Rattle.net_split_ring.proofs.Writes.{written_is}
-use Rattle.net_split_ring.proofs.split_counts.SplitCounts.write.Goals as goal
+use Rattle.net_ring.proofs.SplitWrites.{written_is}
+use Rattle.net_ring.proofs.split_counts.SplitCounts.write.Goals as goal
 
 pub returns-clause-storage : goal.returns-clause-storage
 returns-clause-storage g c =

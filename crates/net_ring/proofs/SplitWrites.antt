@@ -4,7 +4,7 @@ use Rattle.std.proofs.lemmas.List.{places, same_lists}
 use Rattle.net_ring.specs.Ring.{window, spare_index, with_elements_wrapping}
 use Rattle.net_ring.specs.RingHead.{ring_at}
 use Rattle.net_ring.specs.declared.head.RingHead.{RingHead}
-use Rattle.net_split_ring.specs.SplitRing.{written_over}
+use Rattle.net_ring.specs.SplitRing.{written_over}
 
 module _ {T : Type 0} where
   take_most : (xs : List T) (k n : ℕ) → k ≡ min (length xs) n → take k xs ≡ take n xs

@@ -2,7 +2,7 @@
 use Rattle.std.proofs.Common.{◌≡◌, ℕ, ◌+◌, ◌-◌, ◌<◌, ◌≤◌, ◌⊎◌, ◌≢◌, arith}
 use Rattle.std.proofs.lemmas.Bool.Decides.{nat_tests}
 use Rattle.net_ring.specs.Ring.{index_after}
-use Rattle.net_split_ring.specs.SplitRing.{IsCount, count_after, ahead, index_of}
+use Rattle.net_ring.specs.SplitRing.{IsCount, count_after, ahead, index_of}
 
 pub index_within : (c i : ℕ) → IsCount c i → (index_of c i ≡ 0) ⊎ (index_of c i < c)
 index_within c i is = grind (arith, nat_tests)

@@ -7,11 +7,11 @@
 --     writer s, reader s, whole s      the ring as each end knows it, and as it is
 use Rattle.std.specs.Prelude.{◌≡◌, ℕ, ◌+◌, ◌-◌, ◌<◌, ◌≤◌, ◌⊎◌, nat_lt, nat_le, min, if◌then◌else◌, List, [], ◌∷◌}
 use Rattle.std.specs.Prelude.{◌++◌, length, take}
-use Rattle.net_assembler.specs.Width.{IsUsize}
+use Rattle.net_ring.specs.Width.{IsUsize}
 use Rattle.net_ring.specs.Ring.{RingState, index_after, queue, spare, window, spare_index, with_elements_wrapping}
 use Rattle.net_ring.specs.RingHead.{place, ring_at}
 use Rattle.net_ring.specs.declared.head.RingHead.{RingHead}
-use Rattle.net_split_ring.specs.declared.split_counts.SplitCounts.{SplitCounts}
+use Rattle.net_ring.specs.declared.split_counts.SplitCounts.{SplitCounts}
 
 -- ---- counts
 -- a count goes round at twice the capacity

@@ -4,20 +4,20 @@ use Rattle.std.proofs.Common.{refl, sym, ap, ap₂, ◌∙◌, subst, inl, arith
 use Rattle.std.proofs.lemmas.List.{take-append-drop, take_at, take-append-le, drop-append-le}
 use Rattle.std.proofs.lemmas.List.Elements.{All-head, All-tail}
 use Rattle.std.specs.Prelude.{All}
-use Rattle.net_assembler.specs.Width.{IsUsize}
+use Rattle.net_ring.specs.Width.{IsUsize}
 use Rattle.net_ring.specs.Ring.{ring, index_after, queue, spare, window, spare_index, storage_index}
 use Rattle.net_ring.specs.Ring.{IsWellFormed, with_enqueued, with_dequeued}
 use Rattle.net_ring.proofs.Rotations.{length-overwrite, length-queue, with_enqueued_parts, with_dequeued_parts}
 use Rattle.net_ring.specs.Overwrite.{overwrite}
 use Rattle.net_ring.proofs.RingFacts as facts
-use Rattle.net_split_ring.specs.SplitRing.{IsCount, AreCounts, counts, count_after, ahead, index_of, SplitState, Step}
-use Rattle.net_split_ring.specs.SplitRing.{LooksForRoom}
-use Rattle.net_split_ring.specs.SplitRing.{Writes, Counts, LooksForElements, Takes, writer, reader, whole, fresh}
-use Rattle.net_split_ring.specs.SplitRing.{after_step}
-use Rattle.net_split_ring.specs.SplitRing.{after_steps, written_over, IsOfWriter, IsOfReader}
-use Rattle.net_split_ring.proofs.Counts.{index_within, after_is, nearer, farther, ahead_twice, index_there}
-use Rattle.net_split_ring.proofs.Counts.{index_of_after}
-use Rattle.net_split_ring.proofs.Counts.{chain_is, index_twice, index_apart}
+use Rattle.net_ring.specs.SplitRing.{IsCount, AreCounts, counts, count_after, ahead, index_of, SplitState, Step}
+use Rattle.net_ring.specs.SplitRing.{LooksForRoom}
+use Rattle.net_ring.specs.SplitRing.{Writes, Counts, LooksForElements, Takes, writer, reader, whole, fresh}
+use Rattle.net_ring.specs.SplitRing.{after_step}
+use Rattle.net_ring.specs.SplitRing.{after_steps, written_over, IsOfWriter, IsOfReader}
+use Rattle.net_ring.proofs.SplitNumbers.{index_within, after_is, nearer, farther, ahead_twice, index_there}
+use Rattle.net_ring.proofs.SplitNumbers.{index_of_after}
+use Rattle.net_ring.proofs.SplitNumbers.{chain_is, index_twice, index_apart}
 
 module _ {T : Type 0} where
   -- ---- rings of one storage

@@ -1,6 +1,6 @@
 use Rattle.std.proofs.Common.{arith}
-use Rattle.net_assembler.specs.Width.{shortfall}
-use Rattle.net_assembler.proofs.width.most.Goals as goal
+use Rattle.net_ring.specs.Width.{shortfall}
+use Rattle.net_ring.proofs.width.most.Goals as goal
 
 pub returns-clause-greatest : goal.returns-clause-greatest
 unfolding shortfall

@@ -1,2 +1,0 @@
-pub mod SplitRing
-pub use SplitRing.*
