@@ -862,10 +862,6 @@ pub alone_of_stream : (f : ℕ) (x : List ℕ) (s : FiniteState) → ReceivesFin
 alone_of_stream f x s r =
     record { bytes = alone_receives f x s.receiver r.bytes; end = λ on. absurd (both_ways false refl on) }
 
-pub met_of_stream : (f : ℕ) (x : List ℕ) (s : FiniteState) (pos e : ℕ) (last : Bool) → ReceivesFinite f x s →
-    ReceivesFinite f x (before_segment s pos e last)
-met_of_stream f x s pos e last r = meets_any (ReceivesFinite f x) s pos e last r (alone_of_stream f x s r)
-
 pub segment_of_stream : SegmentOfStream
 segment_of_stream N f x s pos xs last r h = (
   (λ fits. no_other s (pos + length xs) last (by fits last refl)),
@@ -1016,24 +1012,6 @@ acknowledged_more s t grows stays =
     (cases_Bool (is_complete s))
 
 -- by what a segment meets
-pub usual_acknowledged : (N : ℕ) (s : FiniteState) (pos : ℕ) (xs : List ℕ) (last : Bool) → IsSoundEnd s →
-    acknowledged s ≤ acknowledged (usual_after N s pos xs last)
-usual_acknowledged N s pos xs last sound =
-    let t = usual_after N s pos xs last in
-    let grows = usual_next N s pos xs last in
-    acknowledged_more s t grows (λ on.
-    let at = eqb-true (next_position s.receiver) s.end on in
-    let same = usual_end N s pos xs last (complete_known s sound on) in
-    let below = (usual_sound N s pos xs last sound).below in
-    (eq_tests (next_position t.receiver) t.end (omega (arith, at, same, grows, below)), same))
-
-pub met_acknowledged : (s : FiniteState) (pos e : ℕ) (last : Bool) →
-    acknowledged s ≤ acknowledged (before_segment s pos e last)
-met_acknowledged s pos e last =
-    meets (λ t. acknowledged s ≤ acknowledged t) s pos e last (omega arith) (λ _ order.
-    let lacks = (in_order_says s pos e order).lacks in
-    acknowledged_more s (queue_alone s) (omega arith) (λ on. absurd (both_ways _ lacks on)))
-
 pub one_acknowledged : (N : ℕ) (s : FiniteState) (c : FiniteCommand) → IsSoundEnd s →
     acknowledged s ≤ acknowledged (finite_after_command N s c)
 one_acknowledged N s c sound =

@@ -1,6 +1,7 @@
 -- A receiver of a stream that ends, in parts.
 --     finite_of h xs rs      what is stored
 --     end_of h, end_with n      the position after the last byte, or `no_end`; where n is the number after its own, or 0
+--     ending_at v n      the receiver of the bytes v, and that end
 --     next_of h      the first missing position
 --     HasSoundFinite h c rs      head and runs are those of such a receiver whose storage has c bytes
 --     finite_storage_after h xs rs pos bytes last      the storage after a segment
@@ -8,13 +9,17 @@
 use Rattle.std.specs.Prelude.{ℕ, ◌+◌, ◌-◌, ◌<◌, ◌≤◌, List, length, Bool, nat_eq, if◌then◌else◌}
 use Rattle.net_receiver.specs.declared.finite_receiver_head.FiniteReceiverHead.{FiniteReceiverHead}
 use Rattle.net_receiver.specs.Schedule.{piece}
-use Rattle.net_receiver.specs.ReceiverState.{verdict}
+use Rattle.net_receiver.specs.ReceiverState.{ReceiverState, verdict}
 use Rattle.net_receiver.specs.Head.{receiver_of, top_at, HasSoundParts, storage_after}
 use Rattle.net_receiver.specs.Finite.{FiniteState, no_end, has_other_end, below_end, before_segment}
 
 -- the end whose number has n after it; none if n is 0
 abbrev pub end_with : ℕ → ℕ
 end_with n = if nat_eq n 0 then no_end else n - 1
+
+-- what a receiver of the bytes stores, and that end
+abbrev pub ending_at : ReceiverState → ℕ → FiniteState
+ending_at v n = record { receiver = v; end = end_with n }
 
 abbrev pub end_of : FiniteReceiverHead → ℕ
 end_of h = end_with h.after_end

@@ -6,15 +6,15 @@ ghost use Rattle.std.specs.Prelude.{take, drop, max, IsOk};
 ghost use Rattle.net_receiver.specs.{no_end, fresh_finite, can_end, bytes_end, finite_after, finite_result};
 ghost use Rattle.net_receiver.specs.{finite_after_read, is_complete, acknowledged, has_read_all, IsSameFinite};
 ghost use Rattle.net_receiver.specs.{IsSoundEnd, finite_of, HasSoundFinite, new_count, MatchesFinite, ReceivesFinite};
-ghost use Rattle.net_receiver.specs.{end_with, end_after, contiguous_count, first_part, limit_of, next_position};
-ghost use Rattle.net_receiver.specs.{IsSound, ends_in_order, queue_alone, usual_after, usual_result};
+ghost use Rattle.net_receiver.specs.{end_with, contiguous_count, first_part, limit_of, next_position};
+ghost use Rattle.net_receiver.specs.{IsSound, ends_in_order};
 ghost use Rattle.net_receiver.specs.PartsOf.{finite_parts};
 ghost use Rattle.net_receiver.specs.Differences.{DiffersFrom};
 ghost use Rattle.std.specs.Fn.{FnOnceTakesAt, FnOnceReturnsAt};
 ghost use Rattle.net_assembler.specs.RunLists.{IsCanonical};
 
 use crate::finite_receiver_head::{
-    FiniteReceiverHead, NO_END, acknowledged, count_below, end_or_max, is_reached, number_after,
+    FiniteReceiverHead, NO_END, acknowledged, count_below, end_or_max,
 };
 use crate::kept::{FiniteError, KeptBytes, SegmentParts};
 use crate::receiver::ReceiverOver;
@@ -235,77 +235,8 @@ impl<S: Storage<u8>, const N: usize> FiniteReceiverOver<S, N> {
         // Guarantee.
         ensures grows { acknowledged self.old ≤ acknowledged self.new }
     {
-        // A sum above 64 bits becomes `u64::MAX`, where no stream ends.
-        let last = pos.saturating_add(bytes.len() as u64);
-        if is_last && self.ends_in_order(pos, last) {
-            self.keep_queue_alone();
-        }
-        self.keep_usual(pos, bytes, is_last)
-    }
-
-    /// Returns whether a last segment from `pos` to `last` ends the stream in order, while something is
-    /// missing.
-    #[inline]
-    fn ends_in_order(&self, pos: u64, last: u64) -> bool
-        ensures { result ≡ ends_in_order self.now pos last }
-    {
-        let next = self.receiver.next();
-        pos <= next
-            && next <= last
-            && is_reached(next, self.receiver.window(), last)
-            && last < NO_END
-            && !self.is_complete()
-    }
-
-    /// Lets go of what is held, and of the end.
-    #[inline]
-    fn keep_queue_alone(&mut self)
-        ensures { self.new ≡ queue_alone self.old }
-    {
-        self.receiver.release_held();
-        self.after_end = 0;
-    }
-
-    /// Keeps a segment by what the receiver has.
-    fn keep_usual(
-        &mut self,
-        pos: u64,
-        bytes: &[u8],
-        is_last: bool,
-    ) -> Result<KeptBytes, FiniteError>
-        ensures state { self.new ≡ usual_after N self.old pos bytes.now is_last }
-        ensures value { result ≡ usual_result N self.old pos bytes.now is_last }
-        ensures receives { (f : ℕ) (x : List ℕ) → ReceivesFinite f x self.old →
-            MatchesFinite f x pos bytes.now is_last → ReceivesFinite f x self.new }
-        ensures read { self.new.receiver.read ≡ self.old.receiver.read }
-        ensures grows { acknowledged self.old ≤ acknowledged self.new }
-    {
-        // A sum above 64 bits becomes `u64::MAX`, which `can_end` refuses.
-        let last = pos.saturating_add(bytes.len() as u64);
-        if is_last && !self.can_end(last) {
-            return Err(FiniteError::OtherEnd);
-        }
-        let after_end = self.after_end_with(last, is_last);
-        let count = count_below(self.after_end, pos, bytes.len());
-        match self.receiver.keep_part(pos, &bytes[..count]) {
-            Ok(kept) => {
-                self.after_end = after_end;
-                Ok(kept)
-            }
-            Err(_) => Err(FiniteError::TooManyHoles),
-        }
-    }
-
-    /// Returns `after_end` after a segment that ends at `last`.
-    #[inline]
-    fn after_end_with(&self, last: u64, is_last: bool) -> u64
-        ensures { end_with result ≡ end_after self.now last is_last }
-    {
-        if is_last && is_reached(self.receiver.next(), self.receiver.window(), last) {
-            number_after(last)
-        } else {
-            self.after_end
-        }
+        self.receiver
+            .keep_finite(&mut self.after_end, pos, bytes, is_last)
     }
 
     /// Moves bytes from the head of the queue to the beginning of `into`, and returns how many: as

@@ -3,7 +3,7 @@
 
 use crate::rattle::prelude::*;
 use crate::stream::finite_receiver_head::{
-    NO_END, acknowledged, count_below, end_or_max, is_reached, number_after,
+    NO_END, acknowledged, count_below, end_or_max,
 };
 use crate::stream::kept::{FiniteError, KeptBytes, SegmentParts};
 use crate::stream::receiver::ReceiverOver;
@@ -143,64 +143,8 @@ impl<S: Storage<u8>, const N: usize> FiniteReceiverOver<S, N> {
     /// - if `is_last` and `ends_in_order(old(self), pos, pos + bytes.len())`, then `result.is_ok()`
     /// - `old(self).acknowledged() <= self.acknowledged()`
     pub fn keep(&mut self, pos: u64, bytes: &[u8], is_last: bool) -> Result<KeptBytes, FiniteError> {
-        // A sum above 64 bits becomes `u64::MAX`, where no stream ends.
-        let last = pos.saturating_add(bytes.len() as u64);
-        if is_last && self.ends_in_order(pos, last) {
-            self.keep_queue_alone();
-        }
-        self.keep_usual(pos, bytes, is_last)
-    }
-
-    /// Returns whether a last segment from `pos` to `last` ends the stream in order, while something is
-    /// missing.
-    #[inline]
-    fn ends_in_order(&self, pos: u64, last: u64) -> bool {
-        let next = self.receiver.next();
-        pos <= next
-            && next <= last
-            && is_reached(next, self.receiver.window(), last)
-            && last < NO_END
-            && !self.is_complete()
-    }
-
-    /// Lets go of what is held, and of the end.
-    #[inline]
-    fn keep_queue_alone(&mut self) {
-        self.receiver.release_held();
-        self.after_end = 0;
-    }
-
-    /// Keeps a segment by what the receiver has.
-    fn keep_usual(
-        &mut self,
-        pos: u64,
-        bytes: &[u8],
-        is_last: bool,
-    ) -> Result<KeptBytes, FiniteError> {
-        // A sum above 64 bits becomes `u64::MAX`, which `can_end` refuses.
-        let last = pos.saturating_add(bytes.len() as u64);
-        if is_last && !self.can_end(last) {
-            return Err(FiniteError::OtherEnd);
-        }
-        let after_end = self.after_end_with(last, is_last);
-        let count = count_below(self.after_end, pos, bytes.len());
-        match self.receiver.keep_part(pos, &bytes[..count]) {
-            Ok(kept) => {
-                self.after_end = after_end;
-                Ok(kept)
-            }
-            Err(_) => Err(FiniteError::TooManyHoles),
-        }
-    }
-
-    /// Returns `after_end` after a segment that ends at `last`.
-    #[inline]
-    fn after_end_with(&self, last: u64, is_last: bool) -> u64 {
-        if is_last && is_reached(self.receiver.next(), self.receiver.window(), last) {
-            number_after(last)
-        } else {
-            self.after_end
-        }
+        self.receiver
+            .keep_finite(&mut self.after_end, pos, bytes, is_last)
     }
 
     /// Moves bytes from the head of the queue to the beginning of `into`, and returns how many: as

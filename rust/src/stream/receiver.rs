@@ -2,8 +2,9 @@
 //! The receiver.
 
 use crate::rattle::prelude::*;
+use crate::stream::finite_receiver_head::FiniteReceiverHead;
 use crate::stream::held_runs::{HeldRun, HeldRuns, MissingRunIter, NewestRunIter};
-use crate::stream::kept::{Kept, KeptBytes, SegmentParts};
+use crate::stream::kept::{FiniteError, Kept, KeptBytes, SegmentParts};
 use crate::stream::plan::Plan;
 use crate::stream::receiver_head::{ReceiverHead, count_existing};
 use crate::storage::{Run, TooManyHolesError};
@@ -217,10 +218,26 @@ impl<S: Storage<u8>, const N: usize> ReceiverOver<S, N> {
         self.head.keep(storage, &mut self.runs, pos, bytes)
     }
 
-    /// Lets go of the held runs.
+    /// Keeps a segment of a stream that ends, as `FiniteReceiverHead::keep` does. `after_end` is the number after the
+    /// end's, or 0 while the end isn't known.
     #[inline]
-    pub(crate) fn release_held(&mut self) {
-        self.head.release_held();
+    pub(crate) fn keep_finite(
+        &mut self,
+        after_end: &mut u64,
+        pos: u64,
+        bytes: &[u8],
+        is_last: bool,
+    ) -> Result<KeptBytes, FiniteError> {
+        let mut head = FiniteReceiverHead {
+            receiver: self.head,
+            after_end: *after_end,
+        };
+        let count = self.storage.count();
+        let storage = self.storage.part_mut(0, count);
+        let result = head.keep(storage, &mut self.runs, pos, bytes, is_last);
+        self.head = head.receiver;
+        *after_end = head.after_end;
+        result
     }
 
     /// Moves bytes from the head of the queue to the beginning of `into`, and returns how many: as
