@@ -43,12 +43,4 @@ chain_is c a b d e ia ib id ie le =
     let all = ahead_twice c a b e ia ib ie (omega (arith, last, le)) in
     (last, all, omega (arith, last, all, le))
 
--- ---- indices
-pub index_twice : (c r d j : ℕ) → (r ≡ 0) ⊎ (r < c) → d + j < c →
-    index_after c (index_after c r d) j ≡ index_after c r (d + j)
-index_twice c r d j is le = grind (arith, nat_tests)
-
-pub index_apart : (c r x y : ℕ) → (r ≡ 0) ⊎ (r < c) → x < y → y < c → index_after c r y ≢ index_after c r x
-index_apart c r x y is lt le = λ same. grind (arith, nat_tests)
-
 pub ruleset counts = (index_within, after_is, ahead_of_after, nearer, farther, index_there)
