@@ -1,6 +1,7 @@
 -- A receiver of a stream that ends, in parts.
 --     finite_of h xs rs      what is stored
 --     end_of h, end_with n      the position after the last byte, or `no_end`; where n is the number after its own, or 0
+--     finite_at h n      a head of these fields
 --     ending_at v n      the receiver of the bytes v, and that end
 --     next_of h      the first missing position
 --     HasSoundFinite h c rs      head and runs are those of such a receiver whose storage has c bytes
@@ -8,6 +9,7 @@
 --     usual_storage_after N h xs s pos bytes last      the same by what it meets
 use Rattle.std.specs.Prelude.{ℕ, ◌+◌, ◌-◌, ◌<◌, ◌≤◌, List, length, Bool, nat_eq, if◌then◌else◌}
 use Rattle.net_receiver.specs.declared.finite_receiver_head.FiniteReceiverHead.{FiniteReceiverHead}
+use Rattle.net_receiver.specs.declared.receiver_head.ReceiverHead.{ReceiverHead}
 use Rattle.net_receiver.specs.Schedule.{piece}
 use Rattle.net_receiver.specs.ReceiverState.{ReceiverState, verdict}
 use Rattle.net_receiver.specs.Head.{receiver_of, top_at, HasSoundParts, storage_after}
@@ -20,6 +22,10 @@ end_with n = if nat_eq n 0 then no_end else n - 1
 -- what a receiver of the bytes stores, and that end
 abbrev pub ending_at : ReceiverState → ℕ → FiniteState
 ending_at v n = record { receiver = v; end = end_with n }
+
+-- a head of these fields
+abbrev pub finite_at : ReceiverHead → ℕ → FiniteReceiverHead
+finite_at h n = record { receiver = h; after_end = n }
 
 abbrev pub end_of : FiniteReceiverHead → ℕ
 end_of h = end_with h.after_end

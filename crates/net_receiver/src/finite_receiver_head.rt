@@ -9,7 +9,7 @@ ghost use Rattle.net_receiver.specs.Finite.{no_end, fresh_finite, can_end_by, fi
 ghost use Rattle.net_receiver.specs.Finite.{finite_after_read, IsSameFinite, is_complete, acknowledged, has_read_all};
 ghost use Rattle.net_receiver.specs.ReceiverState.{count_between, limit_of};
 ghost use Rattle.net_receiver.specs.Head.{head_after_read, held_at, top_at, HasSoundHeld};
-ghost use Rattle.net_receiver.specs.FiniteHead.{finite_of, HasSoundFinite, next_of, end_of, end_with};
+ghost use Rattle.net_receiver.specs.FiniteHead.{finite_at, finite_of, HasSoundFinite, next_of, end_of, end_with};
 ghost use Rattle.net_receiver.specs.FiniteHead.{finite_storage_after, usual_storage_after};
 ghost use Rattle.net_receiver.specs.Finite.{queue_alone, usual_after, usual_result};
 ghost use Rattle.net_receiver.specs.NewHeads.{finite_receiver_head};
@@ -40,7 +40,8 @@ pub struct FiniteReceiverHead {
     pub after_end: u64,
 }
 
-// These are functions of `after_end`, the number after the end's. A head and a `FiniteReceiverOver` call them.
+// These are functions of a head's fields: of `after_end`, the number after the end's, and of the receiver. A
+// `FiniteReceiverOver`, which has them apart, calls them too.
 
 /// Returns the position after the last byte, or the greatest number of 64 bits while it isn't known: no byte
 /// that is kept has that position.
@@ -87,6 +88,161 @@ pub(crate) fn acknowledged(next: u64, after_end: u64) -> u64
     if next == end { next + 1 } else { next }
 }
 
+/// Returns the position after the last byte, once it is known.
+fn known_end(after_end: u64) -> Option<u64>
+    ensures some { end_with after_end < no_end → result ≡ Some (end_with after_end) }
+    ensures none { no_end ≤ end_with after_end → result ≡ None }
+{
+    after_end.checked_sub(1)
+}
+
+/// Returns whether the stream can end at `pos`, as `FiniteReceiverHead::can_end` does.
+fn can_end(receiver: &ReceiverHead, after_end: u64, runs: &[Run], pos: u64) -> bool
+    requires { HasSoundHeld receiver.now runs.now }
+    ensures { result ≡ can_end_by (end_with after_end) (top_at receiver.now runs.now) pos }
+{
+    match known_end(after_end) {
+        Some(end) => pos == end,
+        None => pos < NO_END && receiver.has_all_below(runs, pos),
+    }
+}
+
+/// Returns `after_end` after a segment that ends at `last`, where the storage has `capacity` bytes.
+#[inline]
+fn after_end_with(
+    receiver: &ReceiverHead,
+    after_end: u64,
+    capacity: usize,
+    last: u64,
+    is_last: bool,
+) -> u64
+    requires place { receiver.now.place.length ≤ capacity }
+    requires fits { receiver.now.first + receiver.now.count_read + receiver.now.place.length < 2 ^ 64 }
+    ensures { end_with result ≡ (if is_last && nat_le last
+        (receiver.now.first + receiver.now.count_read + capacity)
+        then last else end_with after_end) }
+{
+    if is_last && is_reached(receiver.next(), receiver.window(capacity), last) {
+        number_after(last)
+    } else {
+        after_end
+    }
+}
+
+/// Returns whether a last segment from `pos` to `last` ends the stream in order, while something is
+/// missing.
+#[inline]
+fn ends_in_order(
+    receiver: &ReceiverHead,
+    after_end: u64,
+    capacity: usize,
+    pos: u64,
+    last: u64,
+) -> bool
+    requires place { receiver.now.place.length ≤ capacity }
+    requires fits { next_of (finite_at receiver.now after_end) < no_end }
+    ensures { result ≡ (nat_le pos (next_of (finite_at receiver.now after_end))
+        && nat_le (next_of (finite_at receiver.now after_end)) last
+        && nat_le last (receiver.now.first + receiver.now.count_read + capacity)
+        && nat_lt last no_end && not (next_of (finite_at receiver.now after_end) == end_with after_end)) }
+{
+    let next = receiver.next();
+    pos <= next
+        && next <= last
+        && is_reached(next, receiver.window(capacity), last)
+        && last < NO_END
+        && next != end_or_max(after_end)
+}
+
+/// Lets go of what is held, and of the end.
+#[inline]
+fn keep_queue_alone(receiver: &mut ReceiverHead, after_end: &mut u64)
+    ensures sound { (capacity : ℕ) (runs : List (ℕ × ℕ)) →
+        HasSoundFinite (finite_at receiver.old after_end.old) capacity runs →
+        HasSoundFinite (finite_at receiver.new after_end.new) capacity runs }
+    ensures state { (storage : List ℕ) (runs : List (ℕ × ℕ)) →
+        finite_of (finite_at receiver.new after_end.new) storage runs
+        ≡ queue_alone (finite_of (finite_at receiver.old after_end.old) storage runs) }
+    ensures place { receiver.new ≡ record receiver.old { held = receiver.new.held } }
+    ensures canonical { IsCanonical receiver.new.held }
+{
+    receiver.release_held();
+    *after_end = 0;
+}
+
+/// Keeps a segment by what the receiver has.
+#[inline]
+fn keep_usual(
+    receiver: &mut ReceiverHead,
+    after_end: &mut u64,
+    storage: &mut [u8],
+    runs: &mut [Run],
+    pos: u64,
+    bytes: &[u8],
+    is_last: bool,
+) -> Result<KeptBytes, FiniteError>
+    requires { HasSoundFinite (finite_at receiver.old after_end.old) (length storage.old) runs.old }
+    ensures sound { HasSoundFinite (finite_at receiver.new after_end.new) (length storage.new) runs.new }
+    ensures state { finite_of (finite_at receiver.new after_end.new) storage.new runs.new
+        ≡ usual_after (length runs.old) (finite_of (finite_at receiver.old after_end.old) storage.old runs.old)
+        pos bytes.now is_last }
+    ensures value { result ≡ usual_result (length runs.old)
+        (finite_of (finite_at receiver.old after_end.old) storage.old runs.old) pos bytes.now is_last }
+    ensures stored { storage.new
+        ≡ usual_storage_after (length runs.old) (finite_at receiver.old after_end.old) storage.old
+        (finite_of (finite_at receiver.old after_end.old) storage.old runs.old) pos bytes.now is_last }
+    ensures unchanged { OnErr result ((receiver.new ≡ receiver.old) × (after_end.new ≡ after_end.old)
+        × (storage.new ≡ storage.old) × (runs.new ≡ runs.old)) }
+    ensures canonical { IsCanonical receiver.old.held → IsCanonical receiver.new.held }
+{
+    // A sum above 64 bits becomes `u64::MAX`, which `can_end` refuses.
+    let last = pos.saturating_add(bytes.len() as u64);
+    if is_last && !can_end(receiver, *after_end, runs, last) {
+        return Err(FiniteError::OtherEnd);
+    }
+    let end_after = after_end_with(receiver, *after_end, storage.len(), last, is_last);
+    let count = count_below(*after_end, pos, bytes.len());
+    match receiver.keep(storage, runs, pos, &bytes[..count]) {
+        Ok(kept) => {
+            *after_end = end_after;
+            Ok(kept)
+        }
+        Err(_) => Err(FiniteError::TooManyHoles),
+    }
+}
+
+/// Keeps a segment, as `FiniteReceiverHead::keep` does, whose fields the first two are.
+#[inline]
+pub(crate) fn keep_ending(
+    receiver: &mut ReceiverHead,
+    after_end: &mut u64,
+    storage: &mut [u8],
+    runs: &mut [Run],
+    pos: u64,
+    bytes: &[u8],
+    is_last: bool,
+) -> Result<KeptBytes, FiniteError>
+    requires { HasSoundFinite (finite_at receiver.old after_end.old) (length storage.old) runs.old }
+    ensures sound { HasSoundFinite (finite_at receiver.new after_end.new) (length storage.new) runs.new }
+    ensures state { finite_of (finite_at receiver.new after_end.new) storage.new runs.new
+        ≡ finite_after (length runs.old) (finite_of (finite_at receiver.old after_end.old) storage.old runs.old)
+        pos bytes.now is_last }
+    ensures value { result ≡ finite_result (length runs.old)
+        (finite_of (finite_at receiver.old after_end.old) storage.old runs.old) pos bytes.now is_last }
+    ensures stored { storage.new
+        ≡ finite_storage_after (finite_at receiver.old after_end.old) storage.old runs.old pos bytes.now is_last }
+    ensures unchanged { OnErr result ((receiver.new ≡ receiver.old) × (after_end.new ≡ after_end.old)
+        × (storage.new ≡ storage.old) × (runs.new ≡ runs.old)) }
+    ensures canonical { IsCanonical receiver.old.held → IsCanonical receiver.new.held }
+{
+    // A sum above 64 bits becomes `u64::MAX`, where no stream ends.
+    let last = pos.saturating_add(bytes.len() as u64);
+    if is_last && ends_in_order(receiver, *after_end, storage.len(), pos, last) {
+        keep_queue_alone(receiver, after_end);
+    }
+    keep_usual(receiver, after_end, storage, runs, pos, bytes, is_last)
+}
+
 impl FiniteReceiverHead {
     /// Returns the head of a receiver of a stream that begins at position `first`; nothing has
     /// arrived. It is sound with every storage and all runs.
@@ -118,14 +274,6 @@ impl FiniteReceiverHead {
         self.receiver.is_sound(capacity, runs) && self.receiver.has_all_below(runs, end)
     }
 
-    /// Returns the position after the last byte, once it is known.
-    fn end(&self) -> Option<u64>
-        ensures some { end_of self.now < no_end → result ≡ Some (end_of self.now) }
-        ensures none { no_end ≤ end_of self.now → result ≡ None }
-    {
-        self.after_end.checked_sub(1)
-    }
-
     /// Returns whether the stream can end at `pos`: it is the end that is known, or none is, and it
     /// isn't below the first missing position or a held run's end. 2^64 - 1 is no end.
     ///
@@ -136,26 +284,7 @@ impl FiniteReceiverHead {
         requires { HasSoundHeld self.now.receiver runs.now }
         ensures { result ≡ can_end_by (end_of self.now) (top_at self.now.receiver runs.now) pos }
     {
-        match self.end() {
-            Some(end) => pos == end,
-            None => pos < NO_END && self.receiver.has_all_below(runs, pos),
-        }
-    }
-
-    /// Returns `after_end` after a segment that ends at `last`, where the storage has `capacity` bytes.
-    #[inline]
-    fn after_end_with(&self, capacity: usize, last: u64, is_last: bool) -> u64
-        requires place { self.now.receiver.place.length ≤ capacity }
-        requires fits { next_of self.now < 2 ^ 64 }
-        ensures { end_with result ≡ (if is_last && nat_le last
-            (self.now.receiver.first + self.now.receiver.count_read + capacity)
-            then last else end_of self.now) }
-    {
-        if is_last && is_reached(self.receiver.next(), self.receiver.window(capacity), last) {
-            number_after(last)
-        } else {
-            self.after_end
-        }
+        can_end(&self.receiver, self.after_end, runs, pos)
     }
 
     /// Keeps the bytes of a segment that are in the free window and below the end, and takes the end, as
@@ -187,86 +316,15 @@ impl FiniteReceiverHead {
         ensures canonical { IsCanonical self.old.receiver.held →
             IsCanonical self.new.receiver.held }
     {
-        // A sum above 64 bits becomes `u64::MAX`, where no stream ends.
-        let last = pos.saturating_add(bytes.len() as u64);
-        if is_last && self.ends_in_order(storage.len(), pos, last) {
-            self.keep_queue_alone();
-        }
-        self.keep_usual(storage, runs, pos, bytes, is_last)
-    }
-
-    /// Returns whether a last segment from `pos` to `last` ends the stream in order, while something is
-    /// missing.
-    #[inline]
-    fn ends_in_order(&self, capacity: usize, pos: u64, last: u64) -> bool
-        requires place { self.now.receiver.place.length ≤ capacity }
-        requires fits { next_of self.now < no_end }
-        ensures { result ≡ (nat_le pos (next_of self.now) && nat_le (next_of self.now) last
-            && nat_le last (self.now.receiver.first + self.now.receiver.count_read + capacity)
-            && nat_lt last no_end && not (next_of self.now == end_of self.now)) }
-    {
-        let next = self.receiver.next();
-        pos <= next
-            && next <= last
-            && is_reached(next, self.receiver.window(capacity), last)
-            && last < NO_END
-            && !self.is_complete()
-    }
-
-    /// Lets go of what is held, and of the end.
-    #[inline]
-    fn keep_queue_alone(&mut self)
-        ensures sound { (capacity : ℕ) (runs : List (ℕ × ℕ)) →
-            HasSoundFinite self.old capacity runs →
-            HasSoundFinite self.new capacity runs }
-        ensures state { (storage : List ℕ) (runs : List (ℕ × ℕ)) →
-            finite_of self.new storage runs ≡ queue_alone (finite_of self.old storage runs) }
-        ensures place { self.new.receiver
-            ≡ record self.old.receiver { held = self.new.receiver.held } }
-        ensures canonical { IsCanonical self.new.receiver.held }
-    {
-        self.receiver.release_held();
-        self.after_end = 0;
-    }
-
-    /// Keeps a segment by what the receiver has.
-    #[inline]
-    fn keep_usual(
-        &mut self,
-        storage: &mut [u8],
-        runs: &mut [Run],
-        pos: u64,
-        bytes: &[u8],
-        is_last: bool,
-    ) -> Result<KeptBytes, FiniteError>
-        requires { HasSoundFinite self.old (length storage.old) runs.old }
-        ensures sound { HasSoundFinite self.new (length storage.new) runs.new }
-        ensures state { finite_of self.new storage.new runs.new
-            ≡ usual_after (length runs.old) (finite_of self.old storage.old runs.old)
-            pos bytes.now is_last }
-        ensures value { result ≡ usual_result (length runs.old)
-            (finite_of self.old storage.old runs.old) pos bytes.now is_last }
-        ensures stored { storage.new ≡ usual_storage_after (length runs.old) self.old storage.old
-            (finite_of self.old storage.old runs.old) pos bytes.now is_last }
-        ensures unchanged { OnErr result ((self.new ≡ self.old) × (storage.new ≡ storage.old)
-            × (runs.new ≡ runs.old)) }
-        ensures canonical { IsCanonical self.old.receiver.held →
-            IsCanonical self.new.receiver.held }
-    {
-        // A sum above 64 bits becomes `u64::MAX`, which `can_end` refuses.
-        let last = pos.saturating_add(bytes.len() as u64);
-        if is_last && !self.can_end(runs, last) {
-            return Err(FiniteError::OtherEnd);
-        }
-        let after_end = self.after_end_with(storage.len(), last, is_last);
-        let count = count_below(self.after_end, pos, bytes.len());
-        match self.receiver.keep(storage, runs, pos, &bytes[..count]) {
-            Ok(kept) => {
-                self.after_end = after_end;
-                Ok(kept)
-            }
-            Err(_) => Err(FiniteError::TooManyHoles),
-        }
+        keep_ending(
+            &mut self.receiver,
+            &mut self.after_end,
+            storage,
+            runs,
+            pos,
+            bytes,
+            is_last,
+        )
     }
 
     /// Returns whether all bytes and the end have arrived. Once it is so it stays so.

@@ -26,7 +26,8 @@ pub struct FiniteReceiverHead {
     pub after_end: u64,
 }
 
-// These are functions of `after_end`, the number after the end's. A head and a `FiniteReceiverOver` call them.
+// These are functions of a head's fields: of `after_end`, the number after the end's, and of the receiver. A
+// `FiniteReceiverOver`, which has them apart, calls them too.
 
 /// Returns the position after the last byte, or the greatest number of 64 bits while it isn't known: no byte
 /// that is kept has that position.
@@ -62,6 +63,106 @@ pub(crate) fn acknowledged(next: u64, after_end: u64) -> u64 {
     if next == end { next + 1 } else { next }
 }
 
+/// Returns the position after the last byte, once it is known.
+fn known_end(after_end: u64) -> Option<u64> {
+    after_end.checked_sub(1)
+}
+
+/// Returns whether the stream can end at `pos`, as `FiniteReceiverHead::can_end` does.
+fn can_end(receiver: &ReceiverHead, after_end: u64, runs: &[Run], pos: u64) -> bool {
+    match known_end(after_end) {
+        Some(end) => pos == end,
+        None => pos < NO_END && receiver.has_all_below(runs, pos),
+    }
+}
+
+/// Returns `after_end` after a segment that ends at `last`, where the storage has `capacity` bytes.
+#[inline]
+fn after_end_with(
+    receiver: &ReceiverHead,
+    after_end: u64,
+    capacity: usize,
+    last: u64,
+    is_last: bool,
+) -> u64 {
+    if is_last && is_reached(receiver.next(), receiver.window(capacity), last) {
+        number_after(last)
+    } else {
+        after_end
+    }
+}
+
+/// Returns whether a last segment from `pos` to `last` ends the stream in order, while something is
+/// missing.
+#[inline]
+fn ends_in_order(
+    receiver: &ReceiverHead,
+    after_end: u64,
+    capacity: usize,
+    pos: u64,
+    last: u64,
+) -> bool {
+    let next = receiver.next();
+    pos <= next
+        && next <= last
+        && is_reached(next, receiver.window(capacity), last)
+        && last < NO_END
+        && next != end_or_max(after_end)
+}
+
+/// Lets go of what is held, and of the end.
+#[inline]
+fn keep_queue_alone(receiver: &mut ReceiverHead, after_end: &mut u64) {
+    receiver.release_held();
+    *after_end = 0;
+}
+
+/// Keeps a segment by what the receiver has.
+#[inline]
+fn keep_usual(
+    receiver: &mut ReceiverHead,
+    after_end: &mut u64,
+    storage: &mut [u8],
+    runs: &mut [Run],
+    pos: u64,
+    bytes: &[u8],
+    is_last: bool,
+) -> Result<KeptBytes, FiniteError> {
+    // A sum above 64 bits becomes `u64::MAX`, which `can_end` refuses.
+    let last = pos.saturating_add(bytes.len() as u64);
+    if is_last && !can_end(receiver, *after_end, runs, last) {
+        return Err(FiniteError::OtherEnd);
+    }
+    let end_after = after_end_with(receiver, *after_end, storage.len(), last, is_last);
+    let count = count_below(*after_end, pos, bytes.len());
+    match receiver.keep(storage, runs, pos, &bytes[..count]) {
+        Ok(kept) => {
+            *after_end = end_after;
+            Ok(kept)
+        }
+        Err(_) => Err(FiniteError::TooManyHoles),
+    }
+}
+
+/// Keeps a segment, as `FiniteReceiverHead::keep` does, whose fields the first two are.
+#[inline]
+pub(crate) fn keep_ending(
+    receiver: &mut ReceiverHead,
+    after_end: &mut u64,
+    storage: &mut [u8],
+    runs: &mut [Run],
+    pos: u64,
+    bytes: &[u8],
+    is_last: bool,
+) -> Result<KeptBytes, FiniteError> {
+    // A sum above 64 bits becomes `u64::MAX`, where no stream ends.
+    let last = pos.saturating_add(bytes.len() as u64);
+    if is_last && ends_in_order(receiver, *after_end, storage.len(), pos, last) {
+        keep_queue_alone(receiver, after_end);
+    }
+    keep_usual(receiver, after_end, storage, runs, pos, bytes, is_last)
+}
+
 impl FiniteReceiverHead {
     /// Returns the head of a receiver of a stream that begins at position `first`; nothing has
     /// arrived. It is sound with every storage and all runs.
@@ -84,11 +185,6 @@ impl FiniteReceiverHead {
         self.receiver.is_sound(capacity, runs) && self.receiver.has_all_below(runs, end)
     }
 
-    /// Returns the position after the last byte, once it is known.
-    fn end(&self) -> Option<u64> {
-        self.after_end.checked_sub(1)
-    }
-
     /// Returns whether the stream can end at `pos`: it is the end that is known, or none is, and it
     /// isn't below the first missing position or a held run's end. 2^64 - 1 is no end.
     ///
@@ -96,20 +192,7 @@ impl FiniteReceiverHead {
     ///
     /// Head and runs are sound, as `is_sound` tests, with a storage of some length.
     pub fn can_end(&self, runs: &[Run], pos: u64) -> bool {
-        match self.end() {
-            Some(end) => pos == end,
-            None => pos < NO_END && self.receiver.has_all_below(runs, pos),
-        }
-    }
-
-    /// Returns `after_end` after a segment that ends at `last`, where the storage has `capacity` bytes.
-    #[inline]
-    fn after_end_with(&self, capacity: usize, last: u64, is_last: bool) -> u64 {
-        if is_last && is_reached(self.receiver.next(), self.receiver.window(capacity), last) {
-            number_after(last)
-        } else {
-            self.after_end
-        }
+        can_end(&self.receiver, self.after_end, runs, pos)
     }
 
     /// Keeps the bytes of a segment that are in the free window and below the end, and takes the end, as
@@ -127,57 +210,15 @@ impl FiniteReceiverHead {
         bytes: &[u8],
         is_last: bool,
     ) -> Result<KeptBytes, FiniteError> {
-        // A sum above 64 bits becomes `u64::MAX`, where no stream ends.
-        let last = pos.saturating_add(bytes.len() as u64);
-        if is_last && self.ends_in_order(storage.len(), pos, last) {
-            self.keep_queue_alone();
-        }
-        self.keep_usual(storage, runs, pos, bytes, is_last)
-    }
-
-    /// Returns whether a last segment from `pos` to `last` ends the stream in order, while something is
-    /// missing.
-    #[inline]
-    fn ends_in_order(&self, capacity: usize, pos: u64, last: u64) -> bool {
-        let next = self.receiver.next();
-        pos <= next
-            && next <= last
-            && is_reached(next, self.receiver.window(capacity), last)
-            && last < NO_END
-            && !self.is_complete()
-    }
-
-    /// Lets go of what is held, and of the end.
-    #[inline]
-    fn keep_queue_alone(&mut self) {
-        self.receiver.release_held();
-        self.after_end = 0;
-    }
-
-    /// Keeps a segment by what the receiver has.
-    #[inline]
-    fn keep_usual(
-        &mut self,
-        storage: &mut [u8],
-        runs: &mut [Run],
-        pos: u64,
-        bytes: &[u8],
-        is_last: bool,
-    ) -> Result<KeptBytes, FiniteError> {
-        // A sum above 64 bits becomes `u64::MAX`, which `can_end` refuses.
-        let last = pos.saturating_add(bytes.len() as u64);
-        if is_last && !self.can_end(runs, last) {
-            return Err(FiniteError::OtherEnd);
-        }
-        let after_end = self.after_end_with(storage.len(), last, is_last);
-        let count = count_below(self.after_end, pos, bytes.len());
-        match self.receiver.keep(storage, runs, pos, &bytes[..count]) {
-            Ok(kept) => {
-                self.after_end = after_end;
-                Ok(kept)
-            }
-            Err(_) => Err(FiniteError::TooManyHoles),
-        }
+        keep_ending(
+            &mut self.receiver,
+            &mut self.after_end,
+            storage,
+            runs,
+            pos,
+            bytes,
+            is_last,
+        )
     }
 
     /// Returns whether all bytes and the end have arrived. Once it is so it stays so.

@@ -2,7 +2,7 @@
 //! The receiver.
 
 use crate::rattle::prelude::*;
-use crate::stream::finite_receiver_head::FiniteReceiverHead;
+use crate::stream::finite_receiver_head::keep_ending;
 use crate::stream::held_runs::{HeldRun, HeldRuns, MissingRunIter, NewestRunIter};
 use crate::stream::kept::{FiniteError, Kept, KeptBytes, SegmentParts};
 use crate::stream::plan::Plan;
@@ -228,16 +228,17 @@ impl<S: Storage<u8>, const N: usize> ReceiverOver<S, N> {
         bytes: &[u8],
         is_last: bool,
     ) -> Result<KeptBytes, FiniteError> {
-        let mut head = FiniteReceiverHead {
-            receiver: self.head,
-            after_end: *after_end,
-        };
         let count = self.storage.count();
         let storage = self.storage.part_mut(0, count);
-        let result = head.keep(storage, &mut self.runs, pos, bytes, is_last);
-        self.head = head.receiver;
-        *after_end = head.after_end;
-        result
+        keep_ending(
+            &mut self.head,
+            after_end,
+            storage,
+            &mut self.runs,
+            pos,
+            bytes,
+            is_last,
+        )
     }
 
     /// Moves bytes from the head of the queue to the beginning of `into`, and returns how many: as
