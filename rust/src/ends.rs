@@ -22,7 +22,7 @@ erased! {
 }
 
 pub use receiving_end::{Acknowledgement, ReceivingEnd, ReceivingEndOver};
-pub use send_buffer::{SendBuffer, SendBufferOver};
+pub use send_buffer::{AckKind, SendBuffer, SendBufferOver, Sending, TakenAck};
 pub use sending_end::{Acknowledged, Expired, Outgoing, SendingEnd, SendingEndOver};
 pub use stream_sender::StreamSender;
 

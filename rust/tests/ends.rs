@@ -2,7 +2,8 @@
 //! sent beyond the peer's edge but a probe, and a timer runs while anything waits.
 #![cfg(feature = "alloc")]
 use net_base::ends::{
-    Acknowledged, Expired, ReceivingEnd, SendBuffer, SendBufferOver, SendingEnd, StreamSender,
+    AckKind, Acknowledged, Expired, ReceivingEnd, SendBuffer, SendBufferOver, Sending, SendingEnd,
+    StreamSender, TakenAck,
 };
 use net_base::finite::FiniteSender;
 use net_base::rand::Rand;
@@ -512,25 +513,57 @@ fn a_send_buffer() {
     assert!(buffer.is_closed() && buffer.window() == 0 && buffer.numbers_end() == 12);
     for (from, to) in [(7, 9), (9, 11), (11, 12)] {
         assert_eq!(buffer.next(12, 10, 2), Some((from, to)));
-        buffer.mark(from, to, false, false);
+        buffer.mark(from, to, Sending::Segment);
     }
     assert_eq!(buffer.numbers(), SentNumbers { first_unacknowledged: 7, sent: 12 });
     assert_eq!(buffer.bytes(9, 12), (&b"cd"[..], &[][..], true));
-    assert_eq!(buffer.acknowledge(7, &[(9, 11)], 2, true, false), Some((true, false)));
+    let taken = TakenAck { new: 0, reports: true, begins: false };
+    assert_eq!(buffer.acknowledge(7, &[(9, 11)], 2, AckKind::Other), Some(taken));
     assert!(buffer.contains(9) && !buffer.is_blind() && !buffer.is_recovering());
     // No answer for two round trips.
     assert!(buffer.find_overdue() && buffer.is_recovering());
     assert_eq!(buffer.next_probe(12, 2), Some((7, 9)));
-    assert_eq!(buffer.acknowledge(13, &[], 2, true, false), None);
+    assert_eq!(buffer.acknowledge(13, &[], 2, AckKind::Other), None);
     buffer.lose_all();
     assert_eq!(buffer.next(12, 10, 2), Some((7, 9)));
-    assert_eq!(buffer.acknowledge(12, &[], 2, true, true), Some((false, false)));
+    let taken = TakenAck { new: 5, reports: false, begins: false };
+    assert_eq!(buffer.acknowledge(12, &[], 2, AckKind::Repeat), Some(taken));
     assert!(buffer.is_done());
     buffer.reset_at(5);
     let text =
         "SendBuffer { numbers: SentNumbers { first_unacknowledged: 5, sent: 5 }, window: 8, .. }";
     assert_eq!(format!("{buffer:?}"), text);
     assert_eq!((buffer.numbers_end(), buffer.window(), buffer.is_recovering()), (5, 8, false));
+}
+
+/// A stream as QUIC has it: whatever the limit is, all that was written is sent in as many ranges, and ranges that arrive
+/// in any order acknowledge it.
+#[test]
+fn a_stream_of_ranges() {
+    for limit in [20, 21, 33, u64::MAX] {
+        let mut stream = SendBuffer::<2>::new_at(vec![0; 32], 0);
+        assert_eq!(stream.write(&[7; 19]), 19);
+        stream.close();
+        let mut ranges = vec![];
+        while let Some((from, to)) = stream.next(limit, u64::MAX, 5) {
+            ranges.push(from..to);
+            stream.mark(from, to, Sending::Segment);
+        }
+        assert_eq!(ranges, [0..5, 5..10, 10..15, 15..20], "{limit}");
+        assert_eq!(stream.next_probe(limit, 5), Some((15, 20)));
+        let mut take = |range| stream.acknowledge_range(range, 5).map(|it| (it.new, it.reports));
+        assert_eq!(
+            (take(15..21), take(10..15), take(5..10)),
+            (None, Some((0, true)), Some((0, true)))
+        );
+        assert_eq!((take(5..15), take(3..5)), (Some((0, false)), Some((0, true))));
+        // The first range acknowledges up to the first number that none has.
+        assert_eq!(
+            (take(0..3), take(0..3), take(15..20)),
+            (Some((15, false)), Some((0, false)), Some((5, false)))
+        );
+        assert!(stream.is_done());
+    }
 }
 
 /// What an end that begins again knows of the stream before: nothing but whether Nagle's rule is enabled.

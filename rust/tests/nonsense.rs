@@ -1,6 +1,8 @@
 //! Calls that take numbers from a packet, with any numbers: none panics, also where sums are checked. `CALLS` says how
 //! many calls are made of each kind.
-use net_base::ends::{Acknowledged, Expired, ReceivingEndOver, SendBufferOver, SendingEndOver};
+use net_base::ends::{
+    AckKind, Acknowledged, Expired, ReceivingEndOver, SendBufferOver, Sending, SendingEndOver,
+};
 use net_base::finite::{FiniteReceiver, FiniteSender, SentNumbers};
 use net_base::receiver::Receiver;
 use net_base::scoreboard::Scoreboard;
@@ -258,6 +260,10 @@ fn sending_ends() {
     }
 }
 
+fn sending(draw: &mut Draw) -> Sending {
+    [Sending::Segment, Sending::TailProbe, Sending::WindowProbe][draw.below(3) as usize]
+}
+
 #[test]
 fn send_buffers() {
     let mut draw = Draw(0xd1b5_4a32_d192_ed03, 0);
@@ -275,7 +281,8 @@ fn send_buffers() {
             6 => buffer.close(),
             7..=10 => {
                 let blocks = blocks(&mut draw);
-                let taken = buffer.acknowledge(from, &blocks, size, draw.bit(), draw.bit());
+                let kind = if draw.bit() { AckKind::Repeat } else { AckKind::Other };
+                let taken = buffer.acknowledge(from, &blocks, size, kind);
                 assert!(taken.is_none() || from <= before.sent && !buffer.contains(from));
             }
             11 => assert!(!buffer.find_overdue() || buffer.is_recovering()),
@@ -285,11 +292,16 @@ fn send_buffers() {
                 assert!(probe.is_none_or(|it| it.0 < it.1 && it.1 <= to.max(before.sent)));
             }
             14 => assert!(buffer.bytes(from, to).0.len() <= 16),
-            15 => buffer.mark(from, to, draw.bit(), draw.bit()),
+            15 => buffer.mark(from, to, sending(&mut draw)),
+            16 => {
+                let taken = buffer.acknowledge_range(from..to, size);
+                assert_eq!(taken.is_some(), to <= before.sent);
+            }
             _ => {
                 if let Some((from, to)) = buffer.next(to, window, size) {
                     assert!(before.first_unacknowledged <= from && from < to);
-                    buffer.mark(from, to, draw.bit(), draw.bit());
+                    assert!(to <= buffer.numbers_end());
+                    buffer.mark(from, to, sending(&mut draw));
                 }
             }
         }

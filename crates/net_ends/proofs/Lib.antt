@@ -2,8 +2,10 @@ pub mod Choices
 pub mod Ends
 pub mod Expiries
 pub mod Found
+pub mod Loops
 pub mod PathLaws
 pub mod Progress
+pub mod Ranges
 pub mod Receiving
 pub mod ReceivingLaws
 pub mod Segments

@@ -13,7 +13,7 @@
 --     IsLeft, Recovers      the recovery that is left, and whether it begins
 --     is_sought, begins_by, after_wait, loses_nothing, expiry_of      what the timer's end does, and means
 --     after_segment      the recovery once a range is sent
-use Rattle.std.specs.Prelude.{◌≡◌, ℕ, ℤ, ◌+◌, ◌-◌, ◌^◌, max, Bool, false, not, ◌&&◌, ◌||◌, nat_lt, nat_le, nat_eq}
+use Rattle.std.specs.Prelude.{◌≡◌, ℕ, ℤ, ◌+◌, ◌-◌, ◌^◌, max, Bool, true, false, not, ◌&&◌, ◌||◌, nat_lt, nat_le, nat_eq}
 use Rattle.std.specs.Prelude.{IsTrue, IsFalse, if◌then◌else◌, List, [], ◌∷◌, slice_get, fold, Some}
 use Rattle.std.specs.List.{list_any}
 use Rattle.net_assembler.specs.Assembler.{makes_too_many_runs}
@@ -73,14 +73,14 @@ unsent_at low s r = if is_active r low then unsent_lost r low s else 0
 abbrev pub unsent_of : FiniteSenderState → Positions → LossRecovery → ℕ
 unsent_of sender s r = unsent_at (first_number sender) s r
 
--- with the numbers before it: whether a block `says` what wasn't known, the segment is `empty`, that is, has no byte
--- and no FIN, and its window is the `same` as the one that was announced last
-abbrev pub answer_of : SentNumbers → ℕ → ℕ → List (ℕ × ℕ) → Bool → Bool → Bool → Answer
-answer_of at unsent ack bs says empty same = record {
+-- with the numbers before it: whether a block `says` what wasn't known, and the segment only `repeats`, that is, has no
+-- byte and no FIN, and announces the window that was announced last
+abbrev pub answer_of : SentNumbers → ℕ → ℕ → List (ℕ × ℕ) → Bool → Bool → Answer
+answer_of at unsent ack bs says repeats = record {
   first = at.first_unacknowledged;
   unsent = unsent;
   reports = says;
-  is_equal = is_equal_acknowledgement at.first_unacknowledged at.sent ack (empty && not (has_block bs)) same;
+  is_equal = is_equal_acknowledgement at.first_unacknowledged at.sent ack (repeats && not (has_block bs)) true;
 }
 
 abbrev pub doubted : SentNumbers → ℕ → List (ℕ × ℕ) → LossRecovery → LossRecovery
@@ -110,10 +110,10 @@ pub record IsLeft (size ack sent : ℕ) (a : Answer) (s : Positions) (r left : L
         (answered size ack sent a s r)))
 
 -- with the numbers, what was unsent, what was reported and the recovery before the acknowledgement
-abbrev pub Recovers : ℕ → ℕ → SentNumbers → ℕ → Positions → LossRecovery → ℕ → List (ℕ × ℕ) → Bool → Bool → Bool →
+abbrev pub Recovers : ℕ → ℕ → SentNumbers → ℕ → Positions → LossRecovery → ℕ → List (ℕ × ℕ) → Bool → Bool →
     LossRecovery → Bool → Type 0
-Recovers n size at unsent s r ack bs empty same says left begins =
-    IsLeft size ack at.sent (answer_of at unsent ack bs says empty same) (reported_by n at.sent s ack bs).0
+Recovers n size at unsent s r ack bs repeats says left begins =
+    IsLeft size ack at.sent (answer_of at unsent ack bs says repeats) (reported_by n at.sent s ack bs).0
     (doubted at ack bs r) left begins
 
 -- ---- silence

@@ -1,13 +1,26 @@
 -- What a stream that ends has sent, without a clock: a sender, what was reported of it, and its recovery.
 --     new_buffer capacity first      one to which nothing was written
 --     buffer_of s p      that of a sender and the other parts
-use Rattle.std.specs.Prelude.{ℕ}
-use Rattle.net_assembler.specs.Positions.{Positions, with_range, nothing}
-use Rattle.net_receiver.specs.FiniteSender.{FiniteSenderState, fresh_finite_sender}
-use Rattle.net_receiver.specs.Scoreboards.{reported_by}
+--     is_repeat kind, is_window_probe sending, is_tail_probe sending      of what is passed
+--     ack_of s at from to, blocks_of at from to      up to where a range acknowledges, and the block that it is else
+--     Takes n size b ack bs repeats it left      what an acknowledgement says and leaves
+--     marked b from to, remaining b      what is left once a range is sent; how much may be sent before an answer
+use Rattle.std.specs.Prelude.{◌≡◌, ℕ, ◌+◌, ◌-◌, min, max, Bool, true, false, nat_le, if◌then◌else◌, List, [], ◌∷◌}
+use Rattle.net_assembler.specs.Positions.{Positions, with_range, nothing, first_missing}
+use Rattle.net_receiver.specs.declared.sent_numbers.SentNumbers.{SentNumbers}
+use Rattle.net_receiver.specs.FiniteSender.{FiniteSenderState, fresh_finite_sender, numbers_end}
+use Rattle.net_receiver.specs.FiniteSender.{sender_after_command, Marks, Acknowledges, first_number}
+use Rattle.net_receiver.specs.Scoreboards.{reported_by as reported_of}
 use Rattle.net_recovery.specs.LossRecovery.{new_recovery}
 use Rattle.net_recovery.specs.declared.loss_recovery.LossRecovery.{LossRecovery}
+use Rattle.net_ends.specs.Ends.{kept}
+use Rattle.net_ends.specs.Acknowledgements.{after_segment, numbers_of, unsent_of, reported_by, Recovers}
 use Rattle.net_ends.specs.declared.send_buffer.BufferParts.{BufferParts}
+use Rattle.net_ends.specs.declared.send_buffer.AckKind.{AckKind}
+use Rattle.net_ends.specs.declared.send_buffer.AckKind.TheVariants.{Repeat, Other}
+use Rattle.net_ends.specs.declared.send_buffer.TakenAck.{TakenAck}
+use Rattle.net_ends.specs.declared.send_buffer.Sending.{Sending}
+use Rattle.net_ends.specs.declared.send_buffer.Sending.TheVariants.{Segment, TailProbe, WindowProbe}
 
 pub record Buffer : Type 0 where
   pub sender : FiniteSenderState
@@ -26,6 +39,57 @@ new_buffer capacity first = record {
 abbrev pub buffer_of : {n : ℕ} → FiniteSenderState → BufferParts n → Buffer
 buffer_of s p = record {
   sender = s;
-  reported = reported_by p.scoreboard p.runs;
+  reported = reported_of p.scoreboard p.runs;
   recovery = p.recovery;
 }
+
+-- ---- what is passed
+abbrev pub is_repeat : AckKind → Bool
+is_repeat Repeat = true
+is_repeat Other = false
+
+abbrev pub is_window_probe : Sending → Bool
+is_window_probe WindowProbe = true
+is_window_probe Segment = false
+is_window_probe TailProbe = false
+
+abbrev pub is_tail_probe : Sending → Bool
+is_tail_probe TailProbe = true
+is_tail_probe Segment = false
+is_tail_probe WindowProbe = false
+
+-- ---- a range that is acknowledged
+-- one that begins at the first number that isn't acknowledged, or below, acknowledges up to the first that neither it
+-- nor an earlier one has; any other is a block
+abbrev pub ack_of : Positions → SentNumbers → ℕ → ℕ → ℕ
+ack_of s at from to =
+    if nat_le from at.first_unacknowledged then min (first_missing s (max to at.first_unacknowledged)) at.sent
+    else at.first_unacknowledged
+
+abbrev pub blocks_of : SentNumbers → ℕ → ℕ → List (ℕ × ℕ)
+blocks_of at from to = if nat_le from at.first_unacknowledged then [] else (from, to) ∷ []
+
+-- as the clauses of `acknowledge` say it
+pub record Takes (n size : ℕ) (b : Buffer) (ack : ℕ) (bs : List (ℕ × ℕ)) (repeats : Bool) (it : TakenAck)
+    (left : Buffer) : Type 0 where
+  pub state : left ≡ record {
+    sender = sender_after_command b.sender (Acknowledges ack);
+    reported = kept (reported_by n b.sender.sent b.reported ack bs).0 ack b.sender.sent;
+    recovery = left.recovery;
+  }
+  pub new : it.new ≡ ack - first_number b.sender
+  pub reports : it.reports ≡ (reported_by n b.sender.sent b.reported ack bs).1
+  pub recovery : Recovers n size (numbers_of b.sender) (unsent_of b.sender b.reported b.recovery) b.reported
+      b.recovery ack bs repeats it.reports left.recovery it.begins
+
+-- ---- what is sent before an answer
+-- a range is sent that isn't a probe
+abbrev pub marked : Buffer → ℕ → ℕ → Buffer
+marked b from to = record b {
+  sender = sender_after_command b.sender (Marks to);
+  recovery = after_segment (numbers_of b.sender) from to false false b.recovery;
+}
+
+-- what was never sent, and what is beyond all that was sent again
+abbrev pub remaining : Buffer → ℕ
+remaining b = (numbers_end b.sender - b.sender.sent) + (numbers_end b.sender - b.recovery.again)

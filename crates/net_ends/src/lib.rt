@@ -8,6 +8,6 @@ pub mod sending_end;
 pub mod stream_sender;
 
 pub use receiving_end::{Acknowledgement, ReceivingEnd, ReceivingEndOver};
-pub use send_buffer::{BufferParts, SendBuffer, SendBufferOver};
+pub use send_buffer::{AckKind, BufferParts, SendBuffer, SendBufferOver, Sending, TakenAck};
 pub use sending_end::{Acknowledged, Expired, Outgoing, SendingEnd, SendingEndOver, SendingParts};
 pub use stream_sender::StreamSender;

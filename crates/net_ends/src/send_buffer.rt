@@ -1,6 +1,6 @@
 //! What a stream that ends has sent, without a clock.
 ghost use Rattle.std.specs.Prelude.{◌≡◌, ◌-◌, ◌+◌, ◌<◌, ◌≤◌, ◌&&◌, ◌==◌, ℕ, Option, Some, IsTrue, IsFalse, min, max};
-ghost use Rattle.std.specs.Prelude.{IfSome, IfNone, is_some, ◌++◌, not, true, false, if◌then◌else◌, length};
+ghost use Rattle.std.specs.Prelude.{IfSome, IfNone, is_some, ◌++◌, not, true, false, if◌then◌else◌, length, nat_le};
 ghost use Rattle.net_assembler.specs.Positions.{contains};
 ghost use Rattle.net_recovery.specs.LossRecovery.{is_active, in_flight, begun, forgotten, next_segment, next_range};
 ghost use Rattle.net_recovery.specs.LossRecovery.{resumed};
@@ -11,10 +11,11 @@ ghost use Rattle.net_receiver.specs.Finite.{no_end};
 ghost use Rattle.net_receiver.specs.Scoreboards.{IsEnd, IsHole, IsSoundBoard};
 ghost use Rattle.net_assembler.specs.RunLists.{IsCanonical};
 ghost use Rattle.net_ends.specs.Ends.{IsSegment, kept, has_dropped};
-ghost use Rattle.net_ends.specs.Buffers.{new_buffer, buffer_of};
+ghost use Rattle.net_ends.specs.Buffers.{new_buffer, buffer_of, marked, remaining, is_repeat, is_window_probe};
+ghost use Rattle.net_ends.specs.Buffers.{is_tail_probe, ack_of, blocks_of, Takes};
 ghost use Rattle.net_ends.specs.Acknowledgements.{with_block, is_new, after_blocks, reported_by, has_block};
 ghost use Rattle.net_ends.specs.Acknowledgements.{is_duplicated};
-ghost use Rattle.net_ends.specs.Acknowledgements.{numbers_of, unsent_of, doubted, IsLeft, Recovers, begins_by};
+ghost use Rattle.net_ends.specs.Acknowledgements.{numbers_of, unsent_of, unsent_at, IsLeft, Recovers, begins_by};
 ghost use Rattle.net_ends.specs.Acknowledgements.{after_segment, after_wait};
 
 use crate::stream_sender::StreamSender;
@@ -23,6 +24,7 @@ use net_receiver::{FiniteSender, FiniteSenderOver, Scoreboard, ScoreboardHead, S
 use net_recovery::{Answer, LossRecovery, is_duplicate_block, is_equal_acknowledgement};
 use net_ring::Storage;
 use std::marker::Model;
+use std::ops::Range;
 
 /// All that a send buffer knows besides its sender.
 #[derive(Copy, Clone, Debug)]
@@ -35,11 +37,74 @@ pub struct BufferParts<const N: usize> {
     pub recovery: LossRecovery,
 }
 
+/// What kind of segment an acknowledgement came in. By it a sender of TCP tells one that only repeats the last, from
+/// which it learns that a segment has arrived (RFC 5681, section 2).
+#[derive(Copy, Clone, Debug, PartialEq, Eq)]
+pub enum AckKind {
+    /// It has no byte and no FIN, and announces the window that was announced last.
+    Repeat,
+    /// Any other: it has bytes or a FIN, or announces another window.
+    Other,
+}
+
+/// What an acknowledgement said that was taken.
+#[derive(Copy, Clone, Debug, PartialEq, Eq)]
+pub struct TakenAck {
+    /// How many numbers it acknowledged that weren't before.
+    pub new: u64,
+    /// Whether a block of it reports what wasn't known.
+    pub reports: bool,
+    /// Whether it begins a recovery: then halve the congestion window.
+    pub begins: bool,
+}
+
+/// Why a range is sent.
+#[derive(Copy, Clone, Debug, PartialEq, Eq)]
+pub enum Sending {
+    /// As `SendBufferOver::next` returned it: a segment, or a part of it from its start on.
+    Segment,
+    /// As `SendBufferOver::next_probe` returned it: a probe for an answer (RFC 8985, 7.3).
+    TailProbe,
+    /// The peer's window is shut, so that it drops the range: a probe of the window (RFC 9293, 3.8.6.1).
+    WindowProbe,
+}
+
 /// What a stream that ends has sent, over storage that is lent or owned.
 pub type SendBuffer<'a, const N: usize> = SendBufferOver<FiniteSender<'a>, N>;
 
 /// A [`SendBuffer`] over any sender: that, a scoreboard and a recovery. It knows bytes, what was reported and what
 /// is lost, and no clock, no window of a peer and no size of a segment: what a stream of QUIC sends, too.
+///
+/// ```
+/// use net_base::ends::{SendBuffer, Sending};
+///
+/// // A stream of QUIC. Its peer's MAX_STREAM_DATA is 33, and a frame has at most 8 bytes.
+/// let mut storage = [0u8; 64];
+/// let mut stream = SendBuffer::<4>::new_at(&mut storage[..], 0);
+/// assert_eq!(stream.write(b"nineteen bytes here"), 19);
+/// stream.close();
+/// let mut frames = Vec::new();
+/// while let Some((from, to)) = stream.next(33, 1200, 8) {
+///     let (front, back, is_last) = stream.bytes(from, to);
+///     frames.push((from, [front, back].concat(), is_last));
+///     stream.mark(from, to, Sending::Segment);
+/// }
+/// // The loop ends, though the limit is above the 20 numbers of 19 bytes and the end.
+/// assert_eq!(frames[0], (0, b"nineteen".to_vec(), false));
+/// assert_eq!(frames[2], (16, b"ere".to_vec(), true));
+/// assert_eq!((frames.len(), stream.numbers().sent), (3, 20));
+/// // The packet of the second frame is acknowledged, and then that of the first one.
+/// let taken = stream.acknowledge_range(8..16, 8).expect("it was sent");
+/// assert!(taken.reports && taken.new == 0);
+/// let taken = stream.acknowledge_range(0..8, 8).expect("it was sent");
+/// assert_eq!(taken.new, 16);
+/// // No answer to the third one comes in time: it is sent again.
+/// stream.lose_all();
+/// assert_eq!(stream.next(33, 1200, 8), Some((16, 20)));
+/// stream.mark(16, 20, Sending::Segment);
+/// assert_eq!(stream.next(33, 1200, 8), None);
+/// assert!(stream.acknowledge_range(16..20, 8).is_some() && stream.is_done());
+/// ```
 #[derive(Drop)]
 pub struct SendBufferOver<F: StreamSender, const N: usize> {
     sender: F,
@@ -194,6 +259,7 @@ impl<F: StreamSender, const N: usize> SendBufferOver<F, N> {
     pub fn numbers(&self) -> SentNumbers
         ensures value { result ≡ numbers_of self.now.sender }
         ensures order { result.first_unacknowledged ≤ result.sent }
+        ensures written { result.sent ≤ numbers_end self.now.sender }
     {
         self.sender.numbers()
     }
@@ -247,19 +313,17 @@ impl<F: StreamSender, const N: usize> SendBufferOver<F, N> {
         self.recovery.expect_reports(reports);
     }
 
-    /// Takes an acknowledgement of all below `ack`, and its blocks. Its segment `is_empty` if it has no byte and no
-    /// FIN, and `is_same` if it announces the window that was announced last.
+    /// Takes an acknowledgement of TCP: of all below `ack`, with its blocks, in a segment of that kind.
     ///
-    /// Returns whether a block reports what wasn't known, and whether it begins a recovery. Returns `None`, and changes
-    /// nothing, if `ack` is below the first number that isn't acknowledged, or above what was sent.
+    /// Returns `None`, and changes nothing, if `ack` is below the first number that isn't acknowledged, or above what
+    /// was sent.
     pub fn acknowledge(
         &mut self,
         ack: u64,
         blocks: &[(u64, u64)],
         segment_size: usize,
-        is_empty: bool,
-        is_same: bool,
-    ) -> Option<(bool, bool)>
+        kind: AckKind,
+    ) -> Option<TakenAck>
         ensures refused { is_some result ≡ accepts self.old.sender ack }
         ensures within { IfSome result (λ _. (first_number self.old.sender ≤ ack)
             × (ack ≤ self.old.sender.sent)) }
@@ -270,114 +334,106 @@ impl<F: StreamSender, const N: usize> SendBufferOver<F, N> {
               ack self.old.sender.sent;
           recovery = self.new.recovery;
         }) }
-        ensures reports { IfSome result (λ r. r.0
+        ensures new { IfSome result (λ r. r.new ≡ ack - first_number self.old.sender) }
+        ensures reports { IfSome result (λ r. r.reports
             ≡ (reported_by N self.old.sender.sent self.old.reported ack blocks.now).1) }
         ensures recovery { IfSome result (λ r. Recovers N segment_size (numbers_of self.old.sender)
             (unsent_of self.old.sender self.old.reported self.old.recovery) self.old.reported
             self.old.recovery ack
-            blocks.now is_empty is_same r.0 self.new.recovery r.1) }
+            blocks.now (is_repeat kind) r.reports self.new.recovery r.begins) }
+    {
+        self.acknowledge_at(self.numbers(), ack, blocks, segment_size, kind)
+    }
+
+    /// Takes an acknowledgement of QUIC, or of another protocol that acknowledges ranges of a stream, each of them for
+    /// itself: all numbers of this one have arrived.
+    ///
+    /// The first number that isn't acknowledged becomes the first that neither this range nor an earlier one has. A
+    /// range that begins above it is remembered, unless that makes more than `N` runs: what it has is sent again then,
+    /// as if it were lost. No range tells of something that came twice, and none is an equal acknowledgement.
+    ///
+    /// Returns `None`, and changes nothing, if the range ends above what was sent.
+    pub fn acknowledge_range(&mut self, range: Range<u64>, segment_size: usize) -> Option<TakenAck>
+        ensures refused { is_some result ≡ nat_le range.end self.old.sender.sent }
+        ensures unchanged { IfNone result (self.new ≡ self.old) }
+        ensures takes { let at = numbers_of self.old.sender in IfSome result (λ r.
+            Takes N segment_size self.old (ack_of self.old.reported at range.start range.end)
+            (blocks_of at range.start range.end) false r self.new) }
     {
         let numbers = self.numbers();
+        if numbers.sent < range.end {
+            return None;
+        }
+        if numbers.first_unacknowledged < range.start {
+            let (ack, block) = (numbers.first_unacknowledged, [(range.start, range.end)]);
+            return self.acknowledge(ack, &block, segment_size, AckKind::Other);
+        }
+        let known = self
+            .scoreboard
+            .first_missing(range.end.max(numbers.first_unacknowledged));
+        let ack = known.min(numbers.sent);
+        self.acknowledge(ack, &[], segment_size, AckKind::Other)
+    }
+
+    /// Takes an acknowledgement, with the numbers before it.
+    pub(crate) fn acknowledge_at(
+        &mut self,
+        numbers: SentNumbers,
+        ack: u64,
+        blocks: &[(u64, u64)],
+        segment_size: usize,
+        kind: AckKind,
+    ) -> Option<TakenAck>
+        ensures refused { is_some result ≡ accepts self.old.sender ack }
+        ensures within { IfSome result (λ _. (first_number self.old.sender ≤ ack)
+            × (ack ≤ self.old.sender.sent)) }
+        ensures unchanged { IfNone result (self.new ≡ self.old) }
+        ensures state { IfSome result (λ r. self.new ≡ record {
+          sender = sender_after_command self.old.sender (Acknowledges ack);
+          reported = kept (reported_by N numbers.sent self.old.reported ack blocks.now).0
+              ack numbers.sent;
+          recovery = self.new.recovery;
+        }) }
+        ensures new { IfSome result (λ r. r.new ≡ ack - numbers.first_unacknowledged) }
+        ensures reports { IfSome result (λ r. r.reports
+            ≡ (reported_by N numbers.sent self.old.reported ack blocks.now).1) }
+        ensures recovery { IfSome result (λ r. Recovers N segment_size numbers
+            (unsent_at numbers.first_unacknowledged self.old.reported self.old.recovery)
+            self.old.reported self.old.recovery ack
+            blocks.now (is_repeat kind) r.reports self.new.recovery r.begins) }
+    {
         let unsent = self.recovery.unsent(numbers, &self.scoreboard);
         if !self.sender.accept(ack) {
             return None;
         }
-        Some(self.take(
-            numbers,
-            unsent,
-            ack,
-            blocks,
-            segment_size,
-            is_empty,
-            is_same,
-        ))
-    }
-
-    /// Takes the blocks of an acknowledgement that the sender has taken, and finds what is lost.
-    fn take(
-        &mut self,
-        numbers: SentNumbers,
-        unsent: u64,
-        ack: u64,
-        blocks: &[(u64, u64)],
-        segment_size: usize,
-        is_empty: bool,
-        is_same: bool,
-    ) -> (bool, bool)
-        ensures state { self.new ≡ record self.old {
-          reported = kept (reported_by N numbers.sent self.old.reported ack blocks.now).0
-              ack numbers.sent;
-          recovery = self.new.recovery;
-        } }
-        ensures reports { result.0
-            ≡ (reported_by N numbers.sent self.old.reported ack blocks.now).1 }
-        ensures recovery { Recovers N segment_size numbers unsent self.old.reported
-            self.old.recovery ack blocks.now
-            is_empty is_same result.0 self.new.recovery result.1 }
-    {
-        let reports = self.report(ack, blocks, numbers.sent);
-        let is_bare = is_empty && !has_block(blocks);
+        self.scoreboard.acknowledge(ack);
+        let reports = report_blocks(&mut self.scoreboard, blocks, numbers.sent);
+        if is_duplicated(ack, blocks) {
+            self.recovery.duplicated(numbers);
+        }
+        let is_bare = is_repeat(kind) && !has_block(blocks);
         let answer = Answer {
             first: numbers.first_unacknowledged,
             unsent,
             reports,
-            is_equal: is_equal_acknowledgement(numbers, ack, is_bare, is_same),
+            is_equal: is_equal_acknowledgement(numbers, ack, is_bare, true),
         };
-        let begins = self.find_losses(numbers, ack, blocks, segment_size, answer);
-        (reports, begins)
-    }
-
-    /// Reports all below `ack`, and the blocks. Returns whether a block reports what wasn't known.
-    fn report(&mut self, ack: u64, blocks: &[(u64, u64)], sent: u64) -> bool
-        ensures state { self.new ≡ record self.old {
-          reported = (reported_by N sent self.old.reported ack blocks.now).0;
-        } }
-        ensures value { result ≡ (reported_by N sent self.old.reported ack blocks.now).1 }
-    {
-        self.scoreboard.acknowledge(ack);
-        report_blocks(&mut self.scoreboard, blocks, sent)
-    }
-
-    /// Finds what is lost by an acknowledgement, and returns whether a recovery begins.
-    fn find_losses(
-        &mut self,
-        numbers: SentNumbers,
-        ack: u64,
-        blocks: &[(u64, u64)],
-        segment_size: usize,
-        answer: Answer,
-    ) -> bool
-        ensures state { self.new ≡ record self.old {
-          reported = kept self.old.reported ack numbers.sent;
-          recovery = self.new.recovery;
-        } }
-        ensures recovery { IsLeft segment_size ack numbers.sent answer self.old.reported
-            (doubted numbers ack blocks.now self.old.recovery) self.new.recovery result }
-    {
-        self.doubt(numbers, ack, blocks);
         let after = SentNumbers {
             first_unacknowledged: ack,
             sent: numbers.sent,
         };
-        find_losses(
+        let begins = find_losses(
             &mut self.recovery,
             &mut self.scoreboard,
             after,
             segment_size,
             answer,
-        )
-    }
-
-    /// Tells the recovery, if the first block reports what came twice.
-    fn doubt(&mut self, numbers: SentNumbers, ack: u64, blocks: &[(u64, u64)])
-        ensures { self.new ≡ record self.old {
-          recovery =
-              doubted numbers ack blocks.now self.old.recovery;
-        } }
-    {
-        if is_duplicated(ack, blocks) {
-            self.recovery.duplicated(numbers);
-        }
+        );
+        Some(TakenAck {
+            new: ack.saturating_sub(numbers.first_unacknowledged),
+            reports,
+            begins,
+        })
     }
 
     /// Finds what is overdue, where nothing was reported for two round trips, and returns whether a recovery begins.
@@ -406,6 +462,10 @@ impl<F: StreamSender, const N: usize> SendBufferOver<F, N> {
     /// Returns what to send next below `limit`, as a start and an end, the end not included, at most a segment: what is
     /// lost, else what was never sent. `None` if there is none, or if with a whole segment more than the congestion
     /// window would be in flight. The first unacknowledged number is sent whatever is in flight.
+    ///
+    /// Of a `limit` above `numbers_end`, such as a window that has more room than there is to send, only what is below
+    /// `numbers_end` counts. So each range has a number that was written, or is the end; and as long as nothing is
+    /// acknowledged, lost or found overdue, what `next` returns and `mark` takes comes to an end.
     #[must_use]
     pub fn next(
         &self,
@@ -414,40 +474,49 @@ impl<F: StreamSender, const N: usize> SendBufferOver<F, N> {
         segment_size: usize,
     ) -> Option<(u64, u64)>
         ensures next { (lost others : Option (ℕ × ℕ)) → let low = first_number self.now.sender in
+            let top = min limit (numbers_end self.now.sender) in
             IsHole self.now.reported (resumed self.now.recovery low)
-            (min (min self.now.recovery.turn self.now.recovery.lost) limit) lost →
+            (min (min self.now.recovery.turn self.now.recovery.lost) top) lost →
             IsHole self.now.reported (gone_on self.now.recovery low)
-            (min self.now.recovery.lost limit) others →
+            (min self.now.recovery.lost top) others →
             result ≡ next_segment low
             (in_flight self.now.recovery low self.now.sender.sent self.now.reported)
             congestion_window (max 1 segment_size)
-            (next_range self.now.recovery low self.now.sender.sent limit lost others) }
+            (next_range self.now.recovery low self.now.sender.sent top lost others) }
         ensures within { IfSome result (λ r. (r.0 < r.1) × (r.1 ≤ limit)
             × (r.1 ≤ r.0 + max 1 segment_size)) }
+        ensures written { IfSome result (λ r. r.1 ≤ numbers_end self.now.sender) }
         ensures begins { let low = first_number self.now.sender in
             IsFalse (is_active self.now.recovery low) →
-            low ≡ self.now.sender.sent → low < limit → IsTrue (begins_at low result) }
+            low ≡ self.now.sender.sent → low < limit → low < numbers_end self.now.sender →
+            IsTrue (begins_at low result) }
         ensures after { IfSome result (λ r. first_number self.now.sender ≤ r.0) }
+        ensures ends { IfSome result (λ r. remaining (marked self.now r.0 r.1)
+            < remaining self.now) }
     {
+        let numbers = self.numbers();
+        let top = limit.min(self.sender.end());
         self.recovery.next_segment(
-            self.numbers(),
+            numbers,
             &self.scoreboard,
-            limit,
+            top,
             congestion_window,
             segment_size,
         )
     }
 
     /// Returns what a probe for an answer sends below `limit`, whatever is in flight: in a recovery the first segment
-    /// that isn't reported, else a new one, and if the limit allows none, the last one.
+    /// that isn't reported, else a new one, and if the limit allows none, the last one. Of a `limit` above `numbers_end`
+    /// only what is below `numbers_end` counts.
     #[must_use]
     pub fn next_probe(&self, limit: u64, segment_size: usize) -> Option<(u64, u64)>
         ensures value { (highest : ℕ) (hole : Option (ℕ × ℕ)) →
             let low = first_number self.now.sender in
+            let top = min limit (numbers_end self.now.sender) in
             IsEnd self.now.reported highest →
-            IsHole self.now.reported low (min self.now.sender.sent limit) hole →
+            IsHole self.now.reported low (min self.now.sender.sent top) hole →
             result ≡ next_probe self.now.recovery (max 1 segment_size) low self.now.sender.sent
-            limit highest hole }
+            top highest hole }
         ensures progress { first_number self.now.sender < min self.now.sender.sent limit →
             IsFalse (contains self.now.reported (first_number self.now.sender)) →
             IsTrue (is_some result) }
@@ -456,50 +525,54 @@ impl<F: StreamSender, const N: usize> SendBufferOver<F, N> {
             IsFalse (contains self.now.reported p)) }
         ensures within { IfSome result (λ r. (r.0 < r.1) × (r.1 ≤ limit)
             × (r.1 ≤ r.0 + max 1 segment_size)) }
+        ensures written { IfSome result (λ r. r.1 ≤ numbers_end self.now.sender) }
         ensures after { IfSome result (λ r. first_number self.now.sender ≤ r.0) }
     {
+        let numbers = self.numbers();
+        let top = limit.min(self.sender.end());
         self.recovery
-            .next_probe(self.numbers(), &self.scoreboard, limit, segment_size)
+            .next_probe(numbers, &self.scoreboard, top, segment_size)
     }
 
-    /// Takes notice that a range is sent: one that the peer `is_dropping`, since its window is shut, so that it is
-    /// lost; a probe for an answer; or neither.
-    pub fn mark(&mut self, from: u64, to: u64, is_dropping: bool, is_probe: bool)
+    /// Takes notice that the numbers from `from` on and below `to` are sent now, and why.
+    pub fn mark(&mut self, from: u64, to: u64, sending: Sending)
         ensures { self.new ≡ record self.old {
           sender = sender_after_command self.old.sender (Marks to);
-          recovery = after_segment (numbers_of self.old.sender) from to is_dropping is_probe
-              self.old.recovery;
+          recovery = after_segment (numbers_of self.old.sender) from to
+              (is_window_probe sending) (is_tail_probe sending) self.old.recovery;
         } }
     {
-        let numbers = self.numbers();
-        self.sender.mark(to);
-        self.recover(numbers, from, to, is_dropping, is_probe);
+        self.mark_at(self.numbers(), from, to, sending);
     }
 
-    /// Tells the recovery what is sent.
-    fn recover(
-        &mut self,
-        numbers: SentNumbers,
-        from: u64,
-        to: u64,
-        is_dropping: bool,
-        is_probe: bool,
-    )
+    /// Takes notice that a range is sent, with the numbers before it.
+    pub(crate) fn mark_at(&mut self, numbers: SentNumbers, from: u64, to: u64, sending: Sending)
         ensures { self.new ≡ record self.old {
-          recovery = after_segment numbers from to is_dropping is_probe self.old.recovery;
+          sender = sender_after_command self.old.sender (Marks to);
+          recovery = after_segment numbers from to
+              (is_window_probe sending) (is_tail_probe sending) self.old.recovery;
         } }
     {
-        if is_dropping {
-            // A peer whose window is shut drops it.
-            self.recovery.lose_all(SentNumbers {
+        self.sender.mark(to);
+        match sending {
+            Sending::Segment => self.recovery.sent(numbers, from..to),
+            Sending::TailProbe => self.recovery.probed(numbers, from),
+            // The peer drops it.
+            Sending::WindowProbe => self.recovery.lose_all(SentNumbers {
                 first_unacknowledged: numbers.first_unacknowledged,
                 sent: numbers.sent.max(to),
-            });
-        } else if is_probe {
-            self.recovery.probed(numbers, from);
-        } else {
-            self.recovery.sent(numbers, from..to);
+            }),
         }
+    }
+}
+
+/// Returns whether an acknowledgement is of a kind that only repeats the last.
+fn is_repeat(kind: AckKind) -> bool
+    ensures { result ≡ is_repeat kind }
+{
+    match kind {
+        AckKind::Repeat => true,
+        AckKind::Other => false,
     }
 }
 

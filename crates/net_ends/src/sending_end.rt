@@ -1,7 +1,16 @@
 //! What sends a stream that ends.
+//!
+//! ```text
+//!   acknowledged  |  in flight, lost or reported  |  written, never sent  |  room to write
+//!               first                            sent                    end
+//! ```
+//!
+//! `first` is TCP's SND.UNA, `sent` its SND.NXT (SND.MAX, where something is sent again), and `end` is after the last
+//! byte, and after the end of the stream once it is closed. The peer's `edge`, SND.UNA + SND.WND, can be anywhere: what
+//! is sent ends at it, but for a probe, which is the number at `first` alone.
 ghost use Rattle.std.specs.Prelude.{◌≡◌, ◌↔◌, ◌-◌, ◌+◌, ◌<◌, ◌≤◌, ◌&&◌, ◌==◌, ℕ, Option, Some, IsTrue, IsFalse, min};
 ghost use Rattle.std.specs.Prelude.{IfSome, IfNone, is_some, is_none, ◌||◌, ◌++◌, not, nat_lt, true, false};
-ghost use Rattle.std.specs.Prelude.{if◌then◌else◌, length, Bool};
+ghost use Rattle.std.specs.Prelude.{if◌then◌else◌, length, Bool, nat_le, ◌*◌};
 ghost use Rattle.net_assembler.specs.Positions.{contains};
 ghost use Rattle.net_recovery.specs.LossRecovery.{is_active};
 ghost use Rattle.net_receiver.specs.FiniteSender.{sender_after_command, Marks, Acknowledges, accepts, finite_room};
@@ -18,13 +27,14 @@ ghost use Rattle.net_ends.specs.Acknowledgements.{expiry_of};
 ghost use Rattle.net_receiver.specs.Scoreboards.{IsEnd, IsSoundBoard};
 ghost use Rattle.net_assembler.specs.RunLists.{IsCanonical};
 ghost use Rattle.net_ends.specs.Parts.{end_of_parts};
+ghost use Rattle.net_ends.specs.Buffers.{is_repeat, is_window_probe, is_tail_probe};
 ghost use Rattle.net_tcp.specs.Retransmission.{has_ended, expiry, has_expired, after_expiry, after_sending};
 ghost use Rattle.net_tcp.specs.Retransmission.{with_sample, after_acknowledged, expires_at};
 ghost use Rattle.net_ends.specs.Ends.{AreHoles, open_to, found, due_of, range_of, IsProbed, probe_of, is_probe};
 ghost use Rattle.std.specs.Option.{option_or};
 ghost use Rattle.net_tcp.specs.Windows.{after_update, acknowledgement_number};
 
-use crate::send_buffer::{BufferParts, SendBufferOver};
+use crate::send_buffer::{AckKind, BufferParts, SendBufferOver, Sending, TakenAck};
 use crate::stream_sender::StreamSender;
 use net_base::time::{Duration, Instant};
 use net_receiver::{FiniteSender, FiniteSenderOver, SentNumbers};
@@ -115,6 +125,39 @@ pub struct SendingParts<const N: usize> {
 pub type SendingEnd<'a, const N: usize> = SendingEndOver<FiniteSender<'a>, N>;
 
 /// A [`SendingEnd`] over any sender: a buffer, a timer and the peer's window.
+///
+/// ```
+/// use net_base::ends::{Acknowledged, Expired, SendingEnd};
+/// use net_base::tcp::{Announcement, TimeoutBounds};
+/// use net_base::time::{Duration, Instant};
+///
+/// let second = Duration::from_secs(1);
+/// let bounds = TimeoutBounds::default();
+/// let mut storage = [0u8; 64];
+/// let mut sending = SendingEnd::<4>::new_at(&mut storage[..], 100, second, bounds);
+/// // The peer's SYN announces a window of 1000 bytes, and agrees to SACK. A segment has at most 8 bytes.
+/// let mut now = Instant::ZERO;
+/// sending.open(Announcement { seq: 1, ack: 100, window: 1000 }, 8, true, now);
+/// assert_eq!(sending.write(b"sixteen bytes ok"), 16);
+/// let mut segments = Vec::new();
+/// while let Some(it) = sending.next_segment(1200, now) {
+///     let (front, back, _is_last) = sending.bytes(it.pos, it.end);
+///     segments.push((it.pos, [front, back].concat()));
+/// }
+/// assert_eq!(segments, [(100, b"sixteen ".to_vec()), (108, b"bytes ok".to_vec())]);
+/// // An acknowledgement of the first one.
+/// now += Duration::from_millis(100);
+/// let it = Announcement { seq: 1, ack: 108, window: 1000 };
+/// let taken = sending.acknowledged(it, &[], true, now);
+/// assert_eq!(taken, Acknowledged::Taken { new: 8, reports: false, begins: false });
+/// // None of the second one: when the timer ends, a probe asks for one, and in the end all is lost.
+/// while sending.expired(now) != Expired::Lost {
+///     let _segment_to_send = sending.next_segment(1200, now);
+///     now = sending.expires_at().expect("something is in flight");
+/// }
+/// let it = sending.next_segment(8, now).expect("what was lost");
+/// assert_eq!((it.pos, it.end, it.is_again), (108, 116, true));
+/// ```
 #[derive(Drop)]
 pub struct SendingEndOver<F: StreamSender, const N: usize> {
     buffer: SendBufferOver<F, N>,
@@ -416,36 +459,49 @@ impl<F: StreamSender, const N: usize> SendingEndOver<F, N> {
         ensures recovery { IsTrue (accepts self.old.sender it.ack) →
             Recovers N self.old.size (numbers_of self.old.sender)
             (unsent_of self.old.sender self.old.reported
-            self.old.recovery) self.old.reported self.old.recovery it.ack blocks.now is_empty
-            (it.window == self.old.last)
+            self.old.recovery) self.old.reported self.old.recovery it.ack blocks.now
+            (is_empty && (it.window == self.old.last))
             (reports_of result) self.new.recovery (begins_of result) }
         ensures unchanged { IsFalse (accepts self.old.sender it.ack) → self.new ≡ self.old }
     {
         let numbers = self.numbers();
-        if !self.is_acceptable(it.ack) {
+        if !self.is_acceptable(numbers, it.ack) {
             return Acknowledged::Refused;
         }
-        let is_same = it.window == self.last_window;
-        let Some((reports, begins)) = self.hear(it.ack, blocks, is_empty, is_same) else {
+        let repeats = self.only_repeats(is_empty, it.window);
+        let Some(taken) = self.hear(it.ack, blocks, repeats) else {
             return Acknowledged::Old;
         };
-        self.take(numbers, it, reports, now);
+        self.take(numbers, it, taken.reports, now);
         Acknowledged::Taken {
             new: it.ack - numbers.first_unacknowledged,
-            reports,
-            begins,
+            reports: taken.reports,
+            begins: taken.begins,
         }
     }
 
-    /// Has the buffer take an acknowledgement. Returns `None` if it doesn't; else whether a block reports what wasn't
-    /// known, and whether a recovery begins.
-    fn hear(
-        &mut self,
-        ack: u64,
-        blocks: &[(u64, u64)],
-        is_empty: bool,
-        is_same: bool,
-    ) -> Option<(bool, bool)>
+    /// Returns whether a segment may acknowledge that.
+    ///
+    /// A function of its own, since `acknowledged` is proved by what it says of the end.
+    fn is_acceptable(&self, numbers: SentNumbers, ack: u64) -> bool
+        requires { numbers ≡ numbers_of self.now.sender }
+        ensures { result ≡ is_acceptable self.now ack }
+    {
+        is_acknowledgement(numbers, self.greatest_window, ack)
+    }
+
+    /// Returns whether a segment that announces a window only repeats the last acknowledgement.
+    fn only_repeats(&self, is_empty: bool, window: u64) -> bool
+        ensures { result ≡ (is_empty && (window == self.now.last)) }
+    {
+        is_empty && window == self.last_window
+    }
+
+    /// Has the buffer take an acknowledgement, as `SendBufferOver::acknowledge` says.
+    ///
+    /// A function of its own, since its clauses say by the end what those of the buffer say by the buffer: without it
+    /// the check of `acknowledged` didn't end in ten minutes.
+    fn hear(&mut self, ack: u64, blocks: &[(u64, u64)], repeats: bool) -> Option<TakenAck>
         ensures refused { is_some result ≡ accepts self.old.sender ack }
         ensures within { IfSome result (λ _. (first self.old ≤ ack)
             × (ack ≤ self.old.sender.sent)) }
@@ -456,18 +512,21 @@ impl<F: StreamSender, const N: usize> SendingEndOver<F, N> {
               ack self.old.sender.sent;
           recovery = self.new.recovery;
         }) }
-        ensures reports { IfSome result (λ r. r.0
+        ensures reports { IfSome result (λ r. r.reports
             ≡ (reported_by N self.old.sender.sent self.old.reported ack blocks.now).1) }
         ensures recovery { IfSome result (λ r. Recovers N self.old.size (numbers_of self.old.sender)
             (unsent_of self.old.sender self.old.reported self.old.recovery) self.old.reported
             self.old.recovery ack
-            blocks.now is_empty is_same r.0 self.new.recovery r.1) }
+            blocks.now repeats r.reports self.new.recovery r.begins) }
     {
+        let kind = kind_of(repeats);
         self.buffer
-            .acknowledge(ack, blocks, self.segment_size, is_empty, is_same)
+            .acknowledge(ack, blocks, self.segment_size, kind)
     }
 
     /// Takes the window of an acknowledgement that the buffer has taken, and tells the timer.
+    ///
+    /// A function of its own, since `acknowledged` is one event of the end, and this its half beside the buffer.
     fn take(&mut self, numbers: SentNumbers, it: Announcement, reports: bool, now: Instant)
         ensures { self.new ≡ record self.old {
           timer = told reports now (after_acknowledged self.old.bounds
@@ -484,7 +543,7 @@ impl<F: StreamSender, const N: usize> SendingEndOver<F, N> {
         } }
     {
         self.take_window(numbers, it);
-        self.time(numbers, it.ack, reports, now);
+        self.tell_timer(numbers, it.ack, reports, now);
     }
 
     /// Returns the first number that isn't acknowledged, near which those of an acknowledgement are, and the one after
@@ -501,28 +560,8 @@ impl<F: StreamSender, const N: usize> SendingEndOver<F, N> {
         self.buffer.numbers()
     }
 
-    /// Returns whether a segment may acknowledge that.
-    fn is_acceptable(&self, ack: u64) -> bool
-        ensures { result ≡ is_acceptable self.now ack }
-    {
-        is_acknowledgement(self.buffer.numbers(), self.greatest_window, ack)
-    }
-
-    /// Stops the timer of the SYN, if this is the first acknowledgement and nothing is in flight.
-    fn synchronize(&mut self, numbers: SentNumbers)
-        ensures { self.new ≡ record self.old {
-          timer = synchronized self.old.is_open numbers.first_unacknowledged
-              numbers.sent self.old.timer;
-          is_open = true;
-        } }
-    {
-        if !self.is_open && numbers.sent <= numbers.first_unacknowledged {
-            self.timer.stop();
-        }
-        self.is_open = true;
-    }
-
-    /// Takes the window that is announced, and that a peer answers.
+    /// Takes the window that an acknowledgement announces. If it is the first one and nothing is in flight, the timer of
+    /// the SYN stops.
     fn take_window(&mut self, numbers: SentNumbers, it: Announcement)
         ensures { self.new ≡ record self.old {
           timer = synchronized self.old.is_open numbers.first_unacknowledged
@@ -537,7 +576,7 @@ impl<F: StreamSender, const N: usize> SendingEndOver<F, N> {
         } }
     {
         self.synchronize(numbers);
-        self.greatest_window = take_window(
+        self.greatest_window = greatest_after_update(
             &mut self.peer_window,
             self.greatest_window,
             numbers,
@@ -546,29 +585,40 @@ impl<F: StreamSender, const N: usize> SendingEndOver<F, N> {
         self.last_window = it.window;
     }
 
+    /// Stops the timer of the SYN, if this is the first acknowledgement and nothing is in flight.
+    ///
+    /// A function of its own, as `greatest_after_update` is, since each has a branch, and the prover joins the branches
+    /// of a whole end only by hand.
+    fn synchronize(&mut self, numbers: SentNumbers)
+        ensures { self.new ≡ record self.old {
+          timer = synchronized self.old.is_open numbers.first_unacknowledged
+              numbers.sent self.old.timer;
+          is_open = true;
+        } }
+    {
+        if !self.is_open && numbers.sent <= numbers.first_unacknowledged {
+            self.timer.stop();
+        }
+        self.is_open = true;
+    }
+
     /// Takes the sample of a timed segment that is reported, and tells the timer what was acknowledged, and whether a
     /// block reported what wasn't known.
-    fn time(&mut self, numbers: SentNumbers, ack: u64, reports: bool, now: Instant)
+    fn tell_timer(&mut self, numbers: SentNumbers, ack: u64, reports: bool, now: Instant)
         ensures { self.new ≡ record self.old {
           timer = told reports now (after_acknowledged self.old.bounds
               numbers.first_unacknowledged numbers.sent ack now
               (sampled self.old.reported self.old.bounds now self.old.timer));
         } }
     {
-        self.sample(now);
-        tell(&mut self.timer, self.bounds, numbers, ack, reports, now);
-    }
-
-    /// Takes the sample of a timed segment that is reported.
-    fn sample(&mut self, now: Instant)
-        ensures { self.new ≡ record self.old {
-          timer = sampled self.old.reported self.old.bounds now self.old.timer;
-        } }
-    {
         if let Some(segment) = self.timer.timed() {
             if self.buffer.contains(segment.pos) {
                 self.timer.take_sample(self.bounds, now);
             }
+        }
+        self.timer.acknowledged(self.bounds, numbers, ack, now);
+        if reports {
+            self.timer.reported(now);
         }
     }
 
@@ -634,7 +684,7 @@ impl<F: StreamSender, const N: usize> SendingEndOver<F, N> {
     fn is_sought(&self) -> bool
         ensures { result ≡ is_sought self.now }
     {
-        !self.buffer.is_blind() && !self.is_shut()
+        !self.buffer.is_blind() && !self.is_shut(self.numbers())
     }
 
     /// Loses all that was sent and isn't reported.
@@ -642,10 +692,12 @@ impl<F: StreamSender, const N: usize> SendingEndOver<F, N> {
         ensures value { result ≡ (if loses_nothing self.old then Expired.Probe else Expired.Lost) }
         ensures state { self.new ≡ all_lost self.old }
     {
+        let numbers = self.numbers();
+        let is_shut = self.is_shut(numbers);
         self.buffer.lose_all();
         self.is_window_probe_due = true;
         self.is_overdue = false;
-        if self.is_shut() || self.flight_size() == 0 {
+        if is_shut || numbers.flight_size() == 0 {
             Expired::Probe
         } else {
             Expired::Lost
@@ -653,30 +705,24 @@ impl<F: StreamSender, const N: usize> SendingEndOver<F, N> {
     }
 
     /// Returns whether the peer's window is shut, and something waits.
-    fn is_shut(&self) -> bool
+    fn is_shut(&self, numbers: SentNumbers) -> bool
+        requires { numbers ≡ numbers_of self.now.sender }
         ensures { result ≡ is_shut self.now }
     {
-        self.peer_window.is_probe_allowed(
-            self.buffer.numbers().first_unacknowledged,
-            self.buffer.numbers_end(),
-        )
+        self.peer_window
+            .is_probe_allowed(numbers.first_unacknowledged, self.buffer.numbers_end())
     }
 
-    /// Returns whether the next segment is a probe of a window that is shut.
-    fn asks(&self) -> bool
-        ensures { result ≡ asks self.now }
-    {
-        self.is_window_probe_due && self.is_shut()
-    }
-
-    /// Returns the range that is to be sent next, if the peer's window and the congestion window have room for one; and
-    /// else, where no answer came, a probe, and true.
-    fn choose(&self, congestion_window: u64) -> (Option<(u64, u64)>, bool)
+    /// Returns the range that is to be sent next, and why: of a window that is shut a probe, once the timeout has
+    /// passed; else what `next_range` returns; and else, where no answer came, a probe for one.
+    fn choose(&self, numbers: SentNumbers, congestion_window: u64) -> (Option<(u64, u64)>, Sending)
+        requires { numbers ≡ numbers_of self.now.sender }
         ensures within { IfSome result.0 (λ r. (r.0 < r.1) × (r.1 ≤ limit self.now)
             × (first self.now ≤ r.0)) }
         ensures probe { IsTrue (asks self.now) → result.0
             ≡ Some (first self.now, first self.now + 1) }
-        ensures overdue { IsTrue result.1 → IsTrue self.now.overdue }
+        ensures asks { is_window_probe result.1 ≡ asks self.now }
+        ensures overdue { IsTrue (is_tail_probe result.1) → IsTrue self.now.overdue }
         ensures due { IfSome result.0 (λ r. IsTrue (is_due self.now r.0 r.1)) }
         ensures next { (lost others : Option (ℕ × ℕ)) → IsFalse (asks self.now) →
             IsFalse self.now.overdue →
@@ -692,63 +738,89 @@ impl<F: StreamSender, const N: usize> SendingEndOver<F, N> {
             (probe_of self.now (open_to self.now) highest hole) }
         ensures counts { (lost others : Option (ℕ × ℕ)) →
             AreHoles self.now (open_to self.now) lost others →
-            result.1 ≡ is_probe self.now congestion_window lost others }
+            is_tail_probe result.1 ≡ is_probe self.now congestion_window lost others }
         ensures late { IsTrue self.now.probes →
             IsFalse (is_active self.now.recovery (first self.now)) →
             first self.now ≡ self.now.sender.sent → first self.now < end self.now →
             IsTrue (is_some result.0) }
     {
-        let first = self.numbers().first_unacknowledged;
-        let end = self.buffer.numbers_end();
-        if self.asks() {
-            return (Some((first, first + 1)), false);
+        if self.asks(numbers) {
+            let first = self.numbers().first_unacknowledged;
+            // That it fits shows that the next number does: something waits.
+            let _end = self.buffer.numbers_end();
+            return (Some((first, first + 1)), Sending::WindowProbe);
         }
-        let limit = self.peer_window.send_limit(end);
-        let next = self.next_range(limit, congestion_window);
+        let next = self.next_range(numbers, congestion_window);
         if next.is_some() || !self.is_overdue {
-            return (next, false);
+            return (next, Sending::Segment);
         }
-        (self.next_probe(limit), true)
+        (self.next_probe(), Sending::TailProbe)
     }
 
-    /// Returns what a probe for an answer sends below a limit.
-    fn next_probe(&self, limit: u64) -> Option<(u64, u64)>
-        ensures within { IfSome result (λ r. (r.0 < r.1) × (r.1 ≤ limit) × (first self.now ≤ r.0)) }
-        ensures value { (highest : ℕ) (hole : Option (ℕ × ℕ)) →
-            IsProbed self.now limit highest hole → result ≡ probe_of self.now limit highest hole }
+    /// Returns whether the next segment is a probe of a window that is shut.
+    ///
+    /// A function of its own, since `choose` is proved by what it says of the end.
+    fn asks(&self, numbers: SentNumbers) -> bool
+        requires { numbers ≡ numbers_of self.now.sender }
+        ensures { result ≡ asks self.now }
     {
-        self.buffer.next_probe(limit, self.segment_size)
+        self.is_window_probe_due && self.is_shut(numbers)
     }
 
-    /// Returns what the recovery sends next below a limit, unless that is held back.
-    fn next_range(&self, limit: u64, congestion_window: u64) -> Option<(u64, u64)>
-        ensures next { (lost others : Option (ℕ × ℕ)) → AreHoles self.now limit lost others →
-            result ≡ due_of self.now (found self.now limit congestion_window lost others) }
-        ensures within { IfSome result (λ r. (r.0 < r.1) × (r.1 ≤ limit) × (first self.now ≤ r.0)) }
+    /// Returns what a probe for an answer sends below the peer's edge.
+    ///
+    /// A function of its own, as `next_range` is.
+    fn next_probe(&self) -> Option<(u64, u64)>
+        ensures within { IfSome result (λ r. (r.0 < r.1) × (r.1 ≤ open_to self.now)
+            × (first self.now ≤ r.0)) }
+        ensures value { (highest : ℕ) (hole : Option (ℕ × ℕ)) →
+            IsProbed self.now (open_to self.now) highest hole →
+            result ≡ probe_of self.now (open_to self.now) highest hole }
+    {
+        self.buffer
+            .next_probe(self.peer_window.edge(), self.segment_size)
+    }
+
+    /// Returns what the recovery sends next below the peer's edge, unless that is held back.
+    ///
+    /// A function of its own, since its clauses say it by the end, and those of the buffer by the buffer.
+    fn next_range(&self, numbers: SentNumbers, congestion_window: u64) -> Option<(u64, u64)>
+        requires { numbers ≡ numbers_of self.now.sender }
+        ensures next { (lost others : Option (ℕ × ℕ)) →
+            AreHoles self.now (open_to self.now) lost others → result ≡ due_of self.now
+            (found self.now (open_to self.now) congestion_window lost others) }
+        ensures within { IfSome result (λ r. (r.0 < r.1) × (r.1 ≤ open_to self.now)
+            × (first self.now ≤ r.0)) }
         ensures due { IfSome result (λ r. IsTrue (is_due self.now r.0 r.1)) }
         ensures late { IsTrue (hurries self.now) →
             IsFalse (is_active self.now.recovery (first self.now)) →
-            first self.now ≡ self.now.sender.sent → first self.now < limit →
+            first self.now ≡ self.now.sender.sent → first self.now < open_to self.now →
             IsTrue (is_some result) }
     {
-        let Some((from, to)) = self
-            .buffer
-            .next(limit, congestion_window, self.segment_size)
+        let Some((from, to)) = self.buffer.next(
+            self.peer_window.edge(),
+            congestion_window,
+            self.segment_size,
+        )
         else {
             return None;
         };
-        if self.is_due(from, to) {
+        if self.is_due(numbers, from, to) {
             Some((from, to))
         } else {
             None
         }
     }
 
-    /// Returns whether a range isn't held back: the timer asks for it, it was sent before, or it is worth a segment.
-    fn is_due(&self, from: u64, to: u64) -> bool
+    /// Returns whether a range isn't held back: the timer asks for a segment, the range was sent before, or it is worth
+    /// a segment.
+    ///
+    /// A function of its own, as the next three are, since the prover goes by one value of true or false at a time.
+    fn is_due(&self, numbers: SentNumbers, from: u64, to: u64) -> bool
+        requires { numbers ≡ numbers_of self.now.sender }
         ensures { result ≡ is_due self.now from to }
     {
-        self.hurries() || from < self.numbers().sent || self.is_worth(from, to)
+        self.hurries() || from < numbers.sent || self.is_worth(numbers, from, to)
     }
 
     /// Returns whether the timer asks for a segment.
@@ -760,11 +832,12 @@ impl<F: StreamSender, const N: usize> SendingEndOver<F, N> {
 
     /// Returns whether a range is worth a segment (RFC 9293, 3.8.6.2.1): a whole one; or, unless Nagle's rule has it
     /// wait, all that is left, or half of the greatest window that the peer announced.
-    fn is_worth(&self, from: u64, to: u64) -> bool
+    fn is_worth(&self, numbers: SentNumbers, from: u64, to: u64) -> bool
+        requires { numbers ≡ numbers_of self.now.sender }
         ensures { result ≡ is_worth self.now from to }
     {
         let is_whole = self.segment_size as u64 <= to.saturating_sub(from);
-        is_whole || self.is_enough(from, to) && !self.delays()
+        is_whole || self.is_enough(from, to) && !self.delays(numbers)
     }
 
     /// Returns whether a range is all that is left, or half of the greatest window that the peer announced.
@@ -777,49 +850,42 @@ impl<F: StreamSender, const N: usize> SendingEndOver<F, N> {
 
     /// Returns whether less than a whole segment waits, by Nagle's rule: something is in flight, and the stream isn't
     /// closed.
-    fn delays(&self) -> bool
+    fn delays(&self, numbers: SentNumbers) -> bool
+        requires { numbers ≡ numbers_of self.now.sender }
         ensures { result ≡ delays self.now }
     {
-        let numbers = self.numbers();
         self.nagle && numbers.first_unacknowledged < numbers.sent && !self.buffer.is_closed()
     }
 
     /// Starts the timer, unless it runs, if anything that was written isn't acknowledged.
-    fn wait(&mut self, now: Instant)
+    ///
+    /// A function of its own, as `mark` is, since each of them is one event of the end.
+    fn wait(&mut self, numbers: SentNumbers, now: Instant)
+        requires { numbers ≡ numbers_of self.old.sender }
         ensures { self.new ≡ record self.old { timer = waiting self.old now } }
     {
-        if self.buffer.numbers().first_unacknowledged < self.buffer.numbers_end() {
+        if numbers.first_unacknowledged < self.buffer.numbers_end() {
             self.timer.start(now);
         }
     }
 
-    /// Takes notice that a range is sent: `asks` of a shut window, or as a probe, or neither.
-    fn mark(&mut self, from: u64, to: u64, asks: bool, is_probe: bool, now: Instant)
+    /// Takes notice that a range is sent, and why.
+    fn mark(&mut self, numbers: SentNumbers, from: u64, to: u64, sending: Sending, now: Instant)
+        requires { numbers ≡ numbers_of self.old.sender }
         ensures { self.new ≡ record self.old {
           sender = sender_after_command self.old.sender (Marks to);
-          recovery = after_segment (numbers_of self.old.sender) from to asks is_probe
-              self.old.recovery;
+          recovery = after_segment (numbers_of self.old.sender) from to
+              (is_window_probe sending) (is_tail_probe sending) self.old.recovery;
           timer = after_sending self.old.bounds from to (first self.old) self.old.sender.sent
               now self.old.timer;
           probes = false;
           overdue = false;
         } }
     {
-        self.clock(from, to, now);
+        self.timer.sent(self.bounds, from..to, numbers, now);
         self.is_window_probe_due = false;
         self.is_overdue = false;
-        self.buffer.mark(from, to, asks, is_probe);
-    }
-
-    /// Tells the timer what is sent.
-    fn clock(&mut self, from: u64, to: u64, now: Instant)
-        ensures { self.new ≡ record self.old {
-          timer = after_sending self.old.bounds from to (first self.old) self.old.sender.sent
-              now self.old.timer;
-        } }
-    {
-        let numbers = self.numbers();
-        self.timer.sent(self.bounds, from..to, numbers, now);
+        self.buffer.mark_at(numbers, from, to, sending);
     }
 
     /// Returns the segment that is to be sent now, and takes notice that it is: if the peer's window and the congestion
@@ -867,19 +933,18 @@ impl<F: StreamSender, const N: usize> SendingEndOver<F, N> {
             ≡ after_segment (numbers_of self.old.sender) r.pos r.end (asks self.old) probe
             self.old.recovery)) }
     {
-        let sent = self.numbers().sent;
-        let (chosen, is_probe) = self.choose(congestion_window);
-        let asks = self.asks();
+        let numbers = self.numbers();
+        let (chosen, sending) = self.choose(numbers, congestion_window);
         let Some((from, to)) = chosen else {
             // Not before something is sent: what `start` starts has no probe.
-            self.wait(now);
+            self.wait(numbers, now);
             return None;
         };
-        self.mark(from, to, asks, is_probe, now);
+        self.mark(numbers, from, to, sending, now);
         Some(Outgoing {
             pos: from,
             end: to,
-            is_again: from < sent,
+            is_again: from < numbers.sent,
         })
     }
 
@@ -965,24 +1030,6 @@ impl<F: StreamSender, const N: usize> SendingEndOver<F, N> {
     }
 }
 
-/// Tells the timer what was acknowledged, and whether a block reported what wasn't known.
-fn tell(
-    timer: &mut RetransmissionTimer,
-    bounds: TimeoutBounds,
-    numbers: SentNumbers,
-    ack: u64,
-    reports: bool,
-    now: Instant,
-)
-    ensures { timer.new ≡ told reports now
-        (after_acknowledged bounds numbers.first_unacknowledged numbers.sent ack now timer.old) }
-{
-    timer.acknowledged(bounds, numbers, ack, now);
-    if reports {
-        timer.reported(now);
-    }
-}
-
 /// Finds what is overdue, if it is sought, and returns whether a recovery begins.
 fn seek<F: StreamSender, const N: usize>(buffer: &mut SendBufferOver<F, N>, is_sought: bool) -> bool
     ensures state { buffer.new ≡ record buffer.old { recovery = buffer.new.recovery } }
@@ -996,7 +1043,12 @@ fn seek<F: StreamSender, const N: usize>(buffer: &mut SendBufferOver<F, N>, is_s
 }
 
 /// Takes the window that is announced. Returns the greatest one so far.
-fn take_window(peer: &mut PeerWindow, greatest: u64, numbers: SentNumbers, it: Announcement) -> u64
+fn greatest_after_update(
+    peer: &mut PeerWindow,
+    greatest: u64,
+    numbers: SentNumbers,
+    it: Announcement,
+) -> u64
     ensures value { result ≡ greatest_of peer.old greatest numbers.first_unacknowledged numbers.sent
         it.seq it.ack it.window }
     ensures state { peer.new ≡ after_update peer.old numbers.first_unacknowledged numbers.sent
@@ -1006,5 +1058,16 @@ fn take_window(peer: &mut PeerWindow, greatest: u64, numbers: SentNumbers, it: A
         greatest.max(it.window)
     } else {
         greatest
+    }
+}
+
+/// Returns the kind of an acknowledgement that only repeats the last, or that doesn't.
+fn kind_of(repeats: bool) -> AckKind
+    ensures { is_repeat result ≡ repeats }
+{
+    if repeats {
+        AckKind::Repeat
+    } else {
+        AckKind::Other
     }
 }

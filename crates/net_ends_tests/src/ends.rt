@@ -3,16 +3,33 @@ ghost use Rattle.std.specs.Prelude.{◌≡◌, ◌<◌, ◌≤◌, ℕ, List, Is
 ghost use Rattle.net_receiver.specs.Finite.{MatchesFinite, acknowledged};
 ghost use Rattle.net_receiver.specs.FiniteSender.{IsSoundSent};
 ghost use Rattle.net_ends.specs.Ends.{IsUnacknowledged, rest, runs, Event, small_sends, expiries, has_timed_out};
+ghost use Rattle.net_ends.specs.Buffers.{remaining};
 ghost use Rattle.net_ends.specs.Ends.{first, end};
 ghost use Rattle.net_ends.specs.Receiving.{IsSoundReceiving};
 
 use net_base::time::Instant;
 use net_ends::{
-    Acknowledged, Acknowledgement, Outgoing, ReceivingEnd, ReceivingEndOver, SendingEndOver,
-    StreamSender, laws, receiving_end,
+    Acknowledged, Acknowledgement, Outgoing, ReceivingEnd, ReceivingEndOver, SendBufferOver, Sending,
+    SendingEndOver, StreamSender, laws, receiving_end,
 };
 use net_ring::{ManagedSlice, Storage};
 use net_tcp::Announcement;
+
+/// Sends all that a buffer has below a limit. Whatever the limit is, the loop ends: by clause `ends` of `next` each range
+/// leaves less that may be sent before an answer.
+pub fn send_all<F: StreamSender, const N: usize>(
+    buffer: &mut SendBufferOver<F, N>,
+    limit: u64,
+    congestion_window: u64,
+    segment_size: usize,
+)
+    ensures { remaining buffer.new ≤ remaining buffer.old }
+{
+    // The label is the loop's name in its proof.
+    'sending: while let Some((from, to)) = buffer.next(limit, congestion_window, segment_size) {
+        buffer.mark(from, to, Sending::Segment);
+    }
+}
 
 /// Takes an acknowledgement, and returns when the timer ends. It runs while something that was sent isn't acknowledged,
 /// if it did before.

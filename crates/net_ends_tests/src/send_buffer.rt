@@ -1,5 +1,5 @@
 //! A send buffer: what is sent, what is lost, and what is done.
-use net_ends::SendBufferOver;
+use net_ends::{AckKind, SendBufferOver, Sending, TakenAck};
 use net_receiver::{FiniteSenderOver, SentNumbers};
 
 /// The numbers once all of a stream was sent that has four bytes from position 7 on.
@@ -20,7 +20,7 @@ fn writes(buffer: &mut Buffer<'_>) -> bool {
 /// Sends the next segment of two bytes, and returns whether it is this one.
 fn sends(buffer: &mut Buffer<'_>, from: u64, to: u64) -> bool {
     let is_next = buffer.next(12, 10, 2) == Some((from, to));
-    buffer.mark(from, to, false, false);
+    buffer.mark(from, to, Sending::Segment);
     is_next
 }
 
@@ -32,7 +32,12 @@ fn sends_all(buffer: &mut Buffer<'_>) -> bool {
 /// Takes a report of the second segment. Returns whether it is new.
 fn takes_a_report(buffer: &mut Buffer<'_>) -> bool {
     buffer.expect_reports(true);
-    buffer.acknowledge(7, &[(9, 11)], 2, true, false) == Some((true, false))
+    let taken = TakenAck {
+        new: 0,
+        reports: true,
+        begins: false,
+    };
+    buffer.acknowledge(7, &[(9, 11)], 2, AckKind::Other) == Some(taken)
         && buffer.contains(9)
         && !buffer.is_blind()
         && !buffer.is_recovering()
@@ -49,8 +54,13 @@ fn finds_it_overdue(buffer: &mut Buffer<'_>) -> bool {
 /// Loses all, and takes an acknowledgement of all. Returns whether the stream is done.
 fn is_done_at_last(buffer: &mut Buffer<'_>) -> bool {
     buffer.lose_all();
+    let taken = TakenAck {
+        new: 5,
+        reports: false,
+        begins: false,
+    };
     buffer.next(12, 10, 2) == Some((7, 9))
-        && buffer.acknowledge(12, &[], 2, true, true) == Some((false, false))
+        && buffer.acknowledge(12, &[], 2, AckKind::Repeat) == Some(taken)
         && buffer.is_done()
 }
 

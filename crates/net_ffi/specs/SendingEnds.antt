@@ -170,7 +170,7 @@ pub record Hears (e : End) (seq ack window : ℕ) (bs : List (ℕ × ℕ)) (empt
       reports_of said ≡ (reported_by 16 e.sender.sent e.reported ack bs).1
   pub recovery : IsTrue (accepts e.sender ack) →
       Recovers 16 e.size (numbers_of e.sender) (unsent_of e.sender e.reported e.recovery) e.reported e.recovery ack bs
-      empty (window == e.last) (reports_of said) left.recovery (begins_of said)
+      (empty && (window == e.last)) (reports_of said) left.recovery (begins_of said)
   pub unchanged : IsFalse (accepts e.sender ack) → left ≡ e
 
 -- ---- the timer

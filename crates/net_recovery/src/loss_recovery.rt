@@ -1,4 +1,18 @@
 //! What a sender sends next where segments are lost.
+//!
+//! Of a recovery, with the numbers' names in RFC 6675 and RFC 8985:
+//!
+//! ```text
+//!   acknowledged | sent again in | to be sent | sent again, left  | to be sent | in flight | never sent
+//!                | this pass     | again      | out of this pass  | again      |           |
+//!              first           again        turn                resume        lost        sent
+//! ```
+//!
+//! Each of these may be at or above the next one, where that part has no number. `first` is SND.UNA, `sent` HighData + 1,
+//! and `again` HighRxt + 1. The recovery lasts while `first` is below `until`, the RecoveryPoint. `duplicates` is
+//! DupThresh, and `round` RACK.dsack_round, up to which it stays. `probe` is a tail loss probe's first number, and
+//! `asked` TLP.end_seq. Only what isn't reported is sent again: the parts above are of the numbers that the scoreboard
+//! lacks.
 ghost use Rattle.std.specs.Prelude.{◌≡◌, ℕ, ◌+◌, ◌<◌, ◌≤◌, ◌-◌, ◌&&◌, min, max, Option, IfSome, not, nat_lt};
 ghost use Rattle.std.specs.Prelude.{IsTrue, IsFalse, is_some, if◌then◌else◌};
 ghost use Rattle.net_receiver.specs.Scoreboards.{IsHole, IsLossBound, IsEnd};
@@ -796,6 +810,8 @@ impl LossRecovery {
             first ≡ numbers.sent → first < limit → IsTrue (begins_at first result) }
         ensures after { numbers.first_unacknowledged ≤ numbers.sent →
             IfSome result (λ segment. numbers.first_unacknowledged ≤ segment.0) }
+        ensures fresh { IsFalse (is_active self.now numbers.first_unacknowledged) →
+            IfSome result (λ segment. segment.0 ≡ numbers.sent) }
     {
         let Some((start, end)) = self.next_range(numbers, scoreboard, limit) else {
             return None;
@@ -836,6 +852,8 @@ impl LossRecovery {
             first ≡ numbers.sent → first < limit → IsTrue (begins_at first result) }
         ensures after { numbers.first_unacknowledged ≤ numbers.sent →
             IfSome result (λ range. numbers.first_unacknowledged ≤ range.0) }
+        ensures fresh { IsFalse (is_active self.now numbers.first_unacknowledged) →
+            IfSome result (λ range. range.0 ≡ numbers.sent) }
     {
         if !self.is_active(numbers) {
             return unsent(numbers.sent, limit);

@@ -25,6 +25,23 @@ pub type ReceivingEnd<'a, const N: usize> = ReceivingEndOver<ManagedSlice<'a, u8
 
 /// A [`ReceivingEnd`] over any storage: a receiver, and what it announced.
 ///
+/// ```
+/// use net_base::ends::ReceivingEnd;
+///
+/// let mut storage = [0u8; 64];
+/// let mut receiving = ReceivingEnd::<4>::empty_at(&mut storage[..], 100, 8);
+/// assert_eq!(receiving.open(100, 0), 64);
+/// // The second segment comes first: it is answered at once, and reported.
+/// assert!(receiving.arrived(108, b"bytes ok", true).is_ok() && receiving.is_due());
+/// let it = receiving.acknowledgement();
+/// assert_eq!((it.next, it.window, it.blocks[0]), (100, 64, Some((108, 116))));
+/// assert!(receiving.arrived(100, b"sixteen ", false).is_ok());
+/// let mut bytes = [0; 64];
+/// assert_eq!(receiving.read(&mut bytes), 16);
+/// assert!(receiving.receiver().has_read_all() && receiving.is_due());
+/// assert_eq!(receiving.acknowledgement().next, 117);
+/// ```
+///
 /// Contracts: `crates/net_ends/src/receiving_end.rt`.
 pub struct ReceivingEndOver<S: Storage<u8>, const N: usize> {
     receiver: FiniteReceiverOver<S, N>,

@@ -1,8 +1,17 @@
 // Written by tools/erase.py from crates/net_ends/src/sending_end.rt: a change here would be lost.
 //! What sends a stream that ends.
+//!
+//! ```text
+//!   acknowledged  |  in flight, lost or reported  |  written, never sent  |  room to write
+//!               first                            sent                    end
+//! ```
+//!
+//! `first` is TCP's SND.UNA, `sent` its SND.NXT (SND.MAX, where something is sent again), and `end` is after the last
+//! byte, and after the end of the stream once it is closed. The peer's `edge`, SND.UNA + SND.WND, can be anywhere: what
+//! is sent ends at it, but for a probe, which is the number at `first` alone.
 
 use crate::rattle::prelude::*;
-use crate::ends::send_buffer::{BufferParts, SendBufferOver};
+use crate::ends::send_buffer::{AckKind, BufferParts, SendBufferOver, Sending, TakenAck};
 use crate::ends::stream_sender::StreamSender;
 use crate::time::{Duration, Instant};
 use crate::stream::{FiniteSender, FiniteSenderOver, SentNumbers};
@@ -100,6 +109,39 @@ pub struct SendingParts<const N: usize> {
 pub type SendingEnd<'a, const N: usize> = SendingEndOver<FiniteSender<'a>, N>;
 
 /// A [`SendingEnd`] over any sender: a buffer, a timer and the peer's window.
+///
+/// ```
+/// use net_base::ends::{Acknowledged, Expired, SendingEnd};
+/// use net_base::tcp::{Announcement, TimeoutBounds};
+/// use net_base::time::{Duration, Instant};
+///
+/// let second = Duration::from_secs(1);
+/// let bounds = TimeoutBounds::default();
+/// let mut storage = [0u8; 64];
+/// let mut sending = SendingEnd::<4>::new_at(&mut storage[..], 100, second, bounds);
+/// // The peer's SYN announces a window of 1000 bytes, and agrees to SACK. A segment has at most 8 bytes.
+/// let mut now = Instant::ZERO;
+/// sending.open(Announcement { seq: 1, ack: 100, window: 1000 }, 8, true, now);
+/// assert_eq!(sending.write(b"sixteen bytes ok"), 16);
+/// let mut segments = Vec::new();
+/// while let Some(it) = sending.next_segment(1200, now) {
+///     let (front, back, _is_last) = sending.bytes(it.pos, it.end);
+///     segments.push((it.pos, [front, back].concat()));
+/// }
+/// assert_eq!(segments, [(100, b"sixteen ".to_vec()), (108, b"bytes ok".to_vec())]);
+/// // An acknowledgement of the first one.
+/// now += Duration::from_millis(100);
+/// let it = Announcement { seq: 1, ack: 108, window: 1000 };
+/// let taken = sending.acknowledged(it, &[], true, now);
+/// assert_eq!(taken, Acknowledged::Taken { new: 8, reports: false, begins: false });
+/// // None of the second one: when the timer ends, a probe asks for one, and in the end all is lost.
+/// while sending.expired(now) != Expired::Lost {
+///     let _segment_to_send = sending.next_segment(1200, now);
+///     now = sending.expires_at().expect("something is in flight");
+/// }
+/// let it = sending.next_segment(8, now).expect("what was lost");
+/// assert_eq!((it.pos, it.end, it.is_again), (108, 116, true));
+/// ```
 ///
 /// Contracts: `crates/net_ends/src/sending_end.rt`.
 pub struct SendingEndOver<F: StreamSender, const N: usize> {
@@ -315,38 +357,49 @@ impl<F: StreamSender, const N: usize> SendingEndOver<F, N> {
         now: Instant,
     ) -> Acknowledged {
         let numbers = self.numbers();
-        if !self.is_acceptable(it.ack) {
+        if !self.is_acceptable(numbers, it.ack) {
             return Acknowledged::Refused;
         }
-        let is_same = it.window == self.last_window;
-        let Some((reports, begins)) = self.hear(it.ack, blocks, is_empty, is_same) else {
+        let repeats = self.only_repeats(is_empty, it.window);
+        let Some(taken) = self.hear(it.ack, blocks, repeats) else {
             return Acknowledged::Old;
         };
-        self.take(numbers, it, reports, now);
+        self.take(numbers, it, taken.reports, now);
         Acknowledged::Taken {
             new: it.ack - numbers.first_unacknowledged,
-            reports,
-            begins,
+            reports: taken.reports,
+            begins: taken.begins,
         }
     }
 
-    /// Has the buffer take an acknowledgement. Returns `None` if it doesn't; else whether a block reports what wasn't
-    /// known, and whether a recovery begins.
-    fn hear(
-        &mut self,
-        ack: u64,
-        blocks: &[(u64, u64)],
-        is_empty: bool,
-        is_same: bool,
-    ) -> Option<(bool, bool)> {
+    /// Returns whether a segment may acknowledge that.
+    ///
+    /// A function of its own, since `acknowledged` is proved by what it says of the end.
+    fn is_acceptable(&self, numbers: SentNumbers, ack: u64) -> bool {
+        is_acknowledgement(numbers, self.greatest_window, ack)
+    }
+
+    /// Returns whether a segment that announces a window only repeats the last acknowledgement.
+    fn only_repeats(&self, is_empty: bool, window: u64) -> bool {
+        is_empty && window == self.last_window
+    }
+
+    /// Has the buffer take an acknowledgement, as `SendBufferOver::acknowledge` says.
+    ///
+    /// A function of its own, since its clauses say by the end what those of the buffer say by the buffer: without it
+    /// the check of `acknowledged` didn't end in ten minutes.
+    fn hear(&mut self, ack: u64, blocks: &[(u64, u64)], repeats: bool) -> Option<TakenAck> {
+        let kind = kind_of(repeats);
         self.buffer
-            .acknowledge(ack, blocks, self.segment_size, is_empty, is_same)
+            .acknowledge(ack, blocks, self.segment_size, kind)
     }
 
     /// Takes the window of an acknowledgement that the buffer has taken, and tells the timer.
+    ///
+    /// A function of its own, since `acknowledged` is one event of the end, and this its half beside the buffer.
     fn take(&mut self, numbers: SentNumbers, it: Announcement, reports: bool, now: Instant) {
         self.take_window(numbers, it);
-        self.time(numbers, it.ack, reports, now);
+        self.tell_timer(numbers, it.ack, reports, now);
     }
 
     /// Returns the first number that isn't acknowledged, near which those of an acknowledgement are, and the one after
@@ -356,23 +409,11 @@ impl<F: StreamSender, const N: usize> SendingEndOver<F, N> {
         self.buffer.numbers()
     }
 
-    /// Returns whether a segment may acknowledge that.
-    fn is_acceptable(&self, ack: u64) -> bool {
-        is_acknowledgement(self.buffer.numbers(), self.greatest_window, ack)
-    }
-
-    /// Stops the timer of the SYN, if this is the first acknowledgement and nothing is in flight.
-    fn synchronize(&mut self, numbers: SentNumbers) {
-        if !self.is_open && numbers.sent <= numbers.first_unacknowledged {
-            self.timer.stop();
-        }
-        self.is_open = true;
-    }
-
-    /// Takes the window that is announced, and that a peer answers.
+    /// Takes the window that an acknowledgement announces. If it is the first one and nothing is in flight, the timer of
+    /// the SYN stops.
     fn take_window(&mut self, numbers: SentNumbers, it: Announcement) {
         self.synchronize(numbers);
-        self.greatest_window = take_window(
+        self.greatest_window = greatest_after_update(
             &mut self.peer_window,
             self.greatest_window,
             numbers,
@@ -381,19 +422,28 @@ impl<F: StreamSender, const N: usize> SendingEndOver<F, N> {
         self.last_window = it.window;
     }
 
-    /// Takes the sample of a timed segment that is reported, and tells the timer what was acknowledged, and whether a
-    /// block reported what wasn't known.
-    fn time(&mut self, numbers: SentNumbers, ack: u64, reports: bool, now: Instant) {
-        self.sample(now);
-        tell(&mut self.timer, self.bounds, numbers, ack, reports, now);
+    /// Stops the timer of the SYN, if this is the first acknowledgement and nothing is in flight.
+    ///
+    /// A function of its own, as `greatest_after_update` is, since each has a branch, and the prover joins the branches
+    /// of a whole end only by hand.
+    fn synchronize(&mut self, numbers: SentNumbers) {
+        if !self.is_open && numbers.sent <= numbers.first_unacknowledged {
+            self.timer.stop();
+        }
+        self.is_open = true;
     }
 
-    /// Takes the sample of a timed segment that is reported.
-    fn sample(&mut self, now: Instant) {
+    /// Takes the sample of a timed segment that is reported, and tells the timer what was acknowledged, and whether a
+    /// block reported what wasn't known.
+    fn tell_timer(&mut self, numbers: SentNumbers, ack: u64, reports: bool, now: Instant) {
         if let Some(segment) = self.timer.timed() {
             if self.buffer.contains(segment.pos) {
                 self.timer.take_sample(self.bounds, now);
             }
+        }
+        self.timer.acknowledged(self.bounds, numbers, ack, now);
+        if reports {
+            self.timer.reported(now);
         }
     }
 
@@ -426,15 +476,17 @@ impl<F: StreamSender, const N: usize> SendingEndOver<F, N> {
 
     /// Returns whether what is overdue is sought, where the timer's probe is due.
     fn is_sought(&self) -> bool {
-        !self.buffer.is_blind() && !self.is_shut()
+        !self.buffer.is_blind() && !self.is_shut(self.numbers())
     }
 
     /// Loses all that was sent and isn't reported.
     fn take_timeout(&mut self) -> Expired {
+        let numbers = self.numbers();
+        let is_shut = self.is_shut(numbers);
         self.buffer.lose_all();
         self.is_window_probe_due = true;
         self.is_overdue = false;
-        if self.is_shut() || self.flight_size() == 0 {
+        if is_shut || numbers.flight_size() == 0 {
             Expired::Probe
         } else {
             Expired::Lost
@@ -442,57 +494,67 @@ impl<F: StreamSender, const N: usize> SendingEndOver<F, N> {
     }
 
     /// Returns whether the peer's window is shut, and something waits.
-    fn is_shut(&self) -> bool {
-        self.peer_window.is_probe_allowed(
-            self.buffer.numbers().first_unacknowledged,
-            self.buffer.numbers_end(),
-        )
+    fn is_shut(&self, numbers: SentNumbers) -> bool {
+        self.peer_window
+            .is_probe_allowed(numbers.first_unacknowledged, self.buffer.numbers_end())
+    }
+
+    /// Returns the range that is to be sent next, and why: of a window that is shut a probe, once the timeout has
+    /// passed; else what `next_range` returns; and else, where no answer came, a probe for one.
+    fn choose(&self, numbers: SentNumbers, congestion_window: u64) -> (Option<(u64, u64)>, Sending) {
+        if self.asks(numbers) {
+            let first = self.numbers().first_unacknowledged;
+            // That it fits shows that the next number does: something waits.
+            let _end = self.buffer.numbers_end();
+            return (Some((first, first + 1)), Sending::WindowProbe);
+        }
+        let next = self.next_range(numbers, congestion_window);
+        if next.is_some() || !self.is_overdue {
+            return (next, Sending::Segment);
+        }
+        (self.next_probe(), Sending::TailProbe)
     }
 
     /// Returns whether the next segment is a probe of a window that is shut.
-    fn asks(&self) -> bool {
-        self.is_window_probe_due && self.is_shut()
+    ///
+    /// A function of its own, since `choose` is proved by what it says of the end.
+    fn asks(&self, numbers: SentNumbers) -> bool {
+        self.is_window_probe_due && self.is_shut(numbers)
     }
 
-    /// Returns the range that is to be sent next, if the peer's window and the congestion window have room for one; and
-    /// else, where no answer came, a probe, and true.
-    fn choose(&self, congestion_window: u64) -> (Option<(u64, u64)>, bool) {
-        let first = self.numbers().first_unacknowledged;
-        let end = self.buffer.numbers_end();
-        if self.asks() {
-            return (Some((first, first + 1)), false);
-        }
-        let limit = self.peer_window.send_limit(end);
-        let next = self.next_range(limit, congestion_window);
-        if next.is_some() || !self.is_overdue {
-            return (next, false);
-        }
-        (self.next_probe(limit), true)
+    /// Returns what a probe for an answer sends below the peer's edge.
+    ///
+    /// A function of its own, as `next_range` is.
+    fn next_probe(&self) -> Option<(u64, u64)> {
+        self.buffer
+            .next_probe(self.peer_window.edge(), self.segment_size)
     }
 
-    /// Returns what a probe for an answer sends below a limit.
-    fn next_probe(&self, limit: u64) -> Option<(u64, u64)> {
-        self.buffer.next_probe(limit, self.segment_size)
-    }
-
-    /// Returns what the recovery sends next below a limit, unless that is held back.
-    fn next_range(&self, limit: u64, congestion_window: u64) -> Option<(u64, u64)> {
-        let Some((from, to)) = self
-            .buffer
-            .next(limit, congestion_window, self.segment_size)
+    /// Returns what the recovery sends next below the peer's edge, unless that is held back.
+    ///
+    /// A function of its own, since its clauses say it by the end, and those of the buffer by the buffer.
+    fn next_range(&self, numbers: SentNumbers, congestion_window: u64) -> Option<(u64, u64)> {
+        let Some((from, to)) = self.buffer.next(
+            self.peer_window.edge(),
+            congestion_window,
+            self.segment_size,
+        )
         else {
             return None;
         };
-        if self.is_due(from, to) {
+        if self.is_due(numbers, from, to) {
             Some((from, to))
         } else {
             None
         }
     }
 
-    /// Returns whether a range isn't held back: the timer asks for it, it was sent before, or it is worth a segment.
-    fn is_due(&self, from: u64, to: u64) -> bool {
-        self.hurries() || from < self.numbers().sent || self.is_worth(from, to)
+    /// Returns whether a range isn't held back: the timer asks for a segment, the range was sent before, or it is worth
+    /// a segment.
+    ///
+    /// A function of its own, as the next three are, since the prover goes by one value of true or false at a time.
+    fn is_due(&self, numbers: SentNumbers, from: u64, to: u64) -> bool {
+        self.hurries() || from < numbers.sent || self.is_worth(numbers, from, to)
     }
 
     /// Returns whether the timer asks for a segment.
@@ -502,9 +564,9 @@ impl<F: StreamSender, const N: usize> SendingEndOver<F, N> {
 
     /// Returns whether a range is worth a segment (RFC 9293, 3.8.6.2.1): a whole one; or, unless Nagle's rule has it
     /// wait, all that is left, or half of the greatest window that the peer announced.
-    fn is_worth(&self, from: u64, to: u64) -> bool {
+    fn is_worth(&self, numbers: SentNumbers, from: u64, to: u64) -> bool {
         let is_whole = self.segment_size as u64 <= to.saturating_sub(from);
-        is_whole || self.is_enough(from, to) && !self.delays()
+        is_whole || self.is_enough(from, to) && !self.delays(numbers)
     }
 
     /// Returns whether a range is all that is left, or half of the greatest window that the peer announced.
@@ -515,30 +577,25 @@ impl<F: StreamSender, const N: usize> SendingEndOver<F, N> {
 
     /// Returns whether less than a whole segment waits, by Nagle's rule: something is in flight, and the stream isn't
     /// closed.
-    fn delays(&self) -> bool {
-        let numbers = self.numbers();
+    fn delays(&self, numbers: SentNumbers) -> bool {
         self.nagle && numbers.first_unacknowledged < numbers.sent && !self.buffer.is_closed()
     }
 
     /// Starts the timer, unless it runs, if anything that was written isn't acknowledged.
-    fn wait(&mut self, now: Instant) {
-        if self.buffer.numbers().first_unacknowledged < self.buffer.numbers_end() {
+    ///
+    /// A function of its own, as `mark` is, since each of them is one event of the end.
+    fn wait(&mut self, numbers: SentNumbers, now: Instant) {
+        if numbers.first_unacknowledged < self.buffer.numbers_end() {
             self.timer.start(now);
         }
     }
 
-    /// Takes notice that a range is sent: `asks` of a shut window, or as a probe, or neither.
-    fn mark(&mut self, from: u64, to: u64, asks: bool, is_probe: bool, now: Instant) {
-        self.clock(from, to, now);
+    /// Takes notice that a range is sent, and why.
+    fn mark(&mut self, numbers: SentNumbers, from: u64, to: u64, sending: Sending, now: Instant) {
+        self.timer.sent(self.bounds, from..to, numbers, now);
         self.is_window_probe_due = false;
         self.is_overdue = false;
-        self.buffer.mark(from, to, asks, is_probe);
-    }
-
-    /// Tells the timer what is sent.
-    fn clock(&mut self, from: u64, to: u64, now: Instant) {
-        let numbers = self.numbers();
-        self.timer.sent(self.bounds, from..to, numbers, now);
+        self.buffer.mark_at(numbers, from, to, sending);
     }
 
     /// Returns the segment that is to be sent now, and takes notice that it is: if the peer's window and the congestion
@@ -547,19 +604,18 @@ impl<F: StreamSender, const N: usize> SendingEndOver<F, N> {
     /// Nagle's rule doesn't have it wait. Once the timer has ended, the next segment isn't held back. While anything
     /// that was written isn't acknowledged, the timer runs.
     pub fn next_segment(&mut self, congestion_window: u64, now: Instant) -> Option<Outgoing> {
-        let sent = self.numbers().sent;
-        let (chosen, is_probe) = self.choose(congestion_window);
-        let asks = self.asks();
+        let numbers = self.numbers();
+        let (chosen, sending) = self.choose(numbers, congestion_window);
         let Some((from, to)) = chosen else {
             // Not before something is sent: what `start` starts has no probe.
-            self.wait(now);
+            self.wait(numbers, now);
             return None;
         };
-        self.mark(from, to, asks, is_probe, now);
+        self.mark(numbers, from, to, sending, now);
         Some(Outgoing {
             pos: from,
             end: to,
-            is_again: from < sent,
+            is_again: from < numbers.sent,
         })
     }
 
@@ -626,31 +682,30 @@ impl<F: StreamSender, const N: usize> SendingEndOver<F, N> {
     }
 }
 
-/// Tells the timer what was acknowledged, and whether a block reported what wasn't known.
-fn tell(
-    timer: &mut RetransmissionTimer,
-    bounds: TimeoutBounds,
-    numbers: SentNumbers,
-    ack: u64,
-    reports: bool,
-    now: Instant,
-) {
-    timer.acknowledged(bounds, numbers, ack, now);
-    if reports {
-        timer.reported(now);
-    }
-}
-
 /// Finds what is overdue, if it is sought, and returns whether a recovery begins.
 fn seek<F: StreamSender, const N: usize>(buffer: &mut SendBufferOver<F, N>, is_sought: bool) -> bool {
     is_sought && buffer.find_overdue()
 }
 
 /// Takes the window that is announced. Returns the greatest one so far.
-fn take_window(peer: &mut PeerWindow, greatest: u64, numbers: SentNumbers, it: Announcement) -> u64 {
+fn greatest_after_update(
+    peer: &mut PeerWindow,
+    greatest: u64,
+    numbers: SentNumbers,
+    it: Announcement,
+) -> u64 {
     if peer.update(numbers, it) {
         greatest.max(it.window)
     } else {
         greatest
+    }
+}
+
+/// Returns the kind of an acknowledgement that only repeats the last, or that doesn't.
+fn kind_of(repeats: bool) -> AckKind {
+    if repeats {
+        AckKind::Repeat
+    } else {
+        AckKind::Other
     }
 }

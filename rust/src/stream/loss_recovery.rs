@@ -1,5 +1,19 @@
 // Written by tools/erase.py from crates/net_recovery/src/loss_recovery.rt: a change here would be lost.
 //! What a sender sends next where segments are lost.
+//!
+//! Of a recovery, with the numbers' names in RFC 6675 and RFC 8985:
+//!
+//! ```text
+//!   acknowledged | sent again in | to be sent | sent again, left  | to be sent | in flight | never sent
+//!                | this pass     | again      | out of this pass  | again      |           |
+//!              first           again        turn                resume        lost        sent
+//! ```
+//!
+//! Each of these may be at or above the next one, where that part has no number. `first` is SND.UNA, `sent` HighData + 1,
+//! and `again` HighRxt + 1. The recovery lasts while `first` is below `until`, the RecoveryPoint. `duplicates` is
+//! DupThresh, and `round` RACK.dsack_round, up to which it stays. `probe` is a tail loss probe's first number, and
+//! `asked` TLP.end_seq. Only what isn't reported is sent again: the parts above are of the numbers that the scoreboard
+//! lacks.
 
 use crate::stream::{Scoreboard, SentNumbers};
 use crate::rattle::std::ops::Range;
