@@ -7,7 +7,8 @@
 //! [`sender::Sender`], which stores bytes until they are acknowledged, the same for streams that end ([`finite`]),
 //! [`scoreboard::Scoreboard`], which says what to send again, [`sequence_number::SequenceNumber`], TCP's numbers that wrap,
 //! the small machines of [`tcp`], and [`storage::Assembler`]s of any number of runs. [`ends`] has all of these as the two
-//! ends of a connection, and "A TCP from these parts" in README the order of their calls.
+//! ends of a connection, and "A TCP from these parts" in README the order of their calls. For a stream of QUIC there are
+//! [`finite::FiniteReceiver`] and [`ends::SendBuffer`].
 //!
 //! ```
 //! use net_base::receiver::Receiver;
