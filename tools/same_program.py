@@ -69,18 +69,22 @@ ALONE = re.compile('|'.join([
       for name in names if name != given.SCHEDULE),
     *(rf'{file.replace("/", "::")}::(?:\w+::)?{name}: not compiled' for file, names in given.UNCALLED.items()
       for name in names)]))
-# What isn't understood: a text of a number with a width; and of the program what calls a list or a text by hand, takes
-# a part of an array, lists texts, or drops a value of several variants; and of a receiving end a binding beside a
-# guard.
-LEFT = re.compile('|'.join(['net_ends::receiving_end::ReceivingEndOver::reported: returned: .*',
-    r'net_base::time::(?:duration::Duration|instant::Instant)::text: a width',
-    r'net_bench_lib::program::tell: proved: Write\.write_fmt; .*', r'net_bench_lib::stream::fits: proved: Vec\.len; .*',
-    r'net_bench_lib::stream::StreamSession::(?:command|next_schedule): compiled: drops .*',
-    'net_bench_lib::bench::run_lines: a part of .*',
-    'net_bench_lib::(?:mode::Mode::from_words|stream::reply_lines::show_kept): size of .*',
-    'net_bench_lib::ring::ring_line: .* KeyError: .*']))
-
-
+# What isn't understood, and was read: a text of a number with a width; and of the program what calls a list or a text
+# by hand, takes a part of an array, lists texts, or drops a value of several variants; and of a receiving end a
+# binding beside a guard. Of each what is said of it, and the digest of both texts as they were read.
+LEFT = {
+    'net_ends::receiving_end::ReceivingEndOver::reported': ('returned: .*', 'e904c547c3ad'),
+    'net_base::time::duration::Duration::text': ('a width', '7eba034e6780'),
+    'net_base::time::instant::Instant::text': ('a width', 'e2fcf1031c30'),
+    'net_bench_lib::program::tell': (r'proved: Write\.write_fmt; .*', '6c3065e11fde'),
+    'net_bench_lib::stream::fits': (r'proved: Vec\.len; .*', '7cd3d36ff7f0'),
+    'net_bench_lib::stream::StreamSession::command': ('compiled: drops .*', 'c81e59fc36e8'),
+    'net_bench_lib::stream::StreamSession::next_schedule': ('compiled: drops .*', '266e9fb53b54'),
+    'net_bench_lib::bench::run_lines': ('a part of .*', 'c54ccd04e109'),
+    'net_bench_lib::mode::Mode::from_words': ('size of .*', 'c98e11194752'),
+    'net_bench_lib::stream::reply_lines::show_kept': ('size of .*', '62f2b8de8981'),
+    'net_bench_lib::ring::ring_line': ('.* KeyError: .*', 'bdf384563577'),
+}
 # What is derived and compared: an order, and what a default is.
 DERIVED = r'::(?:default|cmp|partial_cmp)$'
 
@@ -90,6 +94,12 @@ def digest(proved, rust, name, there):
     item = re.sub(r'//[^\n]*|<impl at [^>]*>|@[^}]*\}', '', rust.functions.get(there) or rust.constants.get(there, ''))
     body = json.dumps(proved.all[proved.functions[name]]['body'], sort_keys=True)
     return hashlib.sha256((body + item).encode()).hexdigest()[:12]
+
+
+def is_left(proved, rust, name, reason):
+    """Whether a function is one that was read, and still has the texts that were read."""
+    pattern, read = LEFT.get(name, ('(?!)', ''))
+    return bool(re.fullmatch(pattern, reason)) and digest(proved, rust, name, place(proved, rust, name)) == read
 
 
 def common(name, traits):
@@ -438,11 +448,14 @@ def main(arguments):
     bad = len(found := conditional(REPOSITORY / 'rust'))
     print(*(f'{name}: {reason}' for name, reason in found), sep='\n', end='\n' * bool(found))
     for within, rust in sides:
-        same, differ, unknown = compared(proved[within.split('::')[0]], rust, within)
-        left = {name for name, reason in differ + unknown if LEFT.fullmatch(f'{name}: {reason}')}
+        program = proved[within.split('::')[0]]
+        same, differ, unknown = compared(program, rust, within)
+        left = {name for name, reason in differ + unknown if is_left(program, rust, name, reason)}
         unknown += [pair for pair in differ if pair[0] in left]
         differ = [pair for pair in differ if pair[0] not in left]
         wrong = differ + [(name, f'not understood: {reason}') for name, reason in unknown if name not in left]
+        wrong = [(name, f'{reason}; read it again: {digest(program, rust, name, name)}' if name in LEFT else reason)
+                 for name, reason in wrong]
         bad += len(wrong)
         print(*(f'{name}: {reason}' for name, reason in wrong), sep='\n', end='\n' * bool(wrong))
         print(f'{within}: {len(same)} functions are the same, {len(differ)} differ, {len(unknown)} are not understood')

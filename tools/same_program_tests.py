@@ -189,11 +189,10 @@ def planted(kit, temporary, proved):
     library, example = same_program.compiled(crate, kit, temporary / 'target2')
     found = []
     for name in sorted({file.split('/')[0] for file, *_ in PLANTS}):
-        _, differ, unknown = same_program.compared(proved[name],
-                                                   example if name in same_program.given.PROGRAM else library, name)
-        found += [one if reason != 'not proved' else f'{one}: {reason}'
-                  for one, reason in differ if not same_program.LEFT.fullmatch(f'{one}: {reason}')]
-        found += [one for one, reason in unknown if not same_program.LEFT.fullmatch(f'{one}: {reason}')]
+        rust = example if name in same_program.given.PROGRAM else library
+        _, differ, unknown = same_program.compared(proved[name], rust, name)
+        found += [one if reason != 'not proved' else f'{one}: {reason}' for one, reason in differ + unknown
+                  if not same_program.is_left(proved[name], rust, one, reason)]
     for name in (name for *_, name in PLANTS):
         assert any(one.endswith(f'::{name}') for one in found), f'not found: {name}: {found}'
     others = [one for one in found if not any(one.endswith(f'::{name}') for *_, name in PLANTS)]

@@ -116,7 +116,7 @@ def main(arguments):
         _, differ, unknown = same_program.compared(program, rust, 'planted')
         for name, reason in differ + unknown:
             of = name.split('::')[1]
-            if of not in found and not same_program.LEFT.fullmatch(f'{name}: {reason}'):
+            if of not in found:
                 found[of] = f'same: {name}: {reason}'
         reader = widths.Reader(crate, mir)
         for at, kind in [*((at, kind) for at, kind in reader.operations if not reader.cover(at, kind)), *reader.large]:

@@ -9,8 +9,8 @@ ghost use Rattle.net_ends.specs.Receiving.{IsSoundReceiving};
 
 use net_base::time::Instant;
 use net_ends::{
-    Acknowledged, Acknowledgement, Outgoing, ReceivingEnd, ReceivingEndOver, SendBufferOver, Sending,
-    SendingEndOver, StreamSender, laws, receiving_end,
+    Acknowledged, Acknowledgement, Outgoing, ReceivingEnd, ReceivingEndOver, SendBufferOver,
+    Sending, SendingEndOver, StreamSender, laws, receiving_end,
 };
 use net_ring::{ManagedSlice, Storage};
 use net_tcp::Announcement;

@@ -10,5 +10,7 @@ mod send_buffer;
 #[cfg(test)]
 mod sending_end;
 
-pub use ends::{begin, read_first, send_all, send_late, take_acknowledgement, take_last, take_segment};
+pub use ends::{
+    begin, read_first, send_all, send_late, take_acknowledgement, take_last, take_segment,
+};
 pub use path::{Event, Transfer, carry, happen};
