@@ -6,7 +6,8 @@ cd "$(dirname "$0")"
 out=$(mktemp -d)
 trap 'rm -rf "$out"' EXIT
 cargo package --offline --quiet --allow-dirty --no-verify --target-dir "$out/target"
-tar -xzf "$out"/target/package/net-base-*.crate -C "$out"
+# As new files: an archive's have one time, by which cargo would take what it built of an earlier text.
+tar -xmzf "$out"/target/package/net-base-*.crate -C "$out"
 cd "$out"/net-base-*
 names=$(sed -n 's/.*--example \([a-z]*\).*/examples\/\1*/p; s/.*`sh \(examples[^ `]*\).*/\1/p' README.md)
 links=$(grep -oh '](\([^)#:]*\)' README.md CHANGELOG.md | cut -c3-)
