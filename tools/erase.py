@@ -50,6 +50,8 @@ OWNER = re.compile(r'(?:.*?\b(?:for|trait) |impl(?:<(?:[^<>]|<(?:[^<>]|<[^<>]*>)
 # A bound of a `usize` that does something: it assigns, lends to be changed, or calls more than `most` and `len`.
 WIDE = re.compile(r'prove!\(.*(?:\{|\bmut\b|[^=<>!]=[^=]|(?!\b(?:len|most)\()\b[a-z_]\w*\(|\w!\().*"in any `usize`"',
                   re.S)
+# Numbers in the order of bytes that a machine has, which isn't the proved one's on each.
+NATIVE = {'to_ne_bytes', 'from_ne_bytes', 'to_be', 'to_le', 'from_be', 'from_le'}
 LINK = re.compile(r'(?<=\]\()(?:crate|net_\w+)(?=::)')
 
 
@@ -134,6 +136,8 @@ class Eraser(Text):
         before, is_member = self.before(k), self.tokens[k - 1][1] == '.' != self.tokens[k - 2][1]
         if follows == '::' and before != '::' and not is_member:
             self.put(k, k + 1, self.path(word))
+        if word in NATIVE:
+            self.refuse(at, 'the order of bytes of a machine')
         if word == 'prove' and follows == '!' and WIDE.search(self.source(k, self.group(self.next(after + 1)))):
             self.refuse(at, 'more than a bound, which a release build leaves out')
         return k + 1
