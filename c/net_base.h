@@ -10,7 +10,7 @@
  *   `net_base_ring_`: allocated, unallocated, read_allocated, write_unallocated, enqueue, dequeue,
  *     drop_last
  * - A queue between an interrupt and a program, or two threads, which neither masks nor waits; for
- *   bytes through a UART alone a ring of a power of two is quicker (docs/FFI.md):
+ *   bytes through a UART alone a ring of a power of two is quicker (docs/C.md):
  *   `net_base_split_ring_`: is_sound, free, queued
  * - Packets in the order of their arrival:
  *   `net_base_packets_`: init, is_sound, enqueue, shorten_last, peek, dequeue, take_slot
@@ -118,6 +118,30 @@
  *
  * A `bool` answers a question, or that a call was done. A status says what became of a call that
  * can end in more ways: what is done is 0, as in other libraries of C.
+ *
+ * What C writes itself
+ *
+ * There is no export for these:
+ *
+ * - moments and lengths of time: `+`, `-`, `*`, `<` on `int64_t` and `uint64_t`. A moment plus or
+ *   minus a length is cast to `int64_t`. Where it may not fit, write `__builtin_add_overflow` and
+ *   the like, or call `net_base_instant_..`
+ * - sequence numbers: they are added and subtracted as `uint32_t`, and one is later if
+ *   `(int32_t)(later - number) > 0`
+ * - the payload of each fragment but the last: `(mtu - header) & ~7`
+ * - the sample of a segment that was sent once: the moment of its acknowledgement less that of its
+ *   sending, at least 0
+ * - a word of a pseudo-header in a sum: its high byte and its low byte, to `net_base_parts_sum_add`
+ * - whether two assemblers have the same positions: both numbers of the heads, and the runs in use,
+ *   are equal
+ *
+ * Traps
+ *
+ * A call that keeps its duties doesn't panic. Where one that breaks duty 5, 6 or 7 would, the
+ * program stops: at `ud2` on x86 (exception 6), `udf` on ARM (the UsageFault of a Cortex-M, the
+ * HardFault where that isn't enabled and on M0, else an undefined instruction), `unimp` on RISC-V
+ * (exception 2), elsewhere in an endless loop. Under Linux that is SIGILL. The library prints
+ * nothing, and has no symbol to hook. A sum that doesn't fit wraps.
  */
 #ifndef NET_BASE_H
 #define NET_BASE_H

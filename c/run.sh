@@ -88,10 +88,17 @@ else
 fi
 
 at="an example"
-for each in stream reassembly; do
+for each in stream reassembly guide; do
     "$compiler" -std=c11 -O2 $warnings $sanitizers -I "$here" "$here/programs/$each.c" "$library" -o "$out/$each"
     "$out/$each"
 done
+at="sizes: a struct has other bytes than docs/C.md says: sh c/sizes.sh"
+sh "$here/sizes.sh" > "$out/sizes"
+# Without clang the last column is unknown.
+sed 's/ - |$//' "$out/sizes" | while read -r row; do
+    grep -qF "$row" "$here/../docs/C.md" || fail "docs/C.md has no row that begins: $row"
+done
+at="an example"
 # Two threads, where clang can tell of a race.
 threads="-std=c11 -O1 -g -fsanitize=thread -pthread"
 if command -v clang > /dev/null && clang $threads "$out/empty.c" -o "$out/empty" 2> "$out/errors"; then
@@ -153,12 +160,12 @@ for each in "$compiler -x c" "gcc -x c" "clang -x c" "${CXX:-c++} -x c++" "g++ -
 done
 
 at="CMake"
-# The lines of docs/FFI.md, and over what they install another project.
+# The lines of docs/C.md, and over what they install another project.
 if command -v cmake > /dev/null; then
     mkdir "$out/user" "$out/found"
     cp "$out/plain.c" "$out/user/my.c"
     ln -s "$here/.." "$out/user/net-base"
-    { printf 'cmake_minimum_required(VERSION 3.16)\nproject(user C)\n'; grep -E '^    (add_|target_)' "$here/../docs/FFI.md"; } > "$out/user/CMakeLists.txt"
+    { printf 'cmake_minimum_required(VERSION 3.16)\nproject(user C)\n'; grep -E '^    (add_|target_)' "$here/../docs/C.md"; } > "$out/user/CMakeLists.txt"
     sed 's/add_subdirectory.*/find_package(net_base REQUIRED)/; s|my\.c|../user/my.c|' "$out/user/CMakeLists.txt" > "$out/found/CMakeLists.txt"
     for each in user found; do
         { cmake -S "$out/$each" -B "$out/$each/built" "-DCMAKE_INSTALL_PREFIX=$out/installed" "-DCMAKE_PREFIX_PATH=$out/installed" &&

@@ -7,7 +7,7 @@
 #
 # TARGET is one of rustc's. Where rustc lacks its core library, Debian's Rust 1.85 is unpacked in FOLDER, or a
 # temporary one (rust/kit.sh). It prints a line for each way to run a target: the checks of exports.c that passed,
-# whether hosted.c prints what it should, the programs of c/programs, the lines that docs/FFI.md has for the target,
+# whether hosted.c prints what it should, the programs of c/programs, the lines that docs/C.md has for the target,
 # and the digest of one long sequence of N calls (1000000) of all exports, which has to be that of sequence.txt, or
 # with --record is written there; and a line for the example with an interrupt. Quick are ARMv7, a Cortex-M4 and a RISC-V.
 # --table prints sizes, stacks, wanted functions and instructions, --packages what isn't installed; --install installs it.

@@ -1,9 +1,9 @@
 #!/usr/bin/env python3
 """plot.py [--check]
 
-Draws the tables of docs/PERFORMANCE.md as pictures: docs/times.svg, the time of each row beside smoltcp's, and
-docs/growth.svg, instructions of a call by the most runs of an assembler. With --check it writes nothing, and ends with
-status 1 if a picture is not that of its table.
+Draws the tables of compare/results as pictures: docs/times.svg, of times.md, the time of each row beside smoltcp's, and
+docs/growth.svg, of growth.md, instructions of a call by the most runs of an assembler. With --check it writes nothing, and
+ends with status 1 if a picture is not that of its table.
 """
 import math
 import re
@@ -64,8 +64,9 @@ def growth(rows):
 
 
 def main():
-    page = (DOCS / "PERFORMANCE.md").read_text()
-    files = {"times.svg": times(table(page, "Times")), "growth.svg": growth(table(page, "How costs grow"))}
+    read = lambda name: (DOCS.parent / f"compare/results/{name}.md").read_text()
+    files = {"times.svg": times(table(read("times"), "Times")),
+             "growth.svg": growth(table(read("growth"), "How costs grow"))}
     wrong = [name for name, made in files.items() if not (DOCS / name).is_file() or (DOCS / name).read_text() != made]
     if "--check" in sys.argv:
         for name in wrong:

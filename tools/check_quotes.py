@@ -3,10 +3,15 @@
 
 In doc comments of crates/*/src, each block that is marked `rust` is an example in Rattle: it has to be found, line by
 line, in a file of one of EXAMPLES, crates that the gate proves, and to name the item that it documents. A block without
-a mark is one in Rust, which `cargo test` runs over the Cargo crate. The pages are README.md, CONTRIBUTING.md, docs/*.md
-and crates/*/CALLING.md. Each of their blocks that is marked `rust` has to be found, line by line, in one file
-crates/*/src/**/*.rt, which the prover checks, or in the examples of rust/src, which `cargo test` runs. How far it is
-indented doesn't matter, nor does the attribute `#![tactic(auto)]`, which each crate has in its root.
+a mark is one in Rust, which `cargo test` runs over the Cargo crate. The pages are README.md, CONTRIBUTING.md,
+rust/README.md, overlay/README.md and docs/*.md. Each of their blocks that is marked `rust` has to be found, line by line,
+in one file crates/*/src/**/*.rt, which the prover checks, in rust/examples, or in the examples of rust/src, which
+`cargo test` runs; and one that is marked `c` in a program of c/programs, which c/run.sh runs. How far it is indented
+doesn't matter, nor does the attribute `#![tactic(auto)]`, which each crate has in its root. Each link of a page has to
+lead to a file, and to a heading of it.
+
+docs/laws.md has the comments of all laws, docs/CALLING.md what the roots of crates say of calling them from a proof.
+`tools/check_quotes.py --write` writes both: they are to be so.
 
 In prose, between backquotes, each name has to be one of the sources, a file's or a folder's, or one of ELSEWHERE: names
 of the kit, of Rust or of smoltcp that no source has, and parameters. A name that ends or begins with an underscore is
@@ -34,20 +39,21 @@ ROOT = pathlib.Path(__file__).resolve().parent.parent
 # The crates whose lines doc comments quote as examples.
 EXAMPLES = ["net_examples", "net_core_tests"]
 # Where names are looked for.
-SOURCES = ["crates/**/*", "compare/**/*", "rust/**/*", "c/**/*", "tools/**/*", ".ci/run", "*", "docs/*"]
+SOURCES = ["crates/**/*", "overlay/**/*", "compare/**/*", "rust/**/*", "c/**/*", "tools/**/*", ".ci/run", "*", "docs/*"]
 ELSEWHERE = set("""
     MODULE axioms nat dac8208d650f15bf __builtin_add_overflow int32_t spsc defmt Format Debug2Format HOLE
-    c.storage-1.given
+    c.storage-1.given time_t VecInner Cursor ANTT
 """.split())
 NAME = re.compile(r"[A-Za-z_][A-Za-z0-9_]*")
 IMPL = re.compile(r"^impl(?:<[^{]*?>)? (?:\w+::)*(\w+)(?:<.*>)? for (\w+)", re.M)
 
 
 def blocks(page):
-    """The blocks of a page that are marked `rust`, each with the number of its first line."""
+    """The blocks of a page that are marked `rust` or `c`: the number of the first line, the mark, and the text."""
     text = page.read_text()
-    for found in re.finditer(r"^ *```rust\n(.*?)^ *```$", text, re.M | re.S):
-        yield line_of(text, found.start(1)), textwrap.dedent(re.sub(r"\A#!\[tactic\(auto\)\]\n\n?", "", found[1]))
+    for found in re.finditer(r"^ *```(rust|c)\n(.*?)^ *```$", text, re.M | re.S):
+        yield (line_of(text, found.start(2)), found[1],
+               textwrap.dedent(re.sub(r"\A#!\[tactic\(auto\)\]\n\n?", "", found[2])))
 
 
 def line_of(text, at):
@@ -232,12 +238,87 @@ def beyond(page):
 
 def quoted(pages):
     """Each block of a page, with what is wrong with it."""
-    sources = [path.read_text() for path in ROOT.glob("crates/*/src/**/*.rt")]
-    sources += [re.sub(r"^ *//[/!] ?", "", path.read_text(), flags=re.M) for path in ROOT.glob("rust/src/**/*.rs")]
+    texts = lambda *patterns: [path.read_text() for pattern in patterns for path in ROOT.glob(pattern)]
+    sources = {"rust": texts("crates/*/src/**/*.rt", "rust/examples/**/*.rs"), "c": texts("c/programs/*.c")}
+    sources["rust"] += [re.sub(r"^ *//[/!] ?", "", text, flags=re.M) for text in texts("rust/src/**/*.rs")]
     for page in pages:
-        for number, block in blocks(page):
-            is_quoted = any(has_block(block, source) for source in sources)
+        for number, mark, block in blocks(page):
+            is_quoted = any(has_block(block, source) for source in sources[mark])
             yield page, number, "" if is_quoted else f"is in no source: {block.splitlines()[:1]}"
+
+
+def headings(page):
+    """The names by which links lead to the headings of a page."""
+    lines = re.findall(r"^#+ (.*)$", re.sub(r"^```.*?^```$", "", page.read_text(), flags=re.M | re.S), re.M)
+    return {re.sub(r"[^\w -]", "", line.lower()).replace(" ", "-") for line in lines}
+
+
+def linked(pages):
+    """Each link of a page, with what is wrong with it."""
+    for page in pages:
+        text = page.read_text()
+        for found in re.finditer(r"\]\((?!https?:)([^)#\s]*)#?([^)\s]*)\)", text):
+            to = (page.parent / found[1]).resolve() if found[1] else page
+            wrong = "" if to.exists() else f"a link to {found[1]}, which isn't there"
+            if not wrong and found[2] and found[2] not in headings(to):
+                wrong = f"a link to {found[1]}#{found[2]}, which isn't a heading"
+            yield page, line_of(text, found.start()), wrong
+
+
+LAWS = """# Laws
+
+<!-- Written by tools/check_quotes.py --write, from the comments of the laws. -->
+
+A law is a theorem about many calls, or about a definition. It is a public function that does nothing, and is called for
+its contract. [PROVED](PROVED.md) says which of them to read first, and [CALLING](CALLING.md) how they are called.
+Names in parentheses are clauses of the law.
+"""
+
+
+def laws_page():
+    """The text of docs/laws.md."""
+    parts = [LAWS]
+    for crate in sorted(ROOT.glob("crates/net_*")):
+        if crate.name in (*EXAMPLES, "net_bench_lib", "net_ends_tests", "net_testing"):
+            continue
+        found = {}
+        for path in sorted(crate.glob("src/**/laws.rt")):
+            of = "::".join(path.relative_to(crate / "src").with_suffix("").parts)
+            for _, comment, name in doc_comments(path):
+                if name:
+                    said = " ".join(comment.split())
+                    said = f" s{said[1:]}" if said.startswith("States ") else f": {said}"
+                    found.setdefault(of, []).append(f"- `{name}`{said}")
+        if found:
+            parts.append(f"## {crate.name}\n")
+            for of, rows in found.items():
+                said = "\n".join("\n  ".join(textwrap.wrap(row, 118, break_long_words=False, break_on_hyphens=False))
+                                 for row in rows)
+                parts.append(f"`{crate.name}::{of}`:\n\n{said}\n")
+    return "\n".join(parts)
+
+
+CALLING = """# Calling these crates from a proof
+
+<!-- Written by tools/check_quotes.py --write, from the comments of the crates' roots, crates/*/src/lib.rt. -->
+
+For those who prove code over the crates in Rattle. [CONTRACTS](CONTRACTS.md) explains the signs, and [laws](laws.md)
+has each law in words. After most calls the prover knows the new state, with no file in your `proofs/`. This page says
+what it doesn't know, and which call or law to write before.
+"""
+
+
+def calling_page():
+    """The text of docs/CALLING.md."""
+    parts = [CALLING]
+    for crate in ("net_ring", "net_packets", "net_assembler", "net_base", "net_receiver"):
+        root = re.match(r"(?://!.*\n)+", (ROOT / f"crates/{crate}/src/lib.rt").read_text())[0]
+        said = re.sub(r"^//! ?", "", root, flags=re.M).split("# Calling from a proof: ", 1)[1]
+        parts.append(re.sub(r"^## ", "### ", f"\0{said}", flags=re.M).replace("\0", "## "))
+    return "\n".join(parts)
+
+
+WRITTEN = {"laws.md": laws_page, "CALLING.md": calling_page}
 
 
 def exampled():
@@ -275,12 +356,16 @@ def unknown(page, clauses, names):
 
 
 def main():
-    quoting = [ROOT / "README.md", ROOT / "rust/README.md", *sorted(ROOT.glob("docs/*.md")),
-               *sorted(ROOT.glob("crates/*/CALLING.md"))]
-    pages = [*quoting, ROOT / "CONTRIBUTING.md"]
+    if "--write" in sys.argv[1:]:
+        for name, page in WRITTEN.items():
+            (ROOT / "docs" / name).write_text(page())
+    pages = [ROOT / name for name in ("README.md", "CONTRIBUTING.md", "rust/README.md", "overlay/README.md")]
+    pages += [page for page in sorted(ROOT.glob("docs/*.md")) if page.name not in ("laws.md", "std-calls.md")]
+    generated = [*ROOT.glob("compare/results/*.md"), *ROOT.glob("docs/*.md"), ROOT / "crates/must-fail.md"]
     known = [functions(crate) for crate in sorted(ROOT.glob("crates/*"))]
     counted = {
-        "quoted blocks are in the sources": [*quoted(quoting)],
+        "quoted blocks are in the sources": [*quoted(pages)],
+        "links lead to files and headings": [*linked({*pages, ROOT / "rust/CHANGELOG.md", *generated})],
         f"examples of doc comments are in {', '.join(EXAMPLES)}": [*exampled()],
         "clauses that pages name are those of their functions": [*cited(pages, known)],
     }
@@ -290,6 +375,8 @@ def main():
     wrong += [(page, *it) for page in pages for it in unknown(page, clauses, names)]
     wrong += [(ROOT / name, *it) for name in PROMISING for it in beyond(ROOT / name)]
     wrong += [(ROOT / "docs/TRUST.md", 1, what) for what in miscounted()]
+    wrong += [(ROOT / "docs" / name, 1, "tools/check_quotes.py --write has other lines")
+              for name, page in WRITTEN.items() if (ROOT / "docs" / name).read_text() != page()]
     print(*(f"{page.relative_to(ROOT)}:{number}: {what}\n" for page, number, what in wrong), sep="", end="")
     for what, found in counted.items():
         print(f"{sum(not it[2] for it in found)} {what}")

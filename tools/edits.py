@@ -3,11 +3,11 @@
 
     python3 tools/edits.py [CRATE ..]             all edits, or those of some crates, by `rt must-fail`
     python3 tools/edits.py --log FILE             all edits, by what `rt ci` printed into a file
-    python3 tools/edits.py --table                the table of CONTRIBUTING.md alone: edits and tests that it names are
+    python3 tools/edits.py --table                the table of crates/must-fail.md alone: edits and tests that it names are
                                                   there
     python3 tools/edits.py --rows [CRATE ..]      the rows of all edits, or of those of some crates
 
-CONTRIBUTING.md has a table of wrong bodies. A row names the edit, and the function, as `rt check --only`
+crates/must-fail.md has a table of wrong bodies. A row names the edit, and the function, as `rt check --only`
 takes it, with the name of one of its `ensures`; or the test that refuses the body. The name is `ensures`
 if the contract has a single clause without a name, or is proved as one goal, as that of a call that
 lends. `rt must-fail`, and so `rt ci`, prints the first goal that is open with the edit, where it arises
@@ -37,7 +37,7 @@ import tempfile
 
 ROOT = pathlib.Path(__file__).resolve().parent.parent
 CRATES = ROOT / "crates"
-PAGE = ROOT / "CONTRIBUTING.md"
+PAGE = CRATES / "must-fail.md"
 # A row: the wrong body; its edit, with the function and the clause, or a test.
 ROW = re.compile(r"^\| ([^|]+) \| `(\w+)/(\w+)` \| (?:`([\w:]+)` (\w+)|a test) \|$", re.M)
 OPEN_GOAL = re.compile(r"(src/\S+?):(\d+):\d+: .*?\(`([^`]*)(`?)")
@@ -153,7 +153,7 @@ def compare(edits, printed):
             print(f"{name}: {' '.join(wanted)}")
         else:
             wrong += 1
-            print(f"{name}: WANTED {' '.join(wanted) or 'a row of CONTRIBUTING.md'}\n    {said}")
+            print(f"{name}: WANTED {' '.join(wanted) or 'a row of must-fail.md'}\n    {said}")
     print(f"{right} edits are refused by their clauses, {wrong} are not")
     return wrong
 

@@ -5,9 +5,46 @@
                                        names, and the program, rust/examples/net_bench/proved
     python3 tools/erase.py --check     writes nothing, and names each file that isn't so
 
-What it does are the rules of docs/TRUST.md, "The eraser's rules", and no more; what they refuse is said with its file
-and line. What is taken out ends where its bracket closes. That what is left does in Rust what was proved is for
-tools/same_program.py. tools/parts/erase_says.py adds lines of documentation.
+What it does are the rules below, and no more; what they refuse is said with its file and line. What is taken out ends
+where its bracket closes. That what is left does in Rust what was proved is for tools/same_program.py.
+tools/parts/erase_says.py adds lines of documentation.
+
+The rules:
+
+1. These go: contracts, `requires` and `ensures` between a function's signature and its body, with their comments; ghost
+   items and members; attributes `tactic` and `error`; `Drop` and `Error` in lists of derives. The text of `error` becomes
+   that of the error's `Display`; `{0}` in it is the only field.
+2. Modules that are listed below, and imports from them, go: Rust has them by hand, or not at all. So do the crates' roots,
+   whose constants have to stand in Rust's. Before the paths `crate`, `std` and those of crates there is the module where
+   Rust has them, as `FOLDERS` and `MOVED` of `erase_list.py` say.
+3. An impl of `Drop` goes, since rustc drops fields by itself: the comparison finds a `drop` that does more. An impl of
+   `Model`, which has ghost members alone, goes too. An impl of `Clone` is one of the trait of this name in `rattle.rs`,
+   which Rust's `Clone` calls. A bound by `Drop` is one by `Sized`.
+4. A public function whose signature names a head, or the parts of an end, becomes `pub(crate)`. An export loses
+   `extern "C"` and its documentation, and becomes `inline(always)`.
+5. `erase_list.py` has what else differs, with its files and how often: lifetimes, attributes, and types.
+6. A law goes that no text but laws names, and so does a function of `UNCALLED`: free functions, and methods whose names no
+   trait has. From an import goes what only contracts name, unless it is a trait or std's, and so do a `pub use` of another
+   crate, and names of `UNNAMED`. Rustc refuses a text that uses what this rule took out.
+7. Refused are imports of all names, attributes that aren't listed, the rest of a struct from an element, the order of
+   bytes of a machine (`to_ne_bytes`, `to_be` and their like), and a bound of any `usize` that does more than compare.
+8. All other tokens stay, in their order, as `tools/erased_tokens.py` finds by a reader of its own. A file that uses it
+   imports `rattle::prelude`, where `prove!` is `assert!`. It is tested when a program is compiled if it is about `N`, and
+   in debug builds alone if it is of a `usize` of any width.
+9. In documentation what a public function requires and tests is under "Panics".
+
+Not erased:
+
+- `net_ring/ring_buffer/managed`, `net_packets/packet_buffer/managed`, `net_receiver/receiver/managed`,
+  `net_base/storage/fragments/managed`, `net_base/time/instant/numbers`: Rust's take all that converts to storage, or to
+  a number, as smoltcp's
+- `net_assembler/assembler/new`: Rust's has no `N`, as smoltcp's
+- `net_base/phy/device`, `net_base/phy/loopback`, `net_base/phy/echo`: Rust's tokens borrow their device, which
+  Rattle's can't
+- `net_base/phy/non_zero`: in Rust it is core's
+- `net_base/phy/frame_lists`, `net_base/phy/laws`, `net_bench_lib/laws`: only proofs want them
+- `net_receiver/schedule`: the example `net_bench` alone has it
+- `net_bench_lib/arguments`: in the example `net_bench` the words are Rust's
 """
 import re
 import sys

@@ -2,7 +2,7 @@
 """Writes the declarations of the library for C from the exports of crates/net_ffi.
 
     python3 tools/ffi.py               writes the exports of heads, of c header, tests of duties, shim and net_base.pc,
-                                       and duties in docs/FFI.md
+                                       and duties in docs/C.md
     python3 tools/ffi.py --check       compares the files with what it would write; status 1 if one is stale
     python3 tools/ffi.py --tests FILE  writes the program that calls each export at the values of exports.txt
     python3 tools/ffi.py --sequence FILE    writes the program that makes one long sequence of calls of all
@@ -19,7 +19,7 @@ A slice is a pointer and then a length, with `_length` after the slice's name; `
 struct's name is in snake case, without `Net` before and `Head` after it, and has the prefix `net_base_`. The doc
 comment of a module heads its section, a group of doxygen's, but for what follows its first paragraph: that is in the
 comment of the section's head. Of a struct of another crate only the first paragraph is taken. The duties and refusals
-in the crate's own comment are in the header, and the duties in docs/FFI.md. The index in the header is that of
+in the crate's own comment are in the header, and the duties in docs/C.md. The index in the header is that of
 heads.txt.
 """
 import argparse
@@ -41,7 +41,7 @@ ABI = ROOT / "c/abi.txt"
 FIRST = ["refusals", "ring", "split_ring", "packets", "assembler", "fragments", "receiver", "scoreboard"]
 FIRST += ["finite_receiver", "finite_sender", "tcp", "advertised_window", "peer_window",
           "retransmission", "parts_sum", "receiving_end", "sending_end"]
-PAGE = ROOT / "docs/FFI.md"
+PAGE = ROOT / "docs/C.md"
 PAGE_BEGIN = "<!-- Written by tools/ffi.py from crates/net_ffi/src/lib.rt, up to the line END. -->"
 PAGE_END = "<!-- END -->"
 BEGIN = "/* Written by tools/ffi.py, up to the line END. */"

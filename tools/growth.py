@@ -2,7 +2,7 @@
 """growth.py [--write]
 
 How the instructions of each call that a packet reaches grow with the runs that are held, or with the packets of a
-table: counts them by callgrind at 32 and at 1,024, and prints a table. That of docs/PERFORMANCE.md has of each type
+table: counts them by callgrind at 32 and at 1,024, and prints a table. That of compare/results/growth.md has of each type
 and class the most that a call takes: `--write` writes it there. Each case of growth/src/main.rs has a class, that of
 the worst case: a call looks at some runs, searches them, or passes them once. One that passed them for each of them
 would grow 1,024 times. Status 1 if a call grows more than its class allows, or no more than a call of a better one, if
@@ -62,7 +62,7 @@ LEFT_OUT = {
     "it copies the runs, of which callgrind counts each byte where they are many": "receiver: plan",
 }
 HERE = Path(__file__).resolve().parent
-PAGE = HERE.parent / "docs/PERFORMANCE.md"
+PAGE = HERE.parent / "compare/results/growth.md"
 
 
 def public_calls():

@@ -4,8 +4,9 @@
     python3 tools/pages_run.py [--proved|--all]
 
 A command is a line of a block of a page, or a text of two words or more between backquotes, that begins with one of
-FIRST. A block that changes the folder is one command, which ends at the first of its lines that fails. `my.c` is the
-program in C of docs/FFI.md. Commands that take more than seconds, SLOW, are run with `--all` alone, and may say by
+FIRST. A block that changes the folder is one command, which ends at the first of its lines that fails. A block of text
+after a block of commands is what the last of them prints, but for what is after three spaces in a line of it, a remark.
+`my.c` is the program in C of docs/C.md. Commands that take more than seconds, SLOW, are run with `--all` alone, and may say by
 status 2 that something is missing here; with `--proved` those that prove something are run alone; those of ELSEWHERE
 never. Both lists have the reasons; a name that ends in ` ..` is the beginning of commands. Status 1 if a command fails,
 or if a name of a list is on no page.
@@ -20,7 +21,7 @@ import tempfile
 
 ROOT = pathlib.Path(__file__).resolve().parent.parent
 # The pages, and where the commands of each are run, unless they name that folder.
-PAGES = {"README.md": ".", "rust/README.md": "rust", "docs/FFI.md": ".", "docs/NOTATION.md": ".",
+PAGES = {"README.md": ".", "rust/README.md": "rust", "docs/GUIDE.md": ".", "docs/C.md": ".", "docs/CONTRACTS.md": ".",
          "overlay/README.md": "."}
 FIRST = r"cd|cargo|cc|sh|rt|rustup|python3|pkg-config|arm-none-eabi-gcc|echo|\.ci/run"
 WORDS = re.compile(rf"\(?(?:[A-Z_]+=\S+ )?(?:{FIRST})(?= |$)")
@@ -43,7 +44,9 @@ SLOW = {
     "sh c/targets.sh": EMULATORS,
     "sh c/targets.sh --table": EMULATORS,
     "sh examples/endpoint/run.sh": "it wants a TUN device, and takes minutes",
-    "sh examples/endpoint/run.sh --runs": "it wants a TUN device, and takes an hour",
+    "sh rust/examples/endpoint/run.sh": "it wants a TUN device, and takes minutes",
+    "sh rust/examples/endpoint/run.sh --runs": "it wants a TUN device, and takes an hour",
+    "sh compare/peers/run.sh --runs": "it wants lwIP and a TUN device, and takes an hour",
 }
 CHECKOUT = "it wants a checkout of smoltcp; overlay/test.py runs the script over a stand-in"
 TARGET = "it wants Rust's library, or a compiler, for another processor; c/targets.sh runs it, or builds for it"
@@ -67,23 +70,25 @@ ELSEWHERE = {
 
 
 def blocks(text):
-    """The blocks of a page, each a list of lines."""
-    return [re.sub("^    ", "", block, flags=re.M).split("\n") for block in BLOCK.findall(text)]
+    """The blocks of a page, each a list of lines, and what is said to be printed, if anything is."""
+    for block in BLOCK.finditer(text):
+        said = re.compile(r"\n?```text\n(.*?)^```$", re.M | re.S).match(text, block.end())
+        yield re.sub("^    ", "", block[0], flags=re.M).split("\n"), said and re.sub(r"   +.*", "", said[1])
 
 
 def commands(text):
-    """The commands of a page, in order, without the comments behind them."""
-    for block in blocks(text):
+    """The commands of a page, in order, without the comments behind them, each with what it is said to print."""
+    for block, said in blocks(text):
         lines = [re.sub(r"  +#.*", "", line).strip() for line in block]
         lines = [line for line in lines if WORDS.match(line)]
         if any(re.search(r"(?:^|&& )cd ", line) for line in lines):
-            yield " &&\n".join(lines)
+            yield " &&\n".join(lines), said
         else:
-            yield from lines
+            yield from ((line, said if line == lines[-1] else None) for line in lines)
     prose = re.sub(r"^```.*?^```$", "", BLOCK.sub("", text), flags=re.M | re.S)
     for quoted in re.findall(r"`([^`]+)`", prose):
         if WORDS.match(quoted) and re.search(r"\s", quoted):
-            yield re.sub(r"\s+", " ", quoted)
+            yield re.sub(r"\s+", " ", quoted), None
 
 
 def listed(command, names):
@@ -100,12 +105,12 @@ def main():
                 (clone / name).parent.mkdir(parents=True, exist_ok=True)
                 shutil.copy2(ROOT / name, clone / name)
         program = next(block
-                       for block in blocks((clone / "docs/FFI.md").read_text()) if block[0].startswith("#include"))
+                       for block, _ in blocks((clone / "docs/C.md").read_text()) if block[0].startswith("#include"))
         (clone / "my.c").write_text("\n".join(program) + "\n")
         environment = {name: value for name, value in os.environ.items() if name != "CARGO_TARGET_DIR"}
         seen, run, failed, lacking = set(), 0, [], []
         for page, place in PAGES.items():
-            for command in dict.fromkeys(commands((clone / page).read_text())):
+            for command, said in dict.fromkeys(commands((clone / page).read_text())):
                 seen |= {name for name in (listed(command, SLOW), listed(command, ELSEWHERE)) if name}
                 why = SLOW.get(listed(command, SLOW))
                 is_run = why == PROVES if "--proved" in sys.argv[1:] else why is None or "--all" in sys.argv[1:]
@@ -115,6 +120,8 @@ def main():
                 done = subprocess.run(["sh", "-ec", command], cwd=at, env=environment, capture_output=True, text=True)
                 run += 1
                 told = f"{page}: {command}: status {done.returncode}\n{done.stdout[-2000:]}{done.stderr[-2000:]}"
+                if said is not None and not done.returncode and done.stdout != said:
+                    failed.append(f"{told}\nThe page has:\n{said}")
                 if done.returncode == 127:
                     lacking.append(f"not run, for want of a program, whose package has its name: {told}")
                 elif done.returncode and not (why and done.returncode == 2):

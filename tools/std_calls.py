@@ -1,10 +1,11 @@
 #!/usr/bin/env python3
 """Prints what of std the erased text calls, by rustc's MIR, and which ported crates the proofs rest on, by crates.txt:
 
-    python3 tools/std_calls.py [--check] [FOLDER]
+    python3 tools/std_calls.py [--check|--write] [FOLDER]
 
-With --check docs/TRUST.md is to have these lines; the status is 1 if it hasn't. The compiler is that of rust/kit.sh,
-unpacked in FOLDER, or in a temporary one; the status is 2 if there is none. Operators, indices, `?`, calls of closures
+With --check docs/std-calls.md is to have these lines, and docs/TRUST.md the crates; the status is 1 if one hasn't. With
+--write the page is written. The compiler is that of rust/kit.sh, unpacked in FOLDER, or in a temporary one; the status is
+2 if there is none. Operators, indices, `?`, calls of closures
 and what derives print aren't listed.
 """
 import re
@@ -18,6 +19,7 @@ import widths
 from parts.mir_text import called, erased_files, without
 
 REPOSITORY = widths.REPOSITORY
+PAGE = REPOSITORY / 'docs/std-calls.md'
 CALL = re.compile(r'^\s+[^=]+? = (?:move |copy )?(.+\)) -> .*// scope \d+ at ([^:]+):')
 DEFINED = re.compile(r'\b(?:fn|struct|enum|trait|type|union) (\w+)')
 
@@ -53,20 +55,23 @@ def lists(mir):
     crates = [re.sub('#.*', '', row).partition(':')[2].split()
               for row in (REPOSITORY / 'crates.txt').read_text().split('\n')]
     ported = sorted({crate for row in crates for crate in row} - folders)
-    return ['  ' + '\n    '.join(textwrap.wrap(f'- {row}', 116))
+    return ['\n  '.join(textwrap.wrap(f'- {row}', 116))
             for row in rows], f'({", ".join(f"`{crate}`" for crate in ported)})'
 
 
 def main(arguments):
-    folders = [word for word in arguments if word != '--check']
+    folders = [word for word in arguments if word not in ('--check', '--write')]
     with tempfile.TemporaryDirectory() as temporary:
         temporary = Path(temporary)
         widths.rustc(REPOSITORY / 'rust', widths.kit_of(folders, temporary), temporary, check=True)
         rows, crates = lists(widths.mir_of(temporary))
     block = '\n'.join(rows)
     print(block, crates, sep='\n')
-    told = (REPOSITORY / 'docs/TRUST.md').read_text()
-    return int('--check' in arguments and not (f':\n{block}\n- ' in told and crates in told))
+    told = ' '.join((REPOSITORY / 'docs/TRUST.md').read_text().split())
+    before, said = PAGE.read_text().split('\n\n- ', 1)
+    if '--write' in arguments:
+        PAGE.write_text(f'{before}\n\n{block}\n')
+    return int('--check' in arguments and not (f'- {said}' == f'{block}\n' and crates in told))
 
 
 if __name__ == '__main__':

@@ -323,7 +323,7 @@ def another_version(programs):
 
 
 def by_cmake(programs):
-    """Builds the lines of docs/FFI.md that are for CMake, with the file for a Cortex-M4. Returns whether there is
+    """Builds the lines of docs/C.md that are for CMake, with the file for a Cortex-M4. Returns whether there is
     CMake."""
     folder = programs.folder / "cmake"
     if not shutil.which("cmake"):
@@ -331,7 +331,7 @@ def by_cmake(programs):
     folder.mkdir()
     (folder / "net-base").symlink_to(ROOT)
     (folder / "my.c").write_text('#include "net_base.h"\nint main(void) { net_base_ring_init(NULL); return 0; }\n')
-    lines = re.findall(r"^    ((?:add_|target_).*)$", (ROOT / "docs/FFI.md").read_text(), flags=re.M)
+    lines = re.findall(r"^    ((?:add_|target_).*)$", (ROOT / "docs/C.md").read_text(), flags=re.M)
     (folder / "CMakeLists.txt").write_text("\n".join(["cmake_minimum_required(VERSION 3.21)", "project(user C)",
                                                       *lines]) + "\n")
     for words in (["-S", folder, "-B", folder / "built", "--toolchain", HERE / "cortex_m4.cmake"],
@@ -343,8 +343,8 @@ def by_cmake(programs):
 
 
 def lines_of_page(programs):
-    """Runs the lines that docs/FFI.md has for a target, as they are there, over a copy. Returns whether it has some."""
-    text = (ROOT / "docs/FFI.md").read_text()
+    """Runs the lines that docs/C.md has for a target, as they are there, over a copy. Returns whether it has some."""
+    text = (ROOT / "docs/C.md").read_text()
     lines = re.search(rf"^    (\(cd c && cargo build .*--target {programs.way.target}\)\n    .*)$", text, flags=re.M)
     if not lines or programs.way.features:
         return False
@@ -356,7 +356,7 @@ def lines_of_page(programs):
     environment = {name: value for name, value in os.environ.items() if name != "CARGO_TARGET_DIR"}
     status, said = shell(["sh", "-ec", lines[1]], cwd=copy, env=environment | {"RUSTC": str(programs.rustc)})
     if status:
-        raise Failed(f"the lines of docs/FFI.md: {said[-1500:]}")
+        raise Failed(f"the lines of docs/C.md: {said[-1500:]}")
     return True
 
 
@@ -392,7 +392,7 @@ def tests(programs, generated, options):
     if way.target == CORTEX_M4 and not way.features and by_cmake(programs):
         done.append("CMake")
     if lines_of_page(programs):
-        done.append("the lines of docs/FFI.md")
+        done.append("the lines of docs/C.md")
     said = last(programs.run("sequence", [generated / "sequence.c"], [str(options.calls)]))
     digest = re.search(r"digest ([0-9a-f]{16})$", said)
     if not digest:

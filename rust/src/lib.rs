@@ -7,8 +7,8 @@
 //! [`sender::Sender`], which stores bytes until they are acknowledged, the same for streams that end ([`finite`]),
 //! [`scoreboard::Scoreboard`], which says what to send again, [`sequence_number::SequenceNumber`], TCP's numbers that wrap,
 //! the small machines of [`tcp`], and [`storage::Assembler`]s of any number of runs. [`ends`] has all of these as the two
-//! ends of a connection, and "A TCP from these parts" in README the order of their calls. For a stream of QUIC there are
-//! [`finite::FiniteReceiver`] and [`ends::SendBuffer`].
+//! ends of a connection. For a stream of QUIC there are [`finite::FiniteReceiver`] and [`ends::SendBuffer`]. `docs/GUIDE.md`
+//! of the repository has each as code, and the order of their calls.
 //!
 //! ```
 //! use net_base::receiver::Receiver;
@@ -33,7 +33,7 @@
 //! # Guarantees
 //!
 //! Some clauses are on a function's page, in Rust's words. `old(x)` is x before the call, `x` what it is afterwards, and
-//! numbers in them have no bound: sums don't wrap. `docs/NOTATION.md` of the repository explains what isn't a call here.
+//! numbers in them have no bound: sums don't wrap. `docs/CONTRACTS.md` of the repository explains what isn't a call here.
 //!
 //! # What isn't
 //!

@@ -1,4 +1,39 @@
 //! Storage, time, network devices and random words: what a small TCP/IP stack needs.
+//!
+//! # Calling from a proof: Times and devices
+//!
+//! Module `storage` of `net_base` re-exports the three crates above, so a crate that names only `net_base` in
+//! `crates.txt` may import their definitions, as `Rattle.net_base.specs.Ring.{queue}`. Each `clone` returns `Ok`,
+//! but that of a `PacketMetadata<H>`, where the header's `clone` decides. Law
+//! `net_base::storage::laws::reassembling` is on a buffer that lists are written into, and an assembler with their
+//! ranges (`Reassembles`). The head of a `FragmentBuffer` is exact, `IsExact` (clause `exact` of `into_parts`), and
+//! each call of a head leaves it so.
+//!
+//! An `Instant` is a whole number of microseconds that fits an `i64` (`IsMoment`), a `Duration` a natural number of
+//! them that fits a `u64` (`IsLength`). A call that requires that its result fits has a test beside it, such as
+//! `fits_millis` or `can_add`; moments saturate (docs/DIFFERENCES.md). Of
+//! `Instant::earliest(moments.iter().copied())` the search finds `IsEarliest (λ t. t) moments.now result`. For
+//! moments in other values fold by `earlier`, with law `earliest_of_each`.
+//!
+//! A `Loopback` has a `medium` and a list `frames`, the next one first. A contract sees a device of your own through
+//! ghost members, relations on its states, which `src/phy/device.rt` explains. `taken`, `sent`, `abilities`, and
+//! `bytes` of its `RxToken`, must be stated. Both tokens are `Drop`.
+//!
+//! ## Rattle beside Rust
+//!
+//! Not in Rattle: cargo features, logging, `#[non_exhaustive]`, std's clocks. Otherwise than in smoltcp and the
+//! Cargo crate:
+//!
+//! - `clone` returns a `Result`. Only `Loopback`, `execute`, `replay` and `net_bench_lib` take memory, and say if it
+//!   is refused.
+//! - Values that a refusal drops, headers, tokens and the closure of `Device::send`, have the bound `Drop`.
+//! - Storage arguments are a `ManagedSlice` of this crate, and `Instant::from_micros` and the like take an `i64`.
+//! - The result of a closure of a `_with` call may not borrow the element.
+//! - Tokens are owned, so several can be held at once and spent on any device of the type, and `Device::send` sends.
+//!   `loopback::RxToken` and `loopback::TxToken` are public.
+//! - `Loopback::new` takes any allocator first, and keeps it. `NonZeroU16`, `NonZeroUsize` have `new`, `get` and
+//!   derives.
+//! - `Device` states frames, idleness and room, and `transmit` leaves the device as it was.
 #![tactic(auto)]
 
 pub mod phy;

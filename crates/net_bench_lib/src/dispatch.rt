@@ -1,4 +1,8 @@
 //! From the bytes that are read to the bytes that are written.
+
+// Why: A line of mode `stream` goes through `execute`. To `replay` it as a list of one is the same (law `calls`),
+// and asks for memory once more. The line of an error is an `arrayvec`, since memory may be what is missing.
+
 ghost use Rattle.std.specs.Prelude.{◌≡◌, IfSome, IfErr, OnOk, None};
 ghost use Rattle.std.specs.Io.KnownBytes.{Appends};
 ghost use Rattle.net_bench_lib.specs.Transcript.{ErrorOfInput};

@@ -1,4 +1,8 @@
 //! The words of a line.
+
+// Why: Spaces and the ends of lines are found by `memchr`, a port of the kit that is proved, in place of loops of
+// our own.
+
 ghost use Rattle.std.specs.Prelude.{◌≡◌, [], ◌∷◌, MatchOption};
 ghost use Rattle.net_bench_lib.specs.Text.{words_of};
 ghost use Rattle.net_bench_lib.specs.Words.{AreWords};

@@ -8,6 +8,17 @@
 //! `first` is TCP's SND.UNA, `sent` its SND.NXT (SND.MAX, where something is sent again), and `end` is after the last
 //! byte, and after the end of the stream once it is closed. The peer's `edge`, SND.UNA + SND.WND, can be anywhere: what
 //! is sent ends at it, but for a probe, which is the number at `first` alone.
+
+// Why: What is held back for a small window waits for the timer that there is, as RFC 9293 allows. If nothing was in
+// flight, nothing was lost, so `expired` answers `Probe` then, and no congestion window is cut. Copies are never
+// held back, nor a probe for an answer. Nagle's rule has half of the greatest window wait too, so at most one
+// segment in flight is less than a whole one, but for the timer's.
+//
+// A timeout leaves what was reported. RFC 2018, section 8, has a sender forget all reports then, since the peer may
+// have dropped what it reported. Only a peer that has dropped it acknowledges up to a number that it reported. So
+// after each acknowledgement the first number that isn't acknowledged counts as missing (clause `missing` of
+// `acknowledged`), and a timeout sends it again.
+
 ghost use Rattle.std.specs.Prelude.{◌≡◌, ◌↔◌, ◌-◌, ◌+◌, ◌<◌, ◌≤◌, ◌&&◌, ◌==◌, ℕ, Option, Some, IsTrue, IsFalse, min};
 ghost use Rattle.std.specs.Prelude.{IfSome, IfNone, is_some, is_none, ◌||◌, ◌++◌, not, nat_lt, true, false};
 ghost use Rattle.std.specs.Prelude.{if◌then◌else◌, length, Bool, nat_le, ◌*◌};

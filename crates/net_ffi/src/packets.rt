@@ -1,4 +1,8 @@
 //! Packets that are placed, taken and looked at.
+
+// Why: Slots have no header in C. A slot of Rattle and Rust has the header in it, of a type that no export knows. So
+// `PacketsOver` asks its head where a packet is placed, and writes its slots itself.
+
 ghost use Rattle.std.specs.Prelude.{◌≡◌, ◌≤◌, ◌⊎◌, ℕ, List, length};
 ghost use Rattle.std.specs.declared.option.Option.TheVariants.{Some, None};
 ghost use Rattle.net_ring.specs.RingHead.{place};

@@ -7,6 +7,12 @@
 //! acknowledgement is sent at once. While `net_base_receiving_end_is_wanted` one is sent after the delay that the
 //! program has for it, unless a segment with bytes is sent before that and announces. The calls of a finite receiver
 //! that look at it may look at `receiver`: whether it is complete, whether all was read, what it acknowledges.
+
+// Why: This end is over a `FiniteReceiverHead`, whose calls take the storage. A `ReceivingEndOver` that an export
+// made of a lent storage would leave nothing known of that, since no contract says that it keeps the reference. So
+// the rules of a receiving end, which are of numbers, are here once more, with the definitions of `net_ends` as
+// contracts.
+
 ghost use Rattle.std.specs.Prelude.{◌≡◌, ◌↔◌, ◌+◌, ◌-◌, ◌<◌, ◌≤◌, ◌++◌, ◌&&◌, ◌||◌, ℕ, List, length, max, min};
 ghost use Rattle.std.specs.Prelude.{take, drop, nat_lt, nat_le, nat_eq, not, IsTrue, IsFalse, MatchResult, OnErr};
 ghost use Rattle.std.specs.Prelude.{if◌then◌else◌};

@@ -1,4 +1,8 @@
 //! A scoreboard in parts: a head, and runs that are kept elsewhere.
+
+// Why: A scoreboard counts from the first position that wasn't reported. So an acknowledgement is never refused, and
+// offsets fit 32 bits.
+
 #![tactic(auto, using(crate::proofs::Scoreboards::heads))]
 
 ghost use Rattle.std.specs.Prelude.{◌≡◌, ◌↔◌, ◌-◌, ◌≤◌, ◌^◌, List, ℕ, length, min, IsTrue, Err, OnOk, OnErr};

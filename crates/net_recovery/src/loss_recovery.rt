@@ -13,6 +13,10 @@
 //! DupThresh, and `round` RACK.dsack_round, up to which it stays. `probe` is a tail loss probe's first number, and
 //! `asked` TLP.end_seq. Only what isn't reported is sent again: the parts above are of the numbers that the scoreboard
 //! lacks.
+
+// Why: A range can't be lost while one before it isn't. Whether a probe repaired a loss itself (RFC 8985, section
+// 7.4) isn't decided: peers that report no copies answer alike where it did and where it didn't.
+
 ghost use Rattle.std.specs.Prelude.{◌≡◌, ℕ, ◌+◌, ◌<◌, ◌≤◌, ◌-◌, ◌&&◌, min, max, Option, IfSome, not, nat_lt};
 ghost use Rattle.std.specs.Prelude.{IsTrue, IsFalse, is_some, if◌then◌else◌};
 ghost use Rattle.net_receiver.specs.Scoreboards.{IsHole, IsLossBound, IsEnd};

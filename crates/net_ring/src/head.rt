@@ -2,6 +2,10 @@
 //!
 //! [`RingOver`](crate::RingOver) is a storage and a head. A caller that has the storage elsewhere, as a
 //! program in C, calls the functions here with its capacity, or with the storage as a slice.
+
+// Why: No remainder is computed: indices are compared, and offsets clamped to the window or the queue, before
+// anything is added. So a capacity of 0 and zero-sized elements need no case of their own.
+
 #![tactic(auto, using(crate::proofs::RingFacts::heads))]
 
 ghost use Rattle.std.specs.Prelude.{◌≡◌, ◌↔◌, ◌≤◌, ◌-◌, ◌+◌, ◌++◌, ℕ, IsTrue, min, length, take, drop};

@@ -1,4 +1,8 @@
 //! A ring of which each end has a count of its own: an interrupt and a program, or two threads, use it without a lock.
+
+// Why: Each count is below twice the capacity, so any capacity will do, where free-running counts want a power of
+// two. A refused call gives the end's own count to store, since any other breaks the ring.
+
 #![tactic(auto, using(crate::proofs::SplitNumbers::counts))]
 
 ghost use Rattle.std.specs.Prelude.{◌≡◌, ◌↔◌, ◌≤◌, ◌-◌, ◌+◌, ℕ, IsTrue, min, length, take, drop, ◌++◌};

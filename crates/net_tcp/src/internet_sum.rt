@@ -1,4 +1,8 @@
 //! The Internet checksum (RFC 1071), over one part or several, and its update (RFC 1624).
+
+// Why: Words are added whose low byte comes first, of 64 bits where registers have as many, else of 32. By one lemma
+// any such sum is the right one once its two bytes are exchanged. No one text was the fastest for both.
+
 #![tactic(auto, using(crate::proofs::WordSums::parts))]
 
 ghost use Rattle.std.specs.Prelude.{◌≡◌, ◌↔◌, ℕ, ◌+◌, ◌-◌, ◌*◌, ◌%◌, ◌^◌, ◌<◌, ◌≤◌, List, [], ◌++◌, ◌/◌};

@@ -1,4 +1,9 @@
 //! The timer of retransmissions.
+
+// Why: A probe of a segment alone waits for a delayed acknowledgement until eight weren't late. Without the longer
+// wait each of 100 requests was sent twice to Linux where answers came after 20 ms. With none of it after eight, one
+// or two were on a busy machine. With all of it always, the timeout comes before the probe.
+
 ghost use Rattle.std.specs.Prelude.{◌≡◌};
 ghost use Rattle.net_tcp.specs.Retransmission.{new_timer, restarted, started, stopped, times, timed_after, hastened};
 ghost use Rattle.net_tcp.specs.Retransmission.{after_sending, with_sample, after_acknowledged, has_expired, has_ended};

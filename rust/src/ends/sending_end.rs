@@ -11,6 +11,16 @@
 //! is sent ends at it, but for a probe, which is the number at `first` alone.
 
 use crate::rattle::prelude::*;
+// Why: What is held back for a small window waits for the timer that there is, as RFC 9293 allows. If nothing was in
+// flight, nothing was lost, so `expired` answers `Probe` then, and no congestion window is cut. Copies are never
+// held back, nor a probe for an answer. Nagle's rule has half of the greatest window wait too, so at most one
+// segment in flight is less than a whole one, but for the timer's.
+//
+// A timeout leaves what was reported. RFC 2018, section 8, has a sender forget all reports then, since the peer may
+// have dropped what it reported. Only a peer that has dropped it acknowledges up to a number that it reported. So
+// after each acknowledgement the first number that isn't acknowledged counts as missing (clause `missing` of
+// `acknowledged`), and a timeout sends it again.
+
 use crate::ends::send_buffer::{AckKind, BufferParts, SendBufferOver, Sending, TakenAck};
 use crate::ends::stream_sender::StreamSender;
 use crate::time::{Duration, Instant};

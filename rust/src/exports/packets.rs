@@ -1,4 +1,7 @@
 // Written by tools/erase.py from crates/net_ffi/src/packets.rt: a change here would be lost.
+// Why: Slots have no header in C. A slot of Rattle and Rust has the header in it, of a type that no export knows. So
+// `PacketsOver` asks its head where a packet is placed, and writes its slots itself.
+
 use crate::exports::refusals::no_number;
 use crate::storage::{FirstPacket, PacketPlace, PacketSlot, PacketsHead};
 

@@ -1,4 +1,7 @@
 // Written by tools/erase.py from crates/net_ffi/src/sending_end.rt: a change here would be lost.
+// Why: An end of C has its 16 runs in its struct, since `LossRecovery` reads a `Scoreboard` with its runs in it.
+// Over a head and lent runs each rule would be written again, and proved again.
+
 use crate::exports::receiver::RUNS;
 use crate::exports::refusals::{
     AcknowledgedStatus, ExpiredStatus, NET_BASE_ANSWER, NET_BASE_DONE, NET_BASE_LOST,

@@ -5,6 +5,9 @@
 //! program in C, calls the functions here with its capacity, or with the storage as a slice.
 
 use crate::rattle::prelude::*;
+// Why: No remainder is computed: indices are compared, and offsets clamped to the window or the queue, before
+// anything is added. So a capacity of 0 and zero-sized elements need no case of their own.
+
 /// The head of a ring: its numbers without its storage.
 ///
 /// A head is sound for a storage if it is that of a ring of as many elements, as

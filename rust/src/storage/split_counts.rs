@@ -2,6 +2,9 @@
 //! A ring of which each end has a count of its own: an interrupt and a program, or two threads, use it without a lock.
 
 use crate::rattle::prelude::*;
+// Why: Each count is below twice the capacity, so any capacity will do, where free-running counts want a power of
+// two. A refused call gives the end's own count to store, since any other breaks the ring.
+
 use crate::storage::ring_head::{RingHead, Span};
 use crate::storage::width::most;
 

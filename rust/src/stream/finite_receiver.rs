@@ -2,6 +2,13 @@
 //! A receiver of a stream that ends.
 
 use crate::rattle::prelude::*;
+// Why: An end in order is never refused, as in lwIP and in smoltcp's socket. Else one forged byte or end within the
+// window and beyond the true end would keep a stream from ending. Bytes in order up to an end that came early
+// complete the stream there: whoever forges an end within the window could forge the bytes too.
+//
+// The rule of `keep` is a function of the receiver's numbers and the end: a type and a head lend it theirs. A
+// `FiniteSender` lends no `Sender`: thirteen rules would be written twice.
+
 use crate::stream::finite_receiver_head::{
     NO_END, acknowledged, count_below, end_or_max,
 };

@@ -15,6 +15,9 @@
 //! `asked` TLP.end_seq. Only what isn't reported is sent again: the parts above are of the numbers that the scoreboard
 //! lacks.
 
+// Why: A range can't be lost while one before it isn't. Whether a probe repaired a loss itself (RFC 8985, section
+// 7.4) isn't decided: peers that report no copies answer alike where it did and where it didn't.
+
 use crate::stream::{Scoreboard, SentNumbers};
 use crate::rattle::std::ops::Range;
 

@@ -2,6 +2,11 @@
 //! The receiver.
 
 use crate::rattle::prelude::*;
+// Why: Runs are an array in the type, and not storage as bytes are. With 999 of them a `Receiver` has 16 KB, with 4
+// 136 bytes. Runs that are lent would cost 7 instructions more of 120 of a segment in order. But some 40 places
+// would lend them, some 65 clauses that name `N` would name a count, and one run at least would be a precondition.
+// Many runs can be `static` or boxed.
+
 use crate::stream::finite_receiver_head::keep_ending;
 use crate::stream::held_runs::{HeldRun, HeldRuns, MissingRunIter, NewestRunIter};
 use crate::stream::kept::{FiniteError, Kept, KeptBytes, SegmentParts};

@@ -2,6 +2,9 @@
 //! A scoreboard in parts: a head, and runs that are kept elsewhere.
 
 use crate::rattle::prelude::*;
+// Why: A scoreboard counts from the first position that wasn't reported. So an acknowledgement is never refused, and
+// offsets fit 32 bits.
+
 use crate::stream::held_runs::{HeldRunIter, were_at_most};
 use crate::storage::assembler::{Turns, laws};
 use crate::storage::{AssemblerHead, Run};

@@ -1,6 +1,9 @@
 // Written by tools/erase.py from crates/net_tcp/src/internet_sum.rt: a change here would be lost.
 //! The Internet checksum (RFC 1071), over one part or several, and its update (RFC 1624).
 
+// Why: Words are added whose low byte comes first, of 64 bits where registers have as many, else of 32. By one lemma
+// any such sum is the right one once its two bytes are exchanged. No one text was the fastest for both.
+
 use crate::storage::width::most;
 
 /// The sum of the 16-bit words of a message, which is given in parts of any lengths, one after another.

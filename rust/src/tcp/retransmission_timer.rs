@@ -1,6 +1,10 @@
 // Written by tools/erase.py from crates/net_tcp/src/retransmission_timer.rt: a change here would be lost.
 //! The timer of retransmissions.
 
+// Why: A probe of a segment alone waits for a delayed acknowledgement until eight weren't late. Without the longer
+// wait each of 100 requests was sent twice to Linux where answers came after 20 ms. With none of it after eight, one
+// or two were on a busy machine. With all of it always, the timeout comes before the probe.
+
 use crate::tcp::retransmission::{RetransmissionTimeout, RttEstimate, TimeoutBounds};
 use crate::time::{Duration, Instant};
 use crate::stream::SentNumbers;

@@ -1,6 +1,22 @@
 //! An assembler in parts: a head of two numbers, and runs that are kept elsewhere.
 //!
 //! What is inline, and what is a call of its own, was chosen by counted instructions and bytes.
+
+// Why: Pairs (start, end) are counted from where the first run starts, `first_start`. So if data that comes next
+// arrives while runs wait, `first_start` is lowered, and no pair is touched.
+//
+// A head has no index of its first run, so removing that moves all others. With an index each head would have a word
+// more, in C too, and stored numbers would wrap, so that two heads could not be compared as they are. With 4 runs
+// little is saved.
+//
+// A range that starts in the last run or after it is added (`add_last`) before the rule is called (`join_apart`):
+// the rule saves registers at its entry, which costs as much as these frequent cases do.
+//
+// The first run that a range meets is found by halves, the last in turn (`runs_met`). Mostly the range ends before
+// the second of them, and one look is enough. Each run that is passed is taken into the range, so these looks and
+// the runs that move down are together at most as many as the runs: both count as moves, and the bound on
+// `add_counted` holds.
+
 #![tactic(auto, using(crate::proofs::SoundHeads::heads))]
 
 ghost use Rattle.std.specs.Prelude.{◌≡◌, ℕ, List, ◌+◌, ◌-◌, ◌*◌, ◌<◌, ◌≤◌, ◌++◌, ◌∷◌, ◌^◌, ◌↔◌, drop, get_or, max};

@@ -1,5 +1,9 @@
 //! The traits of a network device and of its tokens. Rust's are by hand, in `rust/src/phy/mod.rs`: no line here
 //! reaches them.
+
+// Why: A device states ghost members besides `taken` and `sent`. Without them an `echo_once` that always returns
+// `Ok(false)`, or always `Err`, would be proved.
+
 ghost use Rattle.std.specs.Prelude.{◌≡◌, ℕ, List, length, replicate, MatchOption, IfNone, IfSome, IfOk, OnErr};
 ghost use Rattle.std.specs.Fn.{FnOnceReturnsAt, FnOnceTakesAt, FnOnceReturnsAtMut, FnOnceTakesAtMut};
 ghost use Rattle.net_base.specs.Phy.{no_metadata};

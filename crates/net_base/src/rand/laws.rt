@@ -1,5 +1,7 @@
 //! Laws of every generator. No function here does anything.
 
+// Why: These laws take no parameters. They are on every state, so a caller needs no two generators to cite `period`.
+
 ghost use Rattle.std.specs.Prelude.{◌≡◌, ◌<◌, ◌^◌, ℕ};
 ghost use Rattle.net_base.specs.Generator.{LeadsTo, IsPeriod};
 

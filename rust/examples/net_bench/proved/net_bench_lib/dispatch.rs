@@ -2,6 +2,9 @@
 //! From the bytes that are read to the bytes that are written.
 
 use crate::rattle::prelude::*;
+// Why: A line of mode `stream` goes through `execute`. To `replay` it as a list of one is the same (law `calls`),
+// and asks for memory once more. The line of an error is an `arrayvec`, since memory may be what is missing.
+
 use crate::proved::net_bench_lib::asm::AsmSession;
 use crate::proved::net_bench_lib::bench::run_lines;
 use crate::proved::net_bench_lib::error::BenchError;

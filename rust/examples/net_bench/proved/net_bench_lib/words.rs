@@ -1,6 +1,9 @@
 // Written by tools/erase.py from crates/net_bench_lib/src/words.rt: a change here would be lost.
 //! The words of a line.
 
+// Why: Spaces and the ends of lines are found by `memchr`, a port of the kit that is proved, in place of loops of
+// our own.
+
 use crate::rattle::memchr::memchr;
 
 /// The words of a line. Three is the most that any mode uses.
