@@ -33,6 +33,7 @@
  * - Sequence numbers and windows of segments, for both ends:
  *   `net_base_sequence_number_`: position
  *   `net_base_tcp_`: scale_for, scaled
+ *   `net_base_answer_limit_`: init, allows
  * - Parts of an end of other rules, which nobody needs beside these two: what is received, SACK
  *   blocks:
  *   `net_base_finite_receiver_`: init, is_sound, segment, read, remove, can_end, count_new,
@@ -1600,18 +1601,27 @@ struct net_base_sent_numbers {
     uint64_t sent;
 };
 
-/** Returns what to do with a segment, for a receiver whose first missing position is `next`, and
- * which announced `window` positions from there on, as RFC 9293, section 3.10.7.4, has it. Resets
- * and SYNs are answered as RFC 5961 has it: a reset counts only at `next`.
+/** Returns what to do with a segment, for a receiver whose first missing position is `next`, which
+ * announced `window` positions from there on, and never more than `greatest_window`: its capacity
+ * will do. It is as RFC 9293, section 3.10.7.4, has it, but for what follows. Resets and SYNs are
+ * answered as RFC 5961 has it: a reset counts only at `next`.
  *
  * No position is in a window that is shut. Of a segment with positions that begins at `next` then,
  * as a probe does, the acknowledgement is taken all the same: otherwise two ends that both fill
- * the other's window never hear of one another. Whether a segment may acknowledge what it does is
- * tested afterwards, by `net_base_tcp_is_acknowledgement`.
+ * the other's window never hear of one another. So it is of a segment without positions whose
+ * number is below `next`, by `greatest_window` at most, and by one if that is 0. No honest peer's
+ * number is below that: it is not below what was acknowledged to the peer, which has no more than
+ * such a window on the way, or a probe. If all of the window is on the way, and some of it is
+ * missing, its number is the one after the window: that is taken too. By law `acknowledgements` no
+ * other number is needed. Otherwise two ends whose acknowledgements were lost, or came in another
+ * order, may refuse one another's for ever, and answer each.
+ *
+ * Whether a segment may acknowledge what it does is tested afterwards, by
+ * `net_base_tcp_is_acknowledgement`.
  */
 NET_BASE_MUST_USE enum net_base_arrival_status net_base_tcp_classify(
-    uint64_t next, uint64_t window, const struct net_base_segment *segment)
-    NET_BASE_LINK(tcp_classify);
+    uint64_t next, uint64_t window, uint64_t greatest_window,
+    const struct net_base_segment *segment) NET_BASE_LINK(tcp_classify);
 
 /** Returns whether a segment may acknowledge `ack`: it isn't above what was sent, nor below the
  * first unacknowledged position by more than the greatest window that the peer ever announced (RFC
@@ -1663,10 +1673,11 @@ void net_base_advertised_window_init(
     NET_BASE_LINK(advertised_window_init);
 
 /** Returns what to do with a segment, as `net_base_tcp_classify` says, in the window that was
- * announced: from `next`, the first missing position, up to the edge, whatever is free now.
+ * announced: from `next`, the first missing position, up to the edge, whatever is free now. No
+ * window is greater than the receiver's capacity.
  */
 NET_BASE_MUST_USE enum net_base_arrival_status net_base_advertised_window_classify(
-    const struct net_base_advertised_window *advertised, uint64_t next,
+    const struct net_base_advertised_window *advertised, uint64_t next, uint64_t capacity,
     const struct net_base_segment *segment) NET_BASE_LINK(advertised_window_classify);
 
 /** Returns the number to announce, in units of 2^`scale`, if `next` is the first missing position
@@ -1961,6 +1972,43 @@ NET_BASE_MUST_USE enum net_base_expiry_status net_base_retransmission_timer_expi
 
 /** @} */
 
+/** @defgroup net_base_answer_limit How often a segment is answered of which nothing is taken
+ *
+ * How often a segment is answered of which nothing is taken. Moments are in microseconds, of one
+ * clock.
+ *
+ * @{
+ */
+
+/** A limit of answers.
+ *
+ * A limit of zeros allows an answer from moment 0 on.
+ */
+struct net_base_answer_limit {
+    /** When the next segment is answered that may be an answer itself. */
+    int64_t until;
+};
+
+/** Makes `limit` one before any answer, which allows one at any moment. */
+void net_base_answer_limit_init(
+    struct net_base_answer_limit *limit) NET_BASE_LINK(answer_limit_init);
+
+/** Returns whether to answer a segment of which nothing is taken, `NET_BASE_ANSWER` of
+ * `net_base_tcp_classify` or of `net_base_sending_end_acknowledged`, and takes notice that it is
+ * answered.
+ *
+ * A segment without positions, which may be an answer itself, and a SYN are answered at most twice
+ * a second: otherwise two ends that take nothing of one another, after a forged segment, answer
+ * each other's answers without end (RFC 5961, section 7). A segment with bytes or a FIN is
+ * answered each time. If the clock is set back, the limit stays until the moment that it was.
+ */
+NET_BASE_MUST_USE bool net_base_answer_limit_allows(
+    struct net_base_answer_limit *NET_BASE_RESTRICT limit,
+    const struct net_base_segment *NET_BASE_RESTRICT segment, int64_t now)
+    NET_BASE_LINK(answer_limit_allows);
+
+/** @} */
+
 /** @defgroup net_base_parts_sum The Internet checksum of a message in parts, such as a
  * pseudo-header, a header and data
  *
@@ -2095,13 +2143,14 @@ NET_BASE_MUST_USE bool net_base_receiving_end_open(
     uint8_t scale, uint16_t *NET_BASE_RESTRICT window) NET_BASE_LINK(receiving_end_open);
 
 /** Returns what to do with a segment, as `net_base_tcp_classify` says, in the window that was
- * announced.
+ * announced, where the storage has `capacity` bytes. Its acknowledgement is taken if it is of a
+ * peer that hears of what is announced here, whatever the path does.
  *
  * If the number after `next` doesn't fit 64 bits, as in no sound head: `NET_BASE_ARRIVAL_IGNORE`.
  */
 NET_BASE_MUST_USE enum net_base_arrival_status net_base_receiving_end_classify(
-    const struct net_base_receiving_end *end, const struct net_base_segment *segment)
-    NET_BASE_LINK(receiving_end_classify);
+    const struct net_base_receiving_end *end, size_t capacity,
+    const struct net_base_segment *segment) NET_BASE_LINK(receiving_end_classify);
 
 /** Takes the bytes of a segment whose first byte is at `position`, and the end if it `is_last`, as
  * `net_base_finite_receiver_segment` does, and writes to `counts` how many were kept. A segment

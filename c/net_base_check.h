@@ -732,9 +732,10 @@ NET_BASE_MUST_USE static inline bool net_base_finite_sender_is_closed_and_acknow
 }
 
 NET_BASE_MUST_USE static inline enum net_base_arrival_status net_base_tcp_classify_checked_(
-    uint64_t next, uint64_t window, const struct net_base_segment *segment) {
+    uint64_t next, uint64_t window, uint64_t greatest_window,
+    const struct net_base_segment *segment) {
     NET_BASE_POINTER_("net_base_tcp_classify", segment, struct net_base_segment);
-    return net_base_tcp_classify(next, window, segment);
+    return net_base_tcp_classify(next, window, greatest_window, segment);
 }
 
 NET_BASE_MUST_USE static inline bool net_base_tcp_is_acknowledgement_checked_(
@@ -750,11 +751,11 @@ static inline void net_base_advertised_window_init_checked_(
 }
 
 NET_BASE_MUST_USE static inline enum net_base_arrival_status net_base_advertised_window_classify_checked_(
-    const struct net_base_advertised_window *advertised, uint64_t next,
+    const struct net_base_advertised_window *advertised, uint64_t next, uint64_t capacity,
     const struct net_base_segment *segment) {
     NET_BASE_POINTER_("net_base_advertised_window_classify", advertised, struct net_base_advertised_window);
     NET_BASE_POINTER_("net_base_advertised_window_classify", segment, struct net_base_segment);
-    enum net_base_arrival_status result = net_base_advertised_window_classify(advertised, next, segment);
+    enum net_base_arrival_status result = net_base_advertised_window_classify(advertised, next, capacity, segment);
     NET_BASE_ANSWERS_("net_base_advertised_window_classify", result != NET_BASE_ARRIVAL_REFUSED);
     return result;
 }
@@ -893,6 +894,19 @@ NET_BASE_MUST_USE static inline enum net_base_expiry_status net_base_retransmiss
     return result;
 }
 
+static inline void net_base_answer_limit_init_checked_(struct net_base_answer_limit *limit) {
+    NET_BASE_POINTER_("net_base_answer_limit_init", limit, struct net_base_answer_limit);
+    net_base_answer_limit_init(limit);
+}
+
+NET_BASE_MUST_USE static inline bool net_base_answer_limit_allows_checked_(
+    struct net_base_answer_limit *limit, const struct net_base_segment *segment, int64_t now) {
+    NET_BASE_POINTER_("net_base_answer_limit_allows", limit, struct net_base_answer_limit);
+    NET_BASE_POINTER_("net_base_answer_limit_allows", segment, struct net_base_segment);
+    net_base_check_(net_base_apart_(limit, sizeof(*limit), segment, sizeof(*segment)), "net_base_answer_limit_allows: limit and segment overlap (duty 2)");
+    return net_base_answer_limit_allows(limit, segment, now);
+}
+
 static inline void net_base_parts_sum_init_checked_(struct net_base_parts_sum *sum) {
     NET_BASE_POINTER_("net_base_parts_sum_init", sum, struct net_base_parts_sum);
     net_base_parts_sum_init(sum);
@@ -947,10 +961,11 @@ NET_BASE_MUST_USE static inline bool net_base_receiving_end_open_checked_(
 }
 
 NET_BASE_MUST_USE static inline enum net_base_arrival_status net_base_receiving_end_classify_checked_(
-    const struct net_base_receiving_end *end, const struct net_base_segment *segment) {
+    const struct net_base_receiving_end *end, size_t capacity,
+    const struct net_base_segment *segment) {
     NET_BASE_POINTER_("net_base_receiving_end_classify", end, struct net_base_receiving_end);
     NET_BASE_POINTER_("net_base_receiving_end_classify", segment, struct net_base_segment);
-    enum net_base_arrival_status result = net_base_receiving_end_classify(end, segment);
+    enum net_base_arrival_status result = net_base_receiving_end_classify(end, capacity, segment);
     NET_BASE_ANSWERS_("net_base_receiving_end_classify", result != NET_BASE_ARRIVAL_REFUSED);
     return result;
 }
@@ -1293,6 +1308,8 @@ NET_BASE_MUST_USE static inline bool net_base_sequence_number_position_checked_(
 #define net_base_retransmission_timer_acknowledged net_base_retransmission_timer_acknowledged_checked_
 #define net_base_retransmission_timer_reported net_base_retransmission_timer_reported_checked_
 #define net_base_retransmission_timer_expire net_base_retransmission_timer_expire_checked_
+#define net_base_answer_limit_init net_base_answer_limit_init_checked_
+#define net_base_answer_limit_allows net_base_answer_limit_allows_checked_
 #define net_base_parts_sum_init net_base_parts_sum_init_checked_
 #define net_base_parts_sum_add net_base_parts_sum_add_checked_
 #define net_base_parts_sum_checksum net_base_parts_sum_checksum_checked_

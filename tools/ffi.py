@@ -40,7 +40,7 @@ ABI = ROOT / "c/abi.txt"
 # Modules whose sections come first: what the others refer to.
 FIRST = ["refusals", "ring", "split_ring", "packets", "assembler", "fragments", "receiver", "scoreboard"]
 FIRST += ["finite_receiver", "finite_sender", "tcp", "advertised_window", "peer_window",
-          "retransmission", "parts_sum", "receiving_end", "sending_end"]
+          "retransmission", "answer_limit", "parts_sum", "receiving_end", "sending_end"]
 PAGE = ROOT / "docs/C.md"
 PAGE_BEGIN = "<!-- Written by tools/ffi.py from crates/net_ffi/src/lib.rt, up to the line END. -->"
 PAGE_END = "<!-- END -->"

@@ -70,6 +70,7 @@ static bool take(struct link *link, int64_t now, struct segment *segment) {
 /* The two ends of a stream, where their bytes are, and the ways between them. */
 static struct net_base_sending_end from;
 static struct net_base_receiving_end to;
+static struct net_base_answer_limit limit;
 static uint8_t outgoing[ROOM], incoming[WINDOW];
 static struct link there, back;
 
@@ -139,8 +140,10 @@ static void take_segment(const struct segment *segment, int64_t now) {
     must(net_base_finite_receiver_acknowledged(&to.receiver, &next), "next");
     struct net_base_segment numbers = {
         position_of(segment->number, next), segment->size + segment->is_last, false, true, false};
-    enum net_base_arrival_status arrival = net_base_receiving_end_classify(&to, &numbers);
-    if (arrival == NET_BASE_ARRIVAL_ANSWER || arrival == NET_BASE_ARRIVAL_ACKNOWLEDGEMENT_ONLY)
+    enum net_base_arrival_status arrival = net_base_receiving_end_classify(&to, WINDOW, &numbers);
+    bool answers = arrival == NET_BASE_ARRIVAL_ANSWER
+                   && net_base_answer_limit_allows(&limit, &numbers, now);
+    if (answers || arrival == NET_BASE_ARRIVAL_ACKNOWLEDGEMENT_ONLY)
         net_base_receiving_end_answer(&to);
     if (arrival == NET_BASE_ARRIVAL_TAKE)
         must(net_base_receiving_end_arrived(&to, incoming, WINDOW, numbers.seq, segment->bytes,
@@ -159,6 +162,7 @@ static void run(uint64_t first, const uint8_t *data, size_t size, bool is_slow) 
     memset(&from, 0xa5, sizeof from);
     initial = net_base_rand_u32(&random_state);
     there.count = back.count = 0;
+    net_base_answer_limit_init(&limit);
     must(net_base_receiving_end_init(&to, first, MSS), "init");
     must(net_base_receiving_end_open(&to, WINDOW, first, SCALE, &window), "open");
     must(net_base_sending_end_init(&from, first, 1000000, &BOUNDS), "init");

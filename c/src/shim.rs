@@ -572,9 +572,9 @@ pub extern "C" fn net_base_finite_sender_is_closed_and_acknowledged(sender: Opti
 }
 
 #[unsafe(export_name = "net_base_4_tcp_classify")]
-pub extern "C" fn net_base_tcp_classify(next: u64, window: u64, segment: Option<&Segment>) -> refusals::ArrivalStatus {
+pub extern "C" fn net_base_tcp_classify(next: u64, window: u64, greatest_window: u64, segment: Option<&Segment>) -> refusals::ArrivalStatus {
     let Some(segment) = segment else { return refusals::NET_BASE_REFUSED };
-    heads::tcp::net_base_tcp_classify(next, window, segment)
+    heads::tcp::net_base_tcp_classify(next, window, greatest_window, segment)
 }
 
 #[unsafe(export_name = "net_base_4_tcp_is_acknowledgement")]
@@ -605,10 +605,10 @@ pub extern "C" fn net_base_advertised_window_init(advertised: Option<&mut Advert
 }
 
 #[unsafe(export_name = "net_base_4_advertised_window_classify")]
-pub extern "C" fn net_base_advertised_window_classify(advertised: Option<&AdvertisedWindow>, next: u64, segment: Option<&Segment>) -> refusals::ArrivalStatus {
+pub extern "C" fn net_base_advertised_window_classify(advertised: Option<&AdvertisedWindow>, next: u64, capacity: u64, segment: Option<&Segment>) -> refusals::ArrivalStatus {
     let Some(advertised) = advertised else { return refusals::NET_BASE_REFUSED };
     let Some(segment) = segment else { return refusals::NET_BASE_REFUSED };
-    heads::advertised_window::net_base_advertised_window_classify(advertised, next, segment)
+    heads::advertised_window::net_base_advertised_window_classify(advertised, next, capacity, segment)
 }
 
 #[unsafe(export_name = "net_base_4_advertised_window_announce")]
@@ -728,6 +728,19 @@ pub extern "C" fn net_base_retransmission_timer_expire(timer: Option<&mut retran
     retransmission::net_base_retransmission_timer_expire(timer, bounds, now)
 }
 
+#[unsafe(export_name = "net_base_4_answer_limit_init")]
+pub extern "C" fn net_base_answer_limit_init(limit: Option<&mut answer_limit::AnswerLimit>) {
+    let Some(limit) = limit else { return };
+    answer_limit::net_base_answer_limit_init(limit)
+}
+
+#[unsafe(export_name = "net_base_4_answer_limit_allows")]
+pub extern "C" fn net_base_answer_limit_allows(limit: Option<&mut answer_limit::AnswerLimit>, segment: Option<&Segment>, now: i64) -> bool {
+    let Some(limit) = limit else { return false };
+    let Some(segment) = segment else { return false };
+    answer_limit::net_base_answer_limit_allows(limit, segment, now)
+}
+
 #[unsafe(export_name = "net_base_4_parts_sum_init")]
 pub extern "C" fn net_base_parts_sum_init(sum: Option<&mut PartsSum>) {
     let Some(sum) = sum else { return };
@@ -780,10 +793,10 @@ pub extern "C" fn net_base_receiving_end_open(end: Option<&mut receiving_end::Re
 }
 
 #[unsafe(export_name = "net_base_4_receiving_end_classify")]
-pub extern "C" fn net_base_receiving_end_classify(end: Option<&receiving_end::ReceivingEnd>, segment: Option<&Segment>) -> refusals::ArrivalStatus {
+pub extern "C" fn net_base_receiving_end_classify(end: Option<&receiving_end::ReceivingEnd>, capacity: usize, segment: Option<&Segment>) -> refusals::ArrivalStatus {
     let Some(end) = end else { return refusals::NET_BASE_REFUSED };
     let Some(segment) = segment else { return refusals::NET_BASE_REFUSED };
-    receiving_end::net_base_receiving_end_classify(end, segment)
+    receiving_end::net_base_receiving_end_classify(end, capacity, segment)
 }
 
 #[unsafe(export_name = "net_base_4_receiving_end_arrived")]

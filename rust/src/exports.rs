@@ -1,5 +1,6 @@
 //! The exports for C, over references and slices, and their structs: for the crate in `c` alone.
 erased! {
+    pub mod answer_limit;
     pub mod finite_receiver;
     pub mod fragments;
     pub mod heads;
@@ -32,4 +33,6 @@ pub use crate::stream::receiver_head::ReceiverHead;
 pub use crate::stream::scoreboard_head::ScoreboardHead;
 pub use crate::stream::sender_head::SenderHead;
 pub use crate::stream::sent_numbers::SentNumbers;
-pub use crate::tcp::{AdvertisedWindow, Announcement, PartsSum, PeerWindow, Segment};
+pub use crate::tcp::{
+    AdvertisedWindow, Announcement, AnswerLimit, PartsSum, PeerWindow, Segment,
+};

@@ -55,6 +55,7 @@ pub use crate::stream::{RecoveryParts, SentNumbers};
 
 erased! {
     pub(crate) mod advertised_window;
+    pub(crate) mod answer_limit;
     pub(crate) mod arriving;
     pub(crate) mod internet_sum;
     pub(crate) mod peer_window;
@@ -63,6 +64,7 @@ erased! {
 }
 
 pub use advertised_window::{scale_for, AdvertisedWindow, MAX_SCALE};
+pub use answer_limit::AnswerLimit;
 pub use arriving::{classify, is_acceptable, is_acknowledgement, Arrival, Segment};
 pub use internet_sum::{checksum, is_valid, updated_checksum, PartsSum};
 pub use peer_window::{scaled, Announcement, PeerWindow};

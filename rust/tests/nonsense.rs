@@ -165,7 +165,8 @@ fn windows_and_timers() {
         let [first_unacknowledged, sent, seq, ack, window, len] = draw.numbers();
         let (numbers, scale) = (SentNumbers { first_unacknowledged, sent }, window as u8);
         let segment = Segment { seq, len, syn: draw.bit(), ack: draw.bit(), rst: draw.bit() };
-        let _whatever_it_is = (classify(ack, window, segment), advertised.classify(ack, segment));
+        let _whatever_it_is =
+            (classify(ack, window, len, segment), advertised.classify(ack, len, segment));
         match draw.below(9) {
             0 => assert!(scaled(sent as u16, scale) < 1 << 30),
             1 => assert!(is_acceptable(ack, window, ack, 0)),

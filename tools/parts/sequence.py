@@ -36,7 +36,10 @@ NEAR |= {("scoreboard", name): "now.scoreboard_scoreboard.base"
 NEAR |= {("scoreboard", "sent"): "now.scoreboard_scoreboard.base + 40"}
 # What a head is made now and then, since calls seldom do: a timer whose probe is due before the timeout passes.
 MADE = {"sending_end": ["now.sending_end_end.timer.reports = 1;", "now.sending_end_end.timer.probe_at = "
-                        "(int64_t)((uint64_t)now.sending_end_end.timer.ends_at - below(48));"]}
+                        "(int64_t)((uint64_t)now.sending_end_end.timer.ends_at - below(48));",
+                        "if (now.sending_end_end.sender.sender.place.length == 0 && below(4) == 0) {",
+                        "    now.sending_end_end.sender.closed = now.sending_end_end.sender.finished = 1;",
+                        "    now.sending_end_end.sender.sent = now.sending_end_end.sender.sender.first_unacknowledged + 1;", "}"]}
 HEAD = r"""/* sequence [CALLS]: calls of all exports, and a digest of what they return and leave. Written by tools/parts/sequence.py. */
 #include "net_base.h"
 #include <inttypes.h>

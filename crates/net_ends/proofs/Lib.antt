@@ -3,6 +3,7 @@ pub mod Ends
 pub mod Expiries
 pub mod Found
 pub mod Loops
+pub mod PairLaws
 pub mod PathLaws
 pub mod Progress
 pub mod Ranges

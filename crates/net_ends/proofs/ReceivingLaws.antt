@@ -56,7 +56,7 @@ free_grows : (s t : FiniteState) → IsSoundEnd s → limit_of s.receiver ≤ li
 free_grows s t is limit next = let fits = free_fits s is in grind (arith, nat_tests, fits, limit, next)
 
 -- ---- what is announced
-field_within : (shift x : ℕ) → field_for shift x * 2 ^ shift ≤ x
+pub field_within : (shift x : ℕ) → field_for shift x * 2 ^ shift ≤ x
 field_within shift x =
     let parts = div-add-mod' x (2 ^ shift) in
     let few = mul-le (field_for shift x) (2 ^ shift) (x / 2 ^ shift) (2 ^ shift) (omega arith) (omega arith) in
@@ -77,7 +77,7 @@ field_rest shift x = elim (cases_lt (x / 2 ^ shift) 65536) [
   | inr many ↦ let is : field_for shift x ≡ 65535 = omega arith in inr (ap (λ k. k * 2 ^ shift) is)
 ]
 
-end_within : (b : Bool) (edge free : ℕ) → (if b then free else min edge free) ≤ free
+pub end_within : (b : Bool) (edge free : ℕ) → (if b then free else min edge free) ≤ free
 end_within true edge free = omega arith
 end_within false edge free = omega arith
 

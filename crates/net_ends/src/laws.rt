@@ -8,6 +8,10 @@ ghost use Rattle.net_ends.specs.Ends.{first, rest};
 ghost use Rattle.net_ends.specs.Ends.{IsUnacknowledged, runs, Heard, Rested, end, news, IsNoWrite, hurries};
 ghost use Rattle.net_ends.specs.Ends.{small_sends, expiries};
 ghost use Rattle.net_ends.specs.Path.{LentIsWritten, EndsCarry};
+ghost use Rattle.net_receiver.specs.Finite.{no_end};
+ghost use Rattle.net_tcp.specs.Windows.{acknowledgement_number};
+ghost use Rattle.net_ends.specs.Receiving.{Receiving};
+ghost use Rattle.net_ends.specs.Pair.{Pair, Step, begun as begun_pair, after_steps, AreHonest, number, has_come, IsAnswerTaken};
 
 /// States of every end and of every list of what happens to it, forged acknowledgements among it: that its sender is
 /// that of a list of the sender's own commands; that nothing is sent beyond the greatest edge that the peer gave, but a
@@ -64,3 +68,31 @@ pub fn small_segments()
     ensures rare { (e : End) (vs : List Event) → IsFalse (hurries e) →
         small_sends e vs ≤ expiries e vs }
 {}
+
+/// States that two ends hear one another, whatever honest path lies between them: one that loses, copies, delays and reorders
+/// what both send, and forges nothing. A connection begins with the window of the receiving end's SYN. Then, in every
+/// state that such a history reaches, an acknowledgement that the sending end sends has a number that the receiving
+/// one takes (`heard`): now, and whenever it arrives, unless what the sending end sent later for the first time has come
+/// before it, which itself acknowledges more (`later`). So no acknowledgement and no window is refused for ever. And what
+/// takes an acknowledgement answers it by a number that isn't below what it acknowledges (`ends`): the end that sent
+/// it doesn't answer that again, unless more has come, by law `acknowledgements` of `net_tcp`.
+pub fn heard_ends()
+    ensures heard { (most_runs : ℕ) (e : End) (r : Receiving) (scale seq size : ℕ)
+        (reports : Bool) (now : ℤ) (vs : List Step) → first e ≡ e.sender.sent → first e < no_end →
+        let p = begun_pair e r scale seq size reports now in AreHonest most_runs p vs →
+        let q = after_steps most_runs p vs in IsAnswerTaken q (number q) }
+    ensures later { (most_runs : ℕ) (e : End) (r : Receiving) (scale seq size : ℕ)
+        (reports : Bool) (now : ℤ) (vs later : List Step) → first e ≡ e.sender.sent → first e < no_end →
+        let p = begun_pair e r scale seq size reports now in
+        let q = after_steps most_runs p vs in
+        let u = after_steps most_runs q later in
+        AreHonest most_runs p vs → AreHonest most_runs q later → has_come u ≤ q.sender.sender.sent →
+        IsAnswerTaken u (number q) }
+    ensures ends { (e : End) (s : Positions) (r : LossRecovery) (says : Bool)
+        (seq ack window : ℕ) (now : ℤ) → IsTrue (accepts e.sender ack) →
+        let f = after_event e (Heard s r says seq ack window now) in
+        ack ≤ acknowledgement_number f.peer (first f) f.sender.sent }
+{
+    net_receiver::laws::numbers();
+    net_receiver::laws::finite_receivers();
+}

@@ -4,6 +4,7 @@
 #![tactic(auto)]
 
 mod ends;
+mod heard;
 mod path;
 #[cfg(test)]
 mod send_buffer;
@@ -13,4 +14,5 @@ mod sending_end;
 pub use ends::{
     begin, read_first, send_all, send_late, take_acknowledgement, take_last, take_segment,
 };
+pub use heard::hear;
 pub use path::{Event, Transfer, carry, happen};

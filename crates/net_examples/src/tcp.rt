@@ -1,7 +1,7 @@
 //! What laws say of windows, timeouts and checksums: small functions, each with a contract that is by a law.
-ghost use Rattle.std.specs.Prelude.{◌≡◌, ◌≤◌, ◌<◌, ◌+◌, ◌-◌, ◌*◌, ◌^◌, ◌++◌, ℕ, IsTrue, min, Some};
+ghost use Rattle.std.specs.Prelude.{◌≡◌, ◌≤◌, ◌<◌, ◌+◌, ◌-◌, ◌*◌, ◌^◌, ◌++◌, ◌⊎◌, ℕ, IsTrue, min, Some};
 ghost use Rattle.net_tcp.specs.InternetChecksum.{carried_sum, folded, internet_checksum, word_bytes, word_sum, IsEven};
-ghost use Rattle.net_tcp.specs.Windows.{BothEnds, IsInTable};
+ghost use Rattle.net_tcp.specs.Windows.{BothEnds, IsHeard, IsInTable, IsTaken};
 ghost use Rattle.net_tcp.specs.declared.retransmission_timer.Expiry.TheVariants.{Probe};
 
 use net_base::time::{Duration, Instant};
@@ -47,12 +47,11 @@ pub fn take_older(window: &mut PeerWindow, numbers: SentNumbers, it: Announcemen
     let _is_taken = window.update(numbers, it);
 }
 
-/// Returns the number of a segment without bytes. At a shut window it is in the peer's table, unless the peer has
-/// kept a probe.
+/// Returns the number of a segment without bytes. The peer takes what that acknowledges, whatever it has kept.
 pub fn number_without_bytes(window: &PeerWindow, numbers: SentNumbers) -> u64
-    ensures { (next edge : ℕ) → BothEnds window.now numbers.first_unacknowledged numbers.sent next edge →
-        window.now.edge ≤ numbers.first_unacknowledged → numbers.first_unacknowledged ≡ next →
-        IsInTable next (edge - next) result 0 }
+    ensures { (next edge most : ℕ) →
+        BothEnds window.now numbers.first_unacknowledged numbers.sent next edge most →
+        IsTaken next (edge - next) result 0 ⊎ IsHeard next (edge - next) most result 0 }
 {
     laws::acknowledgements();
     window.acknowledgement_number(numbers)

@@ -1,3 +1,4 @@
+pub mod AnswerLimit
 pub mod PacketPlaces
 pub mod ReceiverParts
 pub mod ReceivingEnds

@@ -73,6 +73,7 @@
 //! SIGILL. The library prints nothing, and has no symbol to hook. A sum that doesn't fit wraps.
 #![tactic(auto)]
 
+pub mod answer_limit;
 pub mod finite_receiver;
 pub mod fragments;
 pub mod heads;

@@ -430,28 +430,30 @@ pub extern "C" fn net_base_receiving_end_open(
     true
 }
 
-/// Returns what to do with a segment, as `net_base_tcp_classify` says, in the window that was announced.
+/// Returns what to do with a segment, as `net_base_tcp_classify` says, in the window that was announced, where the storage
+/// has `capacity` bytes. Its acknowledgement is taken if it is of a peer that hears of what is announced here, whatever
+/// the path does.
 ///
 /// If the number after `next` doesn't fit 64 bits, as in no sound head: `NET_BASE_IGNORE`.
 #[unsafe(no_mangle)]
 pub extern "C" fn net_base_receiving_end_classify(
     end: &ReceivingEnd,
+    capacity: usize,
     segment: &Segment,
 ) -> ArrivalStatus
     ensures value { (storage : List ℕ) → HasSoundEnd (length storage) end.now →
+        length storage ≡ capacity →
         let e = receiving_of end.now storage in
         IsArrival NET_BASE_TAKE NET_BASE_ACKNOWLEDGEMENT_ONLY NET_BASE_ANSWER NET_BASE_RESET
         NET_BASE_IGNORE (acknowledged e.receiver) (e.edge - acknowledged e.receiver)
-        segment.now result }
+        e.receiver.receiver.capacity segment.now result }
     ensures refused { (next_of end.now.receiver < no_end → ⊥) → result ≡ NET_BASE_IGNORE }
 {
     if !has_number(&end.receiver) {
         return NET_BASE_IGNORE;
     }
-    number_of(
-        end.advertised
-            .classify(end.receiver.acknowledged(), *segment),
-    )
+    let next = end.receiver.acknowledged();
+    number_of(end.advertised.classify(next, capacity as u64, *segment))
 }
 
 /// Takes the bytes of a segment whose first byte is at `position`, and the end if it `is_last`, as

@@ -1,3 +1,4 @@
+pub mod AnswerLimit
 pub mod InternetChecksum
 pub mod Windows
 pub mod Estimate

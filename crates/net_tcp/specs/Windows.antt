@@ -6,8 +6,10 @@
 --     IsAcceptable      the segment's positions meet the window
 --     flag_at k flags      the bit k of TCP's flags, in which FIN is 0, SYN 1, RST 2 and ACK 4
 --     IsProbe      its first position is the one at which the window is shut
+--     IsAtEdge, IsBehind      it has no position, and its number is the window's edge, or a little below next
+--     IsTaken, IsHeard      it is taken; what it acknowledges is taken, and it is answered
 --     IsAnswered, IsIgnored      nothing of it is taken, and it is answered by an acknowledgement, or by nothing
---     IsArrival ..answers next window s a      a is what to do with it, of five answers
+--     IsArrival ..answers next window most s a      a is what to do with it, of five answers
 --     shift_count scale      the scale that counts: in place of one above 14 it is 14 (RFC 7323, section 2.3)
 --     field_for scale free      the number announced if `free` positions are free
 --     announced next scale field      the right edge that it promises, with this first missing position
@@ -19,7 +21,7 @@
 --     with_segment w seq ack window      the window after a segment
 --     after_update w first sent seq ack window      the window that `update` leaves
 --     acknowledgement_number w first sent      the number of a segment without positions
---     BothEnds w first sent next edge      what the two ends know of one another
+--     BothEnds w first sent next edge most      what the two ends know of one another
 --     Announcement, Heard      an arriving segment; what a sender heard so far
 --     heard h s, heard_all h ss      what it heard after one more, and after a list
 use Rattle.std.specs.Prelude.{◌≡◌, ◌≢◌, ◌↔◌, ℕ, zero, suc, ◌+◌, ◌-◌, ◌*◌, ◌/◌, ◌%◌, ◌^◌, ◌<◌, ◌≤◌, ◌⊎◌, ◌||◌, ◌&&◌}
@@ -54,28 +56,45 @@ flag_at k flags = flags / 2 ^ k % 2
 abbrev pub IsProbe : ℕ → ℕ → ℕ → ℕ → Type 0
 IsProbe next window seq len = (window ≡ 0) × (seq ≡ next) × (0 < len)
 
--- a reset in the window, but not at next; a SYN; and what isn't acceptable
-abbrev pub IsAnswered : ℕ → ℕ → Segment → Type 0
-IsAnswered next window s =
+-- all of the window was sent, and some of it is missing: then a segment without positions has the number after it
+abbrev pub IsAtEdge : ℕ → ℕ → ℕ → ℕ → Type 0
+IsAtEdge next window seq len = (len ≡ 0) × (seq ≡ next + window)
+
+-- a segment without positions of a peer that doesn't know yet that all below next has come, or that sees the window
+-- end below what it sent, as by a probe. `most` is the greatest window that was ever announced: no peer has more
+-- on the way, but one that probes a window of no positions
+abbrev pub IsBehind : ℕ → ℕ → ℕ → ℕ → Type 0
+IsBehind next most seq len = (len ≡ 0) × (seq < next) × (next ≤ seq + max 1 most)
+
+abbrev pub IsTaken : ℕ → ℕ → ℕ → ℕ → Type 0
+IsTaken next window seq len = IsAcceptable next window seq len ⊎ IsAtEdge next window seq len
+
+abbrev pub IsHeard : ℕ → ℕ → ℕ → ℕ → ℕ → Type 0
+IsHeard next window most seq len = IsProbe next window seq len ⊎ IsBehind next most seq len
+
+-- a reset in the window, but not at next; a SYN; and what is neither taken nor heard
+abbrev pub IsAnswered : ℕ → ℕ → ℕ → Segment → Type 0
+IsAnswered next window most s =
     (IsTrue s.rst × (s.seq ≢ next) × IsAcceptable next window s.seq s.len)
     ⊎ (IsFalse s.rst × (IsTrue s.syn
-    ⊎ ((¬ IsAcceptable next window s.seq s.len) × (¬ IsProbe next window s.seq s.len))))
+    ⊎ ((¬ IsTaken next window s.seq s.len) × (¬ IsHeard next window most s.seq s.len))))
 
 -- a reset out of the window; and what acknowledges nothing
-abbrev pub IsIgnored : ℕ → ℕ → Segment → Type 0
-IsIgnored next window s =
+abbrev pub IsIgnored : ℕ → ℕ → ℕ → Segment → Type 0
+IsIgnored next window most s =
     (IsTrue s.rst × (s.seq ≢ next) × (¬ IsAcceptable next window s.seq s.len))
     ⊎ (IsFalse s.rst × IsFalse s.syn × IsFalse s.ack
-    × (IsAcceptable next window s.seq s.len ⊎ IsProbe next window s.seq s.len))
+    × (IsTaken next window s.seq s.len ⊎ IsHeard next window most s.seq s.len))
 
 -- each of five answers exactly where its rule says
-pub record IsArrival {A : Type 0} (takes acknowledges answers resets ignores : A) (next window : ℕ) (s : Segment)
-    (a : A) : Type 0 where
-  pub take : (a ≡ takes) ↔ (IsFalse s.rst × IsFalse s.syn × IsTrue s.ack × IsAcceptable next window s.seq s.len)
-  pub only : (a ≡ acknowledges) ↔ (IsFalse s.rst × IsFalse s.syn × IsTrue s.ack × IsProbe next window s.seq s.len)
-  pub answer : (a ≡ answers) ↔ IsAnswered next window s
+pub record IsArrival {A : Type 0} (takes acknowledges answers resets ignores : A) (next window most : ℕ)
+    (s : Segment) (a : A) : Type 0 where
+  pub take : (a ≡ takes) ↔ (IsFalse s.rst × IsFalse s.syn × IsTrue s.ack × IsTaken next window s.seq s.len)
+  pub only : (a ≡ acknowledges)
+      ↔ (IsFalse s.rst × IsFalse s.syn × IsTrue s.ack × IsHeard next window most s.seq s.len)
+  pub answer : (a ≡ answers) ↔ IsAnswered next window most s
   pub reset : (a ≡ resets) ↔ (IsTrue s.rst × (s.seq ≡ next))
-  pub ignored : (a ≡ ignores) ↔ IsIgnored next window s
+  pub ignored : (a ≡ ignores) ↔ IsIgnored next window most s
 
 -- ---- the window that a receiver announces
 abbrev pub shift_count : ℕ → ℕ
@@ -136,13 +155,13 @@ acknowledgement_number w first sent = min sent (max w.edge first)
 abbrev pub no_window : PeerWindow
 no_window = record { edge = 0; seq = 0; ack = 0 }
 
--- the two ends: the sender was told of an edge that was promised, and the receiver has what it
--- acknowledged, nothing that wasn't sent, and nothing beyond its promise
-pub record BothEnds (w : PeerWindow) (first sent next edge : ℕ) : Type 0 where
+-- the two ends: the sender was told of an edge that was promised, and of no position that hasn't come, and has no more
+-- on the way than the greatest window, or a probe; the receiver has nothing that wasn't sent
+pub record BothEnds (w : PeerWindow) (first sent next edge most : ℕ) : Type 0 where
   pub told : w.edge ≤ edge
-  pub begun : first ≤ next
+  pub begun : first ≤ edge
   pub come : next ≤ sent
-  pub kept : next ≤ edge
+  pub sends : sent ≤ first + max 1 most
 
 -- ---- segments, one after another
 -- the numbers of an acceptable segment, and the end of what was sent when it came

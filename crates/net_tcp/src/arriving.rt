@@ -1,6 +1,6 @@
 //! What to do with an arriving segment.
 ghost use Rattle.std.specs.Prelude.{◌≡◌, ◌↔◌, ◌+◌, ◌-◌, ◌^◌, ◌≤◌, min, IsTrue};
-ghost use Rattle.net_tcp.specs.Windows.{IsAcceptable, IsArrival, flag_at};
+ghost use Rattle.net_tcp.specs.Windows.{IsAcceptable, IsArrival, IsHeard, IsTaken, flag_at};
 
 use net_receiver::SentNumbers;
 
@@ -47,7 +47,9 @@ pub enum Arrival {
     /// Take what it acknowledges, its window, its bytes and its end.
     Take,
     /// Take what it acknowledges and its window, but not its bytes, and answer it: the own window is
-    /// shut, and the peer asks whether it has opened.
+    /// shut, and the peer asks whether it has opened; or the segment has no position, and its number is
+    /// below the first missing one, as it may be before the peer has heard of that, or to ask whether this
+    /// end is there.
     AcknowledgementOnly,
     /// Send an acknowledgement, and take nothing.
     Answer,
@@ -76,34 +78,62 @@ pub fn is_acceptable(next: u64, window: u64, seq: u64, len: u64) -> bool
     }
 }
 
-/// Returns what to do with a segment, for a receiver whose first missing position is `next`, and which
-/// announced `window` positions from there on, as RFC 9293, section 3.10.7.4, has it. Resets and SYNs
-/// are answered as RFC 5961 has it: a reset counts only at `next`.
+/// Returns whether all of a segment is taken: if it is acceptable, or if it has no position, and its
+/// number is the one after the window.
+fn is_taken(next: u64, window: u64, seq: u64, len: u64) -> bool
+    ensures { IsTrue result ↔ IsTaken next window seq len }
+{
+    let is_at_edge = len == 0 && next <= seq && seq - next == window;
+    is_at_edge || is_acceptable(next, window, seq, len)
+}
+
+/// Returns whether what a segment acknowledges is taken, and nothing else: if it probes a window that is
+/// shut, or if it has no position, and its number is below `next`, but by no more than the greatest window.
+fn is_heard(next: u64, window: u64, greatest_window: u64, seq: u64, len: u64) -> bool
+    ensures { IsTrue result ↔ IsHeard next window greatest_window seq len }
+{
+    if len > 0 {
+        window == 0 && seq == next
+    } else {
+        seq < next && next - seq <= greatest_window.max(1)
+    }
+}
+
+/// Returns what to do with a segment, for a receiver whose first missing position is `next`, which
+/// announced `window` positions from there on, and never more than `greatest_window`: its capacity will do.
+/// It is as RFC 9293, section 3.10.7.4, has it, but for what follows. Resets and SYNs are answered as RFC
+/// 5961 has it: a reset counts only at `next`.
 ///
 /// No position is in a window that is shut. Of a segment with positions that begins at `next` then, as
 /// a probe does, the acknowledgement is taken all the same: otherwise two ends that both fill the
-/// other's window never hear of one another. Whether a segment may acknowledge what it does is tested
-/// afterwards, by `is_acknowledgement`.
+/// other's window never hear of one another. So it is of a segment without positions whose number is below
+/// `next`, by `greatest_window` at most, and by one if that is 0. No honest peer's number is below that: it
+/// is not below what was acknowledged to the peer, which has no more than such a window on the way, or a probe.
+/// If all of the window is on the way, and some of it is missing, its number is the one after the window:
+/// that is taken too. By law `acknowledgements` no other number is needed. Otherwise two ends whose
+/// acknowledgements were lost, or came in another order, may refuse one another's for ever, and answer each.
+///
+/// Whether a segment may acknowledge what it does is tested afterwards, by `is_acknowledgement`.
 #[must_use]
-pub fn classify(next: u64, window: u64, segment: Segment) -> Arrival
+pub fn classify(next: u64, window: u64, greatest_window: u64, segment: Segment) -> Arrival
     ensures { IsArrival Arrival.Take Arrival.AcknowledgementOnly Arrival.Answer Arrival.Reset
-        Arrival.Ignore next window segment result }
+        Arrival.Ignore next window greatest_window segment result }
 {
-    let is_acceptable = is_acceptable(next, window, segment.seq, segment.len);
-    let is_probe = window == 0 && segment.len > 0 && segment.seq == next;
+    let is_taken = is_taken(next, window, segment.seq, segment.len);
+    let is_heard = is_heard(next, window, greatest_window, segment.seq, segment.len);
     if segment.rst {
         if segment.seq == next {
             Arrival::Reset
-        } else if is_acceptable {
+        } else if is_acceptable(next, window, segment.seq, segment.len) {
             Arrival::Answer
         } else {
             Arrival::Ignore
         }
-    } else if segment.syn || !is_acceptable && !is_probe {
+    } else if segment.syn || !is_taken && !is_heard {
         Arrival::Answer
     } else if !segment.ack {
         Arrival::Ignore
-    } else if is_acceptable {
+    } else if is_taken {
         Arrival::Take
     } else {
         Arrival::AcknowledgementOnly

@@ -6,6 +6,7 @@ ghost use Rattle.net_base.specs.Time.{IsLength};
 ghost use Rattle.net_tcp.specs.InternetChecksum.{carried_sum, folded, internet_checksum, word_bytes, word_sum};
 ghost use Rattle.net_tcp.specs.InternetChecksum.{updated as updated_word, IsEven};
 ghost use Rattle.net_tcp.specs.Windows.{IsAcceptable, IsInTable, IsScaleFor, announced, field_for, gain, worth};
+ghost use Rattle.net_tcp.specs.Windows.{IsBehind, IsHeard, IsTaken};
 ghost use Rattle.net_tcp.specs.Windows.{window_from, with_segment, no_window, BothEnds, acknowledgement_number};
 ghost use Rattle.net_tcp.specs.Windows.{Announcement, Heard, acknowledged, updated, heard, heard_all, IsNoLater};
 ghost use Rattle.net_tcp.specs.Estimate.{Estimate, IsSmall};
@@ -212,25 +213,23 @@ pub fn agreement()
         peer_edge ≤ edge → next < seq + len → IsAcceptable next (edge - next) seq len }
 {}
 
-/// States when a segment without positions whose number is that of `PeerWindow::acknowledgement_number`
-/// is in the table of RFC 9293, so that the peer takes what it acknowledges: where the window known here
-/// is shut, unless the peer has kept a probe; where the peer promised more since, unless it has kept
-/// what is beyond the window known here; and where it didn't, unless the whole window was sent and some
-/// of it is missing: then the number is the edge. And that the number after a probe is not in the table at a
-/// shut window.
-///
-/// In none of the exceptions do both ends wait. What the peer has kept beyond the window, or of a probe,
-/// it answers, and that answer acknowledges it. What is missing within a window is sent again, and a
-/// segment with positions in the window is acceptable.
+/// States that a segment without positions, whose number is that of `PeerWindow::acknowledgement_number`, is taken by the
+/// peer, or what it acknowledges is (`heard`): whatever window is known here, and whatever the peer has kept. It needs that the
+/// edge known was promised, that no more is acknowledged than was promised, that the peer has kept nothing that wasn't
+/// sent, and that no more is on the way than the greatest window, or one position if that is 0. So it is of both ends
+/// of any path, by `heard_ends` of `net_ends`. No lower number is taken than such an end may have (`exact`), and
+/// the number is not below what was acknowledged: the peer that acknowledged it finds it at its first missing position or
+/// above, unless more has come since, and doesn't answer it (`ends`). The number after a probe is not in RFC 9293's
+/// table at a shut window (`next_number`).
 pub fn acknowledgements()
-    ensures shut { (w : PeerWindow) (first sent next edge : ℕ) → BothEnds w first sent next edge →
-        w.edge ≤ first → first ≡ next →
-        IsInTable next (edge - next) (acknowledgement_number w first sent) 0 }
-    ensures known { (w : PeerWindow) (first sent next edge : ℕ) → BothEnds w first sent next edge →
-        w.edge ≡ edge → IsInTable next (edge - next) (acknowledgement_number w first sent) 0
-        ⊎ ((acknowledgement_number w first sent ≡ edge) × (next < edge) × (edge ≤ sent)) }
-    ensures later { (w : PeerWindow) (first sent next edge : ℕ) → BothEnds w first sent next edge →
-        w.edge < edge → next ≤ max w.edge first →
-        IsInTable next (edge - next) (acknowledgement_number w first sent) 0 }
+    ensures heard { (w : PeerWindow) (first sent next edge most : ℕ) →
+        BothEnds w first sent next edge most →
+        IsTaken next (edge - next) (acknowledgement_number w first sent) 0
+        ⊎ IsHeard next (edge - next) most (acknowledgement_number w first sent) 0 }
+    ensures exact { (next most seq : ℕ) → IsBehind next most seq 0 →
+        let w = window_from 0 seq 0 in
+        BothEnds w seq next next next most × (acknowledgement_number w seq next ≡ seq) }
+    ensures ends { (w : PeerWindow) (first sent next most : ℕ) → next ≤ first → first ≤ sent →
+        IsBehind next most (acknowledgement_number w first sent) 0 → ⊥ }
     ensures next_number { (next sent : ℕ) → next < sent → IsInTable next 0 sent 0 → ⊥ }
 {}

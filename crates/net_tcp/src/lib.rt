@@ -4,6 +4,7 @@
 #![tactic(auto)]
 
 pub mod advertised_window;
+pub mod answer_limit;
 pub mod arriving;
 pub mod internet_sum;
 pub mod laws;
@@ -12,6 +13,7 @@ pub mod retransmission;
 pub mod retransmission_timer;
 
 pub use advertised_window::{AdvertisedWindow, MAX_SCALE, scale_for};
+pub use answer_limit::AnswerLimit;
 pub use arriving::{Arrival, Segment, classify, is_acceptable, is_acknowledgement};
 pub use internet_sum::{PartsSum, checksum, is_valid, updated_checksum};
 pub use peer_window::{Announcement, PeerWindow, scaled};

@@ -108,11 +108,12 @@ impl<S: Storage<u8>, const N: usize> ReceivingEndOver<S, N> {
         self.advertised.announce(0, next, end)
     }
 
-    /// Returns what to do with a segment, as `net_tcp::classify` says, in the window that was announced.
+    /// Returns what to do with a segment, as `net_tcp::classify` says, in the window that was announced. Its acknowledgement
+    /// is taken if it is of a peer that hears of what is announced here, whatever the path does: law `heard_ends`.
     #[must_use]
     pub fn classify(&self, segment: Segment) -> Arrival {
         self.advertised
-            .classify(self.receiver.acknowledged(), segment)
+            .classify(self.receiver.acknowledged(), self.capacity(), segment)
     }
 
     /// Takes the bytes of a segment, and the end if it `is_last`. A segment out of order, one with the end, and one

@@ -230,15 +230,14 @@ pub fn net_base_receiving_end_open(
 #[inline(always)]
 pub fn net_base_receiving_end_classify(
     end: &ReceivingEnd,
+    capacity: usize,
     segment: &Segment,
 ) -> ArrivalStatus {
     if !has_number(&end.receiver) {
         return NET_BASE_IGNORE;
     }
-    number_of(
-        end.advertised
-            .classify(end.receiver.acknowledged(), *segment),
-    )
+    let next = end.receiver.acknowledged();
+    number_of(end.advertised.classify(next, capacity as u64, *segment))
 }
 
 #[inline(always)]

@@ -43,10 +43,11 @@ impl AdvertisedWindow {
     }
 
     /// Returns what to do with a segment, as `net_tcp::classify` says, in the window that was announced: from
-    /// `next`, the first missing position, up to the edge, whatever is free now.
+    /// `next`, the first missing position, up to the edge, whatever is free now. No window is greater than the
+    /// receiver's capacity.
     #[must_use]
-    pub fn classify(&self, next: u64, segment: Segment) -> Arrival {
-        classify(next, self.edge.saturating_sub(next), segment)
+    pub fn classify(&self, next: u64, capacity: u64, segment: Segment) -> Arrival {
+        classify(next, self.edge.saturating_sub(next), capacity, segment)
     }
 
     /// Returns the number to announce, in units of 2^`scale`, if `next` is the first missing position

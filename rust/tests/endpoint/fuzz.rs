@@ -1,6 +1,7 @@
 //! Random segments, calls and times. A model has the rules by which the endpoint's packets are
 //! judged: RFC 9293, section 3.10.7.4, and RFC 5961. It counts from the first byte of each stream.
 use net_base::rand::Rand;
+use net_base::time::{Duration, Instant};
 
 use crate::peer::*;
 use crate::tcp::State;
@@ -33,6 +34,7 @@ struct Model {
     /// The end of the peer's window, and the segment that it is from.
     edge: i64,
     newest: (i64, i64),
+    answers_from: Instant,
     greatest: i64,
 }
 
@@ -65,6 +67,7 @@ impl Model {
             acked: 0,
             edge: 0x4000 << scale,
             newest: (0, 0),
+            answers_from: Instant::from_micros(i64::MIN),
             greatest: 0x4000 << scale,
         };
         if own_scale > 0 {
@@ -176,14 +179,17 @@ impl Model {
             0 => at == next || next < at && at < self.promised,
             _ => first < end,
         };
+        let is_at_edge = len == 0 && at == self.promised.max(next);
+        let is_behind = len == 0 && at < next && next <= at + self.capacity.max(1);
         let held = self.talk.endpoint.receiving.receiver().receiver().queued();
         let said = self.talk.say(&packet);
         let is_reset = has(RST) && at == next && !was_closed;
         let is_probe = self.promised <= next && at == next && len > 0;
         let acknowledges =
             !has(RST | SYN) && has(ACK) && ack <= self.sent && self.acked <= ack + self.greatest;
-        let is_taken = is_acceptable && acknowledges;
-        if (is_taken || is_probe && acknowledges) && self.acked <= ack {
+        let is_taken = (is_acceptable || is_at_edge) && acknowledges;
+        let is_heard = (is_probe || is_behind) && acknowledges;
+        if (is_taken || is_heard) && self.acked <= ack {
             if self.acked < ack || self.newest <= (at, ack) {
                 let window = i64::from(packet.window) << self.scales.1;
                 self.edge = ack + window;
@@ -201,8 +207,14 @@ impl Model {
                 "text that isn't acceptable"
             );
             let is_silent = has(RST) && (!is_acceptable || at == next)
-                || (is_acceptable || is_probe) && !has(RST | SYN | ACK);
-            assert_eq!(said.len(), usize::from(!is_silent), "{packet:?}");
+                || (is_acceptable || is_at_edge || is_probe || is_behind) && !has(RST | SYN | ACK);
+            // What may be an answer itself is answered twice a second.
+            let is_limited = !is_heard && (len == 0 || has(SYN));
+            let waits = is_limited && self.talk.now < self.answers_from;
+            if is_limited && !is_silent && !waits {
+                self.answers_from = self.talk.now + Duration::from_millis(500);
+            }
+            assert_eq!(said.len(), usize::from(!is_silent && !waits), "{packet:?}");
         } else if len > 0 && (at > next || has(FIN)) {
             assert_eq!(said.len(), 1, "out of order, and not acknowledged: {packet:?}");
         }

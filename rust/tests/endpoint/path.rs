@@ -7,7 +7,7 @@ use net_base::time::{Duration, Instant};
 use crate::channel::{Channel, Fates};
 use crate::peer::{HERE, THERE};
 use crate::tcp::Endpoint;
-use crate::wire::{Ends, Segment};
+use crate::wire::{Ends, Segment, ACK};
 
 const ONE_WAY: Duration = Duration::from_millis(5);
 const BEGUN: Instant = Instant::from_micros_const(1_000_000);
@@ -168,6 +168,51 @@ fn late_readers() {
                 run_ends(a, b);
             }
         }
+    }
+}
+
+/// Gives both ends what the other one sends, until neither does. Returns how many packets that were.
+fn exchange(ends: &mut [Endpoint<4>; 2], now: Instant) -> usize {
+    let mut packets = Vec::<(usize, Vec<u8>)>::new();
+    for count in 0..1_000 {
+        for (from, end) in ends.iter_mut().enumerate() {
+            packets.extend(from_fn(|| end.next_packet(now)).map(|packet| (1 - from, packet)));
+        }
+        if packets.is_empty() {
+            return count;
+        }
+        let (to, packet) = packets.remove(0);
+        let (from, segment) = Segment::parse(&packet, ends[to].ends.here).expect("sound");
+        packets.extend(ends[to].take(from, &segment, now).map(|packet| (1 - to, packet)));
+    }
+    panic!("each answer is answered");
+}
+
+/// A third party sends text in the name of an end: then the other one acknowledges what that never sent, and no
+/// acknowledgement of it is taken. Each is answered, but twice a second at most.
+#[test]
+fn forged_text_makes_no_storm() {
+    let [here, there] = [(HERE, THERE), (THERE, HERE)].map(|(here, there)| Ends { here, there });
+    let mut ends = [Endpoint::new(here, false, 7, 1_000), Endpoint::new(there, true, 9, 1_000)];
+    exchange(&mut ends, BEGUN);
+    let sent = ends.each_ref().map(|end| end.sending.numbers().sent as u32);
+    let [number, acknowledged] = sent;
+    let segment = Segment {
+        number,
+        acknowledged,
+        flags: ACK,
+        window: 1_000,
+        payload: &[7; 10],
+        ..Segment::default()
+    };
+    let forged = segment.packet(&ends[0].ends);
+    let (from, segment) = Segment::parse(&forged, THERE).expect("sound");
+    assert_eq!(ends[1].take(from, &segment, BEGUN), None);
+    let mut now = BEGUN;
+    for _half_a_second in 0..10 {
+        assert!(ends[0].sending.write(&[1]) + ends[1].sending.write(&[2]) == 2);
+        assert!(exchange(&mut ends, now) < 9);
+        now += Duration::from_millis(500);
     }
 }
 

@@ -164,7 +164,9 @@ fn both_open_at_once() {
     assert_eq!(talk.say(&syn(OPTIONS)), [answer]);
     let other = Packet { number: PEER.wrapping_add(5), ..syn(OPTIONS) };
     challenge(&talk.say(&other), 0);
-    // So does the peer. Its SYN is a second one, and is answered; its next segment opens.
+    // So does the peer. Its SYN is a second one, and is answered, half a second later; its next segment opens.
+    assert_eq!(talk.say(&other), []);
+    talk.wait(500_000);
     challenge(&talk.say(&peer(u32::MAX, 0).with(SYN)), 0);
     assert_eq!(talk.say(&peer(0, 0).text(b"abc")), []);
     assert_eq!((talk.endpoint.state, talk.read(9)), (State::Established, b"abc".to_vec()));

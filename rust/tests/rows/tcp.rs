@@ -3,10 +3,10 @@ use crate::show::{pattern, truth};
 use crate::{Call, Subject};
 use net_base::tcp::{
     checksum, classify, is_acceptable, is_acknowledgement, is_valid, scale_for, scaled,
-    updated_checksum, AdvertisedWindow, Announcement, Arrival, PartsSum, PeerWindow,
+    updated_checksum, AdvertisedWindow, Announcement, AnswerLimit, Arrival, PartsSum, PeerWindow,
     RetransmissionTimeout, RttEstimate, Segment, SentNumbers, TimeoutBounds,
 };
-use net_base::time::Duration;
+use net_base::time::{Duration, Instant};
 
 pub struct Tcp;
 
@@ -15,7 +15,13 @@ impl Subject for Tcp {
         let [one, two, three, four] = [0, 1, 2, 3].map(|index| call.at(index));
         match call.name {
             "is_acceptable" => truth(is_acceptable(one, two, three, four)).to_string(),
-            "classify" => arrival(classify(one, two, segment(&call.numbers[2..]))),
+            "classify" => arrival(classify(one, two, three, segment(&call.numbers[3..]))),
+            "answer_limit" => {
+                let mut limit = AnswerLimit { until: moment(one) };
+                let it = Segment { seq: 7, len: two, syn: three == 1, ack: true, rst: false };
+                let is_allowed = truth(limit.allows(it, moment(four)));
+                format!("{is_allowed} {}", limit.until.total_micros())
+            }
             "is_acknowledgement" => {
                 truth(is_acknowledgement(sent_numbers(one, two), three, four)).to_string()
             }
@@ -87,6 +93,10 @@ fn announce(call: &Call) -> String {
         _ => return truth(window.is_update_due(scale, next, end, capacity, mss)).to_string(),
     };
     format!("{field} {}", window.edge())
+}
+
+fn moment(micros: u64) -> Instant {
+    Instant::from_micros(micros as i64)
 }
 
 fn peer_update(call: &Call) -> String {

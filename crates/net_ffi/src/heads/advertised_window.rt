@@ -21,17 +21,19 @@ pub extern "C" fn net_base_advertised_window_init(advertised: &mut AdvertisedWin
 }
 
 /// Returns what to do with a segment, as `net_base_tcp_classify` says, in the window that was
-/// announced: from `next`, the first missing position, up to the edge, whatever is free now.
+/// announced: from `next`, the first missing position, up to the edge, whatever is free now. No
+/// window is greater than the receiver's capacity.
 #[unsafe(no_mangle)]
 pub extern "C" fn net_base_advertised_window_classify(
     advertised: &AdvertisedWindow,
     next: u64,
+    capacity: u64,
     segment: &Segment,
 ) -> ArrivalStatus
     ensures { IsArrival NET_BASE_TAKE NET_BASE_ACKNOWLEDGEMENT_ONLY NET_BASE_ANSWER NET_BASE_RESET
-        NET_BASE_IGNORE next (advertised.now.edge - next) segment.now result }
+        NET_BASE_IGNORE next (advertised.now.edge - next) capacity segment.now result }
 {
-    number_of(advertised.classify(next, *segment))
+    number_of(advertised.classify(next, capacity, *segment))
 }
 
 /// Returns the number to announce, in units of 2^`scale`, if `next` is the first missing position

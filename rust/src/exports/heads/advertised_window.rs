@@ -14,9 +14,10 @@ pub fn net_base_advertised_window_init(advertised: &mut AdvertisedWindow, first:
 pub fn net_base_advertised_window_classify(
     advertised: &AdvertisedWindow,
     next: u64,
+    capacity: u64,
     segment: &Segment,
 ) -> ArrivalStatus {
-    number_of(advertised.classify(next, *segment))
+    number_of(advertised.classify(next, capacity, *segment))
 }
 
 #[inline(always)]

@@ -7,8 +7,13 @@ use crate::stream::SentNumbers;
 use crate::tcp::Segment;
 
 #[inline(always)]
-pub fn net_base_tcp_classify(next: u64, window: u64, segment: &Segment) -> ArrivalStatus {
-    number_of(crate::tcp::classify(next, window, *segment))
+pub fn net_base_tcp_classify(
+    next: u64,
+    window: u64,
+    greatest_window: u64,
+    segment: &Segment,
+) -> ArrivalStatus {
+    number_of(crate::tcp::classify(next, window, greatest_window, *segment))
 }
 
 #[inline(always)]

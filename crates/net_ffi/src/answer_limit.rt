@@ -1,0 +1,50 @@
+//! How often a segment is answered of which nothing is taken. Moments are in microseconds, of one clock.
+//!
+//! A limit of zeros allows an answer from moment 0 on.
+ghost use Rattle.std.specs.Prelude.{◌≡◌, ◌≤◌, ◌^◌, ◌-◌, negsuc, IsTrue, IsFalse};
+ghost use Rattle.net_tcp.specs.AnswerLimit.{allows, after_question};
+ghost use Rattle.net_ffi.specs.AnswerLimit.{limit_of};
+
+use net_base::time::Instant;
+use net_tcp::Segment;
+
+/// A limit of answers.
+#[repr(C)]
+#[derive(Copy, Clone, Debug)]
+pub struct AnswerLimit {
+    /// When the next segment is answered that may be an answer itself.
+    pub until: i64,
+}
+
+/// Makes `limit` one before any answer, which allows one at any moment.
+#[unsafe(no_mangle)]
+pub extern "C" fn net_base_answer_limit_init(limit: &mut AnswerLimit)
+    ensures { limit.new.until ≡ negsuc (2 ^ 63 - 1) }
+{
+    *limit = AnswerLimit { until: i64::MIN };
+}
+
+/// Returns whether to answer a segment of which nothing is taken, `NET_BASE_ANSWER` of `net_base_tcp_classify` or of
+/// `net_base_sending_end_acknowledged`, and takes notice that it is answered.
+///
+/// A segment without positions, which may be an answer itself, and a SYN are answered at most twice a second: otherwise
+/// two ends that take nothing of one another, after a forged segment, answer each other's answers without end (RFC 5961,
+/// section 7). A segment with bytes or a FIN is answered each time. If the clock is set back, the limit stays until the
+/// moment that it was.
+#[unsafe(no_mangle)]
+pub extern "C" fn net_base_answer_limit_allows(
+    limit: &mut AnswerLimit,
+    segment: &Segment,
+    now: i64,
+) -> bool
+    ensures value { result ≡ allows (limit_of limit.old) segment.now now }
+    ensures state { limit_of limit.new ≡ after_question (limit_of limit.old) segment.now now }
+    ensures each { IsFalse segment.now.syn → 1 ≤ segment.now.len → IsTrue result }
+{
+    let mut it = net_tcp::AnswerLimit {
+        until: Instant::from_micros(limit.until),
+    };
+    let is_allowed = it.allows(*segment, Instant::from_micros(now));
+    limit.until = it.until.total_micros();
+    is_allowed
+}
