@@ -26,7 +26,7 @@
  *   `net_base_finite_receiver_`: acknowledged, is_complete, has_read_all
  * - A stream's sending end: the queue, the end, what is lost, the timer, the peer's window:
  *   `net_base_sending_end_`: init, is_sound, open, forget, is_opening_due, set_nagle_enabled,
- *     write, close, acknowledged, expired, next_segment
+ *     write, close, acknowledged, take_back, expired, next_segment
  *   `net_base_sending_end_`: bytes, is_done, expires_at, numbers, acknowledgement_number,
  *     is_recovering
  *   `net_base_finite_sender_`: room
@@ -2277,6 +2277,10 @@ struct net_base_loss_recovery {
     uint64_t unknown;
     /** Until all positions below this one are acknowledged, `duplicates` stays. */
     uint64_t round;
+    /** The first position that wasn't acknowledged when the recovery began. */
+    uint64_t since;
+    /** How many positions were sent again since then, less those that came twice. */
+    uint64_t copies;
     /** How many segments above a position tell that it is lost, if `has_duplicates` isn't 0; else 3
      * do.
      */
@@ -2471,6 +2475,17 @@ NET_BASE_MUST_USE struct net_base_taken_acknowledgement net_base_sending_end_ack
 NET_BASE_MUST_USE struct net_base_ended_timer net_base_sending_end_expired(
     struct net_base_sending_end *NET_BASE_RESTRICT end, const uint8_t *NET_BASE_RESTRICT storage,
     size_t storage_length, int64_t now) NET_BASE_LINK(sending_end_expired);
+
+/** Returns whether the last recovery was for nothing, and ends it then: nothing that was found lost
+ * is missing but what was sent again, and all that was sent again came twice (RFC 3708). Then the
+ * congestion window may be what it was when the recovery began. Ask it after each acknowledgement,
+ * an old one too. It is true once: not before another recovery begins.
+ *
+ * It is refused if `end` isn't sound over `storage_length` bytes: false, and nothing changes.
+ */
+NET_BASE_MUST_USE bool net_base_sending_end_take_back(
+    struct net_base_sending_end *NET_BASE_RESTRICT end, const uint8_t *NET_BASE_RESTRICT storage,
+    size_t storage_length) NET_BASE_LINK(sending_end_take_back);
 
 /** Returns the segment that is to be sent now, and takes notice that it is: if the peer's window
  * and the congestion window have room for one, or as a probe. What was never sent is held back if
@@ -2670,6 +2685,7 @@ NET_BASE_SLICES(sending_end_is_opening_due, NET_BASE_READS(2, 3))
 NET_BASE_SLICES(sending_end_write, NET_BASE_WRITES(2, 3) NET_BASE_READS(4, 5))
 NET_BASE_SLICES(sending_end_acknowledged, NET_BASE_READS(2, 3) NET_BASE_READS(5, 6))
 NET_BASE_SLICES(sending_end_expired, NET_BASE_READS(2, 3))
+NET_BASE_SLICES(sending_end_take_back, NET_BASE_READS(2, 3))
 NET_BASE_SLICES(sending_end_next_segment, NET_BASE_READS(2, 3))
 #pragma GCC diagnostic pop
 #endif

@@ -1132,6 +1132,14 @@ NET_BASE_MUST_USE static inline struct net_base_ended_timer net_base_sending_end
     return result;
 }
 
+NET_BASE_MUST_USE static inline bool net_base_sending_end_take_back_checked_(
+    struct net_base_sending_end *end, const uint8_t *storage, size_t storage_length) {
+    NET_BASE_POINTER_("net_base_sending_end_take_back", end, struct net_base_sending_end);
+    NET_BASE_SLICE_("net_base_sending_end_take_back", storage, uint8_t);
+    net_base_check_(net_base_apart_(end, sizeof(*end), storage, storage_length * sizeof(*storage)), "net_base_sending_end_take_back: end and storage overlap (duty 2)");
+    return net_base_sending_end_take_back(end, storage, storage_length);
+}
+
 NET_BASE_MUST_USE static inline struct net_base_outgoing_segment net_base_sending_end_next_segment_checked_(
     struct net_base_sending_end *end, const uint8_t *storage, size_t storage_length,
     uint64_t congestion_window, int64_t now) {
@@ -1336,6 +1344,7 @@ NET_BASE_MUST_USE static inline bool net_base_sequence_number_position_checked_(
 #define net_base_sending_end_close net_base_sending_end_close_checked_
 #define net_base_sending_end_acknowledged net_base_sending_end_acknowledged_checked_
 #define net_base_sending_end_expired net_base_sending_end_expired_checked_
+#define net_base_sending_end_take_back net_base_sending_end_take_back_checked_
 #define net_base_sending_end_next_segment net_base_sending_end_next_segment_checked_
 #define net_base_sending_end_bytes net_base_sending_end_bytes_checked_
 #define net_base_sending_end_is_done net_base_sending_end_is_done_checked_

@@ -920,6 +920,13 @@ pub unsafe extern "C" fn net_base_sending_end_expired(end: Option<&mut sending_e
     sending_end::net_base_sending_end_expired(end, storage, now)
 }
 
+#[unsafe(export_name = "net_base_4_sending_end_take_back")]
+pub unsafe extern "C" fn net_base_sending_end_take_back(end: Option<&mut sending_end::SendingEnd>, storage: *const u8, storage_length: usize) -> bool {
+    let Some(end) = end else { return false };
+    let Some(storage) = slice(storage, storage_length) else { return false };
+    sending_end::net_base_sending_end_take_back(end, storage)
+}
+
 #[unsafe(export_name = "net_base_4_sending_end_next_segment")]
 pub unsafe extern "C" fn net_base_sending_end_next_segment(end: Option<&mut sending_end::SendingEnd>, storage: *const u8, storage_length: usize, congestion_window: u64, now: i64) -> sending_end::OutgoingSegment {
     let Some(end) = end else { return sending_end::refused_outgoing_segment() };

@@ -447,7 +447,7 @@ fn recovery() {
             }
             3 => recovery.lose_all(numbers),
             4 => recovery.sent(numbers, start..end),
-            5 => recovery.probed(numbers, start),
+            5 => recovery.probed(numbers, start..end),
             6 => recovery.duplicated(numbers),
             7 => {
                 let reports = draw.below(2) == 0;

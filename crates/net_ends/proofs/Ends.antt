@@ -15,6 +15,7 @@ use Rattle.net_receiver.specs.FiniteSender.{FiniteSenderState, first_number, ack
 use Rattle.net_receiver.specs.FiniteSender.{sender_after_commands, sender_after_command, numbers_end, IsSoundSent}
 use Rattle.net_receiver.specs.FiniteSender.{Marks}
 use Rattle.net_ends.specs.Ends.{End, Event, Opened, Forgot, Enabled, Opening, Wrote, Shut, Heard, Looked, Sent, Rested}
+use Rattle.net_ends.specs.Ends.{Resumed}
 use Rattle.net_ends.specs.Ends.{after_event, after_events}
 use Rattle.net_ends.specs.Ends.{commands, commands_of, Run, run, run_on, begun, IsAllowed, first, rest}
 use Rattle.net_ends.specs.Ends.{IsUnacknowledged}
@@ -48,6 +49,7 @@ step_refines e (Sent r from to now) = sent_refines (may_send e from to) e (recor
   overdue = false;
 }) to refl
 step_refines e (Rested now) = search rules
+step_refines e (Resumed r) = search rules
 
 pub refines : (e : End) (vs : List Event) →
     (after_events e vs).sender ≡ sender_after_commands e.sender (commands e vs)
@@ -118,6 +120,7 @@ runs_on e (Heard s r says seq ack window now) is = search rules
 runs_on e (Looked r now) is = search rules
 runs_on e (Sent r from to now) is = sent_runs e r from to now is
 runs_on e (Rested now) is = search rules
+runs_on e (Resumed r) is = search rules
 
 pub all_run : (e : End) (vs : List Event) → Runs e → Runs (after_events e vs)
 all_run e [] is = is
@@ -163,6 +166,7 @@ keeps u (Sent r from to now) is = record {
       (sent_allowed u from to is.told) is.allowed;
 }
 keeps u (Rested now) is = record { told = search rules; allowed = is.allowed }
+keeps u (Resumed r) is = record { told = search rules; allowed = is.allowed }
 
 all_keep : (u : Run) (vs : List Event) → IsKept u → All IsAllowed (run u vs).log
 all_keep u [] is = is.allowed

@@ -19,6 +19,7 @@ use Rattle.net_receiver.specs.Finite.{FiniteState, FiniteCommand, Arrives, Reads
 use Rattle.net_receiver.specs.Finite.{fresh_finite}
 use Rattle.net_receiver.specs.Finite.{finite_after_commands, acknowledged, is_complete, has_read_all}
 use Rattle.net_ends.specs.Ends.{End, Event, Opened, Forgot, Enabled, Opening, Wrote, Shut, Heard, Looked, Sent, Rested}
+use Rattle.net_ends.specs.Ends.{Resumed}
 use Rattle.net_ends.specs.Ends.{after_event, after_events, commands, commands_of, IsSegment, may_send}
 use Rattle.net_ends.specs.Path.{written, WasLent, IsUnforged, SaysAtMost, LentIsWritten, EndsCarry}
 use Rattle.net_ends.specs.Receiving as receiving
@@ -164,6 +165,7 @@ says_step a e (Heard s r says seq ack window now) is = one_says a _ is
 says_step a e (Looked r now) is = All-nil (SenderSaysAtMost a)
 says_step a e (Sent r from to now) is = marks_says (may_send e from to) a to
 says_step a e (Rested now) is = All-nil (SenderSaysAtMost a)
+says_step a e (Resumed r) is = All-nil (SenderSaysAtMost a)
 
 says_all : (a : ℕ) (e : End) (vs : List Event) → All (SaysAtMost a) vs → All (SenderSaysAtMost a) (commands e vs)
 says_all a e [] all = All-nil (SenderSaysAtMost a)

@@ -14,6 +14,7 @@ use Rattle.std.proofs.lemmas.Bool.Decides.{nat_tests}
 use Rattle.net_receiver.specs.FiniteSender.{FiniteSenderState, first_number, numbers_end, acknowledged_below, accepts}
 use Rattle.net_receiver.specs.FiniteSender.{IsSoundSent, Marks, sender_after_commands}
 use Rattle.net_ends.specs.Ends.{End, Event, Opened, Forgot, Opening, Wrote, Shut, Heard, Looked, Sent, Rested}
+use Rattle.net_ends.specs.Ends.{Resumed}
 use Rattle.net_ends.specs.Ends.{after_event, after_events, rest, may_send, is_news, news, IsNoWrite, Enabled}
 use Rattle.net_ends.proofs.Ends.{step_refines, less}
 
@@ -91,6 +92,7 @@ step e (Looked r now) is none = subst (λ t. (left t + 0 ≤ left e.sender) × I
 step e (Sent r from to now) is none = subst (λ t. (left t + 0 ≤ left e.sender) × IsSoundSent t)
     (sym (step_refines e (Sent r from to now))) (sent_step (may_send e from to) e.sender to is)
 step e (Rested now) is none = (omega arith, is)
+step e (Resumed r) is none = (omega arith, is)
 
 steps : (e : End) (vs : List Event) → IsSoundSent e.sender → All IsNoWrite vs →
     left (after_events e vs).sender + news e vs ≤ left e.sender
@@ -148,6 +150,7 @@ sound_step e (Heard s r says seq ack window now) is = (step e (Heard s r says se
 sound_step e (Looked r now) is = (step e (Looked r now) is tt).1
 sound_step e (Sent r from to now) is = (step e (Sent r from to now) is tt).1
 sound_step e (Rested now) is = is
+sound_step e (Resumed r) is = is
 
 pub stays_sound : (e : End) (vs : List Event) → IsSoundSent e.sender → IsSoundSent (after_events e vs).sender
 stays_sound e [] is = is

@@ -6,6 +6,7 @@ use Rattle.std.proofs.lemmas.Bool.Decides.{nat_tests}
 use Rattle.net_tcp.specs.Retransmission.{has_expired, after_expiry, has_ended, after_sending}
 use Rattle.net_receiver.specs.FiniteSender.{accepts, sender_after_command, Marks}
 use Rattle.net_ends.specs.Ends.{End, Event, Opened, Forgot, Enabled, Opening, Wrote, Shut, Heard, Looked, Sent, Rested}
+use Rattle.net_ends.specs.Ends.{Resumed}
 use Rattle.net_ends.specs.Ends.{after_event}
 use Rattle.net_ends.specs.Ends.{first, limit, may_send, is_worth, hurries, heard, is_shut, is_small, small_sends}
 use Rattle.net_ends.specs.Ends.{is_expiry, expiries}
@@ -14,10 +15,10 @@ at_most_1 : (b : Bool) → from_bool b ≤ 1
 at_most_1 true = omega arith
 at_most_1 false = omega arith
 
-same_step : (b : Bool) (e d : End) → hurries d ≡ hurries e →
-    0 + from_bool (hurries (if b then d else e)) ≤ from_bool (hurries e) + 0
-same_step true e d same = rw same (omega arith)
-same_step false e d same = omega arith
+same_step : (b : Bool) (e f d : End) → hurries d ≡ hurries e → hurries f ≡ hurries e →
+    0 + from_bool (hurries (if b then d else f)) ≤ from_bool (hurries e) + 0
+same_step true e f d same other = rw same (omega arith)
+same_step false e f d same other = rw other (omega arith)
 
 looked_step : (b : Bool) (e d : End) →
     0 + from_bool (hurries (if b then d else e)) ≤ from_bool (hurries e) + from_bool b
@@ -47,7 +48,7 @@ step e (Opening now) = omega arith
 step e (Wrote xs) = omega arith
 step e Shut = omega arith
 step e (Heard s r says seq ack window now) =
-    same_step (accepts e.sender ack) e (heard e s r says seq ack window now) refl
+    same_step (accepts e.sender ack) e (record e { recovery = r }) (heard e s r says seq ack window now) refl refl
 step e (Looked r now) = looked_step (has_expired e.timer now) e (record e {
   recovery = r;
   timer = after_expiry e.bounds now e.timer;
@@ -65,6 +66,7 @@ step e (Sent r from to now) = sent_step (may_send e from to) (nat_le e.sender.se
     (asked_by (nat_lt from to) (nat_le to (limit e)) (nat_le (first e) from) (hurries e) (is_worth e from to)
     from e.sender.sent)
 step e (Rested now) = omega arith
+step e (Resumed r) = omega arith
 
 all_small : (e : End) (vs : List Event) → small_sends e vs ≤ from_bool (hurries e) + expiries e vs
 all_small e [] = omega arith

@@ -21,6 +21,10 @@ pub heard_none : (e : End) (says : Bool) (seq ack window : ℕ) (now : ℤ) → 
     after_event e (Heard e.reported e.recovery says seq ack window now) ≡ e
 heard_none e says seq ack window now none = search rules
 
+pub heard_old : (e : End) (s : Positions) (r : LossRecovery) (says : Bool) (seq ack window : ℕ) (now : ℤ) →
+    IsFalse (accepts e.sender ack) → after_event e (Heard s r says seq ack window now) ≡ record e { recovery = r }
+heard_old e s r says seq ack window now none = search rules
+
 pub heard_is : (e : End) (s : Positions) (r : LossRecovery) (says : Bool) (seq ack window : ℕ) (now : ℤ) →
     IsTrue (accepts e.sender ack) →
     after_event e (Heard s r says seq ack window now) ≡ heard e s r says seq ack window now
@@ -108,4 +112,4 @@ pub sent_is : (e : End) (r : LossRecovery) (from to : ℕ) (now : ℤ) → IsTru
     }
 sent_is e r from to now may = search rules
 
-pub ruleset steps = (heard_none, heard_is, missing_is, refused_none, may_is, worth_is, sent_is)
+pub ruleset steps = (heard_none, heard_old, heard_is, missing_is, refused_none, may_is, worth_is, sent_is)

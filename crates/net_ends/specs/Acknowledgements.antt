@@ -8,6 +8,7 @@
 --     has_block bs, is_duplicated ack bs      whether a block has a position, and the first one reports what came twice
 --     numbers_of sender, unsent_of sender s r      its numbers, and how much is lost and wasn't sent again
 --     answer_of      what an acknowledgement answers
+--     with_twice at bs r      the recovery, told that the first block came twice
 --     doubted, answered, lost_by      the recovery, told what came twice and what is answered; below which position all
 --         is lost
 --     IsLeft, Recovers      the recovery that is left, and whether it begins
@@ -21,8 +22,8 @@ use Rattle.net_assembler.specs.Positions.{Positions, first_missing, front, with_
 use Rattle.net_receiver.specs.declared.sent_numbers.SentNumbers.{SentNumbers}
 use Rattle.net_receiver.specs.Scoreboards.{beyond, IsLossBound, IsEnd}
 use Rattle.net_recovery.specs.LossRecovery.{is_active, unsent_lost, is_equal_acknowledgement, is_duplicate_block}
-use Rattle.net_recovery.specs.LossRecovery.{after_duplicate, after_answer, after_report, after_silence, blind_lost}
-use Rattle.net_recovery.specs.LossRecovery.{found, begun}
+use Rattle.net_recovery.specs.LossRecovery.{after_answer, after_report, after_silence, blind_lost}
+use Rattle.net_recovery.specs.LossRecovery.{found, begun, after_copies, after_probe}
 use Rattle.net_recovery.specs.LossRecovery.{after_sending, forgotten}
 use Rattle.net_recovery.specs.declared.loss_recovery.Answer.{Answer}
 use Rattle.net_recovery.specs.declared.loss_recovery.LossRecovery.{LossRecovery}
@@ -83,8 +84,13 @@ answer_of at unsent ack bs says repeats = record {
   is_equal = is_equal_acknowledgement at.first_unacknowledged at.sent ack (repeats && not (has_block bs)) true;
 }
 
+-- the first block came twice
+abbrev pub with_twice : SentNumbers → List (ℕ × ℕ) → LossRecovery → LossRecovery
+with_twice at [] r = r
+with_twice at (b ∷ bs) r = after_copies at.first_unacknowledged at.sent b.0 b.1 r
+
 abbrev pub doubted : SentNumbers → ℕ → List (ℕ × ℕ) → LossRecovery → LossRecovery
-doubted at ack bs r = if is_duplicated ack bs then after_duplicate at.first_unacknowledged at.sent r else r
+doubted at ack bs r = if is_duplicated ack bs then with_twice at bs r else r
 
 abbrev pub answered : ℕ → ℕ → ℕ → Answer → Positions → LossRecovery → LossRecovery
 answered size ack sent a s r = after_answer size a.first ack sent a.reports a.is_equal a.unsent s r
@@ -144,5 +150,5 @@ expiry_of e now highest =
 abbrev pub after_segment : SentNumbers → ℕ → ℕ → Bool → Bool → LossRecovery → LossRecovery
 after_segment at from to asks probe r =
     if asks then begun at.first_unacknowledged (max at.sent to) (max at.sent to) (forgotten r)
-    else (if probe then record r { probe = Some from; asked = at.sent }
+    else (if probe then after_probe at.sent from to r
     else after_sending at.first_unacknowledged at.sent from to r)

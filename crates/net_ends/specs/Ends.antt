@@ -304,8 +304,8 @@ timed_out e now = all_lost (record e { timer = after_expiry e.bounds now e.timer
 -- ---- what happens
 -- a SYN comes, or the peer is forgotten, Nagle's rule is enabled or disabled, a SYN may be due, bytes are written, the
 -- stream is closed, an acknowledgement comes, from whomever, with what is reported then, the recovery that it leaves,
--- and whether a block says what is new; the timer is looked at; and a range is sent, with the recovery that it leaves,
--- or none
+-- and whether a block says what is new; the timer is looked at; a range is sent, with the recovery that it leaves, or
+-- none; and a recovery is taken back
 pub data Event : Type 0 where
   Opened : ℕ → ℕ → ℕ → ℕ → Bool → ℤ → Event
   Forgot : ℤ → Event
@@ -317,6 +317,7 @@ pub data Event : Type 0 where
   Looked : LossRecovery → ℤ → Event
   Sent : LossRecovery → ℕ → ℕ → ℤ → Event
   Rested : ℤ → Event
+  Resumed : LossRecovery → Event
 
 abbrev pub after_event : End → Event → End
 after_event e (Opened seq ack window size reports now) = opened e seq ack window size reports now
@@ -326,7 +327,8 @@ after_event e (Opening now) = record e { timer = started now (after_expiry e.bou
 after_event e (Wrote xs) = record e { sender = sender_after_command e.sender (Writes xs) }
 after_event e Shut = record e { sender = sender_after_command e.sender Closes }
 after_event e (Heard s r says seq ack window now) =
-    if accepts e.sender ack then heard e s r says seq ack window now else e
+    if accepts e.sender ack then heard e s r says seq ack window now else record e { recovery = r }
+after_event e (Resumed r) = record e { recovery = r }
 after_event e (Looked r now) =
     if has_expired e.timer now
     then record e {
@@ -362,6 +364,7 @@ commands_of e (Heard s r says seq ack window now) = Acknowledges ack ∷ []
 commands_of e (Looked r now) = []
 commands_of e (Sent r from to now) = if may_send e from to then Marks to ∷ [] else []
 commands_of e (Rested now) = []
+commands_of e (Resumed r) = []
 
 abbrev pub commands : End → List Event → List SenderCommand
 commands e [] = []

@@ -2,6 +2,7 @@
 ghost use Rattle.std.specs.Prelude.{◌≡◌, ◌-◌, ◌+◌, ◌<◌, ◌≤◌, ◌&&◌, ◌==◌, ℕ, Option, Some, IsTrue, IsFalse, min, max};
 ghost use Rattle.std.specs.Prelude.{IfSome, IfNone, is_some, ◌++◌, not, true, false, if◌then◌else◌, length, nat_le};
 ghost use Rattle.net_assembler.specs.Positions.{contains};
+ghost use Rattle.net_recovery.specs.LossRecovery.{is_wrong, taken_back};
 ghost use Rattle.net_recovery.specs.LossRecovery.{is_active, in_flight, begun, forgotten, next_segment, next_range};
 ghost use Rattle.net_recovery.specs.LossRecovery.{resumed};
 ghost use Rattle.net_recovery.specs.LossRecovery.{gone_on, begins_at, next_probe};
@@ -408,9 +409,7 @@ impl<F: StreamSender, const N: usize> SendBufferOver<F, N> {
         }
         self.scoreboard.acknowledge(ack);
         let reports = report_blocks(&mut self.scoreboard, blocks, numbers.sent);
-        if is_duplicated(ack, blocks) {
-            self.recovery.duplicated(numbers);
-        }
+        doubt(&mut self.recovery, numbers, ack, blocks);
         let is_bare = is_repeat(kind) && !has_block(blocks);
         let answer = Answer {
             first: numbers.first_unacknowledged,
@@ -434,6 +433,30 @@ impl<F: StreamSender, const N: usize> SendBufferOver<F, N> {
             reports,
             begins,
         })
+    }
+
+    /// Tells the recovery, if the first block of an acknowledgement reports what came twice: for one of TCP that
+    /// `acknowledge` doesn't take, since it is an old one.
+    pub fn doubt(&mut self, ack: u64, blocks: &[(u64, u64)])
+        ensures { self.new ≡ record self.old {
+          recovery =
+              doubted (numbers_of self.old.sender) ack blocks.now self.old.recovery;
+        } }
+    {
+        let numbers = self.numbers();
+        doubt(&mut self.recovery, numbers, ack, blocks);
+    }
+
+    /// Returns whether the last recovery was for nothing, and ends it then.
+    pub fn take_back(&mut self) -> bool
+        ensures value { result ≡ is_wrong self.old.recovery (first_number self.old.sender)
+            self.old.reported }
+        ensures state { self.new ≡ record self.old {
+          recovery = taken_back (first_number self.old.sender) self.old.reported self.old.recovery;
+        } }
+    {
+        self.recovery
+            .take_back(self.sender.numbers(), &self.scoreboard)
     }
 
     /// Finds what is overdue, where nothing was reported for two round trips, and returns whether a recovery begins.
@@ -556,7 +579,7 @@ impl<F: StreamSender, const N: usize> SendBufferOver<F, N> {
         self.sender.mark(to);
         match sending {
             Sending::Segment => self.recovery.sent(numbers, from..to),
-            Sending::TailProbe => self.recovery.probed(numbers, from),
+            Sending::TailProbe => self.recovery.probed(numbers, from..to),
             // The peer drops it.
             Sending::WindowProbe => self.recovery.lose_all(SentNumbers {
                 first_unacknowledged: numbers.first_unacknowledged,
@@ -586,6 +609,16 @@ fn lend<S: Storage<u8>>(sender: &FiniteSenderOver<S>, pos: u64, end: u64) -> (&[
     let after = pos + front.len() as u64;
     let (back, is_last) = sender.peek_at(after, end);
     (front, back, is_last)
+}
+
+/// Tells a recovery, if the first block of an acknowledgement reports what came twice.
+fn doubt(recovery: &mut LossRecovery, numbers: SentNumbers, ack: u64, blocks: &[(u64, u64)])
+    ensures { recovery.new ≡ doubted numbers ack blocks.now recovery.old }
+{
+    if is_duplicated(ack, blocks) {
+        let (from, to) = blocks[0];
+        recovery.came_twice(numbers, from..to);
+    }
 }
 
 /// Finds what is lost by an acknowledgement, and returns whether a recovery begins. If the peer has dropped what it had

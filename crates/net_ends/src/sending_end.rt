@@ -23,11 +23,12 @@ ghost use Rattle.std.specs.Prelude.{◌≡◌, ◌↔◌, ◌-◌, ◌+◌, ◌<
 ghost use Rattle.std.specs.Prelude.{IfSome, IfNone, is_some, is_none, ◌||◌, ◌++◌, not, nat_lt, true, false};
 ghost use Rattle.std.specs.Prelude.{if◌then◌else◌, length, Bool, nat_le, ◌*◌};
 ghost use Rattle.net_assembler.specs.Positions.{contains};
-ghost use Rattle.net_recovery.specs.LossRecovery.{is_active};
+ghost use Rattle.net_recovery.specs.LossRecovery.{is_active, is_wrong, taken_back};
 ghost use Rattle.net_receiver.specs.FiniteSender.{sender_after_command, Marks, Acknowledges, accepts, finite_room};
 ghost use Rattle.net_receiver.specs.Finite.{no_end};
 ghost use Rattle.net_ends.specs.Ends.{new_end, first, end, is_acceptable, greatest_of, is_shut, asks, told};
 ghost use Rattle.net_ends.specs.Ends.{limit, may_send, waiting, after_event, Wrote, Shut, Heard, Looked, Sent, Rested};
+ghost use Rattle.net_ends.specs.Ends.{Resumed};
 ghost use Rattle.net_ends.specs.Ends.{IsSegment, round_trip, Opened, Forgot, Opening, renewed, synchronized, sampled};
 ghost use Rattle.net_ends.specs.Ends.{timed_out, all_lost, has_timed_out, is_overdue, reports_of, new_of, kept};
 ghost use Rattle.net_ends.specs.Ends.{has_dropped, begins_of, is_due, is_worth, is_enough, delays, hurries, Enabled};
@@ -61,7 +62,7 @@ pub enum Acknowledged {
     /// One that no peer sends: of what was never sent, or too far below what is acknowledged. Nothing of its segment is
     /// to be taken, and it is answered (RFC 5961, section 5).
     Refused,
-    /// An old one. It says nothing, but the bytes of its segment may be new.
+    /// An old one. It says nothing but what came twice, and the bytes of its segment may be new.
     Old,
     /// It was taken.
     Taken {
@@ -473,7 +474,12 @@ impl<F: StreamSender, const N: usize> SendingEndOver<F, N> {
             self.old.recovery) self.old.reported self.old.recovery it.ack blocks.now
             (is_empty && (it.window == self.old.last))
             (reports_of result) self.new.recovery (begins_of result) }
-        ensures unchanged { IsFalse (accepts self.old.sender it.ack) → self.new ≡ self.old }
+        ensures unchanged { IsFalse (is_acceptable self.old it.ack) → self.new ≡ self.old }
+        ensures twice { IsTrue (is_acceptable self.old it.ack) →
+            IsFalse (accepts self.old.sender it.ack) → self.new ≡ record self.old {
+              recovery = doubted (numbers_of self.old.sender) it.ack blocks.now
+                  self.old.recovery;
+            } }
     {
         let numbers = self.numbers();
         if !self.is_acceptable(numbers, it.ack) {
@@ -481,6 +487,7 @@ impl<F: StreamSender, const N: usize> SendingEndOver<F, N> {
         }
         let repeats = self.only_repeats(is_empty, it.window);
         let Some(taken) = self.hear(it.ack, blocks, repeats) else {
+            self.buffer.doubt(it.ack, blocks);
             return Acknowledged::Old;
         };
         self.take(numbers, it, taken.reports, now);
@@ -986,6 +993,21 @@ impl<F: StreamSender, const N: usize> SendingEndOver<F, N> {
             Some(estimate) => Some(estimate.srtt()),
             None => None,
         }
+    }
+
+    /// Returns whether the last recovery was for nothing, and ends it then: nothing that was found lost is missing but
+    /// what was sent again, and all that was sent again came twice (RFC 3708). Then the congestion window may be what
+    /// it was when the recovery began. Ask it after each acknowledgement, an old one too. It is true once: not before
+    /// another recovery begins.
+    #[must_use]
+    pub fn take_back(&mut self) -> bool
+        ensures value { result ≡ is_wrong self.old.recovery (first self.old) self.old.reported }
+        ensures state { self.new ≡ record self.old {
+          recovery = taken_back (first self.old) self.old.reported self.old.recovery;
+        } }
+        ensures step { self.new ≡ after_event self.old (Resumed self.new.recovery) }
+    {
+        self.buffer.take_back()
     }
 
     /// Returns whether a recovery lasts.

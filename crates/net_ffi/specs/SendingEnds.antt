@@ -53,6 +53,8 @@ recovery_of r = record {
   unknown = r.unknown;
   duplicates = if nat_eq r.has_duplicates 0 then 3 else r.duplicates;
   round = r.round;
+  since = r.since;
+  copies = r.copies;
 }
 
 abbrev pub recovery_fields : Recovery → LossRecovery
@@ -70,6 +72,8 @@ recovery_fields r = record {
   is_blind = if r.is_blind then 1 else 0;
   unknown = r.unknown;
   round = r.round;
+  since = r.since;
+  copies = r.copies;
   duplicates = r.duplicates;
   has_duplicates = 1;
 }
@@ -118,6 +122,8 @@ no_loss = record {
   is_blind = 0;
   unknown = 0;
   round = 0;
+  since = 0;
+  copies = 0;
   duplicates = 0;
   has_duplicates = 0;
 }

@@ -21,11 +21,11 @@ ghost use Rattle.std.specs.Prelude.{if◌then◌else◌, true, false};
 ghost use Rattle.net_receiver.specs.Finite.{no_end};
 ghost use Rattle.net_receiver.specs.FiniteSender.{IsSoundFiniteSender, finite_room};
 ghost use Rattle.net_receiver.specs.Scoreboards.{IsSoundBoard};
-ghost use Rattle.net_recovery.specs.LossRecovery.{is_active};
+ghost use Rattle.net_recovery.specs.LossRecovery.{is_active, is_wrong, taken_back};
 ghost use Rattle.net_tcp.specs.Retransmission.{expires_at, has_expired};
 ghost use Rattle.net_tcp.specs.Windows.{acknowledgement_number};
 ghost use Rattle.net_ends.specs.Ends.{new_end, after_event, Opened, Forgot, Enabled, Opening, Wrote, Shut, IsSegment};
-ghost use Rattle.net_ends.specs.Ends.{first};
+ghost use Rattle.net_ends.specs.Ends.{first, Resumed};
 ghost use Rattle.net_ffi.specs.Refusals.{no_number};
 ghost use Rattle.net_ffi.specs.Retransmission.{given_or, bounds_of};
 ghost use Rattle.net_ffi.specs.SendingEnds.{recovery_of, recovery_fields, sending_of, stored, begun_at};
@@ -89,6 +89,10 @@ pub struct LossRecovery {
     pub unknown: u64,
     /// Until all positions below this one are acknowledged, `duplicates` stays.
     pub round: u64,
+    /// The first position that wasn't acknowledged when the recovery began.
+    pub since: u64,
+    /// How many positions were sent again since then, less those that came twice.
+    pub copies: u64,
     /// How many segments above a position tell that it is lost, if `has_duplicates` isn't 0; else 3 do.
     pub duplicates: usize,
     /// Not 0 once `duplicates` counts.
@@ -110,6 +114,8 @@ const NO_LOSS: LossRecovery = LossRecovery {
     is_blind: 0,
     unknown: 0,
     round: 0,
+    since: 0,
+    copies: 0,
     duplicates: 0,
     has_duplicates: 0,
 };
@@ -357,6 +363,8 @@ fn recovery_from(fields: &LossRecovery) -> net_recovery::LossRecovery
         unknown: fields.unknown,
         duplicates,
         round: fields.round,
+        since: fields.since,
+        copies: fields.copies,
     })
 }
 
@@ -394,6 +402,8 @@ fn fields_of_recovery(recovery: net_recovery::LossRecovery) -> LossRecovery
         is_blind: flag_of(parts.is_blind),
         unknown: parts.unknown,
         round: parts.round,
+        since: parts.since,
+        copies: parts.copies,
         duplicates: parts.duplicates,
         has_duplicates: 1,
     }
@@ -781,6 +791,34 @@ pub extern "C" fn net_base_sending_end_expired(
     let said = machine.expired(moment(now));
     put(end, machine);
     fields_of_expired(said)
+}
+
+/// Returns whether the last recovery was for nothing, and ends it then: nothing that was found lost is missing but what
+/// was sent again, and all that was sent again came twice (RFC 3708). Then the congestion window may be what it was when
+/// the recovery began. Ask it after each acknowledgement, an old one too. It is true once: not before another recovery
+/// begins.
+///
+/// It is refused if `end` isn't sound over `storage.len()` bytes: false, and nothing changes.
+#[unsafe(no_mangle)]
+pub extern "C" fn net_base_sending_end_take_back(end: &mut SendingEnd, storage: &[u8]) -> bool
+    ensures value { IsSoundSending (length storage.now) end.old →
+        let e = sending_of end.old storage.now in
+        result ≡ is_wrong e.recovery (first e) e.reported }
+    ensures state { IsSoundSending (length storage.now) end.old →
+        let e = sending_of end.old storage.now in sending_of end.new storage.now
+        ≡ after_event e (Resumed (taken_back (first e) e.reported e.recovery)) }
+    ensures sound { IsSoundSending (length storage.now) end.old →
+        IsSoundSending (length storage.now) end.new }
+    ensures refused { (IsSoundSending (length storage.now) end.old → ⊥) →
+        IsFalse result × (end.new ≡ end.old) }
+{
+    if !is_sound(end, storage.len()) {
+        return false;
+    }
+    let mut machine = end_from(end, storage);
+    let is_wrong = machine.take_back();
+    put(end, machine);
+    is_wrong
 }
 
 /// Returns the segment that is to be sent now, and takes notice that it is: if the peer's window and the congestion

@@ -41,7 +41,7 @@ withdrawn_keeps r first p again = grind (arith, nat_tests)
 duplicate_keeps : (r : LossRecovery) (first sent p : ℕ) → IsTrue (was_sent_again r first p) →
     IsTrue (was_sent_again (after_duplicate first sent r) first p)
 duplicate_keeps r first sent p again =
-    if_keeps (nat_lt first r.round) r (record r { duplicates = min (2 * r.duplicates) 1024; round = sent })
+    if_keeps (nat_lt first r.round) r (record r { duplicates = min (4 * r.duplicates) 1024; round = sent })
     first p again again
 
 pub answer_keeps : (size before first sent : ℕ) (reports equal : Bool) (unsent : ℕ) (s : Positions) (r : LossRecovery)

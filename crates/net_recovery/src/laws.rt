@@ -1,9 +1,10 @@
 //! Laws of loss recovery. No function here changes anything: its contract is the law.
-ghost use Rattle.std.specs.Prelude.{◌≡◌, ℕ, ◌<◌, ◌≤◌, ◌+◌, ◌*◌, ◌^◌, ◌⊎◌, min, Bool, true, false, IsTrue, IsFalse};
-ghost use Rattle.net_assembler.specs.Positions.{Positions};
+ghost use Rattle.std.specs.Prelude.{◌≡◌, ℕ, ◌<◌, ◌≤◌, ◌+◌, ◌*◌, ◌^◌, ◌⊎◌, min, Bool, true, false, IsTrue, IsFalse, ◌-◌};
+ghost use Rattle.net_assembler.specs.Positions.{Positions, contains};
 ghost use Rattle.net_recovery.specs.LossRecovery.{is_active, was_sent_again, after_sending, after_report};
 ghost use Rattle.net_recovery.specs.LossRecovery.{after_silence, is_answered, overtaken, begun};
 ghost use Rattle.net_recovery.specs.LossRecovery.{after_hearing, after_answer, withdrawn, unsent_lost, blind_lost};
+ghost use Rattle.net_recovery.specs.LossRecovery.{is_wrong, taken_back, after_copies};
 ghost use Rattle.net_recovery.specs.declared.loss_recovery.LossRecovery.{LossRecovery};
 
 /// States what passes do: each position that is sent counts as sent again, so that by clause `once` of
@@ -56,4 +57,23 @@ pub fn arrivals()
         IsTrue (is_active r first) → IsTrue r.is_blind →
         before < first → first < sent → sent < 2 ^ 64 → 0 < size →
         first < blind_lost size before first sent r }
+{}
+
+/// States when a recovery is taken back: not as it begins, where the first position is missing (`begins`); nor once
+/// something was sent again in it (`sent`), until as many positions came twice (`twice`); and when it is, it has ended,
+/// and isn't taken back again (`once`).
+#[tactic(auto, using(crate::proofs::Wrongs::wrongs))]
+pub fn take_backs()
+    ensures begins { (first sent lost : ℕ) (s : Positions) (r : LossRecovery) →
+        first < sent → first < lost → IsFalse (contains s first) →
+        IsFalse (is_wrong (begun first sent lost r) first s) }
+    ensures sent { (r : LossRecovery) (first sent start end next : ℕ) (s : Positions) →
+        IsTrue (is_active r first) → start < min sent end →
+        IsFalse (is_wrong (after_sending first sent start end r) next s) }
+    ensures twice { (r : LossRecovery) (first sent start end next : ℕ) (s : Positions) →
+        end - start < r.copies →
+        IsFalse (is_wrong (after_copies first sent start end r) next s) }
+    ensures once { (r : LossRecovery) (first next : ℕ) (s t : Positions) →
+        IsTrue (is_wrong r first s) → IsFalse (is_active (taken_back first s r) next)
+        × IsFalse (is_wrong (taken_back first s r) next t) }
 {}

@@ -29,7 +29,8 @@ ghost use Rattle.net_recovery.specs.LossRecovery.{after_sending, after_duplicate
 ghost use Rattle.net_recovery.specs.LossRecovery.{unsent_lost, after_hearing, withdrawn, after_arrival, blind_lost};
 ghost use Rattle.net_recovery.specs.LossRecovery.{most_later, heard_of, after_copy, after_answer, ordered};
 ghost use Rattle.net_recovery.specs.LossRecovery.{unsent, next_range, next_segment, resumed, gone_on, begins_at};
-ghost use Rattle.net_recovery.specs.LossRecovery.{next_probe};
+ghost use Rattle.net_recovery.specs.LossRecovery.{next_probe, after_copies, with_copies, is_wrong, taken_back};
+ghost use Rattle.net_recovery.specs.LossRecovery.{after_probe};
 
 use net_receiver::{Scoreboard, SentNumbers};
 use std::ops::Range;
@@ -82,6 +83,10 @@ pub struct RecoveryParts {
     pub duplicates: usize,
     /// Until all positions below this one are acknowledged, `duplicates` stays.
     pub round: u64,
+    /// The first position that wasn't acknowledged when the recovery began.
+    pub since: u64,
+    /// How many positions were sent again since then, less those that came twice.
+    pub copies: u64,
 }
 
 /// What a sender of TCP sends next where segments are lost: first what is lost, then what was never sent.
@@ -152,6 +157,10 @@ pub struct LossRecovery {
     // How many segments above a position tell that it is lost, and until which number is acknowledged that stays so.
     duplicates: usize,
     round: u64,
+    // The first position that wasn't acknowledged when the recovery began, and how many were sent again since then, less
+    // those that came twice.
+    since: u64,
+    copies: u64,
 }
 
 impl LossRecovery {
@@ -174,6 +183,8 @@ impl LossRecovery {
             unknown: 0,
             duplicates: DUPLICATES,
             round: 0,
+            since: 0,
+            copies: 0,
         }
     }
 
@@ -196,6 +207,8 @@ impl LossRecovery {
             unknown: parts.unknown,
             duplicates: parts.duplicates,
             round: parts.round,
+            since: parts.since,
+            copies: parts.copies,
         }
     }
 
@@ -219,6 +232,8 @@ impl LossRecovery {
             unknown: self.unknown,
             duplicates: self.duplicates,
             round: self.round,
+            since: self.since,
+            copies: self.copies,
         }
     }
 
@@ -238,17 +253,63 @@ impl LossRecovery {
         self.duplicates
     }
 
-    /// Takes notice that the peer reports what it has already (RFC 2883): something was sent again for nothing. From
-    /// now on twice as many segments above a position tell that it is lost, up to 1024. Once that has happened, nothing
-    /// changes until all is acknowledged that was sent by then: a round trip makes it twice as many once.
+    /// Takes notice that something was sent again for nothing, as `came_twice` does where the peer says what. From now
+    /// on four times as many segments above a position tell that it is lost, up to 1024. Once that has happened, nothing
+    /// changes until all is acknowledged that was sent by then: a round trip makes it four times as many once.
     pub fn duplicated(&mut self, numbers: SentNumbers)
         ensures { self.new ≡ after_duplicate numbers.first_unacknowledged numbers.sent self.old }
     {
         if numbers.first_unacknowledged < self.round {
             return;
         }
-        self.duplicates = self.duplicates.saturating_mul(2).min(MOST_DUPLICATES);
+        self.duplicates = self.duplicates.saturating_mul(4).min(MOST_DUPLICATES);
         self.round = numbers.sent;
+    }
+
+    /// Takes notice that the peer reports that these positions came twice, as the first block of an acknowledgement may,
+    /// an old one too (RFC 2883). If they are at or above the first position that wasn't acknowledged when the last
+    /// recovery began, and not above what was sent again in it, so many of its copies were for nothing, and it is as if
+    /// `duplicated` was called. Else nothing changes: the path has doubled them, or a probe has.
+    pub fn came_twice(&mut self, numbers: SentNumbers, positions: Range<u64>)
+        ensures { self.new ≡ after_copies numbers.first_unacknowledged numbers.sent
+            positions.start positions.end self.old }
+    {
+        if self.since <= positions.start && positions.end <= self.again.max(self.resume) {
+            let count = positions.end.saturating_sub(positions.start);
+            self.copies = self.copies.saturating_sub(count);
+            self.duplicated(numbers);
+        }
+    }
+
+    /// Counts what is sent again.
+    fn copy(&mut self, numbers: SentNumbers, positions: Range<u64>)
+        ensures { self.new ≡ with_copies numbers.sent positions.start positions.end self.old }
+    {
+        let count = positions
+            .end
+            .min(numbers.sent)
+            .saturating_sub(positions.start);
+        self.copies = self.copies.saturating_add(count);
+    }
+
+    /// Returns whether the last recovery was for nothing, and ends it then: nothing that it found lost is missing but
+    /// what was sent again, and all that was sent again came twice (RFC 3708). Then the congestion window may be what
+    /// it was when the recovery began. Ask it after each acknowledgement, an old one too, once `find_losses` has it.
+    /// It is true once: not before another recovery begins.
+    #[must_use]
+    pub fn take_back<const N: usize>(
+        &mut self,
+        numbers: SentNumbers,
+        scoreboard: &Scoreboard<N>,
+    ) -> bool
+        ensures value { result ≡ is_wrong self.old numbers.first_unacknowledged scoreboard.now }
+        ensures state { self.new ≡ taken_back numbers.first_unacknowledged scoreboard.now self.old }
+    {
+        let is_wrong = self.until > 0 && self.copies == 0 && self.unsent(numbers, scoreboard) == 0;
+        if is_wrong {
+            self.until = 0;
+        }
+        is_wrong
     }
 
     /// Takes notice whether the peer reports what arrives, as its SYN says: until it does, or an equal acknowledgement
@@ -302,7 +363,8 @@ impl LossRecovery {
     /// lost after `duplicates` equal acknowledgements, and in a recovery where something new is acknowledged. An equal
     /// one of what a recovery lasted for answers a copy: it counts as a report of what came twice.
     ///
-    /// Returns whether this call begins a recovery: then halve the congestion window.
+    /// Returns whether this call begins a recovery: then halve the congestion window, until `take_back` says that this
+    /// was wrong.
     pub fn find_losses<const N: usize>(
         &mut self,
         numbers: SentNumbers,
@@ -682,12 +744,13 @@ impl LossRecovery {
         }
     }
 
-    /// Takes notice that a probe is sent, whose first position is `start`. `numbers` are the sender's before that.
-    pub fn probed(&mut self, numbers: SentNumbers, start: u64)
-        ensures { self.new ≡ record self.old { probe = Option.Some start; asked = numbers.sent } }
+    /// Takes notice that a probe of these positions is sent. `numbers` are the sender's before that.
+    pub fn probed(&mut self, numbers: SentNumbers, positions: Range<u64>)
+        ensures { self.new ≡ after_probe numbers.sent positions.start positions.end self.old }
     {
-        self.probe = Some(start);
+        self.probe = Some(positions.start);
         self.asked = numbers.sent;
+        self.copy(numbers, positions);
     }
 
     /// Begins a recovery where the peer has dropped what it had reported: it acknowledges up to a number that was
@@ -725,6 +788,11 @@ impl LossRecovery {
     fn begin(&mut self, numbers: SentNumbers, lost: u64)
         ensures { self.new ≡ begun numbers.first_unacknowledged numbers.sent lost self.old }
     {
+        let (since, copies) = if self.is_active(numbers) {
+            (self.since, self.copies)
+        } else {
+            (numbers.first_unacknowledged, 0)
+        };
         *self = LossRecovery {
             until: numbers.sent,
             lost,
@@ -739,6 +807,8 @@ impl LossRecovery {
             unknown: self.unknown,
             duplicates: self.duplicates,
             round: self.round,
+            since,
+            copies,
         };
     }
 
@@ -880,11 +950,13 @@ impl LossRecovery {
             positions.end self.old }
     {
         if self.is_active(numbers) && positions.start < positions.end.min(numbers.sent) {
-            self.again = self.again.max(positions.end);
+            let Range { start, end } = positions;
+            self.copy(numbers, start..end);
+            self.again = self.again.max(end);
             if self.resume <= numbers.first_unacknowledged {
                 self.mark(numbers);
-            } else if self.resume <= positions.start {
-                self.later = self.later.saturating_add(positions.end - positions.start);
+            } else if self.resume <= start {
+                self.later = self.later.saturating_add(end - start);
             }
         }
     }

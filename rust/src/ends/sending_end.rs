@@ -38,7 +38,7 @@ pub enum Acknowledged {
     /// One that no peer sends: of what was never sent, or too far below what is acknowledged. Nothing of its segment is
     /// to be taken, and it is answered (RFC 5961, section 5).
     Refused,
-    /// An old one. It says nothing, but the bytes of its segment may be new.
+    /// An old one. It says nothing but what came twice, and the bytes of its segment may be new.
     Old,
     /// It was taken.
     Taken {
@@ -372,6 +372,7 @@ impl<F: StreamSender, const N: usize> SendingEndOver<F, N> {
         }
         let repeats = self.only_repeats(is_empty, it.window);
         let Some(taken) = self.hear(it.ack, blocks, repeats) else {
+            self.buffer.doubt(it.ack, blocks);
             return Acknowledged::Old;
         };
         self.take(numbers, it, taken.reports, now);
@@ -650,6 +651,15 @@ impl<F: StreamSender, const N: usize> SendingEndOver<F, N> {
             Some(estimate) => Some(estimate.srtt()),
             None => None,
         }
+    }
+
+    /// Returns whether the last recovery was for nothing, and ends it then: nothing that was found lost is missing but
+    /// what was sent again, and all that was sent again came twice (RFC 3708). Then the congestion window may be what
+    /// it was when the recovery began. Ask it after each acknowledgement, an old one too. It is true once: not before
+    /// another recovery begins.
+    #[must_use]
+    pub fn take_back(&mut self) -> bool {
+        self.buffer.take_back()
     }
 
     /// Returns whether a recovery lasts.

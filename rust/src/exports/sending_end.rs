@@ -43,6 +43,8 @@ pub struct LossRecovery {
     pub is_blind: u64,
     pub unknown: u64,
     pub round: u64,
+    pub since: u64,
+    pub copies: u64,
     pub duplicates: usize,
     pub has_duplicates: usize,
 }
@@ -61,6 +63,8 @@ const NO_LOSS: LossRecovery = LossRecovery {
     is_blind: 0,
     unknown: 0,
     round: 0,
+    since: 0,
+    copies: 0,
     duplicates: 0,
     has_duplicates: 0,
 };
@@ -235,6 +239,8 @@ fn recovery_from(fields: &LossRecovery) -> crate::stream::LossRecovery {
         unknown: fields.unknown,
         duplicates,
         round: fields.round,
+        since: fields.since,
+        copies: fields.copies,
     })
 }
 
@@ -264,6 +270,8 @@ fn fields_of_recovery(recovery: crate::stream::LossRecovery) -> LossRecovery {
         is_blind: flag_of(parts.is_blind),
         unknown: parts.unknown,
         round: parts.round,
+        since: parts.since,
+        copies: parts.copies,
         duplicates: parts.duplicates,
         has_duplicates: 1,
     }
@@ -499,6 +507,17 @@ pub fn net_base_sending_end_expired(
     let said = machine.expired(moment(now));
     put(end, machine);
     fields_of_expired(said)
+}
+
+#[inline(always)]
+pub fn net_base_sending_end_take_back(end: &mut SendingEnd, storage: &[u8]) -> bool {
+    if !is_sound(end, storage.len()) {
+        return false;
+    }
+    let mut machine = end_from(end, storage);
+    let is_wrong = machine.take_back();
+    put(end, machine);
+    is_wrong
 }
 
 #[inline(always)]

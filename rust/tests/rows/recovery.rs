@@ -46,7 +46,9 @@ impl<const N: usize> Subject for Sending<N> {
                     .to_string();
             }
             "lose_all" => recovery.lose_all(*numbers),
-            "probed" => recovery.probed(*numbers, one),
+            "probed" => recovery.probed(*numbers, one..two),
+            "came_twice" => recovery.came_twice(*numbers, one..two),
+            "take_back" => return truth(recovery.take_back(*numbers, board)).to_string(),
             "expect_reports" => recovery.expect_reports(one == 1),
             "unsent" => return recovery.unsent(*numbers, board).to_string(),
             "lose_dropped" => {

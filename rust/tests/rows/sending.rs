@@ -73,6 +73,7 @@ impl<S: Storage<u8>, const N: usize> Subject for Sending<S, N> {
                 end.close();
                 "done".to_string()
             }
+            "take_back" => truth(end.take_back()).to_string(),
             "set_nagle_enabled" => {
                 end.set_nagle_enabled(three == 1);
                 assert_eq!(end.nagle_enabled(), three == 1);
