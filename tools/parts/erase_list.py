@@ -36,7 +36,7 @@ UNERASED = {
 # Functions that nothing of Rust calls, by rustc's word: in Rattle laws, proofs and tests do.
 UNCALLED = {
     'net_ring/ring_buffer': ['from_parts', 'into_parts'],
-    'net_assembler/assembler': ['from_parts', 'into_parts', 'parts', 'add_counted'],
+    'net_assembler/assembler': ['from_parts', 'into_parts', 'parts'],
     'net_receiver/receiver': ['from_parts', 'is_sound'],
     'net_receiver/schedule': ['replay', 'replay_core'],
     **{f'net_receiver/{name}': ['from_parts', 'into_parts', 'is_sound']

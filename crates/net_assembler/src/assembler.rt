@@ -252,8 +252,7 @@ impl<const N: usize> Assembler<N> {
             Self::fits(offset, size),
             "the range's end is above `usize::MAX`"
         );
-        self.head
-            .add_inlined(&mut self.runs, offset, size, &mut Turns::new())
+        self.add_counted(offset, size, &mut Turns::new())
     }
 
     /// Adds a range as `add` does, and counts each iteration of a loop: a move if it moves a run or
@@ -294,7 +293,7 @@ impl<const N: usize> Assembler<N> {
             Self::fits(offset, size),
             "the range's end is above `usize::MAX`"
         );
-        self.head.add_counted(&mut self.runs, offset, size, turns)
+        self.head.add_inlined(&mut self.runs, offset, size, turns)
     }
 
     /// Removes the run at position 0, counts all later positions from its end, and returns its

@@ -1,6 +1,6 @@
-//! The tests of `net_bench_lib` and `net_testing`: worked rows of the program, and what wants the kit's memory, which
-//! is words, requests that are refused, and how many bytes a run has. All others are of the erased text,
-//! rust/tests/net_bench.
+//! The tests of `net_bench_lib` and `net_testing`: worked rows of the program, whole and over streams that fail at each
+//! call, and what wants the kit's memory, which is words, requests that are refused, and how many bytes a run has. Drawn
+//! rows are of the erased text, rust/tests/net_bench.
 //!
 //! They are in a crate of their own, so that crates that use these libraries don't wait for them and link nothing that
 //! only tests need.
@@ -16,5 +16,7 @@ mod memory;
 mod program_rows;
 #[cfg(test)]
 mod rows;
+#[cfg(test)]
+mod streams;
 #[cfg(test)]
 mod testing;

@@ -193,7 +193,6 @@ impl ReceiverHead {
     ) -> Result<KeptBytes, TooManyHolesError>
         requires sound { HasSoundParts self.old (length storage.old) runs.old }
         requires fits { pos + length bytes.now < 2 ^ 64 }
-        ensures sound { HasSoundParts self.new (length storage.new) runs.new }
         ensures state { let v = receiver_of self.old storage.old runs.old in
             receiver_of self.new storage.new runs.new ≡ state_after v
             (verdict (length runs.old) v (piece pos bytes.now)) }
@@ -203,6 +202,7 @@ impl ReceiverHead {
         ensures numbers { let v = receiver_of self.old storage.old runs.old in
             result ≡ numbers v
             (verdict (length runs.old) v (piece pos bytes.now)) }
+        ensures sound { HasSoundParts self.new (length storage.new) runs.new }
         ensures unchanged { OnErr result ((self.new ≡ self.old) × (storage.new ≡ storage.old)
             × (runs.new ≡ runs.old)) }
         ensures canonical { IsCanonical self.old.held → IsCanonical self.new.held }

@@ -1,11 +1,11 @@
--- Why windows open, and what acknowledges something new is taken.
+-- Why windows open, the last segment that a peer sent decides its window, and what acknowledges something new is taken.
 use Rattle.std.proofs.Common.{◌≡◌, ℕ, zero, suc, ◌+◌, ◌-◌, ◌*◌, ◌/◌, ◌^◌, ◌<◌, ◌≤◌, min, inl, inr, refl, ap, ◌∙◌}
-use Rattle.std.proofs.Common.{arith, rules, add-one, List, [], ◌∷◌}
-use Rattle.std.specs.Prelude.{◌⊎◌}
+use Rattle.std.proofs.Common.{arith, rules, add-one, List, [], ◌∷◌, ◌++◌}
+use Rattle.std.specs.Prelude.{◌⊎◌, All}
 use Rattle.std.proofs.Math.Nat.{pow-le-pow_right, pow-suc}
 use Rattle.std.proofs.lemmas.Nat.{shr-shr, div-add-mod', mod_below, pow_pos, mul-le}
 use Rattle.std.proofs.lemmas.Bool.{cases_lt}
-use Rattle.net_tcp.specs.Windows.{IsScaleFor, field_for, worth, gain, Announcement, Heard}
+use Rattle.net_tcp.specs.Windows.{IsScaleFor, field_for, worth, gain, Announcement, Heard, IsNoNewer, IsFromNoNewer}
 use Rattle.net_tcp.specs.Windows.{heard, heard_all, window_from}
 
 -- ---- the unit of a capacity's own scale is a small part of it
@@ -64,6 +64,36 @@ scaled_few field scale h l = omega (
 )
 
 -- ---- a peer's segments
+-- what was heard is from no newer segment than s, also after one more that is no newer than s
+stays : (h : Heard) (t s : Announcement) → IsFromNoNewer h s → IsNoNewer t s → IsFromNoNewer (heard h t) s
+stays h t s from is = search rules
+
+-- the window and the first unacknowledged position are those that s announces
+pub record IsLast (h : Heard) (s : Announcement) : Type 0 where
+  pub peer : h.peer ≡ window_from s.seq s.ack s.window
+  pub first : h.first ≡ s.ack
+
+takes : (h : Heard) (s : Announcement) → IsFromNoNewer h s → s.ack ≤ s.sent → IsLast (heard h s) s
+takes h s from range = record { peer = search rules; first = search rules }
+
+keeps : (h : Heard) (t s : Announcement) → IsLast h s → IsNoNewer t s → IsLast (heard h t) s
+keeps h t s from is = record { peer = search rules; first = search rules }
+
+all_keep : (h : Heard) (after : List Announcement) (s : Announcement) → IsLast h s → All (λ t. IsNoNewer t s) after →
+    IsLast (heard_all h after) s
+all_keep h [] s is few = is
+all_keep h (t ∷ more) s is few = all_keep (heard h t) more s (keeps h t s is (few 0 t (omega arith)))
+    (λ k d e. few (suc k) d (omega arith))
+
+pub latest : (h : Heard) (before : List Announcement) (s : Announcement) (after : List Announcement) →
+    IsFromNoNewer h s → s.ack ≤ s.sent →
+    All (λ t. IsNoNewer t s) before → All (λ t. IsNoNewer t s) after →
+    (heard_all h (before ++ s ∷ after)).peer ≡ window_from s.seq s.ack s.window
+latest h [] s after from range few more = (all_keep (heard h s) after s (takes h s from range) more).peer
+latest h (t ∷ before) s after from range few more =
+    latest (heard h t) before s after (stays h t s from (few 0 t (omega arith))) range
+    (λ k d e. few (suc k) d (omega arith)) more
+
 -- the window is from no more than what was acknowledged
 within : (h : Heard) (t : Announcement) → h.peer.ack ≤ h.first → (heard h t).peer.ack ≤ (heard h t).first
 within h t is = search rules
@@ -76,3 +106,5 @@ taken h (t ∷ before) s is new range = taken (heard h t) before s (within h t i
 
 -- what closes the goals of laws
 pub ruleset announced_windows = (scale_opens, reopens)
+
+pub ruleset peer_windows = (latest, taken)

@@ -9,6 +9,7 @@ ghost use Rattle.net_tcp.specs.Windows.{IsAcceptable, IsInTable, IsScaleFor, ann
 ghost use Rattle.net_tcp.specs.Windows.{IsBehind, IsHeard, IsTaken};
 ghost use Rattle.net_tcp.specs.Windows.{window_from, with_segment, no_window, BothEnds, acknowledgement_number};
 ghost use Rattle.net_tcp.specs.Windows.{Announcement, Heard, acknowledged, updated, heard, heard_all, IsNoLater};
+ghost use Rattle.net_tcp.specs.Windows.{IsNoNewer, IsFromNoNewer};
 ghost use Rattle.net_tcp.specs.Estimate.{Estimate, IsSmall};
 ghost use Rattle.net_tcp.specs.Retransmission.{next_estimate, distance, doubled, IsSettled, Event, Connection};
 ghost use Rattle.net_tcp.specs.Retransmission.{opened, after_event, after_events, runs, sends_over, IsNoStart};
@@ -93,17 +94,24 @@ pub fn announced_windows()
 /// States that it makes no difference whether a segment's acknowledgement is taken before its window or
 /// after it; that two segments of a peer leave the same window, and the same first position that isn't
 /// acknowledged, in either order of arrival, if neither number of the one is below that of the other, and their
-/// numbers aren't the same; that of two with the same numbers, as an update of the window has, the one that
-/// arrives last decides; that a segment of an older number that acknowledges nothing more, as a copy of one that
-/// was lost, changes nothing; that after any list of segments, forged ones too, one that acknowledges something
-/// new is taken; and that no segment is older than a window of zeros.
-#[tactic(auto, using(crate::proofs::WindowFacts::taken))]
+/// numbers aren't the same; that in whatever order and however often segments come, they leave the window of the one
+/// that acknowledges most, and of those with as much the highest number, if none has its numbers and another window:
+/// so of the last that a peer sent, as far as numbers tell; that of two with the same numbers, as an update of the
+/// window has, the one that arrives last decides; that a segment of an older number that acknowledges nothing more, as
+/// a copy of one that was lost, changes nothing; that after any list of segments, forged ones too, one that
+/// acknowledges something new is taken; and that no segment is older than a window of zeros.
+#[tactic(auto, using(crate::proofs::WindowFacts::peer_windows))]
 pub fn peer_windows()
     ensures calls { (h : Heard) (s : Announcement) →
         updated (acknowledged h s) s ≡ acknowledged (updated h s) s }
     ensures order { (h : Heard) (s t : Announcement) → IsNoLater s t → s.ack ≤ s.sent →
         t.ack ≤ t.sent →
         heard (heard h s) t ≡ heard (heard h t) s }
+    ensures latest { (h : Heard) (before : List Announcement) (last : Announcement)
+        (after : List Announcement) → IsFromNoNewer h last → last.ack ≤ last.sent →
+        All (λ t. IsNoNewer t last) before → All (λ t. IsNoNewer t last) after →
+        (heard_all h (before ++ last ∷ after)).peer
+        ≡ window_from last.seq last.ack last.window }
     ensures same_numbers { (h : Heard) (s t : Announcement) →
         h.peer ≡ window_from s.seq s.ack s.window → t.seq ≡ s.seq → t.ack ≡ s.ack →
         h.first ≤ t.ack → t.ack ≤ t.sent → (heard h t).peer ≡ window_from t.seq t.ack t.window }

@@ -15,7 +15,7 @@
 // The first run that a range meets is found by halves, the last in turn (`runs_met`). Mostly the range ends before
 // the second of them, and one look is enough. Each run that is passed is taken into the range, so these looks and
 // the runs that move down are together at most as many as the runs: both count as moves, and the bound on
-// `add_counted` holds.
+// `add_counted` holds, and on `add`, which is one call of it.
 
 #![tactic(auto, using(crate::proofs::SoundHeads::heads))]
 
