@@ -4,7 +4,7 @@
 set -eu
 here=$(cd "$(dirname "$0")" && pwd)
 kept="ring packets packet_slot split_counts assembler run fragments receiver finite_receiver finite_sender scoreboard
-advertised_window peer_window retransmission_timer parts_sum receiving_end sending_end"
+advertised_window peer_window retransmission_timer answer_limit parts_sum receiving_end sending_end"
 folder=$(mktemp -d)
 trap 'rm -rf "$folder"' EXIT
 {

@@ -15,11 +15,14 @@
 //! assert_eq!((sum, is_valid(&bytes)), (0x220d, true));
 //! // A segment has a part of a window of 10 from 100 on, or it is answered; a probe of a shut window acknowledges.
 //! let text = |seq, bytes| Segment::new(seq, bytes, 0x10);
-//! assert_eq!(classify(100, 10, text(95, 6)), Arrival::Take);
-//! assert_eq!(classify(100, 10, text(95, 5)), Arrival::Answer);
-//! assert_eq!(classify(100, 0, text(100, 1)), Arrival::AcknowledgementOnly);
+//! assert_eq!(classify(100, 10, 10, text(95, 6)), Arrival::Take);
+//! assert_eq!(classify(100, 10, 10, text(95, 5)), Arrival::Answer);
+//! assert_eq!(classify(100, 0, 10, text(100, 1)), Arrival::AcknowledgementOnly);
 //! let advertised = AdvertisedWindow::new(110);
-//! assert_eq!(advertised.classify(100, text(110, 1)), Arrival::Answer);
+//! assert_eq!(advertised.classify(100, 10, text(110, 1)), Arrival::Answer);
+//! // One without bytes may be behind by the greatest window: its sender may not know that all below 100 has come.
+//! assert_eq!(classify(100, 0, 10, text(90, 0)), Arrival::AcknowledgementOnly);
+//! assert_eq!(classify(100, 0, 10, text(89, 0)), Arrival::Answer);
 //! // A SYN and a FIN count; with ACK and PSH.
 //! let opening = Segment { seq: 95, len: 7, syn: true, ack: true, rst: false };
 //! assert_eq!(Segment::new(95, 5, 0x1b), opening);
@@ -77,6 +80,13 @@ use crate::time::Duration;
 impl Default for LossRecovery {
     fn default() -> Self {
         LossRecovery::new()
+    }
+}
+
+/// Before any answer.
+impl Default for AnswerLimit {
+    fn default() -> Self {
+        AnswerLimit::new()
     }
 }
 

@@ -536,6 +536,28 @@ fn a_send_buffer() {
     assert_eq!((buffer.numbers_end(), buffer.window(), buffer.is_recovering()), (5, 8, false));
 }
 
+/// A loss that was none: what was sent again comes twice, as an acknowledgement says that is too old to be taken.
+#[test]
+fn a_send_buffer_takes_a_recovery_back() {
+    let mut buffer = SendBuffer::<4>::new_at(vec![0; 100], 0);
+    assert_eq!(buffer.write(&[7; 90]), 90);
+    while let Some((from, to)) = buffer.next(90, 90, 10) {
+        buffer.mark(from, to, Sending::Segment);
+    }
+    let taken = TakenAck { new: 10, reports: true, begins: true };
+    assert_eq!(buffer.acknowledge(10, &[(20, 50)], 10, AckKind::Other), Some(taken));
+    assert_eq!((buffer.next(90, 90, 10), buffer.take_back()), (Some((10, 20)), false));
+    buffer.mark(10, 20, Sending::Segment);
+    assert!(buffer.acknowledge(60, &[], 10, AckKind::Other).is_some() && !buffer.take_back());
+    assert_eq!(buffer.acknowledge(50, &[(10, 20)], 10, AckKind::Other), None);
+    assert!(!buffer.take_back());
+    buffer.doubt(50, &[(10, 20)]);
+    assert_eq!(
+        [buffer.take_back(), buffer.take_back(), buffer.is_recovering()],
+        [true, false, false]
+    );
+}
+
 /// A stream as QUIC has it: whatever the limit is, all that was written is sent in as many ranges, and ranges that arrive
 /// in any order acknowledge it.
 #[test]

@@ -1,6 +1,7 @@
 //! Two ends hear one another, whatever lies between them: windows are shut both ways, both probe, acknowledgements are
 //! lost, copied, and come in another order. Each test fails where an end refuses what the other's segment without
 //! bytes says because of its number: then each answer is answered, and no timer ends that.
+#![cfg(feature = "alloc")]
 use net_base::ends::{Acknowledged, Expired, ReceivingEnd, SendingEnd};
 use net_base::rand::Rand;
 use net_base::tcp::{scaled, Announcement, Arrival, Segment, TimeoutBounds};

@@ -353,7 +353,9 @@ class ProvedSide(Side):
                         for number in (case if isinstance(case, list) else [case])}
                 return ('branch', self.value(state, value), ends, node[-1] if other else None)
             elif kind == 'LendStatic':
-                state[self.word, rest[0]['local']] = ('static', json.dumps(rest[2], sort_keys=True))
+                made = ('static', json.dumps(rest[2], sort_keys=True))
+                is_empty = rest[2] == {'Parts': []}     # `&[]`, which rustc has as a constant
+                state[self.word, rest[0]['local']] = ('constant', ('agg', None)) if is_empty else made
             elif kind == 'Assign':
                 store = self.write(state, self.at_place(state, rest[0]), self.compute(state, *rest))
                 if store:

@@ -35,6 +35,7 @@ use Rattle.net_assembler.specs.Positions.{Positions}
 use Rattle.net_recovery.specs.declared.loss_recovery.LossRecovery.{LossRecovery}
 use Rattle.net_ends.specs.Ends as sending
 use Rattle.net_ends.specs.Ends.{End, Opened, Forgot, Enabled, Opening, Wrote, Shut, Heard, Looked, Sent, Rested, first}
+use Rattle.net_ends.specs.Ends.{Resumed}
 use Rattle.net_ends.specs.Ends.{peer_after, greatest_after, may_send, limit, asks, end, is_due}
 use Rattle.net_ends.specs.Receiving as receiving
 use Rattle.net_ends.specs.Receiving.{Receiving, Arrived, Answered, Announced, Acknowledged, Took, promise, field_of}
@@ -383,9 +384,11 @@ sender_goes p (Heard s r says seq ack window now) edge capacity honest all is =
     let e = p.sender in
     let was = was_promised edge capacity p.told ack window all honest in
     let f = sending.heard e s r says seq ack window now in
-    let same = heard_sent (accepts e.sender ack) (accepts e.sender ack) e.sender e f ack refl refl in record {
-      near = heard_if (accepts e.sender ack) e f edge capacity
-          (λ on. heard_near e s r says seq ack window now edge capacity on is was.0 was.1) is;
+    let old : End = record e { recovery = r } in
+    let same = heard_sent (accepts e.sender ack) (accepts e.sender ack) e.sender old f ack refl refl in record {
+      near = heard_if (accepts e.sender ack) old f edge capacity
+          (λ on. heard_near e s r says seq ack window now edge capacity on is was.0 was.1)
+          (near_as e old edge capacity is refl refl refl refl);
       sent = omega (arith, same);
     }
 sender_goes p (Looked r now) edge capacity honest all is =
@@ -397,6 +400,8 @@ sender_goes p (Sent r from to now) edge capacity honest all is =
     (to_by (asks e) (is_due e from to) from to (first e) e.peer.edge (sending.end e) e.greatest is.near) is in
     record { near = both.0; sent = both.1 }
 sender_goes p (Rested now) edge capacity honest all is =
+    record { near = near_as p.sender _ edge capacity is refl refl refl refl; sent = omega arith }
+sender_goes p (Resumed r) edge capacity honest all is =
     record { near = near_as p.sender _ edge capacity is refl refl refl refl; sent = omega arith }
 
 -- ---- both ends

@@ -73,7 +73,7 @@ pub fn small_segments()
 /// what both send, and forges nothing. A connection begins with the window of the receiving end's SYN. Then, in every
 /// state that such a history reaches, an acknowledgement that the sending end sends has a number that the receiving
 /// one takes (`heard`): now, and whenever it arrives, unless what the sending end sent later for the first time has come
-/// before it, which itself acknowledges more (`later`). So no acknowledgement and no window is refused for ever. And what
+/// before it, which itself acknowledges more (`later`). So no acknowledgement is refused for ever. And what
 /// takes an acknowledgement answers it by a number that isn't below what it acknowledges (`ends`): the end that sent
 /// it doesn't answer that again, unless more has come, by law `acknowledgements` of `net_tcp`.
 pub fn heard_ends()

@@ -15,7 +15,7 @@ ghost use Rattle.net_ends.specs.Ends.{IsSegment, kept, has_dropped};
 ghost use Rattle.net_ends.specs.Buffers.{new_buffer, buffer_of, marked, remaining, is_repeat, is_window_probe};
 ghost use Rattle.net_ends.specs.Buffers.{is_tail_probe, ack_of, blocks_of, Takes};
 ghost use Rattle.net_ends.specs.Acknowledgements.{with_block, is_new, after_blocks, reported_by, has_block};
-ghost use Rattle.net_ends.specs.Acknowledgements.{is_duplicated};
+ghost use Rattle.net_ends.specs.Acknowledgements.{doubted, is_duplicated};
 ghost use Rattle.net_ends.specs.Acknowledgements.{numbers_of, unsent_of, unsent_at, IsLeft, Recovers, begins_by};
 ghost use Rattle.net_ends.specs.Acknowledgements.{after_segment, after_wait};
 

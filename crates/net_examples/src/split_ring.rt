@@ -2,7 +2,8 @@
 ghost use Rattle.std.specs.Prelude.{◌≡◌, ◌++◌, ℕ, List, length, min, take, drop};
 ghost use Rattle.net_ring.specs.SplitRing.{AreCounts, Step, after_steps, counts, fresh, reader};
 
-use net_ring::{SplitCounts, laws};
+use net_ring::SplitCounts;
+use net_ring::split_counts::laws;
 
 /// Reads at one end of a ring, whatever both ends did before. What is read is what was written after what was taken.
 pub fn read_written(ends: SplitCounts, storage: &[u8], into: &mut [u8]) -> usize

@@ -55,8 +55,9 @@ heard_stored c xs s r says seq ack window now sender is =
     subst (λ t. record (stored c xs (after_event e (Heard s r says seq ack window now))) { sender = t }
     ≡ after_event e (Heard s r says seq ack window now)) (sym is)
     (elim (accepts e.sender ack) as (λ b. record
-    (stored c xs (if b then left (if b then below else e.sender) else e)) { sender = if b then below else e.sender }
-    ≡ (if b then left (if b then below else e.sender) else e)) [ true ↦ refl | false ↦ refl ])
+    (stored c xs (if b then left (if b then below else e.sender) else record e { recovery = r })) {
+      sender = if b then below else e.sender;
+    } ≡ (if b then left (if b then below else e.sender) else record e { recovery = r })) [ true ↦ refl | false ↦ refl ])
 
 -- where a range is sent, and the sender takes notice
 pub sent_stored : (c : SendingEnd) (xs : List ℕ) (r : LossRecovery) (from to : ℕ) (now : ℤ)

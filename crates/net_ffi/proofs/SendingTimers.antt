@@ -10,7 +10,7 @@ use Rattle.net_tcp.specs.declared.retransmission.TimeoutBounds.{TimeoutBounds as
 use Rattle.net_tcp.specs.declared.retransmission_timer.TimedSegment.{TimedSegment}
 use Rattle.net_tcp.specs.declared.retransmission_timer.RetransmissionTimer.{RetransmissionTimer as Timer}
 use Rattle.net_ends.specs.Ends.{End, Event, after_event, Opened, Forgot, Enabled, Opening, Wrote, Shut, Heard, Looked}
-use Rattle.net_ends.specs.Ends.{Sent, Rested}
+use Rattle.net_ends.specs.Ends.{Sent, Rested, Resumed}
 use Rattle.net_ends.specs.Ends.{first, end, renewed, synchronized, sampled, timer_after, is_in, is_shut, may_send}
 use Rattle.net_ends.specs.Ends.{heard}
 use Rattle.net_ends.specs.declared.sending_end.Outgoing.{Outgoing}
@@ -116,7 +116,7 @@ counted_after e (Opening now) h =
 counted_after e (Wrote xs) h = h.timer
 counted_after e Shut h = h.timer
 counted_after e (Heard s r says seq ack window now) h =
-    either (λ x. Counts x.timer) (accepts e.sender ack) (heard e s r says seq ack window now) e
+    either (λ x. Counts x.timer) (accepts e.sender ack) (heard e s r says seq ack window now) (record e { recovery = r })
     (hears e s says ack now h) h.timer
 counted_after e (Looked r now) h =
     either (λ x. Counts x.timer) (tcp.has_expired e.timer now) (looked e r now) e
@@ -124,6 +124,7 @@ counted_after e (Looked r now) h =
 counted_after e (Sent r from to now) h =
     either (λ x. Counts x.timer) (may_send e from to) (sent e r from to now) e
     (sends e.bounds from to (first e) e.sender.sent now e.timer h.timer) h.timer
+counted_after e (Resumed r) h = h.timer
 counted_after e (Rested now) h = either Counts (nat_lt (first e) (end e)) (tcp.started now e.timer) e.timer
     (starts now e.timer h.timer) h.timer
 

@@ -9,6 +9,7 @@
 use Rattle.std.specs.Prelude.{◌≡◌, ◌↔◌, ℕ, ℤ, ◌+◌, ◌-◌, ◌<◌, ◌≤◌, ◌==◌, max, Option, Some, None, is_some}
 use Rattle.std.specs.Prelude.{IfSome, IfNone, Bool, not, nat_eq, nat_lt, if◌then◌else◌, IsTrue, IsFalse, List, length}
 use Rattle.std.specs.Prelude.{unwrap_or, replicate, false}
+use Rattle.std.specs.Prelude.{◌&&◌}
 use Rattle.std.specs.Option.{option_or}
 use Rattle.net_assembler.specs.Positions.{contains}
 use Rattle.net_receiver.specs.FiniteSender.{finite_sender_of, IsSoundFiniteSender, accepts}
@@ -19,7 +20,7 @@ use Rattle.net_recovery.specs.declared.loss_recovery.LossRecovery.{LossRecovery 
 use Rattle.net_tcp.specs.Retransmission.{has_ended, has_expired, new_timer}
 use Rattle.net_tcp.specs.Windows.{no_window}
 use Rattle.net_ends.specs.Acknowledgements.{reported_by, numbers_of, unsent_of, Recovers, expiry_of, after_wait}
-use Rattle.net_ends.specs.Acknowledgements.{is_sought, after_segment}
+use Rattle.net_ends.specs.Acknowledgements.{is_sought, after_segment, doubted}
 use Rattle.net_ends.specs.Ends.{End, first, end, is_acceptable, new_of, reports_of, begins_of, kept, is_overdue}
 use Rattle.net_ends.specs.Ends.{has_timed_out, timed_out, after_event, Heard, Looked, Sent, Rested, asks, hurries}
 use Rattle.net_ends.specs.Ends.{AreHoles, open_to, found, due_of, range_of, IsProbed, probe_of, is_probe, is_worth}
@@ -177,7 +178,10 @@ pub record Hears (e : End) (seq ack window : ℕ) (bs : List (ℕ × ℕ)) (empt
   pub recovery : IsTrue (accepts e.sender ack) →
       Recovers 16 e.size (numbers_of e.sender) (unsent_of e.sender e.reported e.recovery) e.reported e.recovery ack bs
       (empty && (window == e.last)) (reports_of said) left.recovery (begins_of said)
-  pub unchanged : IsFalse (accepts e.sender ack) → left ≡ e
+  pub unchanged : IsFalse (is_acceptable e ack) → left ≡ e
+  pub twice : IsTrue (is_acceptable e ack) → IsFalse (accepts e.sender ack) → left ≡ record e {
+    recovery = doubted (numbers_of e.sender) ack bs e.recovery;
+  }
 
 -- ---- the timer
 -- 13 is overdue, 14 is lost

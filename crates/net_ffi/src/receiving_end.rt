@@ -442,11 +442,10 @@ pub extern "C" fn net_base_receiving_end_classify(
     segment: &Segment,
 ) -> ArrivalStatus
     ensures value { (storage : List ℕ) → HasSoundEnd (length storage) end.now →
-        length storage ≡ capacity →
         let e = receiving_of end.now storage in
         IsArrival NET_BASE_TAKE NET_BASE_ACKNOWLEDGEMENT_ONLY NET_BASE_ANSWER NET_BASE_RESET
-        NET_BASE_IGNORE (acknowledged e.receiver) (e.edge - acknowledged e.receiver)
-        e.receiver.receiver.capacity segment.now result }
+        NET_BASE_IGNORE (acknowledged e.receiver) (e.edge - acknowledged e.receiver) capacity
+        segment.now result }
     ensures refused { (next_of end.now.receiver < no_end → ⊥) → result ≡ NET_BASE_IGNORE }
 {
     if !has_number(&end.receiver) {

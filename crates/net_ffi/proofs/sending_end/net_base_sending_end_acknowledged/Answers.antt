@@ -36,6 +36,7 @@ returns-clause-value c = λ sound few.
             reports = said.reports;
             recovery = said.recovery;
             unchanged = said.unchanged;
+            twice = said.twice;
           }),
     )
 
