@@ -51,8 +51,8 @@
  *     acknowledgement_number
  *   `net_base_tcp_`: classify, is_acknowledgement
  * - Parts of an end of other rules: when to send again:
- *   `net_base_retransmission_timer_`: init, timeout, sent, acknowledged, reported, expire,
- *     take_sample, start, stop
+ *   `net_base_retransmission_timer_`: init, timeout, expires_at, sent, acknowledged, reported,
+ *     expire, take_sample, start, stop
  * - Time:
  *   `net_base_instant_`: saturating_add, distance
  * - Sets of positions:
@@ -1812,48 +1812,35 @@ NET_BASE_MUST_USE uint64_t net_base_peer_window_acknowledgement_number(
  * @{
  */
 
-/** An estimate of the time of a round trip; zeros are none. */
-struct net_base_rtt_estimate {
-    /** Eight times the smoothed time. No more than 2^63 of it counts, which samples don't exceed.
+/** The timer of retransmissions, by the rules of RFC 6298, section 5, and the one segment that is
+ * timed for a sample.
+ *
+ * A timer of zeros is new, of a peer that reports no blocks: there was no sample, the timer
+ * doesn't run, no segment is timed, and the timeout is 1 second, which the RFC begins with. Bounds
+ * of zeros are the RFC's.
+ */
+struct net_base_retransmission_timer {
+    /** Eight times the smoothed time of a round trip. No more than 2^63 of it counts, which samples
+     * don't exceed.
      */
     uint64_t srtt_8;
     /** Four times its variation. No more than 2^62 of it counts. */
     uint64_t rttvar_4;
-};
-
-/** The time until a retransmission. */
-struct net_base_retransmission_timeout {
-    /** The estimate, once there was a sample. */
-    struct net_base_rtt_estimate estimate;
     /** Not 0 once there was a sample. */
     uint64_t has_estimate;
-    /** The timeout. 0, which only the caller writes, counts as 1 second:
-     * `net_base_retransmission_timer_timeout`.
-     */
+    /** The timeout, if `has_timeout` isn't 0; else it is 1 second. */
     uint64_t timeout;
-};
-
-/** The timer of retransmissions.
- *
- * A timer of zeros is new, of a peer that reports no blocks: there was no sample, the timer
- * doesn't run, no segment is timed, and the timeout is 1 second, which the RFC begins with. Bounds
- * of zeros are the RFC's. A call that changes anything writes all fields: 0 where there is
- * nothing, 0 or 1 in a flag, and never 0 as a timeout.
- */
-struct net_base_retransmission_timer {
-    /** The timeout. */
-    struct net_base_retransmission_timeout timeout;
-    /** When it expires, while it runs: the earlier of the next two. It is written, and not read. */
-    int64_t expiry;
+    /** Not 0 once `timeout` counts. */
+    uint64_t has_timeout;
     /** When the timeout passes, while it runs. */
     int64_t ends_at;
-    /** When a probe is due, if that is earlier. */
-    int64_t probe_at;
-    /** How long the probe has waited then. */
-    uint64_t wait;
     /** Not 0 while it runs. */
     uint64_t is_running;
-    /** Not 0 while the probe waits for an acknowledgement that may be delayed. */
+    /** When a probe is due, if the timer runs and that is earlier. */
+    int64_t probe_at;
+    /** How long the probe has waited then. The next one waits twice that. */
+    uint64_t wait;
+    /** Not 0 while it waits for an acknowledgement that may be delayed. */
     uint64_t is_alone;
     /** The position of the timed segment, if there is one. */
     uint64_t timed;
@@ -1865,9 +1852,9 @@ struct net_base_retransmission_timer {
     uint64_t last;
     /** How often the timeout has passed since anything new was acknowledged or reported. */
     uint64_t timeouts;
-    /** Not 0 if the peer reports blocks: else no probe is due. */
+    /** Not 0 if the peer reports blocks. */
     uint64_t reports;
-    /** How many acknowledgements of one segment alone in a row weren't late, up to 8. */
+    /** How many samples in a row of one segment alone weren't late, up to 8. */
     uint64_t prompt;
 };
 
@@ -1898,6 +1885,13 @@ void net_base_retransmission_timer_init(
 /** Returns the timeout: the timer expires as long after it is started. */
 NET_BASE_MUST_USE uint64_t net_base_retransmission_timer_timeout(
     const struct net_base_retransmission_timer *timer) NET_BASE_LINK(retransmission_timer_timeout);
+
+/** Returns whether the timer runs, and writes to `moment` when it expires, if it does: the earlier
+ * of the moments at which the timeout passes and a probe is due.
+ */
+NET_BASE_MUST_USE bool net_base_retransmission_timer_expires_at(
+    const struct net_base_retransmission_timer *NET_BASE_RESTRICT timer,
+    int64_t *NET_BASE_RESTRICT moment) NET_BASE_LINK(retransmission_timer_expires_at);
 
 /** Starts the timer, unless it runs, where nothing is on the way: it expires the timeout from `now`
  * on, at `INT64_MAX` if that is above it, and no probe is due.
@@ -2068,22 +2062,11 @@ NET_BASE_MUST_USE bool net_base_parts_sum_write_checksum(
  * @{
  */
 
-/** The receiving end of a stream.
- *
- * A head of zeros is new, of a stream that begins at position 0, with segments of no bytes. All of
- * an end is in its head but the bytes: at most 16 runs are held. A segment is classified, and
- * arrives if it is to be taken; `net_base_receiving_end_answer` is for one that is only answered.
- * While `net_base_receiving_end_is_due` an acknowledgement is sent at once. While
- * `net_base_receiving_end_is_wanted` one is sent after the delay that the program has for it,
- * unless a segment with bytes is sent before that and announces. The calls of a finite receiver
- * that look at it may look at `receiver`: whether it is complete, whether all was read, what it
- * acknowledges.
+/** All of a receiving end but its receiver: what it announced, when it acknowledges, and what came
+ * twice. Its calls are given the receiver's numbers; who holds both has the receiver take what
+ * arrives.
  */
-struct net_base_receiving_end {
-    /** The receiver. */
-    struct net_base_finite_receiver receiver;
-    /** The runs that it holds. */
-    struct net_base_run runs[16];
+struct net_base_receiving {
     /** What was announced. */
     struct net_base_advertised_window advertised;
     /** The position of the newest segment. */
@@ -2100,6 +2083,26 @@ struct net_base_receiving_end {
     uint8_t scale;
     /** How many segments wait for an acknowledgement, 2 at most: it is due if as many do. */
     uint8_t unanswered;
+};
+
+/** The receiving end of a stream.
+ *
+ * A head of zeros is new, of a stream that begins at position 0, with segments of no bytes. All of
+ * an end is in its head but the bytes: at most 16 runs are held. A segment is classified, and
+ * arrives if it is to be taken; `net_base_receiving_end_answer` is for one that is only answered.
+ * While `net_base_receiving_end_is_due` an acknowledgement is sent at once. While
+ * `net_base_receiving_end_is_wanted` one is sent after the delay that the program has for it,
+ * unless a segment with bytes is sent before that and announces. The calls of a finite receiver
+ * that look at it may look at `receiver`: whether it is complete, whether all was read, what it
+ * acknowledges.
+ */
+struct net_base_receiving_end {
+    /** The receiver. */
+    struct net_base_finite_receiver receiver;
+    /** The runs that it holds. */
+    struct net_base_run runs[16];
+    /** All else that it knows. */
+    struct net_base_receiving head;
 };
 
 /** What a segment without bytes tells the peer. */
@@ -2245,7 +2248,9 @@ NET_BASE_MUST_USE size_t net_base_receiving_end_read(
  * @{
  */
 
-/** What is lost; zeros are nothing. */
+/** What a sender of TCP sends next where segments are lost: first what is lost, then what was never
+ * sent.
+ */
 struct net_base_loss_recovery {
     /** The recovery lasts until all positions below this one are acknowledged. */
     uint64_t until;
@@ -2289,6 +2294,46 @@ struct net_base_loss_recovery {
     size_t has_duplicates;
 };
 
+/** What was reported and what is lost of what a sender has sent: a scoreboard, and a recovery. Its
+ * calls are given the sender's numbers and the scoreboard's runs; who holds both has the sender
+ * take what they say.
+ */
+struct net_base_buffer {
+    /** What was reported, with runs that the caller keeps. */
+    struct net_base_scoreboard scoreboard;
+    /** What is lost. */
+    struct net_base_loss_recovery recovery;
+};
+
+/** All of a sending end but its sender and the times that were set: what was reported and what is
+ * lost, the timer, and what the peer announced. Its calls are given the sender's numbers; who
+ * holds both has the sender take what they say.
+ */
+struct net_base_sending {
+    /** What was reported and what is lost. */
+    struct net_base_buffer buffer;
+    /** The timer. */
+    struct net_base_retransmission_timer timer;
+    /** The peer's window. */
+    struct net_base_peer_window peer_window;
+    /** The greatest window that the peer ever announced. */
+    uint64_t greatest_window;
+    /** The window that it announced last. */
+    uint64_t last_window;
+    /** The most bytes of a segment. 0 counts as 1. */
+    size_t segment_size;
+    /** Not 0 if Nagle's rule is disabled. */
+    size_t no_delay;
+    /** Not 0 once the peer has acknowledged anything, if only the own SYN. */
+    uint64_t is_open;
+    /** Not 0 if the timeout has passed and nothing was sent since then: nothing is held back, and
+     * if the window is shut, the next segment is a probe of it.
+     */
+    uint64_t is_window_probe_due;
+    /** Not 0 if the next segment is a probe for an answer, if nothing else may be sent. */
+    uint64_t is_overdue;
+};
+
 /** The sending end of a stream.
  *
  * A head of zeros is new, of a stream that begins at position 0, whose first timeout is 1 second
@@ -2305,34 +2350,14 @@ struct net_base_loss_recovery {
 struct net_base_sending_end {
     /** The sender. */
     struct net_base_finite_sender sender;
-    /** What was reported. */
-    struct net_base_scoreboard scoreboard;
     /** The runs of what was reported. */
     struct net_base_run runs[16];
-    /** What is lost. */
-    struct net_base_loss_recovery recovery;
-    /** The timer. */
-    struct net_base_retransmission_timer timer;
+    /** All else that it knows. */
+    struct net_base_sending head;
     /** The timeout before any sample. 0 counts as 1 second. */
     uint64_t first_timeout;
     /** The bounds of the timeout. */
     struct net_base_timeout_bounds bounds;
-    /** The peer's window. */
-    struct net_base_peer_window peer_window;
-    /** The greatest window that the peer ever announced. */
-    uint64_t greatest_window;
-    /** The window that it announced last. */
-    uint64_t last_window;
-    /** The most bytes of a segment. 0 counts as 1. */
-    size_t segment_size;
-    /** Not 0 if Nagle's rule is disabled. */
-    size_t no_delay;
-    /** Not 0 once the peer has acknowledged anything, if only the own SYN. */
-    uint64_t is_open;
-    /** Not 0 if the timeout has passed and nothing was sent since then. */
-    uint64_t is_window_probe_due;
-    /** Not 0 if the next segment is a probe for an answer, if nothing else may be sent. */
-    uint64_t is_overdue;
 };
 
 /** What an acknowledgement said. */

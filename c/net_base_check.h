@@ -834,6 +834,14 @@ NET_BASE_MUST_USE static inline uint64_t net_base_retransmission_timer_timeout_c
     return net_base_retransmission_timer_timeout(timer);
 }
 
+NET_BASE_MUST_USE static inline bool net_base_retransmission_timer_expires_at_checked_(
+    const struct net_base_retransmission_timer *timer, int64_t *moment) {
+    NET_BASE_POINTER_("net_base_retransmission_timer_expires_at", timer, struct net_base_retransmission_timer);
+    NET_BASE_POINTER_("net_base_retransmission_timer_expires_at", moment, int64_t);
+    net_base_check_(net_base_apart_(timer, sizeof(*timer), moment, sizeof(*moment)), "net_base_retransmission_timer_expires_at: timer and moment overlap (duty 2)");
+    return net_base_retransmission_timer_expires_at(timer, moment);
+}
+
 static inline void net_base_retransmission_timer_start_checked_(
     struct net_base_retransmission_timer *timer, int64_t now) {
     NET_BASE_POINTER_("net_base_retransmission_timer_start", timer, struct net_base_retransmission_timer);
@@ -1309,6 +1317,7 @@ NET_BASE_MUST_USE static inline bool net_base_sequence_number_position_checked_(
 #define net_base_peer_window_acknowledgement_number net_base_peer_window_acknowledgement_number_checked_
 #define net_base_retransmission_timer_init net_base_retransmission_timer_init_checked_
 #define net_base_retransmission_timer_timeout net_base_retransmission_timer_timeout_checked_
+#define net_base_retransmission_timer_expires_at net_base_retransmission_timer_expires_at_checked_
 #define net_base_retransmission_timer_start net_base_retransmission_timer_start_checked_
 #define net_base_retransmission_timer_stop net_base_retransmission_timer_stop_checked_
 #define net_base_retransmission_timer_sent net_base_retransmission_timer_sent_checked_

@@ -669,31 +669,38 @@ pub extern "C" fn net_base_peer_window_acknowledgement_number(peer: Option<&Peer
 }
 
 #[unsafe(export_name = "net_base_4_retransmission_timer_init")]
-pub extern "C" fn net_base_retransmission_timer_init(timer: Option<&mut retransmission::RetransmissionTimer>, timeout: u64, reports: bool) {
+pub extern "C" fn net_base_retransmission_timer_init(timer: Option<&mut RetransmissionTimer>, timeout: u64, reports: bool) {
     let Some(timer) = timer else { return };
     retransmission::net_base_retransmission_timer_init(timer, timeout, reports)
 }
 
 #[unsafe(export_name = "net_base_4_retransmission_timer_timeout")]
-pub extern "C" fn net_base_retransmission_timer_timeout(timer: Option<&retransmission::RetransmissionTimer>) -> u64 {
+pub extern "C" fn net_base_retransmission_timer_timeout(timer: Option<&RetransmissionTimer>) -> u64 {
     let Some(timer) = timer else { return u64::MAX };
     retransmission::net_base_retransmission_timer_timeout(timer)
 }
 
+#[unsafe(export_name = "net_base_4_retransmission_timer_expires_at")]
+pub extern "C" fn net_base_retransmission_timer_expires_at(timer: Option<&RetransmissionTimer>, moment: Option<&mut i64>) -> bool {
+    let Some(timer) = timer else { return false };
+    let Some(moment) = moment else { return false };
+    retransmission::net_base_retransmission_timer_expires_at(timer, moment)
+}
+
 #[unsafe(export_name = "net_base_4_retransmission_timer_start")]
-pub extern "C" fn net_base_retransmission_timer_start(timer: Option<&mut retransmission::RetransmissionTimer>, now: i64) {
+pub extern "C" fn net_base_retransmission_timer_start(timer: Option<&mut RetransmissionTimer>, now: i64) {
     let Some(timer) = timer else { return };
     retransmission::net_base_retransmission_timer_start(timer, now)
 }
 
 #[unsafe(export_name = "net_base_4_retransmission_timer_stop")]
-pub extern "C" fn net_base_retransmission_timer_stop(timer: Option<&mut retransmission::RetransmissionTimer>) {
+pub extern "C" fn net_base_retransmission_timer_stop(timer: Option<&mut RetransmissionTimer>) {
     let Some(timer) = timer else { return };
     retransmission::net_base_retransmission_timer_stop(timer)
 }
 
 #[unsafe(export_name = "net_base_4_retransmission_timer_sent")]
-pub extern "C" fn net_base_retransmission_timer_sent(timer: Option<&mut retransmission::RetransmissionTimer>, bounds: Option<&retransmission::TimeoutBounds>, position: u64, end: u64, numbers: Option<&SentNumbers>, now: i64) {
+pub extern "C" fn net_base_retransmission_timer_sent(timer: Option<&mut RetransmissionTimer>, bounds: Option<&retransmission::TimeoutBounds>, position: u64, end: u64, numbers: Option<&SentNumbers>, now: i64) {
     let Some(timer) = timer else { return };
     let Some(bounds) = bounds else { return };
     let Some(numbers) = numbers else { return };
@@ -701,14 +708,14 @@ pub extern "C" fn net_base_retransmission_timer_sent(timer: Option<&mut retransm
 }
 
 #[unsafe(export_name = "net_base_4_retransmission_timer_take_sample")]
-pub extern "C" fn net_base_retransmission_timer_take_sample(timer: Option<&mut retransmission::RetransmissionTimer>, bounds: Option<&retransmission::TimeoutBounds>, now: i64) {
+pub extern "C" fn net_base_retransmission_timer_take_sample(timer: Option<&mut RetransmissionTimer>, bounds: Option<&retransmission::TimeoutBounds>, now: i64) {
     let Some(timer) = timer else { return };
     let Some(bounds) = bounds else { return };
     retransmission::net_base_retransmission_timer_take_sample(timer, bounds, now)
 }
 
 #[unsafe(export_name = "net_base_4_retransmission_timer_acknowledged")]
-pub extern "C" fn net_base_retransmission_timer_acknowledged(timer: Option<&mut retransmission::RetransmissionTimer>, bounds: Option<&retransmission::TimeoutBounds>, numbers: Option<&SentNumbers>, next: u64, now: i64) {
+pub extern "C" fn net_base_retransmission_timer_acknowledged(timer: Option<&mut RetransmissionTimer>, bounds: Option<&retransmission::TimeoutBounds>, numbers: Option<&SentNumbers>, next: u64, now: i64) {
     let Some(timer) = timer else { return };
     let Some(bounds) = bounds else { return };
     let Some(numbers) = numbers else { return };
@@ -716,13 +723,13 @@ pub extern "C" fn net_base_retransmission_timer_acknowledged(timer: Option<&mut 
 }
 
 #[unsafe(export_name = "net_base_4_retransmission_timer_reported")]
-pub extern "C" fn net_base_retransmission_timer_reported(timer: Option<&mut retransmission::RetransmissionTimer>, now: i64) {
+pub extern "C" fn net_base_retransmission_timer_reported(timer: Option<&mut RetransmissionTimer>, now: i64) {
     let Some(timer) = timer else { return };
     retransmission::net_base_retransmission_timer_reported(timer, now)
 }
 
 #[unsafe(export_name = "net_base_4_retransmission_timer_expire")]
-pub extern "C" fn net_base_retransmission_timer_expire(timer: Option<&mut retransmission::RetransmissionTimer>, bounds: Option<&retransmission::TimeoutBounds>, now: i64) -> refusals::ExpiryStatus {
+pub extern "C" fn net_base_retransmission_timer_expire(timer: Option<&mut RetransmissionTimer>, bounds: Option<&retransmission::TimeoutBounds>, now: i64) -> refusals::ExpiryStatus {
     let Some(timer) = timer else { return refusals::NET_BASE_REFUSED };
     let Some(bounds) = bounds else { return refusals::NET_BASE_REFUSED };
     retransmission::net_base_retransmission_timer_expire(timer, bounds, now)

@@ -8,7 +8,6 @@
 //! By hand: storage that is converted, and what is printed.
 use core::fmt;
 
-use crate::finite::FiniteSenderOver;
 use crate::managed::ManagedSlice;
 use crate::storage::Storage;
 use crate::tcp::TimeoutBounds;
@@ -18,18 +17,19 @@ erased! {
     pub(crate) mod receiving_end;
     pub(crate) mod send_buffer;
     pub(crate) mod sending_end;
-    pub(crate) mod stream_sender;
 }
 
 pub use receiving_end::{Acknowledgement, ReceivingEnd, ReceivingEndOver};
 pub use send_buffer::{AckKind, SendBuffer, SendBufferOver, Sending, TakenAck};
 pub use sending_end::{Acknowledged, Expired, Outgoing, SendingEnd, SendingEndOver};
-pub use stream_sender::StreamSender;
 
+// Names for the exports alone.
 #[cfg(feature = "c")]
-pub(crate) use send_buffer::BufferParts;
+pub(crate) use receiving_end::{ReceivingHead, Room};
 #[cfg(feature = "c")]
-pub(crate) use sending_end::SendingParts;
+pub(crate) use send_buffer::Queued;
+#[cfg(feature = "c")]
+pub(crate) use sending_end::SendingHead;
 
 impl<'a, const N: usize> SendBuffer<'a, N> {
     /// Returns what `over_at` does.
@@ -79,7 +79,7 @@ impl<'a, const N: usize> ReceivingEnd<'a, N> {
     }
 }
 
-impl<S: Storage<u8>, const N: usize> fmt::Debug for SendBufferOver<FiniteSenderOver<S>, N> {
+impl<S: Storage<u8>, const N: usize> fmt::Debug for SendBufferOver<S, N> {
     fn fmt(&self, f: &mut fmt::Formatter) -> fmt::Result {
         f.debug_struct("SendBuffer")
             .field("numbers", &self.numbers())
@@ -88,7 +88,7 @@ impl<S: Storage<u8>, const N: usize> fmt::Debug for SendBufferOver<FiniteSenderO
     }
 }
 
-impl<S: Storage<u8>, const N: usize> fmt::Debug for SendingEndOver<FiniteSenderOver<S>, N> {
+impl<S: Storage<u8>, const N: usize> fmt::Debug for SendingEndOver<S, N> {
     fn fmt(&self, f: &mut fmt::Formatter) -> fmt::Result {
         f.debug_struct("SendingEnd")
             .field("numbers", &self.numbers())

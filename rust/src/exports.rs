@@ -18,8 +18,9 @@ erased! {
     pub mod time;
 }
 
-pub use crate::ends::send_buffer::BufferParts;
-pub use crate::ends::sending_end::SendingParts;
+pub use crate::ends::receiving_end::{ReceivingHead, Room};
+pub use crate::ends::send_buffer::{BufferHead, Queued};
+pub use crate::ends::sending_end::SendingHead;
 pub use crate::storage::assembler::{AssemblerHead, Run};
 pub use crate::storage::fragments::FragmentsHead;
 pub use crate::storage::packet_slot::PacketSlot;
@@ -33,4 +34,5 @@ pub use crate::stream::receiver_head::ReceiverHead;
 pub use crate::stream::scoreboard_head::ScoreboardHead;
 pub use crate::stream::sender_head::SenderHead;
 pub use crate::stream::sent_numbers::SentNumbers;
-pub use crate::tcp::{AdvertisedWindow, Announcement, AnswerLimit, PartsSum, PeerWindow, Segment};
+pub use crate::tcp::{AdvertisedWindow, Announcement, AnswerLimit, LossRecovery, PartsSum, PeerWindow};
+pub use crate::tcp::{RetransmissionTimer, Segment};

@@ -7,6 +7,7 @@ erased! {
     pub(crate) mod finite_receiver_head;
     pub(crate) mod finite_sender;
     pub(crate) mod finite_sender_head;
+    pub(crate) mod flags;
     pub(crate) mod held_runs;
     pub(crate) mod kept;
     pub(crate) mod laws;
@@ -15,6 +16,7 @@ erased! {
     pub(crate) mod plan;
     pub(crate) mod receiver;
     pub(crate) mod receiver_head;
+    pub(crate) mod reported;
     pub(crate) mod scoreboard;
     pub(crate) mod scoreboard_head;
     pub(crate) mod sender;
@@ -29,10 +31,11 @@ pub use finite_receiver::{FiniteReceiver, FiniteReceiverOver};
 pub use finite_sender::{FiniteSender, FiniteSenderOver};
 pub use held_runs::{HeldRunIter, HeldRuns, MissingRunIter, NewestRunIter};
 pub use kept::{FiniteError, Kept, KeptBytes, SegmentParts};
-pub use loss_recovery::{Answer, LossRecovery, RecoveryParts};
+pub use loss_recovery::{Answer, LossRecovery};
 pub use numbering::Numbering;
 pub use plan::Plan;
 pub use receiver::{Receiver, ReceiverOver};
+pub use reported::Reported;
 pub use scoreboard::Scoreboard;
 pub use scoreboard_head::ReportError;
 pub use sender::{Sender, SenderOver};
@@ -44,8 +47,9 @@ pub use sequence_number::SequenceNumber;
 pub(crate) use finite_receiver_head::FiniteReceiverHead;
 #[cfg(feature = "c")]
 pub(crate) use finite_sender_head::FiniteSenderHead;
-#[cfg(feature = "c")]
 pub(crate) use held_runs::HeldRun;
 #[cfg(feature = "c")]
 pub(crate) use receiver_head::ReceiverHead;
+pub(crate) use flags::flag_of;
+pub(crate) use reported::LentScoreboard;
 pub(crate) use scoreboard_head::ScoreboardHead;

@@ -54,7 +54,7 @@
 //! assert_eq!(timer.timeouts(), 1);
 //! ```
 pub use crate::stream::{is_duplicate_block, is_equal_acknowledgement, Answer, LossRecovery};
-pub use crate::stream::{RecoveryParts, SentNumbers};
+pub use crate::stream::{Reported, SentNumbers};
 
 erased! {
     pub(crate) mod advertised_window;
@@ -72,7 +72,7 @@ pub use arriving::{classify, is_acceptable, is_acknowledgement, Arrival, Segment
 pub use internet_sum::{checksum, is_valid, updated_checksum, PartsSum};
 pub use peer_window::{scaled, Announcement, PeerWindow};
 pub use retransmission::{RetransmissionTimeout, RttEstimate, TimeoutBounds, Transmission};
-pub use retransmission_timer::{Expiry, RetransmissionTimer, TimedSegment, TimerParts};
+pub use retransmission_timer::{Expiry, RetransmissionTimer, TimedSegment};
 
 use crate::time::Duration;
 

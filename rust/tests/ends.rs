@@ -3,9 +3,8 @@
 #![cfg(feature = "alloc")]
 use net_base::ends::{
     AckKind, Acknowledged, Expired, ReceivingEnd, SendBuffer, SendBufferOver, Sending, SendingEnd,
-    StreamSender, TakenAck,
+    TakenAck,
 };
-use net_base::finite::FiniteSender;
 use net_base::rand::Rand;
 use net_base::tcp::{Announcement, SentNumbers, TimeoutBounds};
 use net_base::time::{Duration, Instant};
@@ -620,21 +619,6 @@ fn timeouts_of_an_end() {
     assert_eq!(ranges(&mut end, passed).len(), 1);
     assert_eq!(end.expires_at(), Some(Instant::from_secs(8)));
 }
-
-/// The rules of a sending end know its sender by these numbers.
-#[test]
-fn a_sender_by_its_numbers() {
-    let mut sender = FiniteSender::new_at(vec![0; 8], 7);
-    assert_eq!(sender.write(b"abc"), 3);
-    assert!(!sender.has_end() && StreamSender::end(&sender) == 10);
-    sender.close();
-    sender.mark(11);
-    assert!(sender.has_end() && StreamSender::end(&sender) == 11);
-    assert!(!sender.accept(12) && sender.accept(9));
-    let numbers = StreamSender::numbers(&sender);
-    assert_eq!(numbers, SentNumbers { first_unacknowledged: 9, sent: 11 });
-}
-
 /// A first number beyond 32 bits stays whole.
 #[test]
 fn first_numbers_are_of_64_bits() {

@@ -62,8 +62,8 @@ fn an_acknowledgement_of_what_was_not_sent_stops_no_timer() {
     let mut timer = RetransmissionTimer::default();
     let numbers = SentNumbers { first_unacknowledged: 0, sent: 0 };
     timer.sent(TimeoutBounds::default(), 0..10, numbers, Instant::ZERO);
-    let (numbers, before) = (SentNumbers { first_unacknowledged: 0, sent: 10 }, timer.parts());
+    let (numbers, before) = (SentNumbers { first_unacknowledged: 0, sent: 10 }, timer);
     timer.acknowledged(TimeoutBounds::default(), numbers, 11, Instant::from_millis(1));
     assert!(timer.expires_at().is_some());
-    assert_eq!(timer.parts(), before);
+    assert_eq!(timer, before);
 }

@@ -30,14 +30,14 @@ NEAR = {("receiver", "position"): RECEIVED, ("finite_receiver", "position"): REC
 NEAR |= {("sending_end", name): "now.sending_end_end.sender.sender.first_unacknowledged"
          for name in ("position", "limit")}
 NEAR |= {("sending_end", "it.ack"): "(below(2) ? now.sending_end_end.sender.sent : now.sending_end_end.sender.sender.first_unacknowledged)",
-         ("sending_end", "now"): "(uint64_t)now.sending_end_end.timer.ends_at"}
+         ("sending_end", "now"): "(uint64_t)now.sending_end_end.head.timer.ends_at"}
 NEAR |= {("scoreboard", name): "now.scoreboard_scoreboard.base"
          for name in ("start", "end", "next", "position", "limit")}
 NEAR |= {("scoreboard", "sent"): "now.scoreboard_scoreboard.base + 40"}
 # What a head is made now and then, since calls seldom do: a timer whose probe is due before the timeout passes; and an end
 # whose stream is acknowledged, its end too.
-MADE = {"sending_end": ["now.sending_end_end.timer.reports = 1;", "now.sending_end_end.timer.probe_at = "
-                        "(int64_t)((uint64_t)now.sending_end_end.timer.ends_at - below(48));",
+MADE = {"sending_end": ["now.sending_end_end.head.timer.reports = 1;", "now.sending_end_end.head.timer.probe_at = "
+                        "(int64_t)((uint64_t)now.sending_end_end.head.timer.ends_at - below(48));",
                         "if (now.sending_end_end.sender.sender.place.length == 0 && below(4) == 0) {",
                         "    now.sending_end_end.sender.closed = now.sending_end_end.sender.finished = 1;",
                         "    now.sending_end_end.sender.sent = now.sending_end_end.sender.sender.first_unacknowledged + 1;", "}"]}

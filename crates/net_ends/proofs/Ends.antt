@@ -5,12 +5,12 @@ use Rattle.std.proofs.Common.{true, false}
 use Rattle.std.specs.Prelude.{◌⊎◌, All, Bool, IsTrue, min, ◌&&◌, nat_le, nat_lt, is_some, if◌then◌else◌}
 use Rattle.net_tcp.specs.Retransmission.{running, lasting, timed_after, after_sending}
 use Rattle.net_tcp.specs.declared.retransmission.TimeoutBounds.{TimeoutBounds}
-use Rattle.net_tcp.specs.declared.retransmission_timer.RetransmissionTimer.{RetransmissionTimer}
+use Rattle.net_tcp.specs.Retransmission.{Timer as RetransmissionTimer}
 use Rattle.std.proofs.lemmas.List.{length-drop}
 use Rattle.std.proofs.lemmas.Bool.Decides.{nat_tests}
 use Rattle.net_receiver.specs.SenderState.{end_of}
 use Rattle.net_assembler.specs.Positions.{Positions}
-use Rattle.net_recovery.specs.declared.loss_recovery.LossRecovery.{LossRecovery}
+use Rattle.net_recovery.specs.LossRecovery.{Recovery as LossRecovery}
 use Rattle.net_receiver.specs.FiniteSender.{FiniteSenderState, first_number, acknowledged_below, accepts, SenderCommand}
 use Rattle.net_receiver.specs.FiniteSender.{sender_after_commands, sender_after_command, numbers_end, IsSoundSent}
 use Rattle.net_receiver.specs.FiniteSender.{Marks}

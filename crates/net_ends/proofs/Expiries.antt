@@ -6,12 +6,14 @@ use Rattle.std.specs.Prelude.{if◌then◌else◌}
 use Rattle.std.proofs.lemmas.Grind.{common_steps}
 use Rattle.std.proofs.lemmas.Int.{ints}
 use Rattle.net_receiver.specs.Scoreboards.{IsEnd}
-use Rattle.net_recovery.specs.declared.loss_recovery.LossRecovery.{LossRecovery}
+use Rattle.net_recovery.specs.LossRecovery.{Recovery as LossRecovery}
 use Rattle.net_tcp.specs.Retransmission.{has_expired, has_ended, expiry, after_expiry, is_due, expires_from}
 use Rattle.net_tcp.specs.declared.retransmission_timer.Expiry.TheVariants.{Probe, Timeout}
-use Rattle.net_tcp.specs.declared.retransmission_timer.RetransmissionTimer.{RetransmissionTimer}
+use Rattle.net_tcp.specs.Retransmission.{Timer as RetransmissionTimer}
 use Rattle.net_ends.specs.Ends.{End, Looked, after_event, all_lost, is_overdue, is_shut, timed_out}
 use Rattle.net_ends.specs.Acknowledgements.{is_sought, begins_by, after_wait, numbers_of, loses_nothing, expiry_of}
+use Rattle.net_ends.specs.Calls.{Silent, TimesOut, Takes}
+use Rattle.net_tcp.specs.declared.retransmission_timer.Expiry.{Expiry}
 use Rattle.net_ends.specs.declared.sending_end.Expired.{Expired}
 use Rattle.net_ends.specs.declared.sending_end.Expired.TheVariants.{No, Overdue, Lost}
 use Rattle.net_ends.specs.declared.sending_end.Expired.TheVariants as expired
@@ -29,18 +31,7 @@ Expires e left now result = record {
   state : IsTrue (has_ended e.timer now) → left ≡ timed_out e now;
 }
 
--- and those of `take_silence`
-abbrev pub Silent : End → End → Expired → Type 0
-Silent f left result = record {
-  no : (result ≡ No) ↔ IsTrue f.recovery.is_blind;
-  state : left ≡ record f { recovery = left.recovery; probes = false; overdue = is_sought f };
-  recovery : (highest : ℕ) → IsEnd f.reported highest →
-      left.recovery ≡ after_wait (is_sought f) (numbers_of f.sender) highest f.recovery;
-  begins : (highest : ℕ) → IsEnd f.reported highest → IsFalse f.recovery.is_blind →
-      result ≡ Overdue (is_sought f && begins_by (numbers_of f.sender) highest f.recovery);
-}
-
-abbrev restarted : End → ℤ → End
+abbrev pub restarted : End → ℤ → End
 restarted e now = record e { timer = after_expiry e.bounds now e.timer }
 
 -- ---- the probe is due: the timer has expired (a), and the timeout hasn't passed (b)
@@ -74,10 +65,10 @@ silent_step e left r t true true blind shut was on is = cc
 silent_step e left r t false b blind shut was on is = cc
 
 pub silence_is : (e f left : End) (now : ℤ) (result : Expired) → expiry e.timer now ≡ Some Probe →
-    f ≡ restarted e now → Silent f left result → Expires e left now result
+    f ≡ restarted e now → Silent f result left → Expires e left now result
 silence_is e f left now result is same silent =
     let at = probe_is (has_expired e.timer now) (has_ended e.timer now) is in
-    let of : Silent (restarted e now) left result = subst (λ (x : End). Silent x left result) same silent in
+    let of : Silent (restarted e now) result left = subst (λ (x : End). Silent x result left) same silent in
     record {
       no = silent_no (has_expired e.timer now) (has_ended e.timer now) e.recovery.is_blind result at.0 at.1 of.no;
       unchanged = λ none. cc (at.0, none);
@@ -144,6 +135,13 @@ timeout_is e f left now result is same value state =
       recovery = λ highest end expires ends. cc (at.1, ends);
       state = λ ended. loses;
     }
+
+-- ---- either
+pub expiry_is : (x : Expiry) (e f left : End) (now : ℤ) (result : Expired) → expiry e.timer now ≡ Some x →
+    f ≡ restarted e now → Takes x f result left → Expires e left now result
+expiry_is Probe e f left now result is same takes = silence_is e f left now result is same takes
+expiry_is Timeout e f left now result is same takes =
+    timeout_is e f left now result is same takes.value takes.state
 
 -- ---- the timer hasn't ended
 none_is : (a b : Bool) → (if a then (if b then Some Timeout else Some Probe) else None) ≡ None → a ≡ false

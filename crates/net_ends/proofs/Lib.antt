@@ -2,6 +2,7 @@ pub mod Choices
 pub mod Ends
 pub mod Expiries
 pub mod Found
+pub mod Heads
 pub mod Loops
 pub mod PairLaws
 pub mod PathLaws

@@ -6,7 +6,7 @@ use Rattle.net_tcp.specs.declared.retransmission_timer.Expiry.{Expiry}
 use Rattle.net_tcp.specs.declared.retransmission_timer.Expiry.TheVariants.{Probe, Timeout}
 use Rattle.std.proofs.lemmas.Bool.Decides.{nat_tests}
 use Rattle.net_receiver.specs.FiniteSender.{accepts, sender_after_command, Marks, Acknowledges}
-use Rattle.net_recovery.specs.declared.loss_recovery.LossRecovery.{LossRecovery}
+use Rattle.net_recovery.specs.LossRecovery.{Recovery as LossRecovery}
 use Rattle.net_tcp.specs.Retransmission.{after_sending, after_acknowledged}
 use Rattle.net_tcp.specs.Windows.{after_update}
 use Rattle.net_assembler.specs.Positions.{Positions, contains}

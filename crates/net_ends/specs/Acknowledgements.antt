@@ -26,12 +26,13 @@ use Rattle.net_recovery.specs.LossRecovery.{after_answer, after_report, after_si
 use Rattle.net_recovery.specs.LossRecovery.{found, begun, after_copies, after_probe}
 use Rattle.net_recovery.specs.LossRecovery.{after_sending, forgotten}
 use Rattle.net_recovery.specs.declared.loss_recovery.Answer.{Answer}
-use Rattle.net_recovery.specs.declared.loss_recovery.LossRecovery.{LossRecovery}
+use Rattle.net_recovery.specs.LossRecovery.{Recovery as LossRecovery}
 use Rattle.net_tcp.specs.Retransmission.{has_ended}
 use Rattle.net_ends.specs.declared.sending_end.Expired.{Expired}
 use Rattle.net_ends.specs.declared.sending_end.Expired.TheVariants.{No, Overdue, Probe, Lost}
 use Rattle.net_receiver.specs.FiniteSender.{FiniteSenderState, first_number}
-use Rattle.net_ends.specs.Ends.{first, End, is_shut, is_overdue, has_dropped}
+use Rattle.net_ends.specs.Rules.{seeks, nothing_lost}
+use Rattle.net_ends.specs.Ends.{known, End, is_overdue, has_dropped}
 
 -- ---- blocks
 -- it begins above the first position that isn't reported, and has positions, which were sent and end less than 2 ^ 32
@@ -125,7 +126,7 @@ Recovers n size at unsent s r ack bs repeats says left begins =
 -- ---- silence
 -- what is overdue is sought, where the timer's probe is due: the peer reports, and its window isn't shut
 abbrev pub is_sought : End → Bool
-is_sought e = not e.recovery.is_blind && not (is_shut e)
+is_sought e = seeks (known e)
 
 -- where nothing was reported for two round trips
 abbrev pub after_wait : Bool → SentNumbers → ℕ → LossRecovery → LossRecovery
@@ -136,7 +137,7 @@ begins_by at highest r = not (is_active r at.first_unacknowledged) && nat_lt at.
 
 -- the peer's window is shut, or nothing is in flight
 abbrev pub loses_nothing : End → Bool
-loses_nothing e = is_shut e || nat_eq (e.sender.sent - first e) 0
+loses_nothing e = nothing_lost (known e)
 
 abbrev pub expiry_of : End → ℤ → ℕ → Expired
 expiry_of e now highest =

@@ -1,6 +1,7 @@
 -- What a stream that ends has sent, without a clock: a sender, what was reported of it, and its recovery.
 --     new_buffer capacity first      one to which nothing was written
---     buffer_of s p      that of a sender and the other parts
+--     board_of b runs      what a head and runs say was reported
+--     buffer_of s b runs      that of a sender, a head and runs
 --     is_repeat kind, is_window_probe sending, is_tail_probe sending      of what is passed
 --     ack_of s at from to, blocks_of at from to      up to where a range acknowledges, and the block that it is else
 --     Takes n size b ack bs repeats it left      what an acknowledgement says and leaves
@@ -11,11 +12,10 @@ use Rattle.net_receiver.specs.declared.sent_numbers.SentNumbers.{SentNumbers}
 use Rattle.net_receiver.specs.FiniteSender.{FiniteSenderState, fresh_finite_sender, numbers_end}
 use Rattle.net_receiver.specs.FiniteSender.{sender_after_command, Marks, Acknowledges, first_number}
 use Rattle.net_receiver.specs.Scoreboards.{reported_by as reported_of}
-use Rattle.net_recovery.specs.LossRecovery.{new_recovery}
-use Rattle.net_recovery.specs.declared.loss_recovery.LossRecovery.{LossRecovery}
+use Rattle.net_recovery.specs.LossRecovery.{new_recovery, recovery_of, Recovery}
 use Rattle.net_ends.specs.Ends.{kept}
 use Rattle.net_ends.specs.Acknowledgements.{after_segment, numbers_of, unsent_of, reported_by, Recovers}
-use Rattle.net_ends.specs.declared.send_buffer.BufferParts.{BufferParts}
+use Rattle.net_ends.specs.declared.send_buffer.BufferHead.{BufferHead}
 use Rattle.net_ends.specs.declared.send_buffer.AckKind.{AckKind}
 use Rattle.net_ends.specs.declared.send_buffer.AckKind.TheVariants.{Repeat, Other}
 use Rattle.net_ends.specs.declared.send_buffer.TakenAck.{TakenAck}
@@ -25,7 +25,7 @@ use Rattle.net_ends.specs.declared.send_buffer.Sending.TheVariants.{Segment, Tai
 pub record Buffer : Type 0 where
   pub sender : FiniteSenderState
   pub reported : Positions
-  pub recovery : LossRecovery
+  pub recovery : Recovery
 
 -- one to which nothing was written, over so many bytes of storage
 abbrev pub new_buffer : ℕ → ℕ → Buffer
@@ -35,12 +35,16 @@ new_buffer capacity first = record {
   recovery = new_recovery;
 }
 
--- of a sender and the other parts
-abbrev pub buffer_of : {n : ℕ} → FiniteSenderState → BufferParts n → Buffer
-buffer_of s p = record {
+-- what a head and runs say was reported
+abbrev pub board_of : BufferHead → List (ℕ × ℕ) → Positions
+board_of b runs = reported_of b.scoreboard runs
+
+-- of a sender and a head
+abbrev pub buffer_of : FiniteSenderState → BufferHead → List (ℕ × ℕ) → Buffer
+buffer_of s b runs = record {
   sender = s;
-  reported = reported_of p.scoreboard p.runs;
-  recovery = p.recovery;
+  reported = board_of b runs;
+  recovery = recovery_of b.recovery;
 }
 
 -- ---- what is passed

@@ -5,6 +5,7 @@
 --     is_acceptable e ack      whether a segment may acknowledge that (RFC 5961)
 --     timer_after, peer_after, greatest_after, heard      what an acknowledgement leaves
 --     kept s ack sent      what counts as reported then
+--     known e      what the rules of numbers know of it (Rules)
 --     is_shut e, open_to e, limit e      whether a probe may be sent; the end of what the window has room for, and of
 --         what may be sent
 --     asks e      whether the next segment is a probe
@@ -31,9 +32,8 @@ use Rattle.std.specs.Int.{from_bool}
 use Rattle.std.specs.FinSet as set
 use Rattle.net_assembler.specs.Positions.{Positions, contains, with_range, nothing}
 use Rattle.net_recovery.specs.LossRecovery.{begun as begun_recovery, forgotten, new_recovery}
-use Rattle.net_recovery.specs.LossRecovery.{next_segment as recovery_segment, next_range, in_flight, resumed, gone_on}
-use Rattle.net_recovery.specs.LossRecovery.{next_probe}
-use Rattle.net_receiver.specs.Scoreboards.{IsEnd, IsHole}
+use Rattle.net_ends.specs.Rules.{Known, queued_of, renewed_by, window_shut, asks_window, room_to, most_to, in_hurry, nagle_waits, enough}
+use Rattle.net_ends.specs.Rules.{worth_sending, due, HolesOf, next_of, due_part, ProbedOf, probe_part, is_probing}
 use Rattle.net_tcp.specs.Estimate.{Estimate}
 use Rattle.net_tcp.specs.Retransmission.{after_acknowledged, with_sample, after_expiry, after_sending, started}
 use Rattle.net_tcp.specs.Retransmission.{after_report, has_expired, has_ended, new_timer, stopped}
@@ -41,8 +41,8 @@ use Rattle.net_tcp.specs.Windows.{after_update, replaces, window_from, no_window
 use Rattle.net_tcp.specs.declared.peer_window.PeerWindow.{PeerWindow}
 use Rattle.net_tcp.specs.declared.retransmission.TimeoutBounds.{TimeoutBounds}
 use Rattle.net_tcp.specs.declared.retransmission_timer.TimedSegment.{TimedSegment}
-use Rattle.net_tcp.specs.declared.retransmission_timer.RetransmissionTimer.{RetransmissionTimer}
-use Rattle.net_recovery.specs.declared.loss_recovery.LossRecovery.{LossRecovery}
+use Rattle.net_tcp.specs.Retransmission.{Timer as RetransmissionTimer}
+use Rattle.net_recovery.specs.LossRecovery.{Recovery as LossRecovery}
 use Rattle.net_ends.specs.declared.sending_end.Outgoing.{Outgoing}
 use Rattle.net_ends.specs.declared.sending_end.Acknowledged.{Acknowledged}
 use Rattle.net_ends.specs.declared.sending_end.Acknowledged.TheVariants.{Refused, Old, Taken}
@@ -99,8 +99,7 @@ end e = numbers_end e.sender
 -- ---- a peer
 -- the timer as it was at first, but that it runs if something is in flight
 abbrev pub renewed : End → Bool → ℤ → RetransmissionTimer
-renewed e reports now = if nat_lt (first e) e.sender.sent
-    then started now (new_timer e.first_timeout reports) else new_timer e.first_timeout reports
+renewed e reports now = renewed_by (queued_of e.sender).numbers e.first_timeout reports now
 
 -- what it knows of one whose SYN announced a window, and whether it reports blocks
 abbrev pub opened : End → ℕ → ℕ → ℕ → ℕ → Bool → ℤ → End
@@ -198,69 +197,75 @@ round_trip None = None
 round_trip (Some e) = Some (e.srtt_8 / 8)
 
 -- ---- what is sent
+-- what the rules know of an end
+abbrev pub known : End → Known
+known e = record {
+  queued = queued_of e.sender;
+  reported = e.reported;
+  recovery = e.recovery;
+  peer = e.peer;
+  greatest = e.greatest;
+  size = e.size;
+  nagle = e.nagle;
+  probes = e.probes;
+  overdue = e.overdue;
+}
+
 abbrev pub is_shut : End → Bool
-is_shut e = nat_le e.peer.edge (first e) && nat_lt (first e) (end e)
+is_shut e = window_shut (known e)
 
 abbrev pub asks : End → Bool
-asks e = e.probes && is_shut e
+asks e = asks_window (known e)
 
 -- the end of what the peer's window has room for
 abbrev pub open_to : End → ℕ
-open_to e = min e.peer.edge (end e)
+open_to e = room_to (known e)
 
 -- one number of a shut window, if the timer has ended; else what the peer's window has room for
 abbrev pub limit : End → ℕ
-limit e = if asks e then first e + 1 else open_to e
+limit e = most_to (known e)
 
 -- the timer asks for a segment: a timeout has passed, or no answer has come in time, and nothing was sent since then
 abbrev pub hurries : End → Bool
-hurries e = e.probes || e.overdue
+hurries e = in_hurry (known e)
 
 -- by Nagle's rule less than a whole segment waits while something is in flight, unless the stream is closed
 abbrev pub delays : End → Bool
-delays e = e.nagle && nat_lt (first e) e.sender.sent && not (nat_eq e.sender.closed 1)
+delays e = nagle_waits (known e)
 
 -- a range is all that is left, or half of the greatest window
 abbrev pub is_enough : End → ℕ → ℕ → Bool
-is_enough e from to = nat_le (end e) to || nat_le e.greatest (2 * (to - from))
+is_enough e from to = enough (known e) from to
 
 -- it is worth a segment: a whole one, or enough, unless that has to wait
 abbrev pub is_worth : End → ℕ → ℕ → Bool
-is_worth e from to = nat_le e.size (to - from) || (is_enough e from to && not (delays e))
+is_worth e from to = worth_sending (known e) from to
 
 -- nothing is held back but what was never sent and isn't worth a segment
 abbrev pub is_due : End → ℕ → ℕ → Bool
-is_due e from to = hurries e || nat_lt from e.sender.sent || is_worth e from to
+is_due e from to = due (known e) from to
 
 -- the holes in what was reported that the recovery looks at
-pub record AreHoles (e : End) (limit : ℕ) (lost others : Option (ℕ × ℕ)) : Type 0 where
-  pub first_hole : IsHole e.reported (resumed e.recovery (first e)) (min (min e.recovery.turn e.recovery.lost) limit)
-      lost
-  pub other_hole : IsHole e.reported (gone_on e.recovery (first e)) (min e.recovery.lost limit) others
+abbrev pub AreHoles : End → ℕ → Option (ℕ × ℕ) → Option (ℕ × ℕ) → Type 0
+AreHoles e limit lost others = HolesOf (known e) limit lost others
 
 -- what the recovery sends next, and that unless it is held back
 abbrev pub found : End → ℕ → ℕ → Option (ℕ × ℕ) → Option (ℕ × ℕ) → Option (ℕ × ℕ)
-found e limit window lost others =
-    recovery_segment (first e) (in_flight e.recovery (first e) e.sender.sent e.reported) window (max 1 e.size)
-    (next_range e.recovery (first e) e.sender.sent limit lost others)
+found e limit window lost others = next_of (known e) limit window lost others
 
 abbrev pub due_of : End → Option (ℕ × ℕ) → Option (ℕ × ℕ)
-due_of e None = None
-due_of e (Some r) = if is_due e r.0 r.1 then Some r else None
+due_of e r = due_part (known e) r
 
 -- what a probe for an answer sends, by the end of what was reported and the first hole in it
-pub record IsProbed (e : End) (limit highest : ℕ) (hole : Option (ℕ × ℕ)) : Type 0 where
-  pub top : IsEnd e.reported highest
-  pub first_hole : IsHole e.reported (first e) (min e.sender.sent limit) hole
+abbrev pub IsProbed : End → ℕ → ℕ → Option (ℕ × ℕ) → Type 0
+IsProbed e limit highest hole = ProbedOf (known e) limit highest hole
 
 abbrev pub probe_of : End → ℕ → ℕ → Option (ℕ × ℕ) → Option (ℕ × ℕ)
-probe_of e limit highest hole =
-    next_probe e.recovery (max 1 e.size) (first e) e.sender.sent limit highest hole
+probe_of e limit highest hole = probe_part (known e) limit highest hole
 
 -- the next segment is such a probe: no answer came, the window isn't asked for, and nothing else may be sent
 abbrev pub is_probe : End → ℕ → Option (ℕ × ℕ) → Option (ℕ × ℕ) → Bool
-is_probe e window lost others =
-    not (asks e) && (e.overdue && is_none (due_of e (found e (open_to e) window lost others)))
+is_probe e window lost others = is_probing (known e) window lost others
 
 abbrev pub range_of : Option Outgoing → Option (ℕ × ℕ)
 range_of None = None

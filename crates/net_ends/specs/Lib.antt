@@ -5,3 +5,6 @@ pub mod Pair
 pub mod Parts
 pub mod Path
 pub mod Receiving
+pub mod ReceivingRules
+pub mod Rules
+pub mod Calls

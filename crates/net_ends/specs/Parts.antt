@@ -1,24 +1,34 @@
--- What a sender and the other parts of a sending end represent.
-use Rattle.std.specs.Prelude.{ℕ}
-use Rattle.net_receiver.specs.FiniteSender.{FiniteSenderState}
-use Rattle.net_receiver.specs.Scoreboards.{reported_by}
+-- What a sender and the head of a sending end represent.
+--     end_of s h runs first_timeout bounds      an end
+--     marked s said      the sender after what is said of a segment
+use Rattle.std.specs.Prelude.{ℕ, List, max, not, nat_eq, Option, Some, None}
+use Rattle.net_receiver.specs.FiniteSender.{FiniteSenderState, sender_after_command, Marks}
+use Rattle.net_recovery.specs.LossRecovery.{recovery_of}
+use Rattle.net_tcp.specs.Retransmission.{timer_of}
+use Rattle.net_tcp.specs.declared.retransmission.TimeoutBounds.{TimeoutBounds}
+use Rattle.net_ends.specs.Buffers.{board_of}
 use Rattle.net_ends.specs.Ends.{End}
-use Rattle.net_ends.specs.declared.sending_end.SendingParts.{SendingParts}
+use Rattle.net_ends.specs.declared.sending_end.SendingHead.{SendingHead}
+use Rattle.net_ends.specs.declared.sending_end.Outgoing.{Outgoing}
 
-abbrev pub end_of_parts : {n : ℕ} → FiniteSenderState → SendingParts n → End
-end_of_parts s p = record {
+abbrev pub end_of : FiniteSenderState → SendingHead → List (ℕ × ℕ) → ℕ → TimeoutBounds → End
+end_of s h runs first_timeout bounds = record {
   sender = s;
-  reported = reported_by p.buffer.scoreboard p.buffer.runs;
-  recovery = p.buffer.recovery;
-  timer = p.timer;
-  first_timeout = p.first_timeout;
-  bounds = p.bounds;
-  peer = p.peer_window;
-  greatest = p.greatest_window;
-  last = p.last_window;
-  size = p.segment_size;
-  is_open = p.is_open;
-  nagle = p.nagle;
-  probes = p.is_window_probe_due;
-  overdue = p.is_overdue;
+  reported = board_of h.buffer runs;
+  recovery = recovery_of h.buffer.recovery;
+  timer = timer_of h.timer;
+  first_timeout = first_timeout;
+  bounds = bounds;
+  peer = h.peer_window;
+  greatest = h.greatest_window;
+  last = h.last_window;
+  size = max h.segment_size 1;
+  is_open = not (nat_eq h.is_open 0);
+  nagle = nat_eq h.no_delay 0;
+  probes = not (nat_eq h.is_window_probe_due 0);
+  overdue = not (nat_eq h.is_overdue 0);
 }
+
+abbrev pub marked : FiniteSenderState → Option Outgoing → FiniteSenderState
+marked s None = s
+marked s (Some it) = sender_after_command s (Marks it.end)

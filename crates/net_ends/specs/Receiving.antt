@@ -87,12 +87,15 @@ abbrev pub listed : Receiving → List (ℕ × ℕ)
 listed e = newest_runs 4 (domain e.receiver.receiver.held) (e.newest ∷ e.recent)
 
 -- an end in order lets go of what was held beyond it
-abbrev pub is_reported : FiniteState → ℕ × ℕ → Bool
-is_reported s part = nat_le part.1 (acknowledged s) || not (is_complete s)
+abbrev pub is_reported : ℕ → Bool → ℕ × ℕ → Bool
+is_reported next complete part = nat_le part.1 next || not complete
+
+abbrev pub part_reported : ℕ → Bool → Option (ℕ × ℕ) → List (ℕ × ℕ)
+part_reported next complete None = []
+part_reported next complete (Some part) = if is_reported next complete part then part ∷ [] else []
 
 abbrev pub reported_of : FiniteState → Option (ℕ × ℕ) → List (ℕ × ℕ)
-reported_of s None = []
-reported_of s (Some part) = if is_reported s part then part ∷ [] else []
+reported_of s d = part_reported (acknowledged s) (is_complete s) d
 
 abbrev pub reported : Receiving → List (ℕ × ℕ)
 reported e = reported_of e.receiver e.duplicate

@@ -11,9 +11,12 @@ ghost use Rattle.net_receiver.specs.Finite.{no_end, acknowledged, is_complete, f
 ghost use Rattle.net_ends.specs.Receiving.{new_receiving, opened, opening_field, free_end, is_worth, field_of, promise};
 ghost use Rattle.net_ends.specs.Receiving.{listed, blocks_of, arrival_result, after_event, Arrived, Answered};
 ghost use Rattle.net_ends.specs.Receiving.{Announced, Acknowledged, Took, after_arrival, adds};
-ghost use Rattle.net_ends.specs.Receiving.{reported, is_reported, WaitsAfter};
+ghost use Rattle.net_ends.specs.Receiving.{reported, part_reported, WaitsAfter};
+ghost use Rattle.net_ends.specs.ReceivingRules.{room_of, waiting, worth_at, field_at, promise_at};
+ghost use Rattle.std.specs.Option.{option_or};
+ghost use Rattle.std.specs.Prelude.{[], ◌∷◌};
 
-use net_receiver::{FiniteError, FiniteReceiverOver, KeptBytes};
+use net_receiver::{FiniteError, FiniteReceiverOver, HeldRun, KeptBytes};
 use net_ring::{ManagedSlice, Storage};
 use net_tcp::{AdvertisedWindow, Arrival, Segment};
 use std::marker::Model;
@@ -30,6 +33,252 @@ pub struct Acknowledgement {
     /// What came twice since the last one, if anything did (RFC 2883), and then the newest runs that were kept beyond
     /// `next`, the newest first.
     pub blocks: [Option<(u64, u64)>; 4],
+}
+
+/// What the rules of a receiving end know of its receiver: numbers.
+#[derive(Copy, Clone, Debug, PartialEq, Eq)]
+pub struct Room {
+    /// The number that an acknowledgement names.
+    pub next: u64,
+    /// The end of the free room, or the last position if that doesn't fit 64 bits.
+    pub end: u64,
+    /// How many bytes the storage has.
+    pub capacity: u64,
+    /// Whether all bytes and the end have arrived.
+    pub is_complete: bool,
+}
+
+/// All of a receiving end but its receiver: what it announced, when it acknowledges, and what came twice. Its calls are
+/// given the receiver's numbers; who holds both has the receiver take what arrives.
+///
+/// It is numbers alone, so that C has it as it is. One of zeros is new, of a stream that begins at position 0, with
+/// segments of no bytes.
+#[repr(C)]
+#[derive(Debug, Clone, Copy)]
+pub struct ReceivingHead {
+    /// What was announced.
+    pub advertised: AdvertisedWindow,
+    /// The position of the newest segment.
+    pub newest: u64,
+    /// The starts of the runs that were listed last.
+    pub recent: [u64; 4],
+    /// What came twice, and wasn't reported yet.
+    pub duplicate: HeldRun,
+    /// Not 0 if anything came twice, and wasn't reported yet.
+    pub has_duplicate: u32,
+    /// The most bytes of a segment.
+    pub segment_size: u16,
+    /// The scale of the windows.
+    pub scale: u8,
+    /// How many segments wait for an acknowledgement, 2 at most: it is due if as many do.
+    pub unanswered: u8,
+}
+
+impl ReceivingHead {
+    /// Returns the rules of a stream that begins at position `first`, of which nothing was announced.
+    pub const fn new(first: u64, segment_size: u16) -> Self
+        ensures { result ≡ record {
+          advertised = record { edge = first };
+          newest = first;
+          recent = 0 ∷ 0 ∷ 0 ∷ 0 ∷ [];
+          duplicate = (0, 0);
+          has_duplicate = 0;
+          segment_size = segment_size;
+          scale = 0;
+          unanswered = 0;
+        } }
+    {
+        ReceivingHead {
+            advertised: AdvertisedWindow::new(first),
+            newest: first,
+            recent: [0; 4],
+            duplicate: HeldRun { start: 0, end: 0 },
+            has_duplicate: 0,
+            segment_size,
+            scale: 0,
+            unanswered: 0,
+        }
+    }
+
+    /// Begins again with a stream that begins at position `first`, as `ReceivingEndOver::open` says. `room` is the
+    /// receiver's then.
+    pub fn open(&mut self, room: Room, first: u64, scale: u8) -> u16
+        ensures window { result ≡ field_for 0 (room.end - room.next) }
+        ensures state { self.new ≡ record {
+          advertised = record { edge = max first (announced room.next 0 result) };
+          newest = first;
+          recent = 0 ∷ 0 ∷ 0 ∷ 0 ∷ [];
+          duplicate = (0, 0);
+          has_duplicate = 0;
+          segment_size = self.old.segment_size;
+          scale = scale;
+          unanswered = 0;
+        } }
+    {
+        *self = ReceivingHead::new(first, self.segment_size);
+        self.scale = scale;
+        self.advertised.announce(0, room.next, room.end)
+    }
+
+    /// Takes notice of a segment at `pos`, which is the last one or not: what of it came before, how many runs were held
+    /// before it, and what the receiver said of it.
+    pub fn take(
+        &mut self,
+        pos: u64,
+        is_last: bool,
+        part: Option<(u64, u64)>,
+        held: usize,
+        kept: Result<KeptBytes, FiniteError>,
+    )
+        ensures part { waiting self.new ≡ option_or part (waiting self.old) }
+        ensures rest { self.new ≡ record self.old {
+          newest = pos;
+          duplicate = self.new.duplicate;
+          has_duplicate = self.new.has_duplicate;
+          unanswered = if nat_eq held 0 && not is_last && adds kept
+              then min (self.old.unanswered + 1) 2 else 2;
+        } }
+    {
+        if let Some((start, end)) = part {
+            self.duplicate = HeldRun { start, end };
+            self.has_duplicate = 1;
+        }
+        self.newest = pos;
+        self.wait(is_next(held, is_last, kept));
+    }
+
+    /// Counts a segment that waits for an acknowledgement, if it `is_next`, or else has one sent at once.
+    fn wait(&mut self, is_next: bool)
+        ensures { self.new ≡ record self.old {
+          unanswered = if is_next then min (self.old.unanswered + 1) 2 else 2;
+        } }
+    {
+        self.unanswered = if is_next {
+            self.unanswered.saturating_add(1).min(2)
+        } else {
+            2
+        };
+    }
+
+    /// Has an acknowledgement sent at once.
+    pub fn answer(&mut self)
+        ensures { self.new ≡ record self.old { unanswered = 2 } }
+    {
+        self.unanswered = 2;
+    }
+
+    /// Returns whether an acknowledgement is to be sent at once.
+    pub fn is_due(&self) -> bool
+        ensures { result ≡ nat_le 2 self.now.unanswered }
+    {
+        self.unanswered >= 2
+    }
+
+    /// Returns whether an acknowledgement is to be sent before one waits, as `ReceivingEndOver::is_wanted` says.
+    ///
+    /// # Requires
+    ///
+    /// The room ends at or beyond its number.
+    pub fn is_wanted(&self, room: Room) -> bool
+        requires { room.next ≤ room.end }
+        ensures { result ≡ (nat_lt 0 self.now.unanswered
+            || (not room.is_complete && worth_at self.now room)) }
+    {
+        self.unanswered > 0 || self.is_update_due(room)
+    }
+
+    /// Returns whether an update of the window is worth a segment.
+    fn is_update_due(&self, room: Room) -> bool
+        requires { room.next ≤ room.end }
+        ensures { result ≡ (not room.is_complete && worth_at self.now room) }
+    {
+        !room.is_complete
+            && self.advertised.is_update_due(
+                self.scale,
+                room.next,
+                room.end,
+                room.capacity,
+                self.segment_size,
+            )
+    }
+
+    /// Returns what a segment with bytes of its own tells, as `ReceivingEndOver::announce` says.
+    pub fn announce(&mut self, room: Room) -> (u64, u16)
+        ensures value { result ≡ (room.next, field_at self.old room) }
+        ensures state { self.new ≡ record self.old {
+          advertised = record { edge = max self.old.advertised.edge (promise_at self.old room) };
+          unanswered = if nat_lt self.old.unanswered 2 then 0 else self.old.unanswered;
+        } }
+    {
+        self.answer_one();
+        self.promise(room)
+    }
+
+    /// Takes notice that what waits for an acknowledgement has it, unless one is due.
+    fn answer_one(&mut self)
+        ensures { self.new ≡ record self.old {
+          unanswered = if nat_lt self.old.unanswered 2 then 0 else self.old.unanswered;
+        } }
+    {
+        if self.unanswered < 2 {
+            self.unanswered = 0;
+        }
+    }
+
+    /// Returns the number and the window of a segment without bytes, and takes notice that it tells them.
+    pub fn acknowledge(&mut self, room: Room) -> (u64, u16)
+        ensures value { result ≡ (room.next, field_at self.old room) }
+        ensures state { self.new ≡ record self.old {
+          advertised = record { edge = max self.old.advertised.edge (promise_at self.old room) };
+          unanswered = 0;
+        } }
+    {
+        self.unanswered = 0;
+        self.promise(room)
+    }
+
+    /// Returns the number and the window to announce, and promises that.
+    fn promise(&mut self, room: Room) -> (u64, u16)
+        ensures value { result ≡ (room.next, field_at self.old room) }
+        ensures state { self.new ≡ record self.old {
+          advertised = record { edge = max self.old.advertised.edge (promise_at self.old room) };
+        } }
+    {
+        let window = self.advertised.announce_in_steps(
+            self.scale,
+            room.next,
+            room.end,
+            room.capacity,
+            self.segment_size,
+        );
+        (room.next, window)
+    }
+
+    /// Takes what came twice, if it is to be reported: an end in order lets go of what was held beyond it.
+    pub fn take_duplicate(&mut self, next: u64, is_complete: bool) -> Option<(u64, u64)>
+        ensures value { option_to_list result ≡ part_reported next is_complete (waiting self.old) }
+        ensures state { self.new ≡ record self.old { duplicate = (0, 0); has_duplicate = 0 } }
+    {
+        let part = self.reported(next, is_complete);
+        self.duplicate = HeldRun { start: 0, end: 0 };
+        self.has_duplicate = 0;
+        part
+    }
+
+    /// Returns what came twice, if it is to be reported.
+    fn reported(&self, next: u64, is_complete: bool) -> Option<(u64, u64)>
+        ensures { option_to_list result ≡ part_reported next is_complete (waiting self.now) }
+    {
+        if self.has_duplicate == 0 {
+            return None;
+        }
+        let part = self.duplicate;
+        if part.end <= next || !is_complete {
+            Some((part.start, part.end))
+        } else {
+            None
+        }
+    }
 }
 
 /// What receives a stream that ends, over storage that is lent or owned.
@@ -56,37 +305,20 @@ pub type ReceivingEnd<'a, const N: usize> = ReceivingEndOver<ManagedSlice<'a, u8
 #[derive(Drop)]
 pub struct ReceivingEndOver<S: Storage<u8>, const N: usize> {
     receiver: FiniteReceiverOver<S, N>,
-    advertised: AdvertisedWindow,
-    scale: u8,
-    segment_size: u16,
-    // The position of the newest segment, and the starts of the runs that were listed last.
-    newest: u64,
-    recent: [u64; 4],
-    // What came twice, and wasn't reported yet.
-    duplicate: Option<(u64, u64)>,
-    // How many segments wait for an acknowledgement, at most 2: it is sent for each second one.
-    unanswered: u8,
+    head: ReceivingHead,
 }
 
 impl<S: Storage<u8>, const N: usize> Model for ReceivingEndOver<S, N> {
     ghost use Rattle.std.specs.Coded.{codes};
     ghost use Rattle.net_receiver.specs.Finite.{finite_code};
     ghost use Rattle.net_ends.specs.Receiving.{Receiving};
+    ghost use Rattle.net_ends.specs.ReceivingRules.{receiving_of};
 
     ghost Value = { Receiving };
 
     ghost coded = { Prim.hlevel (codes, finite_code) };
 
-    ghost view = { λ s. record {
-      receiver = s.receiver;
-      edge = s.advertised.edge;
-      scale = s.scale;
-      size = s.segment_size;
-      newest = s.newest;
-      recent = s.recent;
-      duplicate = s.duplicate;
-      unanswered = s.unanswered;
-    } };
+    ghost view = { λ s. receiving_of s.receiver s.head };
 }
 
 impl<S: Storage<u8>, const N: usize> ReceivingEndOver<S, N> {
@@ -109,13 +341,7 @@ impl<S: Storage<u8>, const N: usize> ReceivingEndOver<S, N> {
         prove!(first < u64::MAX, "no number is left for an end");
         ReceivingEndOver {
             receiver: FiniteReceiverOver::over_at(storage, first),
-            advertised: AdvertisedWindow::new(first),
-            scale: 0,
-            segment_size,
-            newest: first,
-            recent: [0; 4],
-            duplicate: None,
-            unanswered: 0,
+            head: ReceivingHead::new(first, segment_size),
         }
     }
 
@@ -133,25 +359,8 @@ impl<S: Storage<u8>, const N: usize> ReceivingEndOver<S, N> {
     {
         prove!(first < u64::MAX, "no number is left for an end");
         self.receiver.reset_at(first);
-        self.advertised = AdvertisedWindow::new(first);
-        self.scale = scale;
-        self.newest = first;
-        self.recent = [0; 4];
-        self.duplicate = None;
-        self.unanswered = 0;
-        self.announce_whole()
-    }
-
-    /// Announces all the room that is free, without a scale.
-    fn announce_whole(&mut self) -> u16
-        ensures window { result ≡ field_for 0
-            (free_end self.old.receiver - acknowledged self.old.receiver) }
-        ensures state { self.new ≡ record self.old {
-          edge = max self.old.edge (announced (acknowledged self.old.receiver) 0 result);
-        } }
-    {
-        let (next, end) = self.free();
-        self.advertised.announce(0, next, end)
+        let room = self.room();
+        self.head.open(room, first, scale)
     }
 
     /// Returns what to do with a segment, as `net_tcp::classify` says, in the window that was announced. Its acknowledgement
@@ -163,8 +372,11 @@ impl<S: Storage<u8>, const N: usize> ReceivingEndOver<S, N> {
             (acknowledged self.now.receiver) (self.now.edge - acknowledged self.now.receiver)
             self.now.receiver.receiver.capacity segment result }
     {
-        self.advertised
-            .classify(self.receiver.acknowledged(), self.capacity(), segment)
+        self.head.advertised.classify(
+            self.receiver.acknowledged(),
+            self.receiver.receiver().capacity() as u64,
+            segment,
+        )
     }
 
     /// Takes the bytes of a segment, and the end if it `is_last`. A segment out of order, one with the end, and one
@@ -199,41 +411,18 @@ impl<S: Storage<u8>, const N: usize> ReceivingEndOver<S, N> {
         ensures step { self.new ≡ after_arrival N self.old pos bytes.now is_last
             self.new.duplicate }
     {
-        let duplicate = self.duplicate_after(pos, bytes.len());
+        let part = self.receiver.receiver().duplicate_of(pos, bytes.len());
         let held = self.receiver.receiver().held_count();
         let kept = self.receiver.keep(pos, bytes, is_last);
-        self.newest = pos;
-        self.duplicate = duplicate;
-        self.wait(is_next(held, is_last, kept));
+        self.head.take(pos, is_last, part, held, kept);
         kept
-    }
-
-    /// Returns what waits to be reported once a segment of `len` bytes at `pos` has come.
-    fn duplicate_after(&self, pos: u64, len: usize) -> Option<(u64, u64)>
-        ensures { WaitsAfter self.now pos len result }
-    {
-        let part = self.receiver.receiver().duplicate_of(pos, len);
-        part.or(self.duplicate)
-    }
-
-    /// Counts a segment that waits for an acknowledgement, if it `is_next`, or else has one sent at once.
-    fn wait(&mut self, is_next: bool)
-        ensures { self.new ≡ record self.old {
-          unanswered = if is_next then min (self.old.unanswered + 1) 2 else 2;
-        } }
-    {
-        self.unanswered = if is_next {
-            self.unanswered.saturating_add(1).min(2)
-        } else {
-            2
-        };
     }
 
     /// Has an acknowledgement sent at once.
     pub fn answer(&mut self)
         ensures { self.new ≡ after_event N self.old Answered }
     {
-        self.unanswered = 2;
+        self.head.answer();
     }
 
     /// Returns whether an acknowledgement is to be sent at once.
@@ -241,7 +430,7 @@ impl<S: Storage<u8>, const N: usize> ReceivingEndOver<S, N> {
     pub fn is_due(&self) -> bool
         ensures { result ≡ nat_le 2 self.now.unanswered }
     {
-        self.unanswered >= 2
+        self.head.is_due()
     }
 
     /// Returns whether an acknowledgement is to be sent before one waits: something came, or an update of the window
@@ -252,18 +441,7 @@ impl<S: Storage<u8>, const N: usize> ReceivingEndOver<S, N> {
         ensures { result ≡ (nat_lt 0 self.now.unanswered
             || (not (is_complete self.now.receiver) && is_worth self.now)) }
     {
-        self.unanswered > 0 || self.is_update_due()
-    }
-
-    /// Returns whether an update of the window is worth a segment.
-    fn is_update_due(&self) -> bool
-        ensures { result ≡ (not (is_complete self.now.receiver) && is_worth self.now) }
-    {
-        let (next, end) = self.free();
-        !self.receiver.is_complete()
-            && self
-                .advertised
-                .is_update_due(self.scale, next, end, self.capacity(), self.segment_size)
+        self.head.is_wanted(self.room())
     }
 
     /// Returns what a segment with bytes of its own tells, and takes notice that it does: the first number that is
@@ -273,32 +451,8 @@ impl<S: Storage<u8>, const N: usize> ReceivingEndOver<S, N> {
         ensures value { result ≡ (acknowledged self.old.receiver, field_of self.old) }
         ensures step { self.new ≡ after_event N self.old Announced }
     {
-        self.answer_one();
-        self.promise()
-    }
-
-    /// Takes notice that what waits for an acknowledgement has it, unless one is due.
-    fn answer_one(&mut self)
-        ensures { self.new ≡ record self.old {
-          unanswered = if nat_lt self.old.unanswered 2 then 0 else self.old.unanswered;
-        } }
-    {
-        if self.unanswered < 2 {
-            self.unanswered = 0;
-        }
-    }
-
-    /// Returns the number and the window to announce, and promises that.
-    fn promise(&mut self) -> (u64, u16)
-        ensures value { result ≡ (acknowledged self.old.receiver, field_of self.old) }
-        ensures state { self.new ≡ record self.old { edge = max self.old.edge (promise self.old) } }
-    {
-        let (next, end) = self.free();
-        let capacity = self.capacity();
-        let window = self
-            .advertised
-            .announce_in_steps(self.scale, next, end, capacity, self.segment_size);
-        (next, window)
+        let room = self.room();
+        self.head.announce(room)
     }
 
     /// Returns what a segment without bytes tells, and takes notice that it does. What came twice is told once.
@@ -310,26 +464,15 @@ impl<S: Storage<u8>, const N: usize> ReceivingEndOver<S, N> {
         } }
         ensures step { self.new ≡ after_event N self.old Acknowledged }
     {
-        self.unanswered = 0;
-        let (next, window) = self.promise();
-        let blocks = self.blocks();
+        let room = self.room();
+        let (next, window) = self.head.acknowledge(room);
+        let duplicate = self.head.take_duplicate(room.next, room.is_complete);
+        let blocks = in_front(duplicate, self.runs());
         Acknowledgement {
             next,
             window,
             blocks,
         }
-    }
-
-    /// Lists what came twice, and then the newest runs, at most four in all.
-    fn blocks(&mut self) -> [Option<(u64, u64)>; 4]
-        ensures value { result ≡ blocks_of (reported self.old ++ listed self.old) }
-        ensures state { self.new ≡ record self.old {
-          recent = with_starts self.old.recent (listed self.old);
-          duplicate = None;
-        } }
-    {
-        let duplicate = self.take_duplicate();
-        in_front(duplicate, self.runs())
     }
 
     /// Lists the newest runs, at most four.
@@ -342,35 +485,8 @@ impl<S: Storage<u8>, const N: usize> ReceivingEndOver<S, N> {
         let mut runs = self
             .receiver
             .receiver()
-            .newest_runs(self.newest, &mut self.recent);
+            .newest_runs(self.head.newest, &mut self.head.recent);
         [runs.next(), runs.next(), runs.next(), runs.next()]
-    }
-
-    /// Takes what came twice, if it is to be reported.
-    fn take_duplicate(&mut self) -> Option<(u64, u64)>
-        ensures value { option_to_list result ≡ reported self.old }
-        ensures state { self.new ≡ record self.old { duplicate = None } }
-    {
-        let duplicate = self.reported();
-        self.duplicate = None;
-        duplicate
-    }
-
-    /// Returns what came twice, if it is to be reported.
-    fn reported(&self) -> Option<(u64, u64)>
-        ensures { option_to_list result ≡ reported self.now }
-    {
-        match self.duplicate {
-            Some(part) if self.is_reported(part) => Some(part),
-            _ => None,
-        }
-    }
-
-    /// Returns whether a part that came twice is to be reported: an end in order lets go of what was held beyond it.
-    fn is_reported(&self, part: (u64, u64)) -> bool
-        ensures { result ≡ is_reported self.now.receiver part }
-    {
-        part.1 <= self.receiver.acknowledged() || !self.receiver.is_complete()
     }
 
     /// Moves bytes from the head of the queue to the beginning of `into`, and returns how many: as many as are queued
@@ -429,24 +545,17 @@ impl<S: Storage<u8>, const N: usize> ReceivingEndOver<S, N> {
         &self.receiver
     }
 
-    /// Returns the number that an acknowledgement names, and the end of the free room, or the last position if that
-    /// doesn't fit 64 bits.
-    fn free(&self) -> (u64, u64)
-        ensures value { result ≡ (acknowledged self.now.receiver, free_end self.now.receiver) }
-        ensures order { result.0 ≤ result.1 }
+    /// Returns the receiver's numbers.
+    fn room(&self) -> Room
+        ensures value { result ≡ room_of self.now.receiver }
+        ensures order { result.next ≤ result.end }
     {
-        let next = self.receiver.acknowledged();
-        match self.receiver.window_end() {
-            Some(end) => (next, end),
-            None => (next, u64::MAX),
+        Room {
+            next: self.receiver.acknowledged(),
+            end: self.receiver.window_end().unwrap_or(u64::MAX),
+            capacity: self.receiver.receiver().capacity() as u64,
+            is_complete: self.receiver.is_complete(),
         }
-    }
-
-    /// Returns the capacity.
-    fn capacity(&self) -> u64
-        ensures { result ≡ self.now.receiver.receiver.capacity }
-    {
-        self.receiver.receiver().capacity() as u64
     }
 }
 

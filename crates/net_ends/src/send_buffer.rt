@@ -2,39 +2,58 @@
 ghost use Rattle.std.specs.Prelude.{◌≡◌, ◌-◌, ◌+◌, ◌<◌, ◌≤◌, ◌&&◌, ◌==◌, ℕ, Option, Some, IsTrue, IsFalse, min, max};
 ghost use Rattle.std.specs.Prelude.{IfSome, IfNone, is_some, ◌++◌, not, true, false, if◌then◌else◌, length, nat_le};
 ghost use Rattle.net_assembler.specs.Positions.{contains};
-ghost use Rattle.net_recovery.specs.LossRecovery.{is_wrong, taken_back};
+ghost use Rattle.net_recovery.specs.LossRecovery.{is_wrong, taken_back, was_sent_again};
 ghost use Rattle.net_recovery.specs.LossRecovery.{is_active, in_flight, begun, forgotten, next_segment, next_range};
-ghost use Rattle.net_recovery.specs.LossRecovery.{resumed};
+ghost use Rattle.net_recovery.specs.LossRecovery.{resumed, recovery_of};
 ghost use Rattle.net_recovery.specs.LossRecovery.{gone_on, begins_at, next_probe};
 ghost use Rattle.net_receiver.specs.FiniteSender.{sender_after_command, Writes, Closes, Marks, Acknowledges, accepts};
 ghost use Rattle.net_receiver.specs.FiniteSender.{finite_room, first_number, numbers_end};
 ghost use Rattle.net_receiver.specs.Finite.{no_end};
 ghost use Rattle.net_receiver.specs.Scoreboards.{IsEnd, IsHole, IsSoundBoard};
+ghost use Rattle.net_receiver.specs.Scoreboards.{reported_by as reported_to};
+ghost use Rattle.net_assembler.specs.Positions.{with_range, nothing};
+ghost use Rattle.net_recovery.specs.LossRecovery.{new_recovery, no_loss};
+ghost use Rattle.net_receiver.specs.NewHeads.{scoreboard_head};
+ghost use Rattle.std.specs.Prelude.{◌↔◌, List};
 ghost use Rattle.net_assembler.specs.RunLists.{IsCanonical};
 ghost use Rattle.net_ends.specs.Ends.{IsSegment, kept, has_dropped};
-ghost use Rattle.net_ends.specs.Buffers.{new_buffer, buffer_of, marked, remaining, is_repeat, is_window_probe};
-ghost use Rattle.net_ends.specs.Buffers.{is_tail_probe, ack_of, blocks_of, Takes};
+ghost use Rattle.net_ends.specs.Buffers.{new_buffer, buffer_of, board_of, marked, remaining, is_repeat};
+ghost use Rattle.net_ends.specs.Buffers.{is_window_probe, is_tail_probe, ack_of, blocks_of, Takes};
 ghost use Rattle.net_ends.specs.Acknowledgements.{with_block, is_new, after_blocks, reported_by, has_block};
 ghost use Rattle.net_ends.specs.Acknowledgements.{doubted, is_duplicated};
 ghost use Rattle.net_ends.specs.Acknowledgements.{numbers_of, unsent_of, unsent_at, IsLeft, Recovers, begins_by};
 ghost use Rattle.net_ends.specs.Acknowledgements.{after_segment, after_wait};
 
-use crate::stream_sender::StreamSender;
 use net_assembler::Run;
-use net_receiver::{FiniteSender, FiniteSenderOver, Scoreboard, ScoreboardHead, SentNumbers};
-use net_recovery::{Answer, LossRecovery, is_duplicate_block, is_equal_acknowledgement};
-use net_ring::Storage;
+use net_receiver::{FiniteSenderOver, ScoreboardHead, SentNumbers};
+use net_recovery::{
+    Answer, LentScoreboard, LossRecovery, is_duplicate_block, is_equal_acknowledgement,
+};
+use net_ring::{ManagedSlice, Storage};
 use std::marker::Model;
 use std::ops::Range;
 
-/// All that a send buffer knows besides its sender.
+/// What a sender has sent, and what is queued, in numbers.
+#[derive(Copy, Clone, Debug, PartialEq, Eq)]
+pub struct Queued {
+    /// The first number that isn't acknowledged, and the one after the last that was sent.
+    pub numbers: SentNumbers,
+    /// The number after the last byte's, and after the end's once the stream is closed.
+    pub end: u64,
+    /// Whether the stream ends after what was written.
+    pub is_closed: bool,
+}
+
+/// What was reported and what is lost of what a sender has sent: a scoreboard, and a recovery. Its calls
+/// are given the sender's numbers and the scoreboard's runs; who holds both has the sender take what they say.
+///
+/// A head of zeros is new, of a stream that begins at position 0. It is sound if the scoreboard is, with the runs.
+#[repr(C)]
 #[derive(Copy, Clone, Debug)]
-pub struct BufferParts<const N: usize> {
-    /// What the scoreboard knows.
+pub struct BufferHead {
+    /// What was reported, with runs that the caller keeps.
     pub scoreboard: ScoreboardHead,
-    /// The scoreboard's runs.
-    pub runs: [Run; N],
-    /// What the recovery knows.
+    /// What is lost.
     pub recovery: LossRecovery,
 }
 
@@ -71,9 +90,9 @@ pub enum Sending {
 }
 
 /// What a stream that ends has sent, over storage that is lent or owned.
-pub type SendBuffer<'a, const N: usize> = SendBufferOver<FiniteSender<'a>, N>;
+pub type SendBuffer<'a, const N: usize> = SendBufferOver<ManagedSlice<'a, u8>, N>;
 
-/// A [`SendBuffer`] over any sender: that, a scoreboard and a recovery. It knows bytes, what was reported and what
+/// A [`SendBuffer`] over any storage: a sender, a scoreboard and a recovery. It knows bytes, what was reported and what
 /// is lost, and no clock, no window of a peer and no size of a segment: what a stream of QUIC sends, too.
 ///
 /// ```
@@ -107,29 +126,29 @@ pub type SendBuffer<'a, const N: usize> = SendBufferOver<FiniteSender<'a>, N>;
 /// assert!(stream.acknowledge_range(16..20, 8).is_some() && stream.is_done());
 /// ```
 #[derive(Drop)]
-pub struct SendBufferOver<F: StreamSender, const N: usize> {
-    sender: F,
-    scoreboard: Scoreboard<N>,
-    recovery: LossRecovery,
+pub struct SendBufferOver<S: Storage<u8>, const N: usize> {
+    sender: FiniteSenderOver<S>,
+    runs: [Run; N],
+    head: BufferHead,
 }
 
-impl<F: StreamSender, const N: usize> Model for SendBufferOver<F, N> {
+impl<S: Storage<u8>, const N: usize> Model for SendBufferOver<S, N> {
     ghost use Rattle.std.specs.Coded.{codes};
     ghost use Rattle.net_ends.specs.Ends.{positions_code};
-    ghost use Rattle.net_ends.specs.Buffers.{Buffer};
+    ghost use Rattle.std.specs.Prelude.{◌≡◌, length};
+    ghost use Rattle.net_receiver.specs.Scoreboards.{IsSoundBoard};
+    ghost use Rattle.net_ends.specs.Buffers.{Buffer, buffer_of};
 
     ghost Value = { Buffer };
 
     ghost coded = { Prim.hlevel (codes, positions_code) };
 
-    ghost view = { λ b. record {
-      sender = F.state b.sender;
-      reported = b.scoreboard;
-      recovery = b.recovery;
-    } };
+    ghost view = { λ b. buffer_of b.sender b.head b.runs };
+
+    ghost invariant = { λ b. IsSoundBoard b.head.scoreboard b.runs × (length b.runs ≡ N) };
 }
 
-impl<S: Storage<u8>, const N: usize> SendBufferOver<FiniteSenderOver<S>, N> {
+impl<S: Storage<u8>, const N: usize> SendBufferOver<S, N> {
     /// Returns the buffer of a stream that begins at position `first`, to which nothing was written.
     ///
     /// A program in which `N` is 0 does not compile.
@@ -148,8 +167,8 @@ impl<S: Storage<u8>, const N: usize> SendBufferOver<FiniteSenderOver<S>, N> {
         prove!(first < u64::MAX, "no number is left for an end");
         SendBufferOver {
             sender: FiniteSenderOver::over_at(storage, first),
-            scoreboard: Scoreboard::empty_at(first),
-            recovery: LossRecovery::new(),
+            runs: [Run { start: 0, end: 0 }; N],
+            head: BufferHead::new_at(first),
         }
     }
 
@@ -165,8 +184,7 @@ impl<S: Storage<u8>, const N: usize> SendBufferOver<FiniteSenderOver<S>, N> {
     {
         prove!(first < u64::MAX, "no number is left for an end");
         self.sender.reset_at(first);
-        self.scoreboard.reset_at(first);
-        self.recovery = LossRecovery::new();
+        self.head = BufferHead::new_at(first);
     }
 
     /// Returns how many bytes `write` would take.
@@ -216,45 +234,289 @@ impl<S: Storage<u8>, const N: usize> SendBufferOver<FiniteSenderOver<S>, N> {
     }
 }
 
-impl<F: StreamSender, const N: usize> SendBufferOver<F, N> {
-    /// Returns the buffer of a sender and these parts.
-    ///
-    /// # Requires
-    ///
-    /// The scoreboard's head is sound for its runs, as `ScoreboardHead::is_sound` tests.
-    pub fn from_parts(sender: F, parts: BufferParts<N>) -> Self
-        requires { IsSoundBoard parts.scoreboard parts.runs }
-        ensures { result ≡ buffer_of (F.state sender) parts.entry }
+impl BufferHead {
+    /// Returns that nothing was reported of a stream that begins at position `first`, and nothing is lost.
+    pub const fn new_at(first: u64) -> Self
+        ensures sound { (runs : List (ℕ × ℕ)) → IsSoundBoard result.scoreboard runs }
+        ensures reported { (runs : List (ℕ × ℕ)) →
+            board_of result runs ≡ with_range nothing 0 first }
+        ensures recovery { recovery_of result.recovery ≡ new_recovery }
+        ensures numbers { result ≡ record {
+          scoreboard = scoreboard_head first;
+          recovery = no_loss;
+        } }
     {
-        let runs = parts.runs;
-        SendBufferOver {
-            sender,
-            scoreboard: Scoreboard::from_parts(parts.scoreboard, runs),
-            recovery: parts.recovery,
+        BufferHead {
+            scoreboard: ScoreboardHead::new_at(first),
+            recovery: LossRecovery::new(),
         }
     }
 
-    /// Returns the sender and the parts, which represent the buffer.
-    pub fn into_parts(self) -> (F, BufferParts<N>)
-        ensures scoreboard { IsSoundBoard result.1.scoreboard result.1.runs }
-        ensures length { length result.1.runs ≡ N }
-        ensures canonical { IsCanonical result.1.scoreboard.reported }
-        ensures state { buffer_of (F.state result.0) result.1 ≡ self }
+    /// Returns whether the scoreboard is sound with its runs. It looks at each used run.
+    pub fn is_sound(&self, runs: &[Run]) -> bool
+        ensures { IsTrue result ↔ IsSoundBoard self.now.scoreboard runs.now }
     {
-        let SendBufferOver {
-            sender,
-            scoreboard,
-            recovery,
-        } = self;
-        let (scoreboard, runs) = scoreboard.into_parts();
-        let parts = BufferParts {
-            scoreboard,
-            runs,
-            recovery,
-        };
-        (sender, parts)
+        self.scoreboard.is_sound(runs)
     }
 
+    /// Lends the scoreboard.
+    fn board<'a>(&self, runs: &'a [Run]) -> LentScoreboard<'a>
+        requires { IsSoundBoard self.now.scoreboard runs.now }
+        ensures { result ≡ board_of self.now runs.now }
+    {
+        LentScoreboard::new(self.scoreboard, runs)
+    }
+
+    /// Returns whether a position was reported.
+    pub fn contains(&self, runs: &[Run], pos: u64) -> bool
+        requires { IsSoundBoard self.now.scoreboard runs.now }
+        ensures { result ≡ contains (board_of self.now runs.now) pos }
+    {
+        self.scoreboard.contains(runs, pos)
+    }
+
+    /// Takes an acknowledgement of all below `ack` that the sender takes, as `SendBufferOver::acknowledge` says.
+    /// `numbers` are the sender's before that.
+    pub fn acknowledged(
+        &mut self,
+        runs: &mut [Run],
+        numbers: SentNumbers,
+        ack: u64,
+        blocks: &[(u64, u64)],
+        segment_size: usize,
+        kind: AckKind,
+    ) -> TakenAck
+        requires { IsSoundBoard self.old.scoreboard runs.old }
+        ensures sound { IsSoundBoard self.new.scoreboard runs.new }
+        ensures length { length runs.new ≡ length runs.old }
+        ensures reported { board_of self.new runs.new
+            ≡ kept (reported_by (length runs.old) numbers.sent (board_of self.old runs.old) ack blocks.now).0
+            ack numbers.sent }
+        ensures new { result.new ≡ ack - numbers.first_unacknowledged }
+        ensures reports { result.reports
+            ≡ (reported_by (length runs.old) numbers.sent (board_of self.old runs.old) ack blocks.now).1 }
+        ensures recovery { Recovers (length runs.old) segment_size numbers
+            (unsent_at numbers.first_unacknowledged (board_of self.old runs.old) (recovery_of self.old.recovery))
+            (board_of self.old runs.old) (recovery_of self.old.recovery) ack blocks.now (is_repeat kind) result.reports
+            (recovery_of self.new.recovery) result.begins }
+    {
+        let unsent = self.recovery.unsent(numbers, &self.board(runs));
+        self.take(runs, numbers, unsent, ack, blocks, segment_size, kind)
+    }
+
+    /// Takes the blocks of an acknowledgement that the sender has taken, and finds what is lost.
+    fn take(
+        &mut self,
+        runs: &mut [Run],
+        numbers: SentNumbers,
+        unsent: u64,
+        ack: u64,
+        blocks: &[(u64, u64)],
+        segment_size: usize,
+        kind: AckKind,
+    ) -> TakenAck
+        requires { IsSoundBoard self.old.scoreboard runs.old }
+        ensures sound { IsSoundBoard self.new.scoreboard runs.new }
+        ensures length { length runs.new ≡ length runs.old }
+        ensures reported { board_of self.new runs.new
+            ≡ kept (reported_by (length runs.old) numbers.sent (board_of self.old runs.old) ack blocks.now).0
+            ack numbers.sent }
+        ensures new { result.new ≡ ack - numbers.first_unacknowledged }
+        ensures reports { result.reports
+            ≡ (reported_by (length runs.old) numbers.sent (board_of self.old runs.old) ack blocks.now).1 }
+        ensures recovery { Recovers (length runs.old) segment_size numbers unsent
+            (board_of self.old runs.old) (recovery_of self.old.recovery) ack blocks.now (is_repeat kind) result.reports
+            (recovery_of self.new.recovery) result.begins }
+    {
+        let reports = self.report(runs, ack, blocks, numbers.sent);
+        let is_bare = is_repeat(kind) && !has_block(blocks);
+        let answer = Answer {
+            first: numbers.first_unacknowledged,
+            unsent,
+            reports,
+            is_equal: is_equal_acknowledgement(numbers, ack, is_bare, true),
+        };
+        let begins = self.find_losses(runs, numbers, ack, blocks, segment_size, answer);
+        TakenAck {
+            new: ack.saturating_sub(numbers.first_unacknowledged),
+            reports,
+            begins,
+        }
+    }
+
+    /// Reports all below `ack`, and the blocks. Returns whether a block reports what wasn't known.
+    fn report(&mut self, runs: &mut [Run], ack: u64, blocks: &[(u64, u64)], sent: u64) -> bool
+        requires { IsSoundBoard self.old.scoreboard runs.old }
+        ensures sound { IsSoundBoard self.new.scoreboard runs.new }
+        ensures length { length runs.new ≡ length runs.old }
+        ensures rest { self.new.recovery ≡ self.old.recovery }
+        ensures state { board_of self.new runs.new
+            ≡ (reported_by (length runs.old) sent (board_of self.old runs.old) ack blocks.now).0 }
+        ensures value { result
+            ≡ (reported_by (length runs.old) sent (board_of self.old runs.old) ack blocks.now).1 }
+    {
+        self.scoreboard.acknowledge(runs, ack);
+        report_blocks(&mut self.scoreboard, runs, blocks, sent)
+    }
+
+    /// Finds what is lost by an acknowledgement, and returns whether a recovery begins.
+    fn find_losses(
+        &mut self,
+        runs: &[Run],
+        numbers: SentNumbers,
+        ack: u64,
+        blocks: &[(u64, u64)],
+        segment_size: usize,
+        answer: Answer,
+    ) -> bool
+        requires { IsSoundBoard self.old.scoreboard runs.now }
+        ensures sound { IsSoundBoard self.new.scoreboard runs.now }
+        ensures reported { board_of self.new runs.now
+            ≡ kept (board_of self.old runs.now) ack numbers.sent }
+        ensures recovery { IsLeft segment_size ack numbers.sent answer (board_of self.old runs.now)
+            (doubted numbers ack blocks.now (recovery_of self.old.recovery))
+            (recovery_of self.new.recovery) result }
+    {
+        self.doubt(numbers, ack, blocks);
+        let after = SentNumbers {
+            first_unacknowledged: ack,
+            sent: numbers.sent,
+        };
+        find_losses(
+            &mut self.recovery,
+            &mut self.scoreboard,
+            runs,
+            after,
+            segment_size,
+            answer,
+        )
+    }
+
+    /// Tells the recovery, if the first block reports what came twice.
+    pub fn doubt(&mut self, numbers: SentNumbers, ack: u64, blocks: &[(u64, u64)])
+        ensures rest { self.new.scoreboard ≡ self.old.scoreboard }
+        ensures recovery { recovery_of self.new.recovery
+            ≡ doubted numbers ack blocks.now (recovery_of self.old.recovery) }
+    {
+        if is_duplicated(ack, blocks) {
+            let (from, to) = blocks[0];
+            self.recovery.came_twice(numbers, from..to);
+        }
+    }
+
+    /// Returns whether the last recovery was for nothing, and ends it then.
+    pub fn take_back(&mut self, runs: &[Run], numbers: SentNumbers) -> bool
+        requires { IsSoundBoard self.old.scoreboard runs.now }
+        ensures rest { self.new.scoreboard ≡ self.old.scoreboard }
+        ensures value { result ≡ is_wrong (recovery_of self.old.recovery) numbers.first_unacknowledged
+            (board_of self.old runs.now) }
+        ensures state { recovery_of self.new.recovery ≡ taken_back numbers.first_unacknowledged
+            (board_of self.old runs.now) (recovery_of self.old.recovery) }
+    {
+        let board = self.board(runs);
+        self.recovery.take_back(numbers, &board)
+    }
+
+    /// Finds what is overdue, where nothing was reported for two round trips, and returns whether a recovery begins.
+    pub fn find_overdue(&mut self, runs: &[Run], numbers: SentNumbers) -> bool
+        requires { IsSoundBoard self.old.scoreboard runs.now }
+        ensures rest { self.new.scoreboard ≡ self.old.scoreboard }
+        ensures recovery { (highest : ℕ) → IsEnd (board_of self.old runs.now) highest →
+            recovery_of self.new.recovery
+            ≡ after_wait true numbers highest (recovery_of self.old.recovery) }
+        ensures begins { (highest : ℕ) → IsEnd (board_of self.old runs.now) highest →
+            result ≡ begins_by numbers highest (recovery_of self.old.recovery) }
+    {
+        let board = self.board(runs);
+        self.recovery.find_overdue(numbers, &board)
+    }
+
+    /// Returns what to send next below `limit`, as `SendBufferOver::next` says.
+    pub fn next(
+        &self,
+        runs: &[Run],
+        numbers: SentNumbers,
+        limit: u64,
+        congestion_window: u64,
+        segment_size: usize,
+    ) -> Option<(u64, u64)>
+        requires { IsSoundBoard self.now.scoreboard runs.now }
+        ensures next { (lost others : Option (ℕ × ℕ)) → let low = numbers.first_unacknowledged in
+            let r = recovery_of self.now.recovery in
+            IsHole (board_of self.now runs.now) (resumed r low) (min (min r.turn r.lost) limit) lost →
+            IsHole (board_of self.now runs.now) (gone_on r low) (min r.lost limit) others →
+            result ≡ next_segment low (in_flight r low numbers.sent (board_of self.now runs.now))
+            congestion_window (max 1 segment_size) (next_range r low numbers.sent limit lost others) }
+        ensures within { IfSome result (λ r. (r.0 < r.1) × (r.1 ≤ limit)
+            × (r.1 ≤ r.0 + max 1 segment_size)) }
+        ensures begins { let low = numbers.first_unacknowledged in
+            IsFalse (is_active (recovery_of self.now.recovery) low) →
+            low ≡ numbers.sent → low < limit → IsTrue (begins_at low result) }
+        ensures after { numbers.first_unacknowledged ≤ numbers.sent →
+            IfSome result (λ r. numbers.first_unacknowledged ≤ r.0) }
+        ensures once { IfSome result (λ r. (p : ℕ) → r.0 ≤ p → p < r.1 → p < numbers.sent →
+            IsFalse (contains (board_of self.now runs.now) p)
+            × IsFalse (was_sent_again (recovery_of self.now.recovery) numbers.first_unacknowledged p)) }
+        ensures fresh { IsFalse (is_active (recovery_of self.now.recovery) numbers.first_unacknowledged) →
+            IfSome result (λ r. r.0 ≡ numbers.sent) }
+    {
+        self.recovery.next_segment(
+            numbers,
+            &self.board(runs),
+            limit,
+            congestion_window,
+            segment_size,
+        )
+    }
+
+    /// Returns what a probe for an answer sends below `limit`, as `SendBufferOver::next_probe` says.
+    pub fn next_probe(
+        &self,
+        runs: &[Run],
+        numbers: SentNumbers,
+        limit: u64,
+        segment_size: usize,
+    ) -> Option<(u64, u64)>
+        requires { IsSoundBoard self.now.scoreboard runs.now }
+        ensures value { (highest : ℕ) (hole : Option (ℕ × ℕ)) → let low = numbers.first_unacknowledged in
+            IsEnd (board_of self.now runs.now) highest →
+            IsHole (board_of self.now runs.now) low (min numbers.sent limit) hole →
+            result ≡ next_probe (recovery_of self.now.recovery) (max 1 segment_size) low numbers.sent
+            limit highest hole }
+        ensures progress { numbers.first_unacknowledged < min numbers.sent limit →
+            IsFalse (contains (board_of self.now runs.now) numbers.first_unacknowledged) →
+            IsTrue (is_some result) }
+        ensures unreported { IfSome result (λ r. (p : ℕ) → r.0 ≤ p → p < r.1 → p < numbers.sent →
+            IsFalse (contains (board_of self.now runs.now) p)) }
+        ensures within { IfSome result (λ r. (r.0 < r.1) × (r.1 ≤ limit)
+            × (r.1 ≤ r.0 + max 1 segment_size)) }
+        ensures after { numbers.first_unacknowledged ≤ numbers.sent →
+            IfSome result (λ r. numbers.first_unacknowledged ≤ r.0) }
+    {
+        self.recovery
+            .next_probe(numbers, &self.board(runs), limit, segment_size)
+    }
+
+    /// Takes notice that a range is sent, as `SendBufferOver::mark` says. `numbers` are the sender's before that.
+    pub fn sent(&mut self, numbers: SentNumbers, from: u64, to: u64, sending: Sending)
+        ensures rest { self.new.scoreboard ≡ self.old.scoreboard }
+        ensures recovery { recovery_of self.new.recovery
+            ≡ after_segment numbers from to (is_window_probe sending) (is_tail_probe sending)
+            (recovery_of self.old.recovery) }
+    {
+        match sending {
+            Sending::Segment => self.recovery.sent(numbers, from..to),
+            Sending::TailProbe => self.recovery.probed(numbers, from..to),
+            // The peer drops it.
+            Sending::WindowProbe => self.recovery.lose_all(SentNumbers {
+                first_unacknowledged: numbers.first_unacknowledged,
+                sent: numbers.sent.max(to),
+            }),
+        }
+    }
+}
+
+impl<S: Storage<u8>, const N: usize> SendBufferOver<S, N> {
     /// Returns the first number that isn't acknowledged, and the one after the last that was sent.
     #[must_use]
     pub fn numbers(&self) -> SentNumbers
@@ -262,7 +524,7 @@ impl<F: StreamSender, const N: usize> SendBufferOver<F, N> {
         ensures order { result.first_unacknowledged ≤ result.sent }
         ensures written { result.sent ≤ numbers_end self.now.sender }
     {
-        self.sender.numbers()
+        self.sender.sent_numbers()
     }
 
     /// Returns the number after the last byte's, and after the end's once the stream is closed.
@@ -270,7 +532,7 @@ impl<F: StreamSender, const N: usize> SendBufferOver<F, N> {
     pub fn numbers_end(&self) -> u64
         ensures { result ≡ numbers_end self.now.sender }
     {
-        self.sender.end()
+        self.sender.numbers_end()
     }
 
     /// Returns whether the stream ends after what was written.
@@ -278,7 +540,7 @@ impl<F: StreamSender, const N: usize> SendBufferOver<F, N> {
     pub fn is_closed(&self) -> bool
         ensures { result ≡ (self.now.sender.closed == 1) }
     {
-        self.sender.has_end()
+        self.sender.is_closed()
     }
 
     /// Returns whether a position was reported.
@@ -286,7 +548,7 @@ impl<F: StreamSender, const N: usize> SendBufferOver<F, N> {
     pub fn contains(&self, pos: u64) -> bool
         ensures { result ≡ contains self.now.reported pos }
     {
-        self.scoreboard.contains(pos)
+        self.head.contains(&self.runs, pos)
     }
 
     /// Returns whether a recovery lasts.
@@ -294,7 +556,7 @@ impl<F: StreamSender, const N: usize> SendBufferOver<F, N> {
     pub fn is_recovering(&self) -> bool
         ensures { result ≡ is_active self.now.recovery (first_number self.now.sender) }
     {
-        self.recovery.is_active(self.sender.numbers())
+        self.head.recovery.is_active(self.sender.sent_numbers())
     }
 
     /// Returns whether the peer reports nothing.
@@ -302,7 +564,7 @@ impl<F: StreamSender, const N: usize> SendBufferOver<F, N> {
     pub fn is_blind(&self) -> bool
         ensures { result ≡ self.now.recovery.is_blind }
     {
-        self.recovery.is_blind()
+        self.head.recovery.is_blind()
     }
 
     /// Takes notice whether the peer reports what arrives.
@@ -311,7 +573,7 @@ impl<F: StreamSender, const N: usize> SendBufferOver<F, N> {
           recovery = record self.old.recovery { is_blind = not reports; unknown = 0 };
         } }
     {
-        self.recovery.expect_reports(reports);
+        self.head.recovery.expect_reports(reports);
     }
 
     /// Takes an acknowledgement of TCP: of all below `ack`, with its blocks, in a segment of that kind.
@@ -343,7 +605,14 @@ impl<F: StreamSender, const N: usize> SendBufferOver<F, N> {
             self.old.recovery ack
             blocks.now (is_repeat kind) r.reports self.new.recovery r.begins) }
     {
-        self.acknowledge_at(self.numbers(), ack, blocks, segment_size, kind)
+        let numbers = self.numbers();
+        if !accept(&mut self.sender, ack) {
+            return None;
+        }
+        Some(
+            self.head
+                .acknowledged(&mut self.runs, numbers, ack, blocks, segment_size, kind),
+        )
     }
 
     /// Takes an acknowledgement of QUIC, or of another protocol that acknowledges ranges of a stream, each of them for
@@ -370,69 +639,11 @@ impl<F: StreamSender, const N: usize> SendBufferOver<F, N> {
             return self.acknowledge(ack, &block, segment_size, AckKind::Other);
         }
         let known = self
+            .head
             .scoreboard
-            .first_missing(range.end.max(numbers.first_unacknowledged));
+            .first_missing(&self.runs, range.end.max(numbers.first_unacknowledged));
         let ack = known.min(numbers.sent);
         self.acknowledge(ack, &[], segment_size, AckKind::Other)
-    }
-
-    /// Takes an acknowledgement, with the numbers before it.
-    pub(crate) fn acknowledge_at(
-        &mut self,
-        numbers: SentNumbers,
-        ack: u64,
-        blocks: &[(u64, u64)],
-        segment_size: usize,
-        kind: AckKind,
-    ) -> Option<TakenAck>
-        ensures refused { is_some result ≡ accepts self.old.sender ack }
-        ensures within { IfSome result (λ _. (first_number self.old.sender ≤ ack)
-            × (ack ≤ self.old.sender.sent)) }
-        ensures unchanged { IfNone result (self.new ≡ self.old) }
-        ensures state { IfSome result (λ r. self.new ≡ record {
-          sender = sender_after_command self.old.sender (Acknowledges ack);
-          reported = kept (reported_by N numbers.sent self.old.reported ack blocks.now).0
-              ack numbers.sent;
-          recovery = self.new.recovery;
-        }) }
-        ensures new { IfSome result (λ r. r.new ≡ ack - numbers.first_unacknowledged) }
-        ensures reports { IfSome result (λ r. r.reports
-            ≡ (reported_by N numbers.sent self.old.reported ack blocks.now).1) }
-        ensures recovery { IfSome result (λ r. Recovers N segment_size numbers
-            (unsent_at numbers.first_unacknowledged self.old.reported self.old.recovery)
-            self.old.reported self.old.recovery ack
-            blocks.now (is_repeat kind) r.reports self.new.recovery r.begins) }
-    {
-        let unsent = self.recovery.unsent(numbers, &self.scoreboard);
-        if !self.sender.accept(ack) {
-            return None;
-        }
-        self.scoreboard.acknowledge(ack);
-        let reports = report_blocks(&mut self.scoreboard, blocks, numbers.sent);
-        doubt(&mut self.recovery, numbers, ack, blocks);
-        let is_bare = is_repeat(kind) && !has_block(blocks);
-        let answer = Answer {
-            first: numbers.first_unacknowledged,
-            unsent,
-            reports,
-            is_equal: is_equal_acknowledgement(numbers, ack, is_bare, true),
-        };
-        let after = SentNumbers {
-            first_unacknowledged: ack,
-            sent: numbers.sent,
-        };
-        let begins = find_losses(
-            &mut self.recovery,
-            &mut self.scoreboard,
-            after,
-            segment_size,
-            answer,
-        );
-        Some(TakenAck {
-            new: ack.saturating_sub(numbers.first_unacknowledged),
-            reports,
-            begins,
-        })
     }
 
     /// Tells the recovery, if the first block of an acknowledgement reports what came twice: for one of TCP that
@@ -444,7 +655,7 @@ impl<F: StreamSender, const N: usize> SendBufferOver<F, N> {
         } }
     {
         let numbers = self.numbers();
-        doubt(&mut self.recovery, numbers, ack, blocks);
+        self.head.doubt(numbers, ack, blocks);
     }
 
     /// Returns whether the last recovery was for nothing, and ends it then.
@@ -455,10 +666,9 @@ impl<F: StreamSender, const N: usize> SendBufferOver<F, N> {
           recovery = taken_back (first_number self.old.sender) self.old.reported self.old.recovery;
         } }
     {
-        self.recovery
-            .take_back(self.sender.numbers(), &self.scoreboard)
+        let numbers = self.numbers();
+        self.head.take_back(&self.runs, numbers)
     }
-
     /// Finds what is overdue, where nothing was reported for two round trips, and returns whether a recovery begins.
     pub fn find_overdue(&mut self) -> bool
         ensures state { self.new ≡ record self.old { recovery = self.new.recovery } }
@@ -468,8 +678,8 @@ impl<F: StreamSender, const N: usize> SendBufferOver<F, N> {
         ensures begins { (highest : ℕ) → IsEnd self.old.reported highest →
             result ≡ begins_by (numbers_of self.old.sender) highest self.old.recovery }
     {
-        self.recovery
-            .find_overdue(self.sender.numbers(), &self.scoreboard)
+        self.head
+            .find_overdue(&self.runs, self.sender.sent_numbers())
     }
 
     /// Loses all that was sent and isn't reported.
@@ -479,7 +689,7 @@ impl<F: StreamSender, const N: usize> SendBufferOver<F, N> {
               (forgotten self.old.recovery);
         } }
     {
-        self.recovery.lose_all(self.sender.numbers());
+        self.head.recovery.lose_all(self.sender.sent_numbers());
     }
 
     /// Returns what to send next below `limit`, as a start and an end, the end not included, at most a segment: what is
@@ -518,14 +728,9 @@ impl<F: StreamSender, const N: usize> SendBufferOver<F, N> {
             < remaining self.now) }
     {
         let numbers = self.numbers();
-        let top = limit.min(self.sender.end());
-        self.recovery.next_segment(
-            numbers,
-            &self.scoreboard,
-            top,
-            congestion_window,
-            segment_size,
-        )
+        let top = limit.min(self.sender.numbers_end());
+        self.head
+            .next(&self.runs, numbers, top, congestion_window, segment_size)
     }
 
     /// Returns what a probe for an answer sends below `limit`, whatever is in flight: in a recovery the first segment
@@ -552,9 +757,8 @@ impl<F: StreamSender, const N: usize> SendBufferOver<F, N> {
         ensures after { IfSome result (λ r. first_number self.now.sender ≤ r.0) }
     {
         let numbers = self.numbers();
-        let top = limit.min(self.sender.end());
-        self.recovery
-            .next_probe(numbers, &self.scoreboard, top, segment_size)
+        let top = limit.min(self.sender.numbers_end());
+        self.head.next_probe(&self.runs, numbers, top, segment_size)
     }
 
     /// Takes notice that the numbers from `from` on and below `to` are sent now, and why.
@@ -565,28 +769,27 @@ impl<F: StreamSender, const N: usize> SendBufferOver<F, N> {
               (is_window_probe sending) (is_tail_probe sending) self.old.recovery;
         } }
     {
-        self.mark_at(self.numbers(), from, to, sending);
+        let numbers = self.numbers();
+        mark(&mut self.sender, to);
+        self.head.sent(numbers, from, to, sending);
     }
+}
 
-    /// Takes notice that a range is sent, with the numbers before it.
-    pub(crate) fn mark_at(&mut self, numbers: SentNumbers, from: u64, to: u64, sending: Sending)
-        ensures { self.new ≡ record self.old {
-          sender = sender_after_command self.old.sender (Marks to);
-          recovery = after_segment numbers from to
-              (is_window_probe sending) (is_tail_probe sending) self.old.recovery;
-        } }
-    {
-        self.sender.mark(to);
-        match sending {
-            Sending::Segment => self.recovery.sent(numbers, from..to),
-            Sending::TailProbe => self.recovery.probed(numbers, from..to),
-            // The peer drops it.
-            Sending::WindowProbe => self.recovery.lose_all(SentNumbers {
-                first_unacknowledged: numbers.first_unacknowledged,
-                sent: numbers.sent.max(to),
-            }),
-        }
-    }
+/// Has a sender take an acknowledgement of all below `ack`, and returns whether it does.
+pub(crate) fn accept<S: Storage<u8>>(sender: &mut FiniteSenderOver<S>, ack: u64) -> bool
+    ensures value { result ≡ accepts sender.old ack }
+    ensures within { IsTrue result → (first_number sender.old ≤ ack) × (ack ≤ sender.old.sent) }
+    ensures unchanged { IsFalse result → sender.new ≡ sender.old }
+    ensures step { sender.new ≡ sender_after_command sender.old (Acknowledges ack) }
+{
+    sender.acknowledge(ack)
+}
+
+/// Has a sender take notice that all below `to` is sent.
+pub(crate) fn mark<S: Storage<u8>>(sender: &mut FiniteSenderOver<S>, to: u64)
+    ensures { sender.new ≡ sender_after_command sender.old (Marks to) }
+{
+    let _is_written = sender.mark_sent(to);
 }
 
 /// Returns whether an acknowledgement is of a kind that only repeats the last.
@@ -602,7 +805,11 @@ fn is_repeat(kind: AckKind) -> bool
 /// Lends the bytes of a segment from `pos` on, whose numbers are below `end`, in two parts, and returns whether the
 /// stream ends after them.
 #[tactic(auto, using(crate::proofs::Segments::segments))]
-fn lend<S: Storage<u8>>(sender: &FiniteSenderOver<S>, pos: u64, end: u64) -> (&[u8], &[u8], bool)
+pub(crate) fn lend<S: Storage<u8>>(
+    sender: &FiniteSenderOver<S>,
+    pos: u64,
+    end: u64,
+) -> (&[u8], &[u8], bool)
     ensures { IsSegment sender.now pos end (result.0.now ++ result.1.now) result.2 }
 {
     let (front, _ends) = sender.peek_at(pos, end);
@@ -611,58 +818,76 @@ fn lend<S: Storage<u8>>(sender: &FiniteSenderOver<S>, pos: u64, end: u64) -> (&[
     (front, back, is_last)
 }
 
-/// Tells a recovery, if the first block of an acknowledgement reports what came twice.
-fn doubt(recovery: &mut LossRecovery, numbers: SentNumbers, ack: u64, blocks: &[(u64, u64)])
-    ensures { recovery.new ≡ doubted numbers ack blocks.now recovery.old }
-{
-    if is_duplicated(ack, blocks) {
-        let (from, to) = blocks[0];
-        recovery.came_twice(numbers, from..to);
-    }
-}
-
 /// Finds what is lost by an acknowledgement, and returns whether a recovery begins. If the peer has dropped what it had
 /// reported, that is lost: else it would acknowledge it (RFC 2018, section 8). Nothing counts as reported any more
 /// then.
-fn find_losses<const N: usize>(
+fn find_losses(
     recovery: &mut LossRecovery,
-    board: &mut Scoreboard<N>,
+    board: &mut ScoreboardHead,
+    runs: &[Run],
     after: SentNumbers,
     segment_size: usize,
     answer: Answer,
 ) -> bool
-    ensures reported { board.new ≡ kept board.old after.first_unacknowledged after.sent }
+    requires { IsSoundBoard board.old runs.now }
+    ensures sound { IsSoundBoard board.new runs.now }
+    ensures reported { reported_to board.new runs.now
+        ≡ kept (reported_to board.old runs.now) after.first_unacknowledged after.sent }
     ensures recovery { IsLeft segment_size after.first_unacknowledged after.sent answer
-        board.old recovery.old
-        recovery.new result }
+        (reported_to board.old runs.now) (recovery_of recovery.old) (recovery_of recovery.new) result }
 {
-    if has_dropped(board, after) {
-        let begins = recovery.lose_dropped(after, board);
-        board.reset_at(after.first_unacknowledged);
+    if has_dropped(board, runs, after) {
+        let begins = lose_dropped(recovery, board, runs, after);
+        *board = ScoreboardHead::new_at(after.first_unacknowledged);
         return begins;
     }
-    recovery.find_losses(after, board, segment_size, answer)
+    let seen = LentScoreboard::new(*board, runs);
+    recovery.find_losses(after, &seen, segment_size, answer)
+}
+
+/// Loses what the peer had reported and has dropped, and returns whether a recovery begins.
+fn lose_dropped(
+    recovery: &mut LossRecovery,
+    board: &ScoreboardHead,
+    runs: &[Run],
+    after: SentNumbers,
+) -> bool
+    requires { IsSoundBoard board.now runs.now }
+    ensures state { (highest : ℕ) → IsEnd (reported_to board.now runs.now) highest →
+        recovery_of recovery.new ≡ begun after.first_unacknowledged after.sent
+        (max (recovery_of recovery.old).lost highest) (recovery_of recovery.old) }
+    ensures begins { result ≡ not (is_active (recovery_of recovery.old) after.first_unacknowledged) }
+{
+    let seen = LentScoreboard::new(*board, runs);
+    recovery.lose_dropped(after, &seen)
 }
 
 /// Returns whether the peer has dropped what it had reported: it acknowledges up to such a number.
-fn has_dropped<const N: usize>(board: &Scoreboard<N>, after: SentNumbers) -> bool
-    ensures { result ≡ has_dropped board.now after.first_unacknowledged after.sent }
+fn has_dropped(board: &ScoreboardHead, runs: &[Run], after: SentNumbers) -> bool
+    requires { IsSoundBoard board.now runs.now }
+    ensures { result ≡ has_dropped (reported_to board.now runs.now) after.first_unacknowledged after.sent }
 {
-    after.first_unacknowledged < after.sent && board.contains(after.first_unacknowledged)
+    after.first_unacknowledged < after.sent && board.contains(runs, after.first_unacknowledged)
 }
 
 /// Reports blocks. Returns whether one of them reports what wasn't known.
-fn report_blocks<const N: usize>(
-    board: &mut Scoreboard<N>,
+fn report_blocks(
+    board: &mut ScoreboardHead,
+    runs: &mut [Run],
     blocks: &[(u64, u64)],
     sent: u64,
 ) -> bool
-    ensures state { board.new ≡ (after_blocks N sent board.old blocks.now).0 }
-    ensures value { result ≡ (after_blocks N sent board.old blocks.now).1 }
+    requires { IsSoundBoard board.old runs.old }
+    ensures sound { IsSoundBoard board.new runs.new }
+    ensures length { length runs.new ≡ length runs.old }
+    ensures state { reported_to board.new runs.new
+        ≡ (after_blocks (length runs.old) sent (reported_to board.old runs.old) blocks.now).0 }
+    ensures value { result
+        ≡ (after_blocks (length runs.old) sent (reported_to board.old runs.old) blocks.now).1 }
 {
     let mut reports = false;
     for block in blocks {
-        if report_block(board, block.0, block.1, sent) {
+        if report_block(board, runs, block.0, block.1, sent) {
             reports = true;
         }
     }
@@ -671,15 +896,25 @@ fn report_blocks<const N: usize>(
 
 /// Reports a block, if it begins beyond the first position that wasn't reported. Returns whether that wasn't known:
 /// what is refused is sent again.
-fn report_block<const N: usize>(board: &mut Scoreboard<N>, start: u64, end: u64, sent: u64) -> bool
-    ensures state { board.new ≡ with_block N sent board.old (start, end) }
-    ensures value { result ≡ is_new N sent board.old (start, end) }
+fn report_block(
+    board: &mut ScoreboardHead,
+    runs: &mut [Run],
+    start: u64,
+    end: u64,
+    sent: u64,
+) -> bool
+    requires { IsSoundBoard board.old runs.old }
+    ensures sound { IsSoundBoard board.new runs.new }
+    ensures length { length runs.new ≡ length runs.old }
+    ensures state { reported_to board.new runs.new
+        ≡ with_block (length runs.old) sent (reported_to board.old runs.old) (start, end) }
+    ensures value { result ≡ is_new (length runs.old) sent (reported_to board.old runs.old) (start, end) }
 {
     if start <= board.first_unreported() {
         return false;
     }
-    let is_new = board.first_missing(start) < end;
-    board.report(start, end, sent).is_ok() && is_new
+    let is_new = board.first_missing(runs, start) < end;
+    board.report(runs, start, end, sent).is_ok() && is_new
 }
 
 /// Returns whether one of the blocks has a position.

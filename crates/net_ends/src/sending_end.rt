@@ -33,12 +33,27 @@ ghost use Rattle.net_ends.specs.Ends.{IsSegment, round_trip, Opened, Forgot, Ope
 ghost use Rattle.net_ends.specs.Ends.{timed_out, all_lost, has_timed_out, is_overdue, reports_of, new_of, kept};
 ghost use Rattle.net_ends.specs.Ends.{has_dropped, begins_of, is_due, is_worth, is_enough, delays, hurries, Enabled};
 ghost use Rattle.net_ends.specs.Acknowledgements.{with_block, is_new, after_blocks, reported_by, has_block};
-ghost use Rattle.net_ends.specs.Acknowledgements.{is_duplicated, numbers_of, unsent_of, doubted, IsLeft, Recovers};
+ghost use Rattle.net_ends.specs.Acknowledgements.{is_duplicated, numbers_of, unsent_of, unsent_at, doubted, IsLeft, Recovers};
 ghost use Rattle.net_ends.specs.Acknowledgements.{is_sought, begins_by, after_segment, after_wait, loses_nothing};
 ghost use Rattle.net_ends.specs.Acknowledgements.{expiry_of};
-ghost use Rattle.net_receiver.specs.Scoreboards.{IsEnd, IsSoundBoard};
-ghost use Rattle.net_assembler.specs.RunLists.{IsCanonical};
-ghost use Rattle.net_ends.specs.Parts.{end_of_parts};
+ghost use Rattle.net_receiver.specs.Scoreboards.{IsEnd, IsHole};
+ghost use Rattle.net_recovery.specs.LossRecovery.{next_probe};
+ghost use Rattle.net_ends.specs.Parts.{end_of, marked};
+ghost use Rattle.net_ends.specs.Calls.{Hears, Takes, Chooses};
+ghost use Rattle.net_ends.specs.Rules.{queued_of, known_of, known_by, low, high, window_shut, asks_window, room_to, most_to};
+ghost use Rattle.net_ends.specs.Rules.{in_hurry, nagle_waits, enough, worth_sending, due, HolesOf, next_of, due_part};
+ghost use Rattle.net_ends.specs.Rules.{ProbedOf, probe_part, is_probing, seeks, nothing_lost, renewed_by};
+ghost use Rattle.net_ends.specs.Buffers.{board_of};
+ghost use Rattle.net_receiver.specs.FiniteSender.{FiniteSenderState};
+ghost use Rattle.net_receiver.specs.Scoreboards.{IsSoundBoard};
+ghost use Rattle.net_assembler.specs.Positions.{with_range, nothing};
+ghost use Rattle.net_recovery.specs.LossRecovery.{new_recovery, no_loss, recovery_of, begun, forgotten};
+ghost use Rattle.net_tcp.specs.Retransmission.{new_timer, new_fields, started};
+ghost use Rattle.net_receiver.specs.NewHeads.{scoreboard_head};
+ghost use Rattle.net_tcp.specs.Windows.{no_window, window_from};
+ghost use Rattle.std.specs.Prelude.{List, max, nat_eq};
+ghost use Rattle.net_tcp.specs.declared.retransmission.TimeoutBounds.{TimeoutBounds as Bounds};
+ghost use Rattle.net_tcp.specs.Retransmission.{timer_of};
 ghost use Rattle.net_ends.specs.Buffers.{is_repeat, is_window_probe, is_tail_probe};
 ghost use Rattle.net_tcp.specs.Retransmission.{has_ended, expiry, has_expired, after_expiry, after_sending};
 ghost use Rattle.net_tcp.specs.Retransmission.{with_sample, after_acknowledged, expires_at};
@@ -46,11 +61,11 @@ ghost use Rattle.net_ends.specs.Ends.{AreHoles, open_to, found, due_of, range_of
 ghost use Rattle.std.specs.Option.{option_or};
 ghost use Rattle.net_tcp.specs.Windows.{after_update, acknowledgement_number};
 
-use crate::send_buffer::{AckKind, BufferParts, SendBufferOver, Sending, TakenAck};
-use crate::stream_sender::StreamSender;
+use crate::send_buffer::{AckKind, BufferHead, Queued, Sending, TakenAck, accept, lend, mark};
+use net_assembler::Run;
 use net_base::time::{Duration, Instant};
-use net_receiver::{FiniteSender, FiniteSenderOver, SentNumbers};
-use net_ring::Storage;
+use net_receiver::{FiniteSenderOver, SentNumbers, flag_of};
+use net_ring::{ManagedSlice, Storage};
 use net_tcp::{
     Announcement, Expiry, PeerWindow, RetransmissionTimer, TimeoutBounds, is_acknowledgement,
 };
@@ -104,39 +119,41 @@ pub struct Outgoing {
     pub is_again: bool,
 }
 
-/// All that a sending end knows besides its sender.
+/// All of a sending end but its sender and the times that were set: what was reported and what is lost, the timer, and
+/// what the peer announced. Its calls are given the sender's numbers; who holds both has the sender take what they say.
+///
+/// It is numbers alone, so that C has it as it is: a flag is not 0 where it holds. One of zeros is new. It is sound if
+/// the scoreboard is, with its runs.
+#[repr(C)]
 #[derive(Copy, Clone, Debug)]
-pub struct SendingParts<const N: usize> {
-    /// What the buffer knows besides it.
-    pub buffer: BufferParts<N>,
+pub struct SendingHead {
+    /// What was reported and what is lost.
+    pub buffer: BufferHead,
     /// The timer.
     pub timer: RetransmissionTimer,
-    /// The timeout before any sample.
-    pub first_timeout: Duration,
-    /// Between which bounds the timeout is.
-    pub bounds: TimeoutBounds,
     /// The peer's window.
     pub peer_window: PeerWindow,
     /// The greatest window that the peer ever announced.
     pub greatest_window: u64,
     /// The window that it announced last.
     pub last_window: u64,
-    /// The most bytes of a segment.
+    /// The most bytes of a segment. 0 counts as 1.
     pub segment_size: usize,
-    /// Whether the peer has acknowledged anything, if only the own SYN.
-    pub is_open: bool,
-    /// Whether Nagle's rule is enabled.
-    pub nagle: bool,
-    /// Whether the timeout has passed and nothing was sent since then.
-    pub is_window_probe_due: bool,
-    /// Whether the next segment is a probe for an answer, if nothing else may be sent.
-    pub is_overdue: bool,
+    /// Not 0 if Nagle's rule is disabled.
+    pub no_delay: usize,
+    /// Not 0 once the peer has acknowledged anything, if only the own SYN.
+    pub is_open: u64,
+    /// Not 0 if the timeout has passed and nothing was sent since then: nothing is held back, and if the window is shut,
+    /// the next segment is a probe of it.
+    pub is_window_probe_due: u64,
+    /// Not 0 if the next segment is a probe for an answer, if nothing else may be sent.
+    pub is_overdue: u64,
 }
 
 /// What sends a stream that ends, over storage that is lent or owned.
-pub type SendingEnd<'a, const N: usize> = SendingEndOver<FiniteSender<'a>, N>;
+pub type SendingEnd<'a, const N: usize> = SendingEndOver<ManagedSlice<'a, u8>, N>;
 
-/// A [`SendingEnd`] over any sender: a buffer, a timer and the peer's window.
+/// A [`SendingEnd`] over any storage: a sender, and all else in its head.
 ///
 /// ```
 /// use net_base::ends::{Acknowledged, Expired, SendingEnd};
@@ -171,55 +188,31 @@ pub type SendingEnd<'a, const N: usize> = SendingEndOver<FiniteSender<'a>, N>;
 /// assert_eq!((it.pos, it.end, it.is_again), (108, 116, true));
 /// ```
 #[derive(Drop)]
-pub struct SendingEndOver<F: StreamSender, const N: usize> {
-    buffer: SendBufferOver<F, N>,
-    timer: RetransmissionTimer,
+pub struct SendingEndOver<S: Storage<u8>, const N: usize> {
+    sender: FiniteSenderOver<S>,
+    runs: [Run; N],
+    head: SendingHead,
     first_timeout: Duration,
     bounds: TimeoutBounds,
-    peer_window: PeerWindow,
-    // The greatest window that the peer ever announced, and the one that it announced last.
-    greatest_window: u64,
-    last_window: u64,
-    // The most bytes of a segment.
-    segment_size: usize,
-    // Whether the peer has acknowledged anything, if only the own SYN.
-    is_open: bool,
-    // Whether Nagle's rule is enabled.
-    nagle: bool,
-    // Whether the timeout has passed and nothing was sent since then: nothing is held back, and if the window is shut,
-    // the next segment is a probe of it.
-    is_window_probe_due: bool,
-    // Whether the next segment is a probe for an answer, if nothing else may be sent.
-    is_overdue: bool,
 }
 
-impl<F: StreamSender, const N: usize> Model for SendingEndOver<F, N> {
+impl<S: Storage<u8>, const N: usize> Model for SendingEndOver<S, N> {
     ghost use Rattle.std.specs.Coded.{codes};
+    ghost use Rattle.std.specs.Prelude.{◌≡◌, length};
+    ghost use Rattle.net_receiver.specs.Scoreboards.{IsSoundBoard};
     ghost use Rattle.net_ends.specs.Ends.{End, positions_code};
+    ghost use Rattle.net_ends.specs.Parts.{end_of};
 
     ghost Value = { End };
 
     ghost coded = { Prim.hlevel (codes, positions_code) };
 
-    ghost view = { λ s. record {
-      sender = s.buffer.sender;
-      reported = s.buffer.reported;
-      recovery = s.buffer.recovery;
-      timer = s.timer;
-      first_timeout = s.first_timeout;
-      bounds = s.bounds;
-      peer = s.peer_window;
-      greatest = s.greatest_window;
-      last = s.last_window;
-      size = s.segment_size;
-      is_open = s.is_open;
-      nagle = s.nagle;
-      probes = s.is_window_probe_due;
-      overdue = s.is_overdue;
-    } };
+    ghost view = { λ s. end_of s.sender s.head s.runs s.first_timeout s.bounds };
+
+    ghost invariant = { λ s. IsSoundBoard s.head.buffer.scoreboard s.runs × (length s.runs ≡ N) };
 }
 
-impl<S: Storage<u8>, const N: usize> SendingEndOver<FiniteSenderOver<S>, N> {
+impl<S: Storage<u8>, const N: usize> SendingEndOver<S, N> {
     /// Returns the end of a stream that begins at position `first`, to which nothing was written. `first_timeout` is
     /// that before any sample: 1 second for TCP (RFC 6298, 2.1).
     ///
@@ -238,18 +231,11 @@ impl<S: Storage<u8>, const N: usize> SendingEndOver<FiniteSenderOver<S>, N> {
         prove!(N >= 1, "N is at least 1");
         prove!(first < u64::MAX, "no number is left for an end");
         SendingEndOver {
-            buffer: SendBufferOver::over_at(storage, first),
-            timer: RetransmissionTimer::new(first_timeout, false),
+            sender: FiniteSenderOver::over_at(storage, first),
+            runs: [Run { start: 0, end: 0 }; N],
+            head: SendingHead::new_at(first, first_timeout),
             first_timeout,
             bounds,
-            peer_window: PeerWindow::new(),
-            greatest_window: 0,
-            last_window: 0,
-            segment_size: 1,
-            is_open: false,
-            nagle: true,
-            is_window_probe_due: false,
-            is_overdue: false,
         }
     }
 
@@ -266,15 +252,10 @@ impl<S: Storage<u8>, const N: usize> SendingEndOver<FiniteSenderOver<S>, N> {
             self.old.first_timeout self.old.bounds) { nagle = self.old.nagle } }
     {
         prove!(first < u64::MAX, "no number is left for an end");
-        self.buffer.reset_at(first);
-        self.timer = RetransmissionTimer::new(self.first_timeout, false);
-        self.peer_window = PeerWindow::new();
-        self.greatest_window = 0;
-        self.last_window = 0;
-        self.segment_size = 1;
-        self.is_open = false;
-        self.is_window_probe_due = false;
-        self.is_overdue = false;
+        self.sender.reset_at(first);
+        let no_delay = self.head.no_delay;
+        self.head = SendingHead::new_at(first, self.first_timeout);
+        self.head.no_delay = no_delay;
     }
 
     /// Enqueues the first of these bytes, as many as there is room for, and returns how many.
@@ -283,14 +264,14 @@ impl<S: Storage<u8>, const N: usize> SendingEndOver<FiniteSenderOver<S>, N> {
         ensures count { result ≡ min (length bytes.now) (finite_room self.old.sender) }
         ensures step { self.new ≡ after_event self.old (Wrote bytes.now) }
     {
-        self.buffer.write(bytes)
+        self.sender.write(bytes)
     }
 
     /// Ends the stream after what was written.
     pub fn close(&mut self)
         ensures { self.new ≡ after_event self.old Shut }
     {
-        self.buffer.close();
+        self.sender.close();
     }
 
     /// Lends the bytes of a segment from `pos` on, whose numbers are below `end`, in two parts, and returns whether the
@@ -299,7 +280,7 @@ impl<S: Storage<u8>, const N: usize> SendingEndOver<FiniteSenderOver<S>, N> {
     pub fn bytes(&self, pos: u64, end: u64) -> (&[u8], &[u8], bool)
         ensures { IsSegment self.now.sender pos end (result.0.now ++ result.1.now) result.2 }
     {
-        self.buffer.bytes(pos, end)
+        lend(&self.sender, pos, end)
     }
 
     /// Returns whether all that was written is acknowledged, and the end.
@@ -307,7 +288,7 @@ impl<S: Storage<u8>, const N: usize> SendingEndOver<FiniteSenderOver<S>, N> {
     pub fn is_done(&self) -> bool
         ensures { result ≡ (self.now.sender.finished == 1) }
     {
-        self.buffer.is_done()
+        self.sender.is_closed_and_acknowledged()
     }
 
     /// Returns how many bytes `write` would take.
@@ -315,125 +296,118 @@ impl<S: Storage<u8>, const N: usize> SendingEndOver<FiniteSenderOver<S>, N> {
     pub fn window(&self) -> usize
         ensures { result ≡ finite_room self.now.sender }
     {
-        self.buffer.window()
+        self.sender.window()
     }
 }
 
-impl<F: StreamSender, const N: usize> SendingEndOver<F, N> {
-    /// Returns the end of a sender and these parts.
-    ///
-    /// # Requires
-    ///
-    /// The scoreboard's head is sound for its runs, as `ScoreboardHead::is_sound` tests.
-    pub fn from_parts(sender: F, parts: SendingParts<N>) -> Self
-        requires { IsSoundBoard parts.buffer.scoreboard parts.buffer.runs }
-        ensures { result ≡ end_of_parts (F.state sender) parts.entry }
+impl SendingHead {
+    /// Returns the rules of an end without a peer, of a stream that begins at position `first`.
+    pub const fn new_at(first: u64, first_timeout: Duration) -> Self
+        ensures sound { (runs : List (ℕ × ℕ)) → IsSoundBoard result.buffer.scoreboard runs }
+        ensures reported { (runs : List (ℕ × ℕ)) →
+            board_of result.buffer runs ≡ with_range nothing 0 first }
+        ensures recovery { recovery_of result.buffer.recovery ≡ new_recovery }
+        ensures timer { timer_of result.timer ≡ new_timer first_timeout false }
+        ensures numbers { (result.buffer.scoreboard ≡ scoreboard_head first)
+            × (result.buffer.recovery ≡ no_loss)
+            × (result.timer ≡ new_fields first_timeout false) }
+        ensures rest { result ≡ record {
+          buffer = result.buffer;
+          timer = result.timer;
+          peer_window = no_window;
+          greatest_window = 0;
+          last_window = 0;
+          segment_size = 0;
+          no_delay = 0;
+          is_open = 0;
+          is_window_probe_due = 0;
+          is_overdue = 0;
+        } }
     {
-        SendingEndOver {
-            buffer: SendBufferOver::from_parts(sender, parts.buffer),
-            timer: parts.timer,
-            first_timeout: parts.first_timeout,
-            bounds: parts.bounds,
-            peer_window: parts.peer_window,
-            greatest_window: parts.greatest_window,
-            last_window: parts.last_window,
-            segment_size: parts.segment_size,
-            is_open: parts.is_open,
-            nagle: parts.nagle,
-            is_window_probe_due: parts.is_window_probe_due,
-            is_overdue: parts.is_overdue,
+        SendingHead {
+            buffer: BufferHead::new_at(first),
+            timer: RetransmissionTimer::new(first_timeout, false),
+            peer_window: PeerWindow::new(),
+            greatest_window: 0,
+            last_window: 0,
+            segment_size: 0,
+            no_delay: 0,
+            is_open: 0,
+            is_window_probe_due: 0,
+            is_overdue: 0,
         }
-    }
-
-    /// Returns the sender and the parts, which represent the end.
-    pub fn into_parts(self) -> (F, SendingParts<N>)
-        ensures scoreboard { IsSoundBoard result.1.buffer.scoreboard result.1.buffer.runs }
-        ensures length { length result.1.buffer.runs ≡ N }
-        ensures canonical { IsCanonical result.1.buffer.scoreboard.reported }
-        ensures state { end_of_parts (F.state result.0) result.1 ≡ self }
-    {
-        let SendingEndOver {
-            buffer,
-            timer,
-            first_timeout,
-            bounds,
-            peer_window,
-            greatest_window,
-            last_window,
-            segment_size,
-            is_open,
-            nagle,
-            is_window_probe_due,
-            is_overdue,
-        } = self;
-        let (sender, buffer) = buffer.into_parts();
-        let parts = SendingParts {
-            buffer,
-            timer,
-            first_timeout,
-            bounds,
-            peer_window,
-            greatest_window,
-            last_window,
-            segment_size,
-            is_open,
-            nagle,
-            is_window_probe_due,
-            is_overdue,
-        };
-        (sender, parts)
     }
 
     /// Begins with a peer, whose SYN announced a window, how many bytes a segment may have, and whether it reports
     /// blocks (SACK): one that doesn't couldn't answer a probe, and is sent none. What was written stays. It is done
     /// once, before anything is sent; a second time begins with another peer, and the timer runs if something is in
     /// flight.
-    pub fn open(&mut self, it: Announcement, segment_size: usize, reports: bool, now: Instant)
-        ensures { self.new ≡ after_event self.old
-            (Opened it.seq it.ack it.window segment_size reports now) }
+    pub fn open(
+        &mut self,
+        numbers: SentNumbers,
+        first_timeout: Duration,
+        it: Announcement,
+        segment_size: usize,
+        reports: bool,
+        now: Instant,
+    )
+        ensures rest { self.new ≡ record self.old {
+          buffer = self.new.buffer;
+          timer = self.new.timer;
+          peer_window = window_from it.seq it.ack it.window;
+          greatest_window = it.window;
+          last_window = it.window;
+          segment_size = segment_size;
+          is_open = 0;
+          is_window_probe_due = 0;
+          is_overdue = 0;
+        } }
+        ensures scoreboard { self.new.buffer.scoreboard ≡ self.old.buffer.scoreboard }
+        ensures recovery { recovery_of self.new.buffer.recovery
+            ≡ record (recovery_of self.old.buffer.recovery) { is_blind = not reports; unknown = 0 } }
+        ensures timer { timer_of self.new.timer ≡ renewed_by numbers first_timeout reports now }
     {
-        self.buffer.expect_reports(reports);
-        self.renew(reports, now);
+        self.buffer.recovery.expect_reports(reports);
+        self.renew(numbers, first_timeout, reports, now);
         self.peer_window = PeerWindow::of(it);
         self.greatest_window = it.window;
         self.last_window = it.window;
-        self.segment_size = segment_size.max(1);
-        self.is_window_probe_due = false;
-        self.is_overdue = false;
+        self.segment_size = segment_size;
+        self.is_window_probe_due = 0;
+        self.is_overdue = 0;
     }
 
     /// Begins again without a peer: the timer stops, unless something is in flight. What was written stays.
-    pub fn forget(&mut self, now: Instant)
-        ensures { self.new ≡ after_event self.old (Forgot now) }
+    pub fn forget(&mut self, numbers: SentNumbers, first_timeout: Duration, now: Instant)
+        ensures rest { self.new ≡ record self.old { timer = self.new.timer; is_open = 0 } }
+        ensures timer { timer_of self.new.timer ≡ renewed_by numbers first_timeout false now }
     {
-        self.renew(false, now);
+        self.renew(numbers, first_timeout, false, now);
     }
 
     /// Begins with a timer that had no sample.
-    fn renew(&mut self, reports: bool, now: Instant)
-        ensures { self.new ≡ record self.old {
-          timer =
-              renewed self.old reports now;
-          is_open = false;
-        } }
+    fn renew(&mut self, numbers: SentNumbers, first_timeout: Duration, reports: bool, now: Instant)
+        ensures rest { self.new ≡ record self.old { timer = self.new.timer; is_open = 0 } }
+        ensures timer { timer_of self.new.timer ≡ renewed_by numbers first_timeout reports now }
     {
-        let numbers = self.numbers();
-        self.timer = RetransmissionTimer::new(self.first_timeout, reports);
+        self.timer = RetransmissionTimer::new(first_timeout, reports);
         if numbers.first_unacknowledged < numbers.sent {
             self.timer.start(now);
         }
-        self.is_open = false;
+        self.is_open = 0;
     }
 
     /// Returns whether a SYN is to be sent now, the first one or one after a timeout, and starts the timer for the next.
     /// Ask it only until something is acknowledged, at which it doesn't look.
-    pub fn is_opening_due(&mut self, now: Instant) -> bool
-        ensures value { result ≡ (has_expired self.old.timer now
-            || is_none (expires_at self.old.timer)) }
-        ensures step { self.new ≡ after_event self.old (Opening now) }
+    pub fn is_opening_due(&mut self, bounds: TimeoutBounds, now: Instant) -> bool
+        ensures value { result ≡ (has_expired (timer_of self.old.timer) now
+            || is_none (expires_at (timer_of self.old.timer))) }
+        ensures rest { self.new ≡ record self.old { timer = self.new.timer } }
+        ensures timer { timer_of self.new.timer
+            ≡ started now (after_expiry bounds now (timer_of self.old.timer)) }
     {
-        let is_first = self.expires_at().is_none();
-        let has_expired = self.expire(now).is_some();
+        let is_first = self.timer.expires_at().is_none();
+        let has_expired = self.timer.expire(bounds, now).is_some();
         self.timer.start(now);
         has_expired || is_first
     }
@@ -444,7 +418,588 @@ impl<F: StreamSender, const N: usize> SendingEndOver<F, N> {
     /// A block counts that begins above the first number that isn't reported, has a number, and ends where something
     /// was sent and less than 2^32 above that one, if what is reported beyond that one is at most `N` runs then. Any
     /// other block says nothing.
-    #[tactic(auto, using(crate::proofs::Steps::steps))]
+    pub fn acknowledged(
+        &mut self,
+        runs: &mut [Run],
+        numbers: SentNumbers,
+        bounds: TimeoutBounds,
+        it: Announcement,
+        blocks: &[(u64, u64)],
+        is_empty: bool,
+        now: Instant,
+    ) -> Acknowledged
+        requires { IsSoundBoard self.old.buffer.scoreboard runs.old }
+        ensures sound { IsSoundBoard self.new.buffer.scoreboard runs.new }
+        ensures length { length runs.new ≡ length runs.old }
+        ensures hears { (s : FiniteSenderState) (timeout : ℕ) → numbers_of s ≡ numbers →
+            Hears (length runs.old) (end_of s self.old runs.old timeout bounds) it.seq it.ack it.window blocks.now is_empty
+            now result
+            (end_of (sender_after_command s (Acknowledges it.ack)) self.new runs.new timeout bounds) }
+    {
+        if !is_acknowledgement(numbers, self.greatest_window, it.ack) {
+            return Acknowledged::Refused;
+        }
+        if it.ack < numbers.first_unacknowledged || numbers.sent < it.ack {
+            self.buffer.doubt(numbers, it.ack, blocks);
+            return Acknowledged::Old;
+        }
+        let taken = self.hear(runs, numbers, bounds, it, blocks, is_empty, now);
+        Acknowledged::Taken {
+            new: taken.new,
+            reports: taken.reports,
+            begins: taken.begins,
+        }
+    }
+
+    /// Takes an acknowledgement that the sender takes, and returns what it said.
+    fn hear(
+        &mut self,
+        runs: &mut [Run],
+        numbers: SentNumbers,
+        bounds: TimeoutBounds,
+        it: Announcement,
+        blocks: &[(u64, u64)],
+        is_empty: bool,
+        now: Instant,
+    ) -> TakenAck
+        requires { IsSoundBoard self.old.buffer.scoreboard runs.old }
+        ensures sound { IsSoundBoard self.new.buffer.scoreboard runs.new }
+        ensures count { length runs.new ≡ length runs.old }
+        ensures rest { self.new ≡ record self.old {
+          buffer = self.new.buffer;
+          timer = self.new.timer;
+          peer_window = after_update self.old.peer_window numbers.first_unacknowledged numbers.sent
+              it.seq it.ack it.window;
+          greatest_window = greatest_of self.old.peer_window self.old.greatest_window
+              numbers.first_unacknowledged numbers.sent it.seq it.ack it.window;
+          last_window = it.window;
+          is_open = 1;
+        } }
+        ensures timer { timer_of self.new.timer ≡ told result.reports now (after_acknowledged bounds
+            numbers.first_unacknowledged numbers.sent it.ack now
+            (sampled (board_of self.new.buffer runs.new) bounds now
+            (synchronized (not (nat_eq self.old.is_open 0)) numbers.first_unacknowledged numbers.sent
+            (timer_of self.old.timer)))) }
+        ensures reported { board_of self.new.buffer runs.new
+            ≡ kept (reported_by (length runs.old) numbers.sent (board_of self.old.buffer runs.old) it.ack
+            blocks.now).0 it.ack numbers.sent }
+        ensures new { result.new ≡ it.ack - numbers.first_unacknowledged }
+        ensures reports { result.reports
+            ≡ (reported_by (length runs.old) numbers.sent (board_of self.old.buffer runs.old) it.ack
+            blocks.now).1 }
+        ensures recovery { Recovers (length runs.old) (max self.old.segment_size 1) numbers
+            (unsent_at numbers.first_unacknowledged (board_of self.old.buffer runs.old)
+            (recovery_of self.old.buffer.recovery)) (board_of self.old.buffer runs.old)
+            (recovery_of self.old.buffer.recovery) it.ack blocks.now
+            (is_empty && (it.window == self.old.last_window)) result.reports
+            (recovery_of self.new.buffer.recovery) result.begins }
+    {
+        let kind = kind_of(is_empty && it.window == self.last_window);
+        let size = self.segment_size();
+        let taken = self
+            .buffer
+            .acknowledged(runs, numbers, it.ack, blocks, size, kind);
+        self.take(runs, numbers, bounds, it, taken.reports, now);
+        taken
+    }
+
+    /// Takes the window of an acknowledgement that the buffer has taken, and tells the timer.
+    fn take(
+        &mut self,
+        runs: &[Run],
+        numbers: SentNumbers,
+        bounds: TimeoutBounds,
+        it: Announcement,
+        reports: bool,
+        now: Instant,
+    )
+        requires { IsSoundBoard self.old.buffer.scoreboard runs.now }
+        ensures rest { self.new ≡ record self.old {
+          timer = self.new.timer;
+          peer_window = after_update self.old.peer_window numbers.first_unacknowledged numbers.sent
+              it.seq it.ack it.window;
+          greatest_window = greatest_of self.old.peer_window self.old.greatest_window
+              numbers.first_unacknowledged numbers.sent it.seq it.ack it.window;
+          last_window = it.window;
+          is_open = 1;
+        } }
+        ensures timer { timer_of self.new.timer ≡ told reports now (after_acknowledged bounds
+            numbers.first_unacknowledged numbers.sent it.ack now
+            (sampled (board_of self.old.buffer runs.now) bounds now
+            (synchronized (not (nat_eq self.old.is_open 0)) numbers.first_unacknowledged numbers.sent
+            (timer_of self.old.timer)))) }
+    {
+        self.take_window(numbers, it);
+        self.time(runs, numbers, bounds, it.ack, reports, now);
+    }
+
+    /// Stops the timer of the SYN, if this is the first acknowledgement and nothing is in flight.
+    fn synchronize(&mut self, numbers: SentNumbers)
+        ensures rest { self.new ≡ record self.old { timer = self.new.timer; is_open = 1 } }
+        ensures timer { timer_of self.new.timer ≡ synchronized (not (nat_eq self.old.is_open 0))
+            numbers.first_unacknowledged numbers.sent (timer_of self.old.timer) }
+    {
+        if self.is_open == 0 && numbers.sent <= numbers.first_unacknowledged {
+            self.timer.stop();
+        }
+        self.is_open = 1;
+    }
+
+    /// Takes the window that is announced, and that a peer answers.
+    fn take_window(&mut self, numbers: SentNumbers, it: Announcement)
+        ensures rest { self.new ≡ record self.old {
+          timer = self.new.timer;
+          peer_window = after_update self.old.peer_window numbers.first_unacknowledged numbers.sent
+              it.seq it.ack it.window;
+          greatest_window = greatest_of self.old.peer_window self.old.greatest_window
+              numbers.first_unacknowledged numbers.sent it.seq it.ack it.window;
+          last_window = it.window;
+          is_open = 1;
+        } }
+        ensures timer { timer_of self.new.timer ≡ synchronized (not (nat_eq self.old.is_open 0))
+            numbers.first_unacknowledged numbers.sent (timer_of self.old.timer) }
+    {
+        self.synchronize(numbers);
+        self.greatest_window = greatest_after_update(
+            &mut self.peer_window,
+            self.greatest_window,
+            numbers,
+            it,
+        );
+        self.last_window = it.window;
+    }
+
+    /// Takes the sample of a timed segment that is reported, and tells the timer what was acknowledged, and whether a
+    /// block reported what wasn't known.
+    fn time(
+        &mut self,
+        runs: &[Run],
+        numbers: SentNumbers,
+        bounds: TimeoutBounds,
+        ack: u64,
+        reports: bool,
+        now: Instant,
+    )
+        requires { IsSoundBoard self.old.buffer.scoreboard runs.now }
+        ensures rest { self.new ≡ record self.old { timer = self.new.timer } }
+        ensures timer { timer_of self.new.timer ≡ told reports now (after_acknowledged bounds
+            numbers.first_unacknowledged numbers.sent ack now
+            (sampled (board_of self.old.buffer runs.now) bounds now (timer_of self.old.timer))) }
+    {
+        // A copy: one with times isn't passed twice.
+        let sampling = TimeoutBounds {
+            least: bounds.least,
+            most: bounds.most,
+            tick: bounds.tick,
+            ack_delay: bounds.ack_delay,
+        };
+        self.sample(runs, sampling, now);
+        tell(&mut self.timer, bounds, numbers, ack, reports, now);
+    }
+
+    /// Takes the sample of a timed segment that is reported.
+    fn sample(&mut self, runs: &[Run], bounds: TimeoutBounds, now: Instant)
+        requires { IsSoundBoard self.old.buffer.scoreboard runs.now }
+        ensures rest { self.new ≡ record self.old { timer = self.new.timer } }
+        ensures timer { timer_of self.new.timer
+            ≡ sampled (board_of self.old.buffer runs.now) bounds now (timer_of self.old.timer) }
+    {
+        if let Some(segment) = self.timer.timed() {
+            if self.buffer.contains(runs, segment.pos) {
+                self.timer.take_sample(bounds, now);
+            }
+        }
+    }
+
+    /// Takes what the timer said when it ended and started again, and returns what that means. `next_segment` returns
+    /// what is then to be sent.
+    pub fn take_expiry(&mut self, runs: &[Run], queued: Queued, expiry: Expiry) -> Expired
+        requires { IsSoundBoard self.old.buffer.scoreboard runs.now }
+        ensures sound { IsSoundBoard self.new.buffer.scoreboard runs.now }
+        ensures takes { (s : FiniteSenderState) (timeout : ℕ) (bounds : Bounds) → queued_of s ≡ queued →
+            Takes expiry (end_of s self.old runs.now timeout bounds) result
+            (end_of s self.new runs.now timeout bounds) }
+    {
+        match expiry {
+            Expiry::Probe => self.take_silence(runs, queued),
+            Expiry::Timeout => self.take_timeout(queued),
+        }
+    }
+
+    /// Finds what is overdue, unless the peer's window is shut, or it reports nothing: then it is sent no probe.
+    fn take_silence(&mut self, runs: &[Run], queued: Queued) -> Expired
+        requires { IsSoundBoard self.old.buffer.scoreboard runs.now }
+        ensures rest { self.new ≡ record self.old {
+          buffer = self.new.buffer;
+          is_window_probe_due = 0;
+          is_overdue = self.new.is_overdue;
+        } }
+        ensures scoreboard { self.new.buffer.scoreboard ≡ self.old.buffer.scoreboard }
+        ensures overdue { not (nat_eq self.new.is_overdue 0) ≡ seeks (known_by self.old queued) }
+        ensures no { (result ≡ Expired.No)
+            ↔ IsTrue (recovery_of self.old.buffer.recovery).is_blind }
+        ensures recovery { (highest : ℕ) → IsEnd (board_of self.old.buffer runs.now) highest →
+            recovery_of self.new.buffer.recovery ≡ after_wait (seeks (known_by self.old queued))
+            queued.numbers highest (recovery_of self.old.buffer.recovery) }
+        ensures begins { (highest : ℕ) → IsEnd (board_of self.old.buffer runs.now) highest →
+            IsFalse (recovery_of self.old.buffer.recovery).is_blind →
+            result ≡ Expired.Overdue (seeks (known_by self.old queued)
+            && begins_by queued.numbers highest (recovery_of self.old.buffer.recovery)) }
+    {
+        let is_sought = self.is_sought(queued);
+        self.is_window_probe_due = 0;
+        self.is_overdue = flag_of(is_sought);
+        if self.buffer.recovery.is_blind() {
+            return Expired::No;
+        }
+        let begins = seek(&mut self.buffer, runs, queued.numbers, is_sought);
+        Expired::Overdue { begins }
+    }
+
+    /// Returns whether what is overdue is sought, where the timer's probe is due.
+    fn is_sought(&self, queued: Queued) -> bool
+        ensures { result ≡ seeks (known_by self.now queued) }
+    {
+        !self.buffer.recovery.is_blind() && !self.is_shut(queued)
+    }
+
+    /// Loses all that was sent and isn't reported.
+    fn take_timeout(&mut self, queued: Queued) -> Expired
+        ensures rest { self.new ≡ record self.old {
+          buffer = self.new.buffer;
+          is_window_probe_due = 1;
+          is_overdue = 0;
+        } }
+        ensures scoreboard { self.new.buffer.scoreboard ≡ self.old.buffer.scoreboard }
+        ensures recovery { recovery_of self.new.buffer.recovery
+            ≡ begun queued.numbers.first_unacknowledged queued.numbers.sent queued.numbers.sent
+            (forgotten (recovery_of self.old.buffer.recovery)) }
+        ensures value { result
+            ≡ (if nothing_lost (known_by self.old queued) then Expired.Probe else Expired.Lost) }
+    {
+        self.buffer.recovery.lose_all(queued.numbers);
+        self.is_window_probe_due = 1;
+        self.is_overdue = 0;
+        if self.is_shut(queued) || queued.numbers.flight_size() == 0 {
+            Expired::Probe
+        } else {
+            Expired::Lost
+        }
+    }
+
+    /// Returns whether the peer's window is shut, and something waits.
+    fn is_shut(&self, queued: Queued) -> bool
+        ensures { result ≡ window_shut (known_by self.now queued) }
+    {
+        self.peer_window
+            .is_probe_allowed(queued.numbers.first_unacknowledged, queued.end)
+    }
+
+    /// Returns whether the next segment is a probe of a window that is shut.
+    fn asks(&self, queued: Queued) -> bool
+        ensures { result ≡ asks_window (known_by self.now queued) }
+    {
+        self.is_window_probe_due != 0 && self.is_shut(queued)
+    }
+
+    /// Returns the range that is to be sent next, and why: of a window that is shut a probe, once the timeout has
+    /// passed; else what `next_range` returns; and else, where no answer came, a probe for one.
+    fn choose(
+        &self,
+        runs: &[Run],
+        queued: Queued,
+        congestion_window: u64,
+    ) -> (Option<(u64, u64)>, Sending)
+        requires sound { IsSoundBoard self.now.buffer.scoreboard runs.now }
+        requires order { queued.numbers.first_unacknowledged ≤ queued.numbers.sent }
+        ensures within { let k = known_of self.now runs.now queued in
+            IfSome result.0 (λ r. (r.0 < r.1) × (r.1 ≤ most_to k) × (low k ≤ r.0)) }
+        ensures probe { let k = known_of self.now runs.now queued in
+            IsTrue (asks_window k) → result.0 ≡ Some (low k, low k + 1) }
+        ensures asks { is_window_probe result.1 ≡ asks_window (known_of self.now runs.now queued) }
+        ensures overdue { IsTrue (is_tail_probe result.1) →
+            IsTrue (known_of self.now runs.now queued).overdue }
+        ensures due { let k = known_of self.now runs.now queued in
+            IfSome result.0 (λ r. IsTrue (due k r.0 r.1)) }
+        ensures next { let k = known_of self.now runs.now queued in
+            (lost others : Option (ℕ × ℕ)) → IsFalse (asks_window k) → IsFalse k.overdue →
+            HolesOf k (room_to k) lost others →
+            result.0 ≡ due_part k (next_of k (room_to k) congestion_window lost others) }
+        ensures answer { let k = known_of self.now runs.now queued in
+            (lost others : Option (ℕ × ℕ)) (highest : ℕ) (hole : Option (ℕ × ℕ)) →
+            IsFalse (asks_window k) → IsTrue k.overdue → HolesOf k (room_to k) lost others →
+            ProbedOf k (room_to k) highest hole → result.0 ≡ option_or
+            (due_part k (next_of k (room_to k) congestion_window lost others))
+            (probe_part k (room_to k) highest hole) }
+        ensures counts { let k = known_of self.now runs.now queued in
+            (lost others : Option (ℕ × ℕ)) → HolesOf k (room_to k) lost others →
+            is_tail_probe result.1 ≡ is_probing k congestion_window lost others }
+        ensures late { let k = known_of self.now runs.now queued in
+            IsTrue k.probes → IsFalse (is_active k.recovery (low k)) → low k ≡ high k →
+            low k < k.queued.end → IsTrue (is_some result.0) }
+    {
+        let first = queued.numbers.first_unacknowledged;
+        if self.asks(queued) {
+            return (Some((first, first + 1)), Sending::WindowProbe);
+        }
+        let limit = self.peer_window.send_limit(queued.end);
+        let next = self.next_range(runs, queued, limit, congestion_window);
+        if next.is_some() || self.is_overdue == 0 {
+            return (next, Sending::Segment);
+        }
+        (
+            self.next_probe(runs, queued.numbers, limit),
+            Sending::TailProbe,
+        )
+    }
+
+    /// Returns what a probe for an answer sends below a limit.
+    fn next_probe(&self, runs: &[Run], numbers: SentNumbers, limit: u64) -> Option<(u64, u64)>
+        requires sound { IsSoundBoard self.now.buffer.scoreboard runs.now }
+        requires order { numbers.first_unacknowledged ≤ numbers.sent }
+        ensures within { IfSome result (λ r. (r.0 < r.1) × (r.1 ≤ limit)
+            × (numbers.first_unacknowledged ≤ r.0)) }
+        ensures value { (highest : ℕ) (hole : Option (ℕ × ℕ)) →
+            IsEnd (board_of self.now.buffer runs.now) highest →
+            IsHole (board_of self.now.buffer runs.now) numbers.first_unacknowledged
+            (min numbers.sent limit) hole →
+            result ≡ next_probe (recovery_of self.now.buffer.recovery) (max 1 (max self.now.segment_size 1))
+            numbers.first_unacknowledged numbers.sent limit highest hole }
+    {
+        self.buffer
+            .next_probe(runs, numbers, limit, self.segment_size())
+    }
+
+    /// Returns what the recovery sends next below a limit, unless that is held back.
+    fn next_range(
+        &self,
+        runs: &[Run],
+        queued: Queued,
+        limit: u64,
+        congestion_window: u64,
+    ) -> Option<(u64, u64)>
+        requires sound { IsSoundBoard self.now.buffer.scoreboard runs.now }
+        requires order { queued.numbers.first_unacknowledged ≤ queued.numbers.sent }
+        ensures next { let k = known_of self.now runs.now queued in (lost others : Option (ℕ × ℕ)) →
+            HolesOf k limit lost others →
+            result ≡ due_part k (next_of k limit congestion_window lost others) }
+        ensures within { let k = known_of self.now runs.now queued in
+            IfSome result (λ r. (r.0 < r.1) × (r.1 ≤ limit) × (low k ≤ r.0)) }
+        ensures due { let k = known_of self.now runs.now queued in
+            IfSome result (λ r. IsTrue (due k r.0 r.1)) }
+        ensures late { let k = known_of self.now runs.now queued in IsTrue (in_hurry k) →
+            IsFalse (is_active k.recovery (low k)) → low k ≡ high k → low k < limit →
+            IsTrue (is_some result) }
+    {
+        let Some((from, to)) = self.buffer.next(
+            runs,
+            queued.numbers,
+            limit,
+            congestion_window,
+            self.segment_size(),
+        )
+        else {
+            return None;
+        };
+        if self.is_due(queued, from, to) {
+            Some((from, to))
+        } else {
+            None
+        }
+    }
+
+    /// Returns whether a range isn't held back: the timer asks for it, it was sent before, or it is worth a segment.
+    fn is_due(&self, queued: Queued, from: u64, to: u64) -> bool
+        ensures { result ≡ due (known_by self.now queued) from to }
+    {
+        self.hurries() || from < queued.numbers.sent || self.is_worth(queued, from, to)
+    }
+
+    /// Returns whether the timer asks for a segment.
+    fn hurries(&self) -> bool
+        ensures { result ≡ (not (nat_eq self.now.is_window_probe_due 0)
+            || not (nat_eq self.now.is_overdue 0)) }
+    {
+        self.is_window_probe_due != 0 || self.is_overdue != 0
+    }
+
+    /// Returns whether a range is worth a segment (RFC 9293, 3.8.6.2.1): a whole one; or, unless Nagle's rule has it
+    /// wait, all that is left, or half of the greatest window that the peer announced.
+    fn is_worth(&self, queued: Queued, from: u64, to: u64) -> bool
+        ensures { result ≡ worth_sending (known_by self.now queued) from to }
+    {
+        let is_whole = self.segment_size() as u64 <= to.saturating_sub(from);
+        is_whole || self.is_enough(queued, from, to) && !self.delays(queued)
+    }
+
+    /// Returns whether a range is all that is left, or half of the greatest window that the peer announced.
+    fn is_enough(&self, queued: Queued, from: u64, to: u64) -> bool
+        ensures { result ≡ enough (known_by self.now queued) from to }
+    {
+        let len = to.saturating_sub(from);
+        queued.end <= to || self.greatest_window.saturating_sub(len) <= len
+    }
+
+    /// Returns whether less than a whole segment waits, by Nagle's rule: something is in flight, and the stream isn't
+    /// closed.
+    fn delays(&self, queued: Queued) -> bool
+        ensures { result ≡ nagle_waits (known_by self.now queued) }
+    {
+        let numbers = queued.numbers;
+        self.nagle_enabled() && numbers.first_unacknowledged < numbers.sent && !queued.is_closed
+    }
+
+    /// Starts the timer, unless it runs, if anything that was written isn't acknowledged.
+    fn wait(&mut self, queued: Queued, now: Instant)
+        ensures rest { self.new ≡ record self.old { timer = self.new.timer } }
+        ensures timer { timer_of self.new.timer
+            ≡ (if nat_lt queued.numbers.first_unacknowledged queued.end
+            then started now (timer_of self.old.timer) else timer_of self.old.timer) }
+    {
+        if queued.numbers.first_unacknowledged < queued.end {
+            self.timer.start(now);
+        }
+    }
+
+    /// Takes notice that a range is sent, and why.
+    fn mark(
+        &mut self,
+        numbers: SentNumbers,
+        bounds: TimeoutBounds,
+        from: u64,
+        to: u64,
+        sending: Sending,
+        now: Instant,
+    )
+        ensures rest { self.new ≡ record self.old {
+          buffer = self.new.buffer;
+          timer = self.new.timer;
+          is_window_probe_due = 0;
+          is_overdue = 0;
+        } }
+        ensures scoreboard { self.new.buffer.scoreboard ≡ self.old.buffer.scoreboard }
+        ensures timer { timer_of self.new.timer ≡ after_sending bounds from to
+            numbers.first_unacknowledged numbers.sent now (timer_of self.old.timer) }
+        ensures recovery { recovery_of self.new.buffer.recovery
+            ≡ after_segment numbers from to (is_window_probe sending) (is_tail_probe sending)
+            (recovery_of self.old.buffer.recovery) }
+    {
+        self.timer.sent(bounds, from..to, numbers, now);
+        self.is_window_probe_due = 0;
+        self.is_overdue = 0;
+        self.buffer.sent(numbers, from, to, sending);
+    }
+
+    /// Returns the segment that is to be sent now, and takes notice that it is: if the peer's window and the congestion
+    /// window have room for one, or as a probe. What was never sent is held back if it is less than a segment, unless
+    /// it is all that is left, or half of the greatest window that the peer announced (RFC 9293, 3.8.6.2.1), and
+    /// Nagle's rule doesn't have it wait. Once the timer has ended, the next segment isn't held back. While anything
+    /// that was written isn't acknowledged, the timer runs.
+    pub fn next_segment(
+        &mut self,
+        runs: &[Run],
+        queued: Queued,
+        bounds: TimeoutBounds,
+        congestion_window: u64,
+        now: Instant,
+    ) -> Option<Outgoing>
+        requires sound { IsSoundBoard self.old.buffer.scoreboard runs.now }
+        requires order { queued.numbers.first_unacknowledged ≤ queued.numbers.sent }
+        ensures sound { IsSoundBoard self.new.buffer.scoreboard runs.now }
+        ensures chooses { (s : FiniteSenderState) (timeout : ℕ) → queued_of s ≡ queued →
+            Chooses (end_of s self.old runs.now timeout bounds) congestion_window now result
+            (end_of (marked s result) self.new runs.now timeout bounds) }
+    {
+        let (chosen, sending) = self.choose(runs, queued, congestion_window);
+        let Some((from, to)) = chosen else {
+            // Not before something is sent: what `start` starts has no probe.
+            self.wait(queued, now);
+            return None;
+        };
+        self.mark(queued.numbers, bounds, from, to, sending, now);
+        Some(Outgoing {
+            pos: from,
+            end: to,
+            is_again: from < queued.numbers.sent,
+        })
+    }
+
+    /// Returns the smoothed time of a round trip, once there was a sample.
+    #[must_use]
+    pub fn round_trip(&self) -> Option<Duration>
+        ensures { result ≡ round_trip (timer_of self.now.timer).timeout.estimate }
+    {
+        match self.timer.rtt() {
+            Some(estimate) => Some(estimate.srtt()),
+            None => None,
+        }
+    }
+
+    /// Returns whether Nagle's rule is enabled.
+    #[must_use]
+    pub fn nagle_enabled(&self) -> bool
+        ensures { result ≡ nat_eq self.now.no_delay 0 }
+    {
+        self.no_delay == 0
+    }
+
+    /// Returns the most bytes of a segment.
+    #[must_use]
+    pub fn segment_size(&self) -> usize
+        ensures { result ≡ max self.now.segment_size 1 }
+    {
+        self.segment_size.max(1)
+    }
+
+    /// Enables Nagle's rule (RFC 9293, 3.7.4), or disables it. While something that was sent isn't acknowledged, less
+    /// than a whole segment waits by it, unless the stream is closed or the timer has ended. It is enabled at first, as
+    /// in a socket of smoltcp: the RFC wants it so. Disable it where few bytes are written at a time, and none of them
+    /// is to wait.
+    pub fn set_nagle_enabled(&mut self, enabled: bool)
+        ensures rest { self.new ≡ record self.old { no_delay = self.new.no_delay } }
+        ensures value { nat_eq self.new.no_delay 0 ≡ enabled }
+    {
+        self.no_delay = if enabled { 0 } else { 1 };
+    }
+}
+
+impl<S: Storage<u8>, const N: usize> SendingEndOver<S, N> {
+    /// Begins with a peer, whose SYN announced a window, how many bytes a segment may have, and whether it reports
+    /// blocks (SACK): one that doesn't couldn't answer a probe, and is sent none. What was written stays. It is done
+    /// once, before anything is sent; a second time begins with another peer, and the timer runs if something is in
+    /// flight.
+    pub fn open(&mut self, it: Announcement, segment_size: usize, reports: bool, now: Instant)
+        ensures { self.new ≡ after_event self.old
+            (Opened it.seq it.ack it.window segment_size reports now) }
+    {
+        let numbers = self.numbers();
+        self.head.open(numbers, self.first_timeout, it, segment_size, reports, now);
+    }
+
+    /// Begins again without a peer: the timer stops, unless something is in flight. What was written stays.
+    pub fn forget(&mut self, now: Instant)
+        ensures { self.new ≡ after_event self.old (Forgot now) }
+    {
+        let numbers = self.numbers();
+        self.head.forget(numbers, self.first_timeout, now);
+    }
+
+    /// Returns whether a SYN is to be sent now, the first one or one after a timeout, and starts the timer for the next.
+    /// Ask it only until something is acknowledged, at which it doesn't look.
+    pub fn is_opening_due(&mut self, now: Instant) -> bool
+        ensures value { result ≡ (has_expired self.old.timer now
+            || is_none (expires_at self.old.timer)) }
+        ensures step { self.new ≡ after_event self.old (Opening now) }
+    {
+        self.head.is_opening_due(self.bounds, now)
+    }
+
+    /// Takes what a segment acknowledges and announces, and the blocks that it reports. It `is_empty` if it has no byte
+    /// and no FIN. Whatever it says, the end stays sound.
+    ///
+    /// A block counts that begins above the first number that isn't reported, has a number, and ends where something
+    /// was sent and less than 2^32 above that one, if what is reported beyond that one is at most `N` runs then. Any
+    /// other block says nothing.
     pub fn acknowledged(
         &mut self,
         it: Announcement,
@@ -482,86 +1037,17 @@ impl<F: StreamSender, const N: usize> SendingEndOver<F, N> {
             } }
     {
         let numbers = self.numbers();
-        if !self.is_acceptable(numbers, it.ack) {
-            return Acknowledged::Refused;
-        }
-        let repeats = self.only_repeats(is_empty, it.window);
-        let Some(taken) = self.hear(it.ack, blocks, repeats) else {
-            self.buffer.doubt(it.ack, blocks);
-            return Acknowledged::Old;
-        };
-        self.take(numbers, it, taken.reports, now);
-        Acknowledged::Taken {
-            new: it.ack - numbers.first_unacknowledged,
-            reports: taken.reports,
-            begins: taken.begins,
-        }
-    }
-
-    /// Returns whether a segment may acknowledge that.
-    ///
-    /// A function of its own, since `acknowledged` is proved by what it says of the end.
-    fn is_acceptable(&self, numbers: SentNumbers, ack: u64) -> bool
-        requires { numbers ≡ numbers_of self.now.sender }
-        ensures { result ≡ is_acceptable self.now ack }
-    {
-        is_acknowledgement(numbers, self.greatest_window, ack)
-    }
-
-    /// Returns whether a segment that announces a window only repeats the last acknowledgement.
-    fn only_repeats(&self, is_empty: bool, window: u64) -> bool
-        ensures { result ≡ (is_empty && (window == self.now.last)) }
-    {
-        is_empty && window == self.last_window
-    }
-
-    /// Has the buffer take an acknowledgement, as `SendBufferOver::acknowledge` says.
-    ///
-    /// A function of its own, since its clauses say by the end what those of the buffer say by the buffer: without it
-    /// the check of `acknowledged` didn't end in ten minutes.
-    fn hear(&mut self, ack: u64, blocks: &[(u64, u64)], repeats: bool) -> Option<TakenAck>
-        ensures refused { is_some result ≡ accepts self.old.sender ack }
-        ensures within { IfSome result (λ _. (first self.old ≤ ack)
-            × (ack ≤ self.old.sender.sent)) }
-        ensures unchanged { IfNone result (self.new ≡ self.old) }
-        ensures state { IfSome result (λ r. self.new ≡ record self.old {
-          sender = sender_after_command self.old.sender (Acknowledges ack);
-          reported = kept (reported_by N self.old.sender.sent self.old.reported ack blocks.now).0
-              ack self.old.sender.sent;
-          recovery = self.new.recovery;
-        }) }
-        ensures reports { IfSome result (λ r. r.reports
-            ≡ (reported_by N self.old.sender.sent self.old.reported ack blocks.now).1) }
-        ensures recovery { IfSome result (λ r. Recovers N self.old.size (numbers_of self.old.sender)
-            (unsent_of self.old.sender self.old.reported self.old.recovery) self.old.reported
-            self.old.recovery ack
-            blocks.now repeats r.reports self.new.recovery r.begins) }
-    {
-        let kind = kind_of(repeats);
-        self.buffer
-            .acknowledge(ack, blocks, self.segment_size, kind)
-    }
-
-    /// Takes the window of an acknowledgement that the buffer has taken, and tells the timer.
-    ///
-    /// A function of its own, since `acknowledged` is one event of the end, and this its half beside the buffer.
-    fn take(&mut self, numbers: SentNumbers, it: Announcement, reports: bool, now: Instant)
-        ensures { self.new ≡ record self.old {
-          timer = told reports now (after_acknowledged self.old.bounds
-              numbers.first_unacknowledged numbers.sent it.ack
-              now (sampled self.old.reported self.old.bounds now (synchronized self.old.is_open
-              numbers.first_unacknowledged numbers.sent self.old.timer)));
-          peer = after_update self.old.peer numbers.first_unacknowledged numbers.sent it.seq
-              it.ack it.window;
-          greatest = greatest_of self.old.peer self.old.greatest
-              numbers.first_unacknowledged numbers.sent
-              it.seq it.ack it.window;
-          last = it.window;
-          is_open = true;
-        } }
-    {
-        self.take_window(numbers, it);
-        self.tell_timer(numbers, it.ack, reports, now);
+        let said = self.head.acknowledged(
+            &mut self.runs,
+            numbers,
+            self.bounds,
+            it,
+            blocks,
+            is_empty,
+            now,
+        );
+        let _is_taken = accept(&mut self.sender, it.ack);
+        said
     }
 
     /// Returns the first number that isn't acknowledged, near which those of an acknowledgement are, and the one after
@@ -575,68 +1061,18 @@ impl<F: StreamSender, const N: usize> SendingEndOver<F, N> {
         } }
         ensures order { result.first_unacknowledged ≤ result.sent }
     {
-        self.buffer.numbers()
+        self.sender.sent_numbers()
     }
 
-    /// Takes the window that an acknowledgement announces. If it is the first one and nothing is in flight, the timer of
-    /// the SYN stops.
-    fn take_window(&mut self, numbers: SentNumbers, it: Announcement)
-        ensures { self.new ≡ record self.old {
-          timer = synchronized self.old.is_open numbers.first_unacknowledged
-              numbers.sent self.old.timer;
-          peer = after_update self.old.peer numbers.first_unacknowledged numbers.sent it.seq
-              it.ack it.window;
-          greatest = greatest_of self.old.peer self.old.greatest
-              numbers.first_unacknowledged numbers.sent
-              it.seq it.ack it.window;
-          last = it.window;
-          is_open = true;
-        } }
+    /// Returns what the sender has sent, and what is queued.
+    fn queued(&self) -> Queued
+        ensures value { result ≡ queued_of self.now.sender }
+        ensures order { result.numbers.first_unacknowledged ≤ result.numbers.sent }
     {
-        self.synchronize(numbers);
-        self.greatest_window = greatest_after_update(
-            &mut self.peer_window,
-            self.greatest_window,
-            numbers,
-            it,
-        );
-        self.last_window = it.window;
-    }
-
-    /// Stops the timer of the SYN, if this is the first acknowledgement and nothing is in flight.
-    ///
-    /// A function of its own, as `greatest_after_update` is, since each has a branch, and the prover joins the branches
-    /// of a whole end only by hand.
-    fn synchronize(&mut self, numbers: SentNumbers)
-        ensures { self.new ≡ record self.old {
-          timer = synchronized self.old.is_open numbers.first_unacknowledged
-              numbers.sent self.old.timer;
-          is_open = true;
-        } }
-    {
-        if !self.is_open && numbers.sent <= numbers.first_unacknowledged {
-            self.timer.stop();
-        }
-        self.is_open = true;
-    }
-
-    /// Takes the sample of a timed segment that is reported, and tells the timer what was acknowledged, and whether a
-    /// block reported what wasn't known.
-    fn tell_timer(&mut self, numbers: SentNumbers, ack: u64, reports: bool, now: Instant)
-        ensures { self.new ≡ record self.old {
-          timer = told reports now (after_acknowledged self.old.bounds
-              numbers.first_unacknowledged numbers.sent ack now
-              (sampled self.old.reported self.old.bounds now self.old.timer));
-        } }
-    {
-        if let Some(segment) = self.timer.timed() {
-            if self.buffer.contains(segment.pos) {
-                self.timer.take_sample(self.bounds, now);
-            }
-        }
-        self.timer.acknowledged(self.bounds, numbers, ack, now);
-        if reports {
-            self.timer.reported(now);
+        Queued {
+            numbers: self.sender.sent_numbers(),
+            end: self.sender.numbers_end(),
+            is_closed: self.sender.is_closed(),
         }
     }
 
@@ -655,255 +1091,11 @@ impl<F: StreamSender, const N: usize> SendingEndOver<F, N> {
             highest self.old.recovery }
         ensures state { IsTrue (has_timed_out self.old now) → self.new ≡ timed_out self.old now }
     {
-        match self.expire(now) {
-            None => Expired::No,
-            Some(Expiry::Probe) => self.take_silence(),
-            Some(Expiry::Timeout) => self.take_timeout(),
-        }
-    }
-
-    /// Starts the timer again, if it has ended, and returns what that is.
-    fn expire(&mut self, now: Instant) -> Option<Expiry>
-        ensures value { result ≡ expiry self.old.timer now }
-        ensures state { self.new ≡ record self.old {
-          timer = after_expiry self.old.bounds now self.old.timer;
-        } }
-    {
-        self.timer.expire(self.bounds, now)
-    }
-
-    /// Finds what is overdue, unless the peer's window is shut, or it reports nothing: then it is sent no probe.
-    fn take_silence(&mut self) -> Expired
-        ensures no { (result ≡ Expired.No) ↔ IsTrue self.old.recovery.is_blind }
-        ensures state { self.new ≡ record self.old {
-          recovery = self.new.recovery;
-          probes = false;
-          overdue = is_sought self.old;
-        } }
-        ensures recovery { (highest : ℕ) → IsEnd self.old.reported highest →
-            self.new.recovery ≡ after_wait (is_sought self.old) (numbers_of self.old.sender)
-            highest self.old.recovery }
-        ensures begins { (highest : ℕ) → IsEnd self.old.reported highest →
-            IsFalse self.old.recovery.is_blind →
-            result ≡ Expired.Overdue (is_sought self.old
-            && begins_by (numbers_of self.old.sender) highest self.old.recovery) }
-    {
-        let is_sought = self.is_sought();
-        self.is_window_probe_due = false;
-        self.is_overdue = is_sought;
-        if self.buffer.is_blind() {
+        let Some(expiry) = self.head.timer.expire(self.bounds, now) else {
             return Expired::No;
-        }
-        let begins = seek(&mut self.buffer, is_sought);
-        Expired::Overdue { begins }
-    }
-
-    /// Returns whether what is overdue is sought, where the timer's probe is due.
-    fn is_sought(&self) -> bool
-        ensures { result ≡ is_sought self.now }
-    {
-        !self.buffer.is_blind() && !self.is_shut(self.numbers())
-    }
-
-    /// Loses all that was sent and isn't reported.
-    fn take_timeout(&mut self) -> Expired
-        ensures value { result ≡ (if loses_nothing self.old then Expired.Probe else Expired.Lost) }
-        ensures state { self.new ≡ all_lost self.old }
-    {
-        let numbers = self.numbers();
-        let is_shut = self.is_shut(numbers);
-        self.buffer.lose_all();
-        self.is_window_probe_due = true;
-        self.is_overdue = false;
-        if is_shut || numbers.flight_size() == 0 {
-            Expired::Probe
-        } else {
-            Expired::Lost
-        }
-    }
-
-    /// Returns whether the peer's window is shut, and something waits.
-    fn is_shut(&self, numbers: SentNumbers) -> bool
-        requires { numbers ≡ numbers_of self.now.sender }
-        ensures { result ≡ is_shut self.now }
-    {
-        self.peer_window
-            .is_probe_allowed(numbers.first_unacknowledged, self.buffer.numbers_end())
-    }
-
-    /// Returns the range that is to be sent next, and why: of a window that is shut a probe, once the timeout has
-    /// passed; else what `next_range` returns; and else, where no answer came, a probe for one.
-    fn choose(&self, numbers: SentNumbers, congestion_window: u64) -> (Option<(u64, u64)>, Sending)
-        requires { numbers ≡ numbers_of self.now.sender }
-        ensures within { IfSome result.0 (λ r. (r.0 < r.1) × (r.1 ≤ limit self.now)
-            × (first self.now ≤ r.0)) }
-        ensures probe { IsTrue (asks self.now) → result.0
-            ≡ Some (first self.now, first self.now + 1) }
-        ensures asks { is_window_probe result.1 ≡ asks self.now }
-        ensures overdue { IsTrue (is_tail_probe result.1) → IsTrue self.now.overdue }
-        ensures due { IfSome result.0 (λ r. IsTrue (is_due self.now r.0 r.1)) }
-        ensures next { (lost others : Option (ℕ × ℕ)) → IsFalse (asks self.now) →
-            IsFalse self.now.overdue →
-            AreHoles self.now (open_to self.now) lost others →
-            result.0 ≡ due_of self.now
-            (found self.now (open_to self.now) congestion_window lost others) }
-        ensures answer { (lost others : Option (ℕ × ℕ)) (highest : ℕ) (hole : Option (ℕ × ℕ)) →
-            IsFalse (asks self.now) → IsTrue self.now.overdue →
-            AreHoles self.now (open_to self.now) lost others →
-            IsProbed self.now (open_to self.now) highest hole →
-            result.0 ≡ option_or (due_of self.now
-            (found self.now (open_to self.now) congestion_window lost others))
-            (probe_of self.now (open_to self.now) highest hole) }
-        ensures counts { (lost others : Option (ℕ × ℕ)) →
-            AreHoles self.now (open_to self.now) lost others →
-            is_tail_probe result.1 ≡ is_probe self.now congestion_window lost others }
-        ensures late { IsTrue self.now.probes →
-            IsFalse (is_active self.now.recovery (first self.now)) →
-            first self.now ≡ self.now.sender.sent → first self.now < end self.now →
-            IsTrue (is_some result.0) }
-    {
-        if self.asks(numbers) {
-            let first = self.numbers().first_unacknowledged;
-            // That it fits shows that the next number does: something waits.
-            let _end = self.buffer.numbers_end();
-            return (Some((first, first + 1)), Sending::WindowProbe);
-        }
-        let next = self.next_range(numbers, congestion_window);
-        if next.is_some() || !self.is_overdue {
-            return (next, Sending::Segment);
-        }
-        (self.next_probe(), Sending::TailProbe)
-    }
-
-    /// Returns whether the next segment is a probe of a window that is shut.
-    ///
-    /// A function of its own, since `choose` is proved by what it says of the end.
-    fn asks(&self, numbers: SentNumbers) -> bool
-        requires { numbers ≡ numbers_of self.now.sender }
-        ensures { result ≡ asks self.now }
-    {
-        self.is_window_probe_due && self.is_shut(numbers)
-    }
-
-    /// Returns what a probe for an answer sends below the peer's edge.
-    ///
-    /// A function of its own, as `next_range` is.
-    fn next_probe(&self) -> Option<(u64, u64)>
-        ensures within { IfSome result (λ r. (r.0 < r.1) × (r.1 ≤ open_to self.now)
-            × (first self.now ≤ r.0)) }
-        ensures value { (highest : ℕ) (hole : Option (ℕ × ℕ)) →
-            IsProbed self.now (open_to self.now) highest hole →
-            result ≡ probe_of self.now (open_to self.now) highest hole }
-    {
-        self.buffer
-            .next_probe(self.peer_window.edge(), self.segment_size)
-    }
-
-    /// Returns what the recovery sends next below the peer's edge, unless that is held back.
-    ///
-    /// A function of its own, since its clauses say it by the end, and those of the buffer by the buffer.
-    fn next_range(&self, numbers: SentNumbers, congestion_window: u64) -> Option<(u64, u64)>
-        requires { numbers ≡ numbers_of self.now.sender }
-        ensures next { (lost others : Option (ℕ × ℕ)) →
-            AreHoles self.now (open_to self.now) lost others → result ≡ due_of self.now
-            (found self.now (open_to self.now) congestion_window lost others) }
-        ensures within { IfSome result (λ r. (r.0 < r.1) × (r.1 ≤ open_to self.now)
-            × (first self.now ≤ r.0)) }
-        ensures due { IfSome result (λ r. IsTrue (is_due self.now r.0 r.1)) }
-        ensures late { IsTrue (hurries self.now) →
-            IsFalse (is_active self.now.recovery (first self.now)) →
-            first self.now ≡ self.now.sender.sent → first self.now < open_to self.now →
-            IsTrue (is_some result) }
-    {
-        let Some((from, to)) = self.buffer.next(
-            self.peer_window.edge(),
-            congestion_window,
-            self.segment_size,
-        )
-        else {
-            return None;
         };
-        if self.is_due(numbers, from, to) {
-            Some((from, to))
-        } else {
-            None
-        }
-    }
-
-    /// Returns whether a range isn't held back: the timer asks for a segment, the range was sent before, or it is worth
-    /// a segment.
-    ///
-    /// A function of its own, as the next three are, since the prover goes by one value of true or false at a time.
-    fn is_due(&self, numbers: SentNumbers, from: u64, to: u64) -> bool
-        requires { numbers ≡ numbers_of self.now.sender }
-        ensures { result ≡ is_due self.now from to }
-    {
-        self.hurries() || from < numbers.sent || self.is_worth(numbers, from, to)
-    }
-
-    /// Returns whether the timer asks for a segment.
-    fn hurries(&self) -> bool
-        ensures { result ≡ hurries self.now }
-    {
-        self.is_window_probe_due || self.is_overdue
-    }
-
-    /// Returns whether a range is worth a segment (RFC 9293, 3.8.6.2.1): a whole one; or, unless Nagle's rule has it
-    /// wait, all that is left, or half of the greatest window that the peer announced.
-    fn is_worth(&self, numbers: SentNumbers, from: u64, to: u64) -> bool
-        requires { numbers ≡ numbers_of self.now.sender }
-        ensures { result ≡ is_worth self.now from to }
-    {
-        let is_whole = self.segment_size as u64 <= to.saturating_sub(from);
-        is_whole || self.is_enough(from, to) && !self.delays(numbers)
-    }
-
-    /// Returns whether a range is all that is left, or half of the greatest window that the peer announced.
-    fn is_enough(&self, from: u64, to: u64) -> bool
-        ensures { result ≡ is_enough self.now from to }
-    {
-        let len = to.saturating_sub(from);
-        self.buffer.numbers_end() <= to || self.greatest_window.saturating_sub(len) <= len
-    }
-
-    /// Returns whether less than a whole segment waits, by Nagle's rule: something is in flight, and the stream isn't
-    /// closed.
-    fn delays(&self, numbers: SentNumbers) -> bool
-        requires { numbers ≡ numbers_of self.now.sender }
-        ensures { result ≡ delays self.now }
-    {
-        self.nagle && numbers.first_unacknowledged < numbers.sent && !self.buffer.is_closed()
-    }
-
-    /// Starts the timer, unless it runs, if anything that was written isn't acknowledged.
-    ///
-    /// A function of its own, as `mark` is, since each of them is one event of the end.
-    fn wait(&mut self, numbers: SentNumbers, now: Instant)
-        requires { numbers ≡ numbers_of self.old.sender }
-        ensures { self.new ≡ record self.old { timer = waiting self.old now } }
-    {
-        if numbers.first_unacknowledged < self.buffer.numbers_end() {
-            self.timer.start(now);
-        }
-    }
-
-    /// Takes notice that a range is sent, and why.
-    fn mark(&mut self, numbers: SentNumbers, from: u64, to: u64, sending: Sending, now: Instant)
-        requires { numbers ≡ numbers_of self.old.sender }
-        ensures { self.new ≡ record self.old {
-          sender = sender_after_command self.old.sender (Marks to);
-          recovery = after_segment (numbers_of self.old.sender) from to
-              (is_window_probe sending) (is_tail_probe sending) self.old.recovery;
-          timer = after_sending self.old.bounds from to (first self.old) self.old.sender.sent
-              now self.old.timer;
-          probes = false;
-          overdue = false;
-        } }
-    {
-        self.timer.sent(self.bounds, from..to, numbers, now);
-        self.is_window_probe_due = false;
-        self.is_overdue = false;
-        self.buffer.mark_at(numbers, from, to, sending);
+        let queued = self.queued();
+        self.head.take_expiry(&self.runs, queued, expiry)
     }
 
     /// Returns the segment that is to be sent now, and takes notice that it is: if the peer's window and the congestion
@@ -911,7 +1103,6 @@ impl<F: StreamSender, const N: usize> SendingEndOver<F, N> {
     /// it is all that is left, or half of the greatest window that the peer announced (RFC 9293, 3.8.6.2.1), and
     /// Nagle's rule doesn't have it wait. Once the timer has ended, the next segment isn't held back. While anything
     /// that was written isn't acknowledged, the timer runs.
-    #[tactic(auto, using(crate::proofs::Steps::steps))]
     pub fn next_segment(&mut self, congestion_window: u64, now: Instant) -> Option<Outgoing>
         ensures within { IfSome result (λ r. IsTrue (may_send self.old r.pos r.end)) }
         ensures probe { IsTrue (asks self.old) →
@@ -951,19 +1142,15 @@ impl<F: StreamSender, const N: usize> SendingEndOver<F, N> {
             ≡ after_segment (numbers_of self.old.sender) r.pos r.end (asks self.old) probe
             self.old.recovery)) }
     {
-        let numbers = self.numbers();
-        let (chosen, sending) = self.choose(numbers, congestion_window);
-        let Some((from, to)) = chosen else {
-            // Not before something is sent: what `start` starts has no probe.
-            self.wait(numbers, now);
+        let queued = self.queued();
+        let Some(it) = self
+            .head
+            .next_segment(&self.runs, queued, self.bounds, congestion_window, now)
+        else {
             return None;
         };
-        self.mark(numbers, from, to, sending, now);
-        Some(Outgoing {
-            pos: from,
-            end: to,
-            is_again: from < numbers.sent,
-        })
+        mark(&mut self.sender, it.end);
+        Some(it)
     }
 
     /// Returns when `expired` is to be asked.
@@ -971,7 +1158,7 @@ impl<F: StreamSender, const N: usize> SendingEndOver<F, N> {
     pub fn expires_at(&self) -> Option<Instant>
         ensures { result ≡ expires_at self.now.timer }
     {
-        self.timer.expires_at()
+        self.head.timer.expires_at()
     }
 
     /// Returns how often the timeout has passed in a row, without anything new that was acknowledged or reported in
@@ -981,7 +1168,7 @@ impl<F: StreamSender, const N: usize> SendingEndOver<F, N> {
     pub fn timeouts(&self) -> u64
         ensures { result ≡ self.now.timer.timeouts }
     {
-        self.timer.timeouts()
+        self.head.timer.timeouts()
     }
 
     /// Returns the smoothed time of a round trip, once there was a sample.
@@ -989,10 +1176,7 @@ impl<F: StreamSender, const N: usize> SendingEndOver<F, N> {
     pub fn round_trip(&self) -> Option<Duration>
         ensures { result ≡ round_trip self.now.timer.timeout.estimate }
     {
-        match self.timer.rtt() {
-            Some(estimate) => Some(estimate.srtt()),
-            None => None,
-        }
+        self.head.round_trip()
     }
 
     /// Returns whether the last recovery was for nothing, and ends it then: nothing that was found lost is missing but
@@ -1007,7 +1191,8 @@ impl<F: StreamSender, const N: usize> SendingEndOver<F, N> {
         } }
         ensures step { self.new ≡ after_event self.old (Resumed self.new.recovery) }
     {
-        self.buffer.take_back()
+        let numbers = self.numbers();
+        self.head.buffer.take_back(&self.runs, numbers)
     }
 
     /// Returns whether a recovery lasts.
@@ -1015,7 +1200,7 @@ impl<F: StreamSender, const N: usize> SendingEndOver<F, N> {
     pub fn is_recovering(&self) -> bool
         ensures { result ≡ is_active self.now.recovery (first self.now) }
     {
-        self.buffer.is_recovering()
+        self.head.buffer.recovery.is_active(self.numbers())
     }
 
     /// Returns how many numbers were sent and aren't acknowledged.
@@ -1023,7 +1208,7 @@ impl<F: StreamSender, const N: usize> SendingEndOver<F, N> {
     pub fn flight_size(&self) -> u64
         ensures { result ≡ self.now.sender.sent - first self.now }
     {
-        self.buffer.numbers().flight_size()
+        self.numbers().flight_size()
     }
 
     /// Returns the number of a segment without positions.
@@ -1032,8 +1217,7 @@ impl<F: StreamSender, const N: usize> SendingEndOver<F, N> {
         ensures { result ≡ acknowledgement_number self.now.peer (first self.now)
             self.now.sender.sent }
     {
-        self.peer_window
-            .acknowledgement_number(self.buffer.numbers())
+        self.head.peer_window.acknowledgement_number(self.numbers())
     }
 
     /// Enables Nagle's rule (RFC 9293, 3.7.4), or disables it. While something that was sent isn't acknowledged, less
@@ -1043,7 +1227,7 @@ impl<F: StreamSender, const N: usize> SendingEndOver<F, N> {
     pub fn set_nagle_enabled(&mut self, enabled: bool)
         ensures { self.new ≡ after_event self.old (Enabled enabled) }
     {
-        self.nagle = enabled;
+        self.head.set_nagle_enabled(enabled);
     }
 
     /// Returns whether Nagle's rule is enabled.
@@ -1051,7 +1235,7 @@ impl<F: StreamSender, const N: usize> SendingEndOver<F, N> {
     pub fn nagle_enabled(&self) -> bool
         ensures { result ≡ self.now.nagle }
     {
-        self.nagle
+        self.head.nagle_enabled()
     }
 
     /// Returns the most bytes of a segment.
@@ -1059,20 +1243,40 @@ impl<F: StreamSender, const N: usize> SendingEndOver<F, N> {
     pub fn segment_size(&self) -> usize
         ensures { result ≡ self.now.size }
     {
-        self.segment_size
+        self.head.segment_size()
+    }
+}
+
+/// Tells the timer what was acknowledged, and whether a block reported what wasn't known.
+fn tell(
+    timer: &mut RetransmissionTimer,
+    bounds: TimeoutBounds,
+    numbers: SentNumbers,
+    ack: u64,
+    reports: bool,
+    now: Instant,
+)
+    ensures { timer_of timer.new ≡ told reports now
+        (after_acknowledged bounds numbers.first_unacknowledged numbers.sent ack now
+        (timer_of timer.old)) }
+{
+    timer.acknowledged(bounds, numbers, ack, now);
+    if reports {
+        timer.reported(now);
     }
 }
 
 /// Finds what is overdue, if it is sought, and returns whether a recovery begins.
-fn seek<F: StreamSender, const N: usize>(buffer: &mut SendBufferOver<F, N>, is_sought: bool) -> bool
-    ensures state { buffer.new ≡ record buffer.old { recovery = buffer.new.recovery } }
-    ensures recovery { (highest : ℕ) → IsEnd buffer.old.reported highest → buffer.new.recovery
-        ≡ after_wait is_sought (numbers_of buffer.old.sender) highest buffer.old.recovery }
-    ensures begins { (highest : ℕ) → IsEnd buffer.old.reported highest →
-        result ≡ (is_sought && begins_by (numbers_of buffer.old.sender) highest
-        buffer.old.recovery) }
+fn seek(buffer: &mut BufferHead, runs: &[Run], numbers: SentNumbers, is_sought: bool) -> bool
+    requires { IsSoundBoard buffer.old.scoreboard runs.now }
+    ensures rest { buffer.new.scoreboard ≡ buffer.old.scoreboard }
+    ensures recovery { (highest : ℕ) → IsEnd (board_of buffer.old runs.now) highest →
+        recovery_of buffer.new.recovery
+        ≡ after_wait is_sought numbers highest (recovery_of buffer.old.recovery) }
+    ensures begins { (highest : ℕ) → IsEnd (board_of buffer.old runs.now) highest →
+        result ≡ (is_sought && begins_by numbers highest (recovery_of buffer.old.recovery)) }
 {
-    is_sought && buffer.find_overdue()
+    is_sought && buffer.find_overdue(runs, numbers)
 }
 
 /// Takes the window that is announced. Returns the greatest one so far.

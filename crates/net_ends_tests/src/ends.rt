@@ -10,15 +10,15 @@ ghost use Rattle.net_ends.specs.Receiving.{IsSoundReceiving};
 use net_base::time::Instant;
 use net_ends::{
     Acknowledged, Acknowledgement, Outgoing, ReceivingEnd, ReceivingEndOver, SendBufferOver,
-    Sending, SendingEndOver, StreamSender, laws, receiving_end,
+    Sending, SendingEndOver, laws, receiving_end,
 };
 use net_ring::{ManagedSlice, Storage};
 use net_tcp::Announcement;
 
 /// Sends all that a buffer has below a limit. Whatever the limit is, the loop ends: by clause `ends` of `next` each range
 /// leaves less that may be sent before an answer.
-pub fn send_all<F: StreamSender, const N: usize>(
-    buffer: &mut SendBufferOver<F, N>,
+pub fn send_all<S: Storage<u8>, const N: usize>(
+    buffer: &mut SendBufferOver<S, N>,
     limit: u64,
     congestion_window: u64,
     segment_size: usize,
@@ -33,8 +33,8 @@ pub fn send_all<F: StreamSender, const N: usize>(
 
 /// Takes an acknowledgement, and returns when the timer ends. It runs while something that was sent isn't acknowledged,
 /// if it did before.
-pub fn take_acknowledgement<F: StreamSender, const N: usize>(
-    sender: &mut SendingEndOver<F, N>,
+pub fn take_acknowledgement<S: Storage<u8>, const N: usize>(
+    sender: &mut SendingEndOver<S, N>,
     it: Announcement,
     now: Instant,
 ) -> Option<Instant>
@@ -48,8 +48,8 @@ pub fn take_acknowledgement<F: StreamSender, const N: usize>(
 
 /// Takes an acknowledgement, and returns whether it says something new. If one number was left, all is acknowledged
 /// then.
-pub fn take_last<F: StreamSender, const N: usize>(
-    sender: &mut SendingEndOver<F, N>,
+pub fn take_last<S: Storage<u8>, const N: usize>(
+    sender: &mut SendingEndOver<S, N>,
     it: Announcement,
     now: Instant,
 ) -> bool
@@ -64,8 +64,8 @@ pub fn take_last<F: StreamSender, const N: usize>(
 }
 
 /// Begins with a peer. Whatever happens then, what isn't worth a segment is sent no more often than the timer ends.
-pub fn begin<F: StreamSender, const N: usize>(
-    sender: &mut SendingEndOver<F, N>,
+pub fn begin<S: Storage<u8>, const N: usize>(
+    sender: &mut SendingEndOver<S, N>,
     it: Announcement,
     segment_size: usize,
     now: Instant,
@@ -78,8 +78,8 @@ pub fn begin<F: StreamSender, const N: usize>(
 
 /// Looks at the timer, and sends what is next, and returns it. If the timeout has passed, nothing is in flight, and
 /// something waits, that is a segment, however small the peer's window is.
-pub fn send_late<F: StreamSender, const N: usize>(
-    sender: &mut SendingEndOver<F, N>,
+pub fn send_late<S: Storage<u8>, const N: usize>(
+    sender: &mut SendingEndOver<S, N>,
     congestion_window: u64,
     now: Instant,
 ) -> Option<Outgoing>

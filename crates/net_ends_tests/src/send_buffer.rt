@@ -1,6 +1,6 @@
 //! A send buffer: what is sent, what is lost, and what is done.
 use net_ends::{AckKind, SendBufferOver, Sending, TakenAck};
-use net_receiver::{FiniteSenderOver, SentNumbers};
+use net_receiver::SentNumbers;
 
 /// The numbers once all of a stream was sent that has four bytes from position 7 on.
 const ALL: SentNumbers = SentNumbers {
@@ -8,7 +8,7 @@ const ALL: SentNumbers = SentNumbers {
     sent: 12,
 };
 
-type Buffer<'a> = SendBufferOver<FiniteSenderOver<&'a mut [u8]>, 2>;
+type Buffer<'a> = SendBufferOver<&'a mut [u8], 2>;
 
 /// Writes four bytes, and ends the stream. Returns whether they were written.
 fn writes(buffer: &mut Buffer<'_>) -> bool {
@@ -79,21 +79,6 @@ fn carries(storage: &mut [u8]) -> bool {
         && takes_a_report(&mut buffer)
         && finds_it_overdue(&mut buffer)
         && is_done_at_last(&mut buffer)
-}
-
-/// Writes two bytes, takes the buffer apart, and makes it again. Returns whether it sends them.
-fn goes_on(storage: &mut [u8]) -> bool {
-    let mut buffer = Buffer::over_at(storage, 7);
-    let is_written = buffer.write(b"ab") == 2;
-    let (sender, parts) = buffer.into_parts();
-    let buffer = Buffer::from_parts(sender, parts);
-    is_written && buffer.next(12, 10, 2) == Some((7, 9)) && lends(&buffer)
-}
-
-#[test]
-fn a_buffer_goes_on_from_its_parts(rt: HostRuntime) {
-    let mut storage = [0u8; 8];
-    assert!(rt; goes_on(&mut storage));
 }
 
 #[test]

@@ -1,8 +1,7 @@
 //! A sending end: what is sent at first, and what its bytes are.
 use net_base::time::{Duration, Instant};
 use net_ends::{Outgoing, SendingEndOver};
-use net_receiver::{FiniteSenderOver, SentNumbers};
-use net_recovery::LossRecovery;
+use net_receiver::SentNumbers;
 use net_tcp::{Announcement, TimeoutBounds};
 
 /// What is sent first.
@@ -12,7 +11,7 @@ const SEGMENT: Outgoing = Outgoing {
     is_again: false,
 };
 
-type End<'a> = SendingEndOver<FiniteSenderOver<&'a mut [u8]>, 2>;
+type End<'a> = SendingEndOver<&'a mut [u8], 2>;
 
 /// Makes an end of a stream that begins at position 7, whose peer has room for 100 bytes, in segments of 2 bytes.
 fn opened(storage: &mut [u8]) -> End<'_> {
@@ -43,17 +42,6 @@ fn sends(storage: &mut [u8]) -> bool {
         && lends(&end)
 }
 
-/// Sends two bytes, takes the end apart, and makes it again. Returns whether all is as before.
-fn goes_on(storage: &mut [u8]) -> bool {
-    let mut end = opened(storage);
-    let is_sent = end.write(b"ab") == 2 && end.next_segment(10, Instant::ZERO) == Some(SEGMENT);
-    let (sender, parts) = end.into_parts();
-    let again = LossRecovery::from_parts(parts.buffer.recovery.parts());
-    let is_known = again == parts.buffer.recovery;
-    let end = End::from_parts(sender, parts);
-    is_sent && is_known && end.expires_at().is_some() && is_in_flight(end.numbers()) && lends(&end)
-}
-
 /// Returns whether the segment is all that isn't acknowledged.
 fn is_in_flight(numbers: SentNumbers) -> bool {
     numbers.first_unacknowledged == SEGMENT.pos && numbers.flight_size() == 2
@@ -69,10 +57,4 @@ fn lends(end: &End<'_>) -> bool {
 fn an_end_sends_what_was_written(rt: HostRuntime) {
     let mut storage = [0u8; 8];
     assert!(rt; sends(&mut storage));
-}
-
-#[test]
-fn an_end_goes_on_from_its_parts(rt: HostRuntime) {
-    let mut storage = [0u8; 8];
-    assert!(rt; goes_on(&mut storage));
 }

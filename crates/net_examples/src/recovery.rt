@@ -1,6 +1,6 @@
 //! What laws say of loss recovery: small functions, each with a contract that is by a law.
 ghost use Rattle.std.specs.Prelude.{◌<◌, ◌≤◌, ℕ, min, IsTrue, IsFalse};
-ghost use Rattle.net_recovery.specs.LossRecovery.{is_active, is_answered, was_sent_again, after_answer};
+ghost use Rattle.net_recovery.specs.LossRecovery.{is_active, is_answered, was_sent_again, after_answer, recovery_of};
 ghost use Rattle.net_receiver.specs.Scoreboards.{IsLossBound, IsEnd};
 
 use net_receiver::{Scoreboard, SentNumbers};
@@ -8,9 +8,9 @@ use net_recovery::{Answer, LossRecovery};
 
 /// Notes that what is lost is sent again: its positions count as sent again.
 pub fn send_again(recovery: &mut LossRecovery, numbers: SentNumbers, start: u64, end: u64)
-    ensures { (p : ℕ) → IsTrue (is_active recovery.old numbers.first_unacknowledged) →
+    ensures { (p : ℕ) → IsTrue (is_active (recovery_of recovery.old) numbers.first_unacknowledged) →
         start < min numbers.sent end → p < end →
-        IsTrue (was_sent_again recovery.new numbers.first_unacknowledged p) }
+        IsTrue (was_sent_again (recovery_of recovery.new) numbers.first_unacknowledged p) }
 {
     net_recovery::laws::passes();
     recovery.sent(numbers, start..end);
@@ -27,10 +27,10 @@ pub fn find_losses(
 ) -> bool
     ensures { (lost highest : ℕ) → let r = after_answer segment_size answer.first
         numbers.first_unacknowledged numbers.sent answer.reports answer.is_equal answer.unsent
-        scoreboard.now recovery.old in IsLossBound r.duplicates segment_size scoreboard.now lost →
+        scoreboard.now (recovery_of recovery.old) in IsLossBound r.duplicates segment_size scoreboard.now lost →
         IsEnd scoreboard.now highest → IsTrue (is_active r numbers.first_unacknowledged) →
         IsFalse r.is_blind → IsTrue (is_answered scoreboard.now r.probe) →
-        r.asked ≤ recovery.new.lost }
+        r.asked ≤ (recovery_of recovery.new).lost }
 {
     net_recovery::laws::arrivals();
     recovery.find_losses(numbers, scoreboard, segment_size, answer)

@@ -1,4 +1,4 @@
 pub mod Counted
 pub mod ReceivingEnds
-pub mod SendingTimers
 pub mod SendingSteps
+pub mod SendingEnds

@@ -8,22 +8,14 @@ use Rattle.std.specs.Prelude.{ℕ, Option, Some, None, List, map, nat_eq, if◌t
 use Rattle.net_receiver.specs.FiniteHead.{finite_of, HasSoundFinite}
 use Rattle.net_ends.specs.Receiving.{Receiving, blocks_of}
 use Rattle.net_ffi.specs.ReceiverParts.{IsPlausible}
+use Rattle.net_ends.specs.ReceivingRules as rules
 use Rattle.net_ffi.specs.declared.receiving_end.ReceivingEnd.{ReceivingEnd}
 
 abbrev pub waits_of : ReceivingEnd → Option (ℕ × ℕ)
-waits_of e = if nat_eq e.has_duplicate 0 then None else Some e.duplicate
+waits_of e = rules.waiting e.head
 
 abbrev pub receiving_of : ReceivingEnd → List ℕ → Receiving
-receiving_of e xs = record {
-  receiver = finite_of e.receiver xs e.runs;
-  edge = e.advertised.edge;
-  scale = e.scale;
-  size = e.segment_size;
-  newest = e.newest;
-  recent = e.recent;
-  duplicate = waits_of e;
-  unanswered = e.unanswered;
-}
+receiving_of e xs = rules.receiving_of (finite_of e.receiver xs e.runs) e.head
 
 abbrev pub IsPlausibleEnd : ℕ → ReceivingEnd → Type 0
 IsPlausibleEnd c e = IsPlausible c 16 e.receiver.receiver

@@ -32,6 +32,7 @@ ghost use Rattle.net_ends.specs.Receiving.{after_arrival};
 ghost use Rattle.net_ffi.specs.ReceiverParts.{IsReadable};
 ghost use Rattle.net_ffi.specs.Refusals.{no_number};
 ghost use Rattle.net_ffi.specs.Results.{status_of_finite};
+ghost use Rattle.net_ends.specs.ReceivingRules.{room_of};
 ghost use Rattle.net_ffi.specs.ReceivingEnds.{receiving_of, waits_of, IsPlausibleEnd, HasSoundEnd, fields_of};
 
 use crate::finite_receiver::has_number;
@@ -43,8 +44,9 @@ use crate::refusals::{
 };
 use crate::results::number_of;
 use net_assembler::Run;
+use net_ends::{ReceivingHead, Room};
 use net_receiver::{FiniteError, FiniteReceiverHead, HeldRun, KeptBytes};
-use net_tcp::{AdvertisedWindow, Segment};
+use net_tcp::Segment;
 
 /// The receiving end of a stream.
 #[repr(C)]
@@ -54,22 +56,8 @@ pub struct ReceivingEnd {
     pub receiver: FiniteReceiverHead,
     /// The runs that it holds.
     pub runs: [Run; RUNS],
-    /// What was announced.
-    pub advertised: AdvertisedWindow,
-    /// The position of the newest segment.
-    pub newest: u64,
-    /// The starts of the runs that were listed last.
-    pub recent: [u64; 4],
-    /// What came twice, and wasn't reported yet.
-    pub duplicate: HeldRun,
-    /// Not 0 if anything came twice, and wasn't reported yet.
-    pub has_duplicate: u32,
-    /// The most bytes of a segment.
-    pub segment_size: u16,
-    /// The scale of the windows.
-    pub scale: u8,
-    /// How many segments wait for an acknowledgement, 2 at most: it is due if as many do.
-    pub unanswered: u8,
+    /// All else that it knows.
+    pub head: ReceivingHead,
 }
 
 /// What a segment without bytes tells the peer.
@@ -101,14 +89,24 @@ impl ReceivingEnd {
         ReceivingEnd {
             receiver: FiniteReceiverHead::new(first),
             runs: [Run { start: 0, end: 0 }; RUNS],
-            advertised: AdvertisedWindow::new(first),
-            newest: first,
-            recent: [0; 4],
-            duplicate: NO_BLOCK,
-            has_duplicate: 0,
-            segment_size,
-            scale: 0,
-            unanswered: 0,
+            head: ReceivingHead::new(first, segment_size),
+        }
+    }
+
+    /// Returns the receiver's numbers.
+    #[inline(always)]
+    fn room(&self, capacity: usize) -> Room
+        requires { HasSoundEnd capacity self.now }
+        ensures value { (storage : List ℕ) → length storage ≡ capacity →
+            result ≡ room_of (receiving_of self.now storage).receiver }
+        ensures order { result.next ≤ result.end }
+    {
+        let (next, end) = self.free(capacity);
+        Room {
+            next,
+            end,
+            capacity: capacity as u64,
+            is_complete: self.receiver.is_complete(),
         }
     }
 
@@ -129,80 +127,8 @@ impl ReceivingEnd {
         }
     }
 
-    /// Returns whether an update of the window is worth a segment.
-    fn is_update_due(&self, capacity: usize) -> bool
-        requires { HasSoundEnd capacity self.now }
-        ensures { (storage : List ℕ) → length storage ≡ capacity →
-            let e = receiving_of self.now storage in
-            result ≡ (not (is_complete e.receiver) && is_worth e) }
-    {
-        let (next, end) = self.free(capacity);
-        !self.receiver.is_complete()
-            && self
-                .advertised
-                .is_update_due(self.scale, next, end, capacity as u64, self.segment_size)
-    }
-
-    /// Returns the number and the window to announce, and promises that.
-    fn promise(&mut self, capacity: usize) -> (u64, u16)
-        requires { HasSoundEnd capacity self.old }
-        ensures value { (storage : List ℕ) → length storage ≡ capacity →
-            let e = receiving_of self.old storage in
-            result ≡ (acknowledged e.receiver, field_of e) }
-        ensures edge { (storage : List ℕ) → length storage ≡ capacity →
-            let e = receiving_of self.old storage in
-            self.new.advertised.edge ≡ max e.edge (promise e) }
-        ensures rest { self.new ≡ record self.old { advertised = self.new.advertised } }
-    {
-        let (next, end) = self.free(capacity);
-        let window = self
-            .advertised
-            .announce_in_steps(self.scale, next, end, capacity as u64, self.segment_size);
-        (next, window)
-    }
-
-    /// Takes notice that what waits for an acknowledgement has it, unless one is due.
-    fn answer_one(&mut self)
-        ensures { self.new ≡ record self.old {
-          unanswered = if nat_lt self.old.unanswered 2 then 0 else self.old.unanswered;
-        } }
-    {
-        if self.unanswered < 2 {
-            self.unanswered = 0;
-        }
-    }
-
-    /// Takes notice of what came before of a segment of `len` bytes at `pos`, if any of it did.
-    fn note_duplicate(&mut self, pos: u64, len: usize)
-        requires { HasSoundHeld self.old.receiver.receiver self.old.runs }
-        ensures twice { (storage : List ℕ) → HasSoundEnd (length storage) self.old →
-            WaitsAfter (receiving_of self.old storage) pos len (waits_of self.new) }
-        ensures rest { self.new ≡ record self.old {
-          duplicate = self.new.duplicate;
-          has_duplicate = self.new.has_duplicate;
-        } }
-    {
-        let end = pos.saturating_add(len as u64);
-        if let Some((start, end)) = self.receiver.receiver.duplicate_of(&self.runs, pos, end) {
-            self.duplicate = HeldRun { start, end };
-            self.has_duplicate = 1;
-        }
-    }
-
-    /// Counts a segment that waits for an acknowledgement, if it `is_next`, or else has one sent at once.
-    fn wait(&mut self, is_next: bool)
-        ensures { self.new ≡ record self.old {
-          unanswered = if is_next then min (self.old.unanswered + 1) 2 else 2;
-        } }
-    {
-        self.unanswered = if is_next {
-            self.unanswered.saturating_add(1).min(2)
-        } else {
-            2
-        };
-    }
-
-    /// Takes a segment, which changes nothing if it has neither a byte nor the end.
+    /// Takes a segment. One with neither a byte nor the end changes nothing.
+    #[inline(always)]
     fn arrived(
         &mut self,
         storage: &mut [u8],
@@ -258,29 +184,14 @@ impl ReceivingEnd {
             × (self.new.runs ≡ self.old.runs) × (storage.new ≡ storage.old)) }
     {
         are_sixteen(self.runs);
-        self.note_duplicate(pos, bytes.len());
+        let end = pos.saturating_add(bytes.len() as u64);
+        let part = self.receiver.receiver.duplicate_of(&self.runs, pos, end);
         let held = self.receiver.receiver.held.used;
         let kept = self
             .receiver
             .keep(storage, &mut self.runs, pos, bytes, is_last);
-        self.newest = pos;
-        self.wait(is_next(held, is_last, kept));
+        self.head.take(pos, is_last, part, held, kept);
         kept
-    }
-
-    /// Takes what came twice, if it is to be reported: an end in order lets go of what was held beyond it.
-    fn take_duplicate(&mut self) -> Option<HeldRun>
-        requires { next_of self.old.receiver < no_end }
-        ensures value { (storage : List ℕ) → HasSoundEnd (length storage) self.old →
-            option_to_list result ≡ reported (receiving_of self.old storage) }
-        ensures state { self.new ≡ record self.old { duplicate = (0, 0); has_duplicate = 0 } }
-    {
-        let part = self.duplicate;
-        let is_reported = self.has_duplicate != 0
-            && (part.end <= self.receiver.acknowledged() || !self.receiver.is_complete());
-        self.duplicate = NO_BLOCK;
-        self.has_duplicate = 0;
-        if is_reported { Some(part) } else { None }
     }
 
     /// Lists the newest runs, at most four, and returns how many.
@@ -292,18 +203,23 @@ impl ReceivingEnd {
         ensures few { result.1 ≤ 4 }
         ensures recent { (storage : List ℕ) → HasSoundEnd (length storage) self.old →
             let e = receiving_of self.old storage in
-            self.new.recent ≡ with_starts e.recent (listed e) }
-        ensures rest { self.new ≡ record self.old { recent = self.new.recent } }
+            self.new.head.recent ≡ with_starts e.recent (listed e) }
+        ensures rest { self.new ≡ record self.old {
+          head = record self.old.head { recent = self.new.head.recent };
+        } }
     {
         let mut runs = [NO_BLOCK; 4];
-        let count = self
-            .receiver
-            .receiver
-            .newest_runs(&self.runs, self.newest, &mut self.recent, &mut runs);
+        let count = self.receiver.receiver.newest_runs(
+            &self.runs,
+            self.head.newest,
+            &mut self.head.recent,
+            &mut runs,
+        );
         (runs, count)
     }
 
     /// Returns what a segment without bytes tells, and takes notice that it does.
+    #[inline(always)]
     fn acknowledgement(&mut self, capacity: usize) -> Acknowledgement
         requires { HasSoundEnd capacity self.old }
         ensures numbers { (storage : List ℕ) → length storage ≡ capacity →
@@ -318,51 +234,45 @@ impl ReceivingEnd {
         ensures sound { HasSoundEnd capacity self.new }
         ensures receiver { self.new.receiver ≡ self.old.receiver }
     {
-        self.unanswered = 0;
-        let (next, window) = self.promise(capacity);
-        let duplicate = self.take_duplicate();
+        let room = self.room(capacity);
+        let (next, window) = self.head.acknowledge(room);
+        let duplicate = self.head.take_duplicate(room.next, room.is_complete);
         let (runs, count) = self.list_runs();
         let (blocks, block_count) = in_front(duplicate, runs, count);
         Acknowledgement {
             next,
-            window,
             blocks,
             block_count,
+            window,
         }
     }
 }
 
+/// There are 16 runs.
+#[inline(always)]
+pub(crate) fn are_sixteen(runs: [Run; RUNS])
+    ensures { length runs ≡ 16 }
+{
+    let _ = runs;
+}
+
 /// Returns so many runs, at most four, with what came twice in front, if anything did, and how many these are then.
-fn in_front(duplicate: Option<HeldRun>, runs: [HeldRun; 4], count: usize) -> ([HeldRun; 4], usize)
+fn in_front(
+    duplicate: Option<(u64, u64)>,
+    runs: [HeldRun; 4],
+    count: usize,
+) -> ([HeldRun; 4], usize)
     requires { count ≤ 4 }
     ensures { (list : List (ℕ × ℕ)) → runs ≡ fields_of list → count ≡ length list →
         let all = option_to_list duplicate ++ list in
         (result.0 ≡ fields_of all) × (result.1 ≡ min (length all) 4) }
 {
     match duplicate {
-        Some(part) => (
-            [part, runs[0], runs[1], runs[2]],
+        Some((start, end)) => (
+            [HeldRun { start, end }, runs[0], runs[1], runs[2]],
             count.saturating_add(1).min(4),
         ),
         None => (runs, count),
-    }
-}
-
-/// States how many runs an end has room for. It does nothing.
-#[inline(always)]
-fn are_sixteen(runs: [Run; RUNS])
-    ensures { length runs ≡ 16 }
-{
-    let _ = runs;
-}
-
-/// Returns whether a segment joined the queue where so many runs were held before, and the end wasn't in it.
-fn is_next(held: usize, is_last: bool, kept: Result<KeptBytes, FiniteError>) -> bool
-    ensures { result ≡ (nat_eq held 0 && not is_last && adds kept) }
-{
-    match kept {
-        Ok(kept) => held == 0 && !is_last && kept.queued > 0,
-        Err(_) => false,
     }
 }
 
@@ -423,10 +333,10 @@ pub extern "C" fn net_base_receiving_end_open(
     if first == u64::MAX {
         return false;
     }
-    *end = ReceivingEnd::new(first, end.segment_size);
-    end.scale = scale;
-    let (next, last) = end.free(capacity);
-    *window = end.advertised.announce(0, next, last);
+    let segment_size = end.head.segment_size;
+    *end = ReceivingEnd::new(first, segment_size);
+    let room = end.room(capacity);
+    *window = end.head.open(room, first, scale);
     true
 }
 
@@ -452,7 +362,11 @@ pub extern "C" fn net_base_receiving_end_classify(
         return NET_BASE_IGNORE;
     }
     let next = end.receiver.acknowledged();
-    number_of(end.advertised.classify(next, capacity as u64, *segment))
+    let arrival = end
+        .head
+        .advertised
+        .classify(next, capacity as u64, *segment);
+    number_of(arrival)
 }
 
 /// Takes the bytes of a segment whose first byte is at `position`, and the end if it `is_last`, as
@@ -527,17 +441,17 @@ pub extern "C" fn net_base_receiving_end_arrived(
 pub extern "C" fn net_base_receiving_end_answer(end: &mut ReceivingEnd)
     ensures step { (storage : List ℕ) →
         receiving_of end.new storage ≡ after_event 16 (receiving_of end.old storage) Answered }
-    ensures rest { end.new ≡ record end.old { unanswered = 2 } }
+    ensures rest { end.new ≡ record end.old { head = record end.old.head { unanswered = 2 } } }
 {
-    end.unanswered = 2;
+    end.head.answer();
 }
 
 /// Returns whether an acknowledgement is to be sent at once.
 #[unsafe(no_mangle)]
 pub extern "C" fn net_base_receiving_end_is_due(end: &ReceivingEnd) -> bool
-    ensures { result ≡ nat_le 2 end.now.unanswered }
+    ensures { result ≡ nat_le 2 end.now.head.unanswered }
 {
-    end.unanswered >= 2
+    end.head.is_due()
 }
 
 /// Returns whether an acknowledgement is to be sent before one waits, where the storage has `capacity` bytes: something
@@ -558,8 +472,7 @@ pub extern "C" fn net_base_receiving_end_is_wanted(end: &ReceivingEnd, capacity:
         result ≡ (nat_lt 0 e.unanswered || (not (is_complete e.receiver) && is_worth e)) }
     ensures refused { (IsPlausibleEnd capacity end.now → ⊥) → IsFalse result }
 {
-    is_plausible(&end.receiver.receiver, capacity, RUNS)
-        && (end.unanswered > 0 || end.is_update_due(capacity))
+    is_plausible(&end.receiver.receiver, capacity, RUNS) && end.head.is_wanted(end.room(capacity))
 }
 
 /// Writes what a segment with bytes of its own tells, takes notice that it does, and returns true: the first number
@@ -595,10 +508,8 @@ pub extern "C" fn net_base_receiving_end_announce(
     if !is_plausible(&end.receiver.receiver, capacity, RUNS) {
         return false;
     }
-    end.answer_one();
-    let promise = end.promise(capacity);
-    *next = promise.0;
-    *window = promise.1;
+    let room = end.room(capacity);
+    (*next, *window) = end.head.announce(room);
     true
 }
 

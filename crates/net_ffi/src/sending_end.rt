@@ -28,97 +28,29 @@ ghost use Rattle.net_ends.specs.Ends.{new_end, after_event, Opened, Forgot, Enab
 ghost use Rattle.net_ends.specs.Ends.{first, Resumed};
 ghost use Rattle.net_ffi.specs.Refusals.{no_number};
 ghost use Rattle.net_ffi.specs.Retransmission.{given_or, bounds_of};
-ghost use Rattle.net_ffi.specs.SendingEnds.{recovery_of, recovery_fields, sending_of, stored, begun_at};
+ghost use Rattle.net_ffi.specs.SendingEnds.{sending_of, begun_at};
 ghost use Rattle.net_ffi.specs.SendingEnds.{IsSoundSending, AreBlocks};
-ghost use Rattle.net_ffi.specs.SendingEnds.{taken_fields, Hears, ended_fields, Looks, outgoing_fields, Chooses};
+ghost use Rattle.net_ffi.specs.SendingEnds.{taken_fields, ended_fields, outgoing_fields};
+ghost use Rattle.net_ends.specs.Calls.{Hears, Looks, Chooses};
+ghost use Rattle.net_ends.specs.Rules.{queued_of};
+ghost use Rattle.net_receiver.specs.FiniteSender.{finite_sender_of, sender_after_command, Acknowledges, Marks};
 
 use crate::receiver::RUNS;
+use crate::receiving_end::are_sixteen;
 use crate::refusals::{
     AcknowledgedStatus, ExpiredStatus, NET_BASE_ANSWER, NET_BASE_DONE, NET_BASE_LOST,
     NET_BASE_NOTHING, NET_BASE_OLD, NET_BASE_OVERDUE, NET_BASE_PROBE, NET_BASE_REFUSED,
     OutgoingStatus, no_number,
 };
-use crate::retransmission::{
-    FIRST_TIMEOUT, RetransmissionTimer, TimeoutBounds, bounds_from, fields_of_timer, flag_of,
-    given_or, timer_from,
-};
+use crate::retransmission::{FIRST_TIMEOUT, TimeoutBounds, bounds_from, given_or};
 use net_assembler::Run;
 use net_base::time::{Duration, Instant};
-use net_ends::{Acknowledged, BufferParts, Expired, Outgoing, SendingEndOver, SendingParts};
-use net_receiver::{FiniteSenderHead, HeldRun, ScoreboardHead, SentNumbers};
-use net_recovery::RecoveryParts;
-use net_tcp::{Announcement, PeerWindow};
-
-mod head_sender;
-
-use head_sender::{HeadSender, accept, mark};
+use net_ends::{Acknowledged, Expired, Outgoing, Queued, SendingHead};
+use net_receiver::{FiniteSenderHead, HeldRun, SentNumbers};
+use net_tcp::Announcement;
 
 /// How many blocks an acknowledgement has room for: TCP's options have room for four.
 const BLOCKS: usize = 4;
-
-/// How many segments above a position tell that it is lost, as long as nothing came twice.
-const DUPLICATES: usize = 3;
-
-/// What is lost; zeros are nothing.
-#[repr(C)]
-#[derive(Copy, Clone, Debug)]
-pub struct LossRecovery {
-    /// The recovery lasts until all positions below this one are acknowledged.
-    pub until: u64,
-    /// What is below this position and isn't reported is lost.
-    pub lost: u64,
-    /// What is lost below this position was sent again in this pass.
-    pub again: u64,
-    /// What is lost from this position on and below `resume` was sent again before this pass, which leaves it out.
-    pub turn: u64,
-    /// All that was sent again below this position was sent before what was sent again from there on.
-    pub resume: u64,
-    /// The number after the last one that was sent when `resume` was set.
-    pub sent: u64,
-    /// How many positions were sent again from `resume` on since then.
-    pub later: u64,
-    /// Where the probe begins that wasn't answered, if there is one.
-    pub probe: u64,
-    /// Not 0 while a probe wasn't answered.
-    pub has_probe: u64,
-    /// The number after the last one that was sent when the probe was.
-    pub asked: u64,
-    /// Not 0 if the peer doesn't report what has arrived.
-    pub is_blind: u64,
-    /// How many positions have arrived that it doesn't report.
-    pub unknown: u64,
-    /// Until all positions below this one are acknowledged, `duplicates` stays.
-    pub round: u64,
-    /// The first position that wasn't acknowledged when the recovery began.
-    pub since: u64,
-    /// How many positions were sent again since then, less those that came twice.
-    pub copies: u64,
-    /// How many segments above a position tell that it is lost, if `has_duplicates` isn't 0; else 3 do.
-    pub duplicates: usize,
-    /// Not 0 once `duplicates` counts.
-    pub has_duplicates: usize,
-}
-
-/// Nothing is lost.
-const NO_LOSS: LossRecovery = LossRecovery {
-    until: 0,
-    lost: 0,
-    again: 0,
-    turn: 0,
-    resume: 0,
-    sent: 0,
-    later: 0,
-    probe: 0,
-    has_probe: 0,
-    asked: 0,
-    is_blind: 0,
-    unknown: 0,
-    round: 0,
-    since: 0,
-    copies: 0,
-    duplicates: 0,
-    has_duplicates: 0,
-};
 
 /// The sending end of a stream.
 #[repr(C)]
@@ -126,34 +58,14 @@ const NO_LOSS: LossRecovery = LossRecovery {
 pub struct SendingEnd {
     /// The sender.
     pub sender: FiniteSenderHead,
-    /// What was reported.
-    pub scoreboard: ScoreboardHead,
     /// The runs of what was reported.
     pub runs: [Run; RUNS],
-    /// What is lost.
-    pub recovery: LossRecovery,
-    /// The timer.
-    pub timer: RetransmissionTimer,
+    /// All else that it knows.
+    pub head: SendingHead,
     /// The timeout before any sample. 0 counts as 1 second.
     pub first_timeout: u64,
     /// The bounds of the timeout.
     pub bounds: TimeoutBounds,
-    /// The peer's window.
-    pub peer_window: PeerWindow,
-    /// The greatest window that the peer ever announced.
-    pub greatest_window: u64,
-    /// The window that it announced last.
-    pub last_window: u64,
-    /// The most bytes of a segment. 0 counts as 1.
-    pub segment_size: usize,
-    /// Not 0 if Nagle's rule is disabled.
-    pub no_delay: usize,
-    /// Not 0 once the peer has acknowledged anything, if only the own SYN.
-    pub is_open: u64,
-    /// Not 0 if the timeout has passed and nothing was sent since then.
-    pub is_window_probe_due: u64,
-    /// Not 0 if the next segment is a probe for an answer, if nothing else may be sent.
-    pub is_overdue: u64,
 }
 
 /// What an acknowledgement said.
@@ -334,81 +246,6 @@ fn fields_of_outgoing(it: Outgoing) -> OutgoingSegment
     }
 }
 
-/// Returns the recovery that the fields represent.
-#[inline(always)]
-fn recovery_from(fields: &LossRecovery) -> net_recovery::LossRecovery
-    ensures { result ≡ recovery_of fields.now }
-{
-    let probe = if fields.has_probe == 0 {
-        None
-    } else {
-        Some(fields.probe)
-    };
-    let duplicates = if fields.has_duplicates == 0 {
-        DUPLICATES
-    } else {
-        fields.duplicates
-    };
-    net_recovery::LossRecovery::from_parts(RecoveryParts {
-        until: fields.until,
-        lost: fields.lost,
-        again: fields.again,
-        turn: fields.turn,
-        resume: fields.resume,
-        sent: fields.sent,
-        later: fields.later,
-        probe,
-        asked: fields.asked,
-        is_blind: fields.is_blind != 0,
-        unknown: fields.unknown,
-        duplicates,
-        round: fields.round,
-        since: fields.since,
-        copies: fields.copies,
-    })
-}
-
-/// Returns the fields of a position that there may be: 0 and 0 if there is none.
-#[inline(always)]
-fn fields_of_probe(probe: Option<u64>) -> (u64, u64)
-    ensures value { result ≡ (unwrap_or probe 0, if is_some probe then 1 else 0) }
-    ensures same { (if nat_eq result.1 0 then None else Some result.0) ≡ probe }
-{
-    match probe {
-        Some(at) => (at, 1),
-        None => (0, 0),
-    }
-}
-
-/// Returns the fields of a recovery, which represent it.
-#[inline(always)]
-fn fields_of_recovery(recovery: net_recovery::LossRecovery) -> LossRecovery
-    ensures value { result ≡ recovery_fields recovery }
-    ensures same { recovery_of result ≡ recovery }
-{
-    let parts = recovery.parts();
-    let (probe, has_probe) = fields_of_probe(parts.probe);
-    LossRecovery {
-        until: parts.until,
-        lost: parts.lost,
-        again: parts.again,
-        turn: parts.turn,
-        resume: parts.resume,
-        sent: parts.sent,
-        later: parts.later,
-        probe,
-        has_probe,
-        asked: parts.asked,
-        is_blind: flag_of(parts.is_blind),
-        unknown: parts.unknown,
-        round: parts.round,
-        since: parts.since,
-        copies: parts.copies,
-        duplicates: parts.duplicates,
-        has_duplicates: 1,
-    }
-}
-
 /// Returns a block, or none if there are fewer.
 #[inline(always)]
 fn block_at(blocks: &[HeldRun], at: usize) -> (u64, u64)
@@ -473,59 +310,54 @@ fn moment(now: i64) -> Instant
 fn is_sound(end: &SendingEnd, capacity: usize) -> bool
     ensures { IsTrue result ↔ IsSoundSending capacity end.now }
 {
-    end.sender.is_sound(capacity) && end.scoreboard.is_sound(&end.runs)
+    end.sender.is_sound(capacity) && end.head.buffer.is_sound(&end.runs)
 }
 
-/// Returns the end that the fields and the storage represent.
+/// Returns what a sender over `capacity` bytes has sent, and what is queued.
 #[inline(always)]
-fn end_from<'a>(end: &SendingEnd, storage: &'a [u8]) -> SendingEndOver<HeadSender<'a>, RUNS>
-    requires { IsSoundSending (length storage.now) end.now }
-    ensures { result ≡ sending_of end.now storage.now }
+fn queued_from(sender: &FiniteSenderHead, _capacity: usize) -> Queued
+    requires { IsSoundFiniteSender _capacity sender.now }
+    ensures value { (storage : List ℕ) → length storage ≡ _capacity →
+        result ≡ queued_of (finite_sender_of sender.now storage) }
+    ensures order { result.numbers.first_unacknowledged ≤ result.numbers.sent }
 {
-    let runs = end.runs;
-    let buffer = BufferParts {
-        scoreboard: end.scoreboard,
-        runs,
-        recovery: recovery_from(&end.recovery),
-    };
-    let parts = SendingParts {
-        buffer,
-        timer: timer_from(&end.timer),
-        first_timeout: Duration::from_micros(given_or(end.first_timeout, FIRST_TIMEOUT)),
-        bounds: bounds_from(&end.bounds),
-        peer_window: end.peer_window,
-        greatest_window: end.greatest_window,
-        last_window: end.last_window,
-        segment_size: end.segment_size.max(1),
-        is_open: end.is_open != 0,
-        nagle: end.no_delay == 0,
-        is_window_probe_due: end.is_window_probe_due != 0,
-        is_overdue: end.is_overdue != 0,
-    };
-    SendingEndOver::from_parts(HeadSender::new(end.sender, storage), parts)
+    Queued {
+        numbers: numbers_from(sender),
+        end: sender.numbers_end(),
+        is_closed: sender.is_closed(),
+    }
 }
 
-/// Stores what an end has learned: all but the sender, and what is set.
+/// Has the sender take an acknowledgement, if it does.
 #[inline(always)]
-fn put(end: &mut SendingEnd, it: SendingEndOver<HeadSender<'_>, RUNS>)
-    requires { 1 ≤ it.timer.timeout.timeout }
-    ensures sender { end.new.sender ≡ end.old.sender }
-    ensures scoreboard { IsSoundBoard end.new.scoreboard end.new.runs }
-    ensures state { (storage : List ℕ) →
-        sending_of end.new storage ≡ stored end.old storage it.entry }
+fn acknowledge(sender: &mut FiniteSenderHead, capacity: usize, ack: u64)
+    requires { IsSoundFiniteSender capacity sender.old }
+    ensures sound { IsSoundFiniteSender capacity sender.new }
+    ensures step { (storage : List ℕ) → length storage ≡ capacity →
+        finite_sender_of sender.new storage
+        ≡ sender_after_command (finite_sender_of sender.old storage) (Acknowledges ack) }
 {
-    let (_sender, parts) = it.into_parts();
-    let runs = parts.buffer.runs;
-    end.scoreboard = parts.buffer.scoreboard;
-    end.runs = runs;
-    end.recovery = fields_of_recovery(parts.buffer.recovery);
-    end.timer = fields_of_timer(parts.timer);
-    end.peer_window = parts.peer_window;
-    end.greatest_window = parts.greatest_window;
-    end.last_window = parts.last_window;
-    end.is_open = flag_of(parts.is_open);
-    end.is_window_probe_due = flag_of(parts.is_window_probe_due);
-    end.is_overdue = flag_of(parts.is_overdue);
+    let _is_taken = sender.acknowledge(capacity, ack);
+}
+
+/// Has the sender take notice that numbers below `to` are sent.
+#[inline(always)]
+fn mark(sender: &mut FiniteSenderHead, capacity: usize, to: u64)
+    requires { IsSoundFiniteSender capacity sender.old }
+    ensures sound { IsSoundFiniteSender capacity sender.new }
+    ensures step { (storage : List ℕ) → length storage ≡ capacity →
+        finite_sender_of sender.new storage
+        ≡ sender_after_command (finite_sender_of sender.old storage) (Marks to) }
+{
+    let _is_written = sender.mark_sent(capacity, to);
+}
+
+/// Returns the timeout before any sample.
+#[inline(always)]
+fn first_timeout(end: &SendingEnd) -> Duration
+    ensures { result ≡ given_or end.now.first_timeout 1000000 }
+{
+    Duration::from_micros(given_or(end.first_timeout, FIRST_TIMEOUT))
 }
 
 /// Returns the end of a stream that begins at position `first`, to which nothing was written.
@@ -538,23 +370,13 @@ fn new_end(first: u64, first_timeout: u64, bounds: &TimeoutBounds) -> SendingEnd
 {
     SendingEnd {
         sender: FiniteSenderHead::new(first),
-        scoreboard: ScoreboardHead::new_at(first),
         runs: [Run { start: 0, end: 0 }; RUNS],
-        recovery: NO_LOSS,
-        timer: fields_of_timer(net_tcp::RetransmissionTimer::new(
-            Duration::from_micros(first_timeout),
-            false,
-        )),
+        head: SendingHead::new_at(
+            first,
+            Duration::from_micros(given_or(first_timeout, FIRST_TIMEOUT)),
+        ),
         first_timeout,
         bounds: *bounds,
-        peer_window: PeerWindow::new(),
-        greatest_window: 0,
-        last_window: 0,
-        segment_size: 0,
-        no_delay: 0,
-        is_open: 0,
-        is_window_probe_due: 0,
-        is_overdue: 0,
     }
 }
 
@@ -617,10 +439,9 @@ pub extern "C" fn net_base_sending_end_open(
     if !is_sound(end, storage.len()) {
         return false;
     }
-    let mut machine = end_from(end, storage);
-    machine.open(*it, segment_size, reports, moment(now));
-    put(end, machine);
-    end.segment_size = segment_size;
+    let (numbers, first) = (numbers_from(&end.sender), first_timeout(end));
+    end.head
+        .open(numbers, first, *it, segment_size, reports, moment(now));
     true
 }
 
@@ -642,9 +463,8 @@ pub extern "C" fn net_base_sending_end_forget(
     if !is_sound(end, storage.len()) {
         return false;
     }
-    let mut machine = end_from(end, storage);
-    machine.forget(moment(now));
-    put(end, machine);
+    let (numbers, first) = (numbers_from(&end.sender), first_timeout(end));
+    end.head.forget(numbers, first, moment(now));
     true
 }
 
@@ -671,10 +491,8 @@ pub extern "C" fn net_base_sending_end_is_opening_due(
     if !is_sound(end, storage.len()) {
         return false;
     }
-    let mut machine = end_from(end, storage);
-    let is_due = machine.is_opening_due(moment(now));
-    put(end, machine);
-    is_due
+    end.head
+        .is_opening_due(bounds_from(&end.bounds), moment(now))
 }
 
 /// Enables Nagle's rule (RFC 9293, 3.7.4), or disables it. While something that was sent isn't acknowledged, less than
@@ -686,7 +504,7 @@ pub extern "C" fn net_base_sending_end_set_nagle_enabled(end: &mut SendingEnd, e
     ensures sound { (capacity : ℕ) → IsSoundSending capacity end.old →
         IsSoundSending capacity end.new }
 {
-    end.no_delay = if enabled { 0 } else { 1 };
+    end.head.set_nagle_enabled(enabled);
 }
 
 /// Enqueues the first of these bytes, as many as there is room for, and returns how many: `net_base_finite_sender_room`
@@ -746,7 +564,7 @@ pub extern "C" fn net_base_sending_end_acknowledged(
 ) -> TakenAcknowledgement
     ensures value { IsSoundSending (length storage.now) end.old → AreBlocks blocks.now →
         (said : Acknowledged) × (result ≡ taken_fields said)
-        × Hears (sending_of end.old storage.now) it.now.seq it.now.ack it.now.window blocks.now
+        × Hears 16 (sending_of end.old storage.now) it.now.seq it.now.ack it.now.window blocks.now
         is_empty now said (sending_of end.new storage.now) }
     ensures sound { IsSoundSending (length storage.now) end.old →
         IsSoundSending (length storage.now) end.new }
@@ -757,11 +575,19 @@ pub extern "C" fn net_base_sending_end_acknowledged(
     if blocks.len() > BLOCKS || !is_sound(end, storage.len()) {
         return refused_taken_acknowledgement();
     }
+    are_sixteen(end.runs);
     let pairs = pairs_of(blocks);
-    let mut machine = end_from(end, storage);
-    let said = machine.acknowledged(*it, &pairs[..blocks.len()], is_empty, moment(now));
-    put(end, machine);
-    let _is_taken = accept(&mut end.sender, storage.len(), it.ack);
+    let numbers = numbers_from(&end.sender);
+    let said = end.head.acknowledged(
+        &mut end.runs,
+        numbers,
+        bounds_from(&end.bounds),
+        *it,
+        &pairs[..blocks.len()],
+        is_empty,
+        moment(now),
+    );
+    acknowledge(&mut end.sender, storage.len(), it.ack);
     fields_of_acknowledged(said)
 }
 
@@ -787,9 +613,11 @@ pub extern "C" fn net_base_sending_end_expired(
     if !is_sound(end, storage.len()) {
         return refused_ended_timer();
     }
-    let mut machine = end_from(end, storage);
-    let said = machine.expired(moment(now));
-    put(end, machine);
+    let Some(expiry) = end.head.timer.expire(bounds_from(&end.bounds), moment(now)) else {
+        return ended(NET_BASE_DONE, false);
+    };
+    let queued = queued_from(&end.sender, storage.len());
+    let said = end.head.take_expiry(&end.runs, queued, expiry);
     fields_of_expired(said)
 }
 
@@ -815,10 +643,8 @@ pub extern "C" fn net_base_sending_end_take_back(end: &mut SendingEnd, storage: 
     if !is_sound(end, storage.len()) {
         return false;
     }
-    let mut machine = end_from(end, storage);
-    let is_wrong = machine.take_back();
-    put(end, machine);
-    is_wrong
+    let numbers = numbers_from(&end.sender);
+    end.head.buffer.take_back(&end.runs, numbers)
 }
 
 /// Returns the segment that is to be sent now, and takes notice that it is: if the peer's window and the congestion
@@ -849,9 +675,14 @@ pub extern "C" fn net_base_sending_end_next_segment(
     if !is_sound(end, storage.len()) {
         return refused_outgoing_segment();
     }
-    let mut machine = end_from(end, storage);
-    let said = machine.next_segment(congestion_window, moment(now));
-    put(end, machine);
+    let queued = queued_from(&end.sender, storage.len());
+    let said = end.head.next_segment(
+        &end.runs,
+        queued,
+        bounds_from(&end.bounds),
+        congestion_window,
+        moment(now),
+    );
     match said {
         None => no_segment(NET_BASE_NOTHING),
         Some(it) => {
@@ -915,7 +746,7 @@ pub extern "C" fn net_base_sending_end_expires_at(end: &SendingEnd, moment: &mut
     ensures moment { (storage : List ℕ) →
         moment.new ≡ unwrap_or (expires_at (sending_of end.now storage).timer) moment.old }
 {
-    match timer_from(&end.timer).expires_at() {
+    match end.head.timer.expires_at() {
         Some(at) => {
             *moment = at.total_micros();
             true
@@ -958,7 +789,8 @@ pub extern "C" fn net_base_sending_end_acknowledgement_number(end: &SendingEnd) 
     if !has_first(&end.sender) {
         return u64::MAX;
     }
-    end.peer_window
+    end.head
+        .peer_window
         .acknowledgement_number(numbers_from(&end.sender))
 }
 
@@ -973,5 +805,10 @@ pub extern "C" fn net_base_sending_end_is_recovering(end: &SendingEnd) -> bool
     ensures refused { 2 ^ 64 ≤ end.now.sender.sender.first_unacknowledged
         + end.now.sender.finished → IsFalse result }
 {
-    has_first(&end.sender) && recovery_from(&end.recovery).is_active(numbers_from(&end.sender))
+    has_first(&end.sender)
+        && end
+            .head
+            .buffer
+            .recovery
+            .is_active(numbers_from(&end.sender))
 }

@@ -175,7 +175,7 @@ impl ScoreboardHead {
     }
 
     /// Returns the first position that wasn't reported.
-    pub(crate) fn first_unreported(&self) -> u64
+    pub fn first_unreported(&self) -> u64
         ensures value { result ≡ self.now.base }
         ensures state { (runs : List (ℕ × ℕ)) → IsSoundBoard self.now runs →
             result ≡ front (reported_by self.now runs) }
@@ -252,7 +252,7 @@ impl ScoreboardHead {
     /// # Requires
     ///
     /// The scoreboard is sound with the runs.
-    pub(crate) fn first_missing(&self, runs: &[Run], pos: u64) -> u64
+    pub fn first_missing(&self, runs: &[Run], pos: u64) -> u64
         requires { IsSoundBoard self.now runs.now }
         ensures { result ≡ first_missing (reported_by self.now runs.now) pos }
     {

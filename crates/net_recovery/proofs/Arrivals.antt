@@ -5,17 +5,17 @@ use Rattle.std.specs.Prelude.{IsTrue, IsFalse}
 use Rattle.net_assembler.specs.Positions.{Positions}
 use Rattle.net_recovery.specs.LossRecovery.{is_active, after_report, is_answered, withdrawn, unsent_lost, blind_lost}
 use Rattle.net_recovery.specs.LossRecovery.{after_hearing}
-use Rattle.net_recovery.specs.declared.loss_recovery.LossRecovery.{LossRecovery}
+use Rattle.net_recovery.specs.LossRecovery.{Recovery}
 
-pub answered_loses : (size first sent : ℕ) (s : Positions) (lost highest : ℕ) (r : LossRecovery) →
+pub answered_loses : (size first sent : ℕ) (s : Positions) (lost highest : ℕ) (r : Recovery) →
     IsTrue (is_active r first) → IsFalse r.is_blind → IsTrue (is_answered s r.probe) →
     r.asked ≤ (after_report size first sent s lost highest r).lost
 answered_loses size first sent s lost highest r active sees answered = grind (arith, nat_tests)
 
-pub none_unsent : (first : ℕ) (s : Positions) (r : LossRecovery) → unsent_lost (withdrawn r) first s ≡ 0
+pub none_unsent : (first : ℕ) (s : Positions) (r : Recovery) → unsent_lost (withdrawn r) first s ≡ 0
 none_unsent first s r = grind (arith, nat_tests)
 
-pub third_loses : (size first sent : ℕ) (r : LossRecovery) → r.until < first → r.duplicates ≡ 3 → r.unknown ≡ 0 →
+pub third_loses : (size first sent : ℕ) (r : Recovery) → r.until < first → r.duplicates ≡ 3 → r.unknown ≡ 0 →
     0 < size → first + 4 * size ≤ sent → sent < 2 ^ 64 →
     let one = after_hearing size first first sent false true r in
     let two = after_hearing size first first sent false true one in
@@ -23,7 +23,7 @@ pub third_loses : (size first sent : ℕ) (r : LossRecovery) → r.until < first
     (blind_lost size first first sent two ≡ 0) × (blind_lost size first first sent three ≡ first + size)
 third_loses size first sent r over three none some room fits = (grind (arith, nat_tests), grind (arith, nat_tests))
 
-pub partial_loses : (size before first sent : ℕ) (r : LossRecovery) → IsTrue (is_active r first) → IsTrue r.is_blind →
+pub partial_loses : (size before first sent : ℕ) (r : Recovery) → IsTrue (is_active r first) → IsTrue r.is_blind →
     before < first → first < sent → sent < 2 ^ 64 → 0 < size → first < blind_lost size before first sent r
 partial_loses size before first sent r active blind new some fits one = grind (arith, nat_tests)
 

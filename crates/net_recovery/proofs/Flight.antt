@@ -3,7 +3,7 @@ use Rattle.std.proofs.Common.{◌≡◌, ℕ, ◌+◌, ◌-◌, ◌≤◌, zero,
 use Rattle.std.specs.Prelude.{if◌then◌else◌, max, min}
 use Rattle.net_assembler.specs.Positions.{Positions, missing_count}
 use Rattle.net_recovery.specs.LossRecovery.{is_active, resumed, gone_on, in_flight}
-use Rattle.net_recovery.specs.declared.loss_recovery.LossRecovery.{LossRecovery}
+use Rattle.net_recovery.specs.LossRecovery.{Recovery}
 
 missing_more : (s : Positions) (p n m : ℕ) → missing_count s p (n + m) ≡ missing_count s p n + missing_count s (p + n) m
 missing_more s p zero m =
@@ -41,7 +41,7 @@ others s first from turn resume lost sent unknown one two three four five =
     omega (arith, a, b, c, d)
 
 -- what is in flight in a recovery, by such ranges
-pub flight : (s : Positions) (r : LossRecovery) (first sent from turn resume lost : ℕ) → is_active r first ≡ true →
+pub flight : (s : Positions) (r : Recovery) (first sent from turn resume lost : ℕ) → is_active r first ≡ true →
     from ≡ max r.again first → turn ≡ max (min r.turn r.lost) from → resume ≡ max r.resume from →
     lost ≡ max r.lost resume →
     turn ≤ resume → lost ≤ sent →

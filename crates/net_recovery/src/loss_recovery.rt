@@ -21,7 +21,8 @@ ghost use Rattle.std.specs.Prelude.{◌≡◌, ℕ, ◌+◌, ◌<◌, ◌≤◌,
 ghost use Rattle.std.specs.Prelude.{IsTrue, IsFalse, is_some, if◌then◌else◌};
 ghost use Rattle.net_receiver.specs.Scoreboards.{IsHole, IsLossBound, IsEnd};
 ghost use Rattle.net_assembler.specs.Positions.{contains};
-ghost use Rattle.net_recovery.specs.LossRecovery.{recovery_of, parts_of, new_recovery, forgotten, begun};
+ghost use Rattle.std.specs.Prelude.{None, nat_eq};
+ghost use Rattle.net_recovery.specs.LossRecovery.{recovery_of, new_recovery, no_loss, forgotten, begun};
 ghost use Rattle.net_recovery.specs.LossRecovery.{is_active, is_answered};
 ghost use Rattle.net_recovery.specs.LossRecovery.{with_pass, with_mark, later, overtaken, after_pass, after_losses};
 ghost use Rattle.net_recovery.specs.LossRecovery.{after_report, found, after_silence};
@@ -32,7 +33,8 @@ ghost use Rattle.net_recovery.specs.LossRecovery.{unsent, next_range, next_segme
 ghost use Rattle.net_recovery.specs.LossRecovery.{next_probe, after_copies, with_copies, is_wrong, taken_back};
 ghost use Rattle.net_recovery.specs.LossRecovery.{after_probe};
 
-use net_receiver::{Scoreboard, SentNumbers};
+use crate::reported::Reported;
+use net_receiver::{SentNumbers, flag_of};
 use std::ops::Range;
 
 /// How many segments above a position tell that it is lost, as long as nothing came twice (RFC 6675's DupThresh).
@@ -52,41 +54,6 @@ pub struct Answer {
     pub reports: bool,
     /// Whether it is an equal one, as `is_equal_acknowledgement` says: something has arrived, it doesn't say where.
     pub is_equal: bool,
-}
-
-/// All that a recovery knows.
-#[derive(Copy, Clone, Debug, PartialEq, Eq, Hash)]
-pub struct RecoveryParts {
-    /// The recovery lasts until all positions below this one are acknowledged.
-    pub until: u64,
-    /// What is below this position and isn't reported is lost.
-    pub lost: u64,
-    /// What is lost below this position was sent again in this pass.
-    pub again: u64,
-    /// What is lost from this position on and below `resume` was sent again before this pass, which leaves it out.
-    pub turn: u64,
-    /// All that was sent again below this position was sent before what was sent again from there on.
-    pub resume: u64,
-    /// The number after the last one that was sent when `resume` was set.
-    pub sent: u64,
-    /// How many positions were sent again from `resume` on since then.
-    pub later: u64,
-    /// Where the probe begins that wasn't answered.
-    pub probe: Option<u64>,
-    /// The number after the last one that was sent when the probe was.
-    pub asked: u64,
-    /// Whether the peer doesn't report what has arrived.
-    pub is_blind: bool,
-    /// How many positions have arrived that it doesn't report.
-    pub unknown: u64,
-    /// How many segments above a position tell that it is lost.
-    pub duplicates: usize,
-    /// Until all positions below this one are acknowledged, `duplicates` stays.
-    pub round: u64,
-    /// The first position that wasn't acknowledged when the recovery began.
-    pub since: u64,
-    /// How many positions were sent again since then, less those that came twice.
-    pub copies: u64,
 }
 
 /// What a sender of TCP sends next where segments are lost: first what is lost, then what was never sent.
@@ -131,43 +98,54 @@ pub struct RecoveryParts {
 /// assert!(!recovery.find_overdue(numbers, &scoreboard));
 /// assert_eq!(recovery.next_probe(numbers, &scoreboard, 800, 100), Some((0, 100)));
 /// ```
+///
+/// It is numbers alone, so that C has it as it is: a flag is not 0 where it holds, and what there may be has one beside it.
+/// One of zeros is new.
+#[repr(C)]
 #[derive(Copy, Clone, Debug, PartialEq, Eq, Hash)]
 pub struct LossRecovery {
-    // It lasts until all positions below this one are acknowledged.
+    /// The recovery lasts until all positions below this one are acknowledged.
     until: u64,
-    // What is below this position and isn't reported is lost.
+    /// What is below this position and isn't reported is lost.
     lost: u64,
-    // What is lost below this position was sent again in this pass.
+    /// What is lost below this position was sent again in this pass.
     again: u64,
-    // What is lost from `turn` on and below `resume` was sent again before this pass, which leaves it out. All that was
-    // sent again below `resume` was sent before what was sent again from there on.
+    /// What is lost from this position on and below `resume` was sent again before this pass, which leaves it out.
     turn: u64,
+    /// All that was sent again below this position was sent before what was sent again from there on.
     resume: u64,
-    // The number after the last one that was sent when `resume` was set, and how many positions were sent again from
-    // `resume` on since then.
+    /// The number after the last one that was sent when `resume` was set.
     sent: u64,
+    /// How many positions were sent again from `resume` on since then.
     later: u64,
-    // Where the probe begins that wasn't answered.
-    probe: Option<u64>,
-    // The number after the last one that was sent when the probe was.
+    /// Where the probe begins that wasn't answered, if there is one.
+    probe: u64,
+    /// Not 0 while a probe wasn't answered.
+    has_probe: u64,
+    /// The number after the last one that was sent when the probe was.
     asked: u64,
-    // Whether the peer doesn't report what has arrived, and how many positions have that it doesn't.
-    is_blind: bool,
+    /// Not 0 if the peer doesn't report what has arrived.
+    is_blind: u64,
+    /// How many positions have arrived that it doesn't report.
     unknown: u64,
-    // How many segments above a position tell that it is lost, and until which number is acknowledged that stays so.
-    duplicates: usize,
+    /// Until all positions below this one are acknowledged, `duplicates` stays.
     round: u64,
-    // The first position that wasn't acknowledged when the recovery began, and how many were sent again since then, less
-    // those that came twice.
+    /// The first position that wasn't acknowledged when the recovery began.
     since: u64,
+    /// How many positions were sent again since then, less those that came twice.
     copies: u64,
+    /// How many segments above a position tell that it is lost, if `has_duplicates` isn't 0; else 3 do.
+    duplicates: usize,
+    /// Not 0 once `duplicates` counts.
+    has_duplicates: usize,
 }
 
 impl LossRecovery {
     /// Returns that no recovery is active, and nothing came twice.
     #[must_use]
     pub const fn new() -> Self
-        ensures { result ≡ new_recovery }
+        ensures state { recovery_of result ≡ new_recovery }
+        ensures numbers { result ≡ no_loss }
     {
         LossRecovery {
             until: 0,
@@ -177,70 +155,23 @@ impl LossRecovery {
             resume: 0,
             sent: 0,
             later: 0,
-            probe: None,
+            probe: 0,
+            has_probe: 0,
             asked: 0,
-            is_blind: false,
+            is_blind: 0,
             unknown: 0,
-            duplicates: DUPLICATES,
             round: 0,
             since: 0,
             copies: 0,
-        }
-    }
-
-    /// Returns the recovery of these parts.
-    #[must_use]
-    pub const fn from_parts(parts: RecoveryParts) -> Self
-        ensures { result ≡ recovery_of parts }
-    {
-        LossRecovery {
-            until: parts.until,
-            lost: parts.lost,
-            again: parts.again,
-            turn: parts.turn,
-            resume: parts.resume,
-            sent: parts.sent,
-            later: parts.later,
-            probe: parts.probe,
-            asked: parts.asked,
-            is_blind: parts.is_blind,
-            unknown: parts.unknown,
-            duplicates: parts.duplicates,
-            round: parts.round,
-            since: parts.since,
-            copies: parts.copies,
-        }
-    }
-
-    /// Returns its parts.
-    #[must_use]
-    pub const fn parts(&self) -> RecoveryParts
-        ensures value { result ≡ parts_of self.now }
-        ensures same { recovery_of result ≡ self.now }
-    {
-        RecoveryParts {
-            until: self.until,
-            lost: self.lost,
-            again: self.again,
-            turn: self.turn,
-            resume: self.resume,
-            sent: self.sent,
-            later: self.later,
-            probe: self.probe,
-            asked: self.asked,
-            is_blind: self.is_blind,
-            unknown: self.unknown,
-            duplicates: self.duplicates,
-            round: self.round,
-            since: self.since,
-            copies: self.copies,
+            duplicates: DUPLICATES,
+            has_duplicates: 1,
         }
     }
 
     /// Returns whether a recovery lasts: not all is acknowledged that was sent when it began.
     #[must_use]
     pub fn is_active(&self, numbers: SentNumbers) -> bool
-        ensures { result ≡ is_active self.now numbers.first_unacknowledged }
+        ensures { result ≡ is_active (recovery_of self.now) numbers.first_unacknowledged }
     {
         numbers.first_unacknowledged < self.until
     }
@@ -248,21 +179,34 @@ impl LossRecovery {
     /// Returns how many segments above a position tell that it is lost: 3 at first.
     #[must_use]
     pub fn duplicates(&self) -> usize
-        ensures { result ≡ self.now.duplicates }
+        ensures { result ≡ (recovery_of self.now).duplicates }
     {
-        self.duplicates
+        if self.has_duplicates == 0 {
+            DUPLICATES
+        } else {
+            self.duplicates
+        }
+    }
+
+    /// Sets how many segments above a position tell that it is lost.
+    fn set_duplicates(&mut self, duplicates: usize)
+        ensures { recovery_of self.new ≡ record (recovery_of self.old) { duplicates = duplicates } }
+    {
+        self.duplicates = duplicates;
+        self.has_duplicates = 1;
     }
 
     /// Takes notice that something was sent again for nothing, as `came_twice` does where the peer says what. From now
     /// on four times as many segments above a position tell that it is lost, up to 1024. Once that has happened, nothing
     /// changes until all is acknowledged that was sent by then: a round trip makes it four times as many once.
     pub fn duplicated(&mut self, numbers: SentNumbers)
-        ensures { self.new ≡ after_duplicate numbers.first_unacknowledged numbers.sent self.old }
+        ensures { recovery_of self.new ≡ after_duplicate numbers.first_unacknowledged numbers.sent (recovery_of self.old) }
     {
         if numbers.first_unacknowledged < self.round {
             return;
         }
-        self.duplicates = self.duplicates.saturating_mul(4).min(MOST_DUPLICATES);
+        let duplicates = self.duplicates().saturating_mul(4).min(MOST_DUPLICATES);
+        self.set_duplicates(duplicates);
         self.round = numbers.sent;
     }
 
@@ -271,8 +215,8 @@ impl LossRecovery {
     /// recovery began, and not above what was sent again in it, so many of its copies were for nothing, and it is as if
     /// `duplicated` was called. Else nothing changes: the path has doubled them, or a probe has.
     pub fn came_twice(&mut self, numbers: SentNumbers, positions: Range<u64>)
-        ensures { self.new ≡ after_copies numbers.first_unacknowledged numbers.sent
-            positions.start positions.end self.old }
+        ensures { recovery_of self.new ≡ after_copies numbers.first_unacknowledged numbers.sent
+            positions.start positions.end (recovery_of self.old) }
     {
         if self.since <= positions.start && positions.end <= self.again.max(self.resume) {
             let count = positions.end.saturating_sub(positions.start);
@@ -283,7 +227,7 @@ impl LossRecovery {
 
     /// Counts what is sent again.
     fn copy(&mut self, numbers: SentNumbers, positions: Range<u64>)
-        ensures { self.new ≡ with_copies numbers.sent positions.start positions.end self.old }
+        ensures { recovery_of self.new ≡ with_copies numbers.sent positions.start positions.end (recovery_of self.old) }
     {
         let count = positions
             .end
@@ -297,13 +241,10 @@ impl LossRecovery {
     /// it was when the recovery began. Ask it after each acknowledgement, an old one too, once `find_losses` has it.
     /// It is true once: not before another recovery begins.
     #[must_use]
-    pub fn take_back<const N: usize>(
-        &mut self,
-        numbers: SentNumbers,
-        scoreboard: &Scoreboard<N>,
-    ) -> bool
-        ensures value { result ≡ is_wrong self.old numbers.first_unacknowledged scoreboard.now }
-        ensures state { self.new ≡ taken_back numbers.first_unacknowledged scoreboard.now self.old }
+    pub fn take_back<B: Reported>(&mut self, numbers: SentNumbers, scoreboard: &B) -> bool
+        ensures value { result ≡ is_wrong (recovery_of self.old) numbers.first_unacknowledged (B.set scoreboard.now) }
+        ensures state { recovery_of self.new ≡ taken_back numbers.first_unacknowledged (B.set scoreboard.now)
+            (recovery_of self.old) }
     {
         let is_wrong = self.until > 0 && self.copies == 0 && self.unsent(numbers, scoreboard) == 0;
         if is_wrong {
@@ -315,26 +256,33 @@ impl LossRecovery {
     /// Takes notice whether the peer reports what arrives, as its SYN says: until it does, or an equal acknowledgement
     /// reports nothing.
     pub fn expect_reports(&mut self, reports: bool)
-        ensures { self.new ≡ record self.old { is_blind = not reports; unknown = 0 } }
+        ensures { recovery_of self.new ≡ record (recovery_of self.old) { is_blind = not reports; unknown = 0 } }
     {
-        self.is_blind = !reports;
+        self.set_blind(!reports);
         self.unknown = 0;
     }
 
     /// Returns whether the peer reports nothing: then no probe is answered, and none is to be sent.
     #[must_use]
     pub fn is_blind(&self) -> bool
-        ensures { result ≡ self.now.is_blind }
+        ensures { result ≡ (recovery_of self.now).is_blind }
     {
-        self.is_blind
+        self.is_blind != 0
+    }
+
+    /// Sets whether the peer reports nothing.
+    fn set_blind(&mut self, is_blind: bool)
+        ensures { recovery_of self.new ≡ record (recovery_of self.old) { is_blind = is_blind } }
+    {
+        self.is_blind = if is_blind { 1 } else { 0 };
     }
 
     /// Returns how many positions are lost and weren't sent again. `find_losses` wants it as it was before the
     /// acknowledgement.
     #[must_use]
-    pub fn unsent<const N: usize>(&self, numbers: SentNumbers, scoreboard: &Scoreboard<N>) -> u64
-        ensures { result ≡ (if is_active self.now numbers.first_unacknowledged
-            then unsent_lost self.now numbers.first_unacknowledged scoreboard.now else 0) }
+    pub fn unsent<B: Reported>(&self, numbers: SentNumbers, scoreboard: &B) -> u64
+        ensures { result ≡ (if is_active (recovery_of self.now) numbers.first_unacknowledged
+            then unsent_lost (recovery_of self.now) numbers.first_unacknowledged (B.set scoreboard.now) else 0) }
     {
         if self.is_active(numbers) {
             self.unsent_lost(numbers, scoreboard)
@@ -343,8 +291,8 @@ impl LossRecovery {
         }
     }
 
-    fn unsent_lost<const N: usize>(&self, numbers: SentNumbers, scoreboard: &Scoreboard<N>) -> u64
-        ensures { result ≡ unsent_lost self.now numbers.first_unacknowledged scoreboard.now }
+    fn unsent_lost<B: Reported>(&self, numbers: SentNumbers, scoreboard: &B) -> u64
+        ensures { result ≡ unsent_lost (recovery_of self.now) numbers.first_unacknowledged (B.set scoreboard.now) }
     {
         let from = self.again.max(numbers.first_unacknowledged);
         let of_pass = scoreboard.missing_between(from, self.turn.min(self.lost));
@@ -365,27 +313,27 @@ impl LossRecovery {
     ///
     /// Returns whether this call begins a recovery: then halve the congestion window, until `take_back` says that this
     /// was wrong.
-    pub fn find_losses<const N: usize>(
+    pub fn find_losses<B: Reported>(
         &mut self,
         numbers: SentNumbers,
-        scoreboard: &Scoreboard<N>,
+        scoreboard: &B,
         segment_size: usize,
         answer: Answer,
     ) -> bool
         ensures state { (lost highest : ℕ) → let r = after_answer segment_size answer.first
             numbers.first_unacknowledged numbers.sent answer.reports answer.is_equal answer.unsent
-            scoreboard.now self.old in
-            IsLossBound r.duplicates segment_size scoreboard.now lost →
-            IsEnd scoreboard.now highest → self.new ≡ after_report segment_size
-            numbers.first_unacknowledged numbers.sent scoreboard.now
+            (B.set scoreboard.now) (recovery_of self.old) in
+            IsLossBound r.duplicates segment_size (B.set scoreboard.now) lost →
+            IsEnd (B.set scoreboard.now) highest → recovery_of self.new ≡ after_report segment_size
+            numbers.first_unacknowledged numbers.sent (B.set scoreboard.now)
             (max lost (blind_lost segment_size answer.first numbers.first_unacknowledged
             numbers.sent r)) highest r }
         ensures begins { (lost highest : ℕ) → let r = after_answer segment_size answer.first
             numbers.first_unacknowledged numbers.sent answer.reports answer.is_equal answer.unsent
-            scoreboard.now self.old in
-            IsLossBound r.duplicates segment_size scoreboard.now lost →
-            IsEnd scoreboard.now highest → result ≡ (not (is_active r numbers.first_unacknowledged)
-            && nat_lt numbers.first_unacknowledged (found scoreboard.now
+            (B.set scoreboard.now) (recovery_of self.old) in
+            IsLossBound r.duplicates segment_size (B.set scoreboard.now) lost →
+            IsEnd (B.set scoreboard.now) highest → result ≡ (not (is_active r numbers.first_unacknowledged)
+            && nat_lt numbers.first_unacknowledged (found (B.set scoreboard.now)
             (max lost (blind_lost segment_size answer.first numbers.first_unacknowledged
             numbers.sent r)) highest r)) }
     {
@@ -394,16 +342,16 @@ impl LossRecovery {
     }
 
     /// Takes what an acknowledgement answers.
-    fn take<const N: usize>(
+    fn take<B: Reported>(
         &mut self,
         numbers: SentNumbers,
-        scoreboard: &Scoreboard<N>,
+        scoreboard: &B,
         segment_size: usize,
         answer: Answer,
     )
-        ensures { self.new ≡ after_answer segment_size answer.first
+        ensures { recovery_of self.new ≡ after_answer segment_size answer.first
             numbers.first_unacknowledged numbers.sent
-            answer.reports answer.is_equal answer.unsent scoreboard.now self.old }
+            answer.reports answer.is_equal answer.unsent (B.set scoreboard.now) (recovery_of self.old) }
     {
         self.take_copy(numbers, answer);
         self.hear(numbers, segment_size, answer);
@@ -413,8 +361,8 @@ impl LossRecovery {
     /// Takes an equal acknowledgement of all that was sent before a recovery as a report of what came twice: it answers
     /// a copy.
     fn take_copy(&mut self, numbers: SentNumbers, answer: Answer)
-        ensures { self.new ≡ after_copy numbers.first_unacknowledged numbers.sent answer.reports
-            answer.is_equal self.old }
+        ensures { recovery_of self.new ≡ after_copy numbers.first_unacknowledged numbers.sent answer.reports
+            answer.is_equal (recovery_of self.old) }
     {
         if answer.is_equal && !answer.reports && numbers.first_unacknowledged == self.until {
             self.duplicated(numbers);
@@ -423,9 +371,9 @@ impl LossRecovery {
 
     /// Takes notice whether the peer reports, and of what has arrived that it doesn't.
     fn hear(&mut self, numbers: SentNumbers, segment_size: usize, answer: Answer)
-        ensures { self.new ≡ after_hearing segment_size answer.first
+        ensures { recovery_of self.new ≡ after_hearing segment_size answer.first
             numbers.first_unacknowledged numbers.sent
-            answer.reports answer.is_equal self.old }
+            answer.reports answer.is_equal (recovery_of self.old) }
     {
         let size = segment_size as u64;
         let first = numbers.first_unacknowledged;
@@ -438,11 +386,12 @@ impl LossRecovery {
         let most = end.saturating_sub(first).saturating_sub(size);
         let unknown = self.heard_of(size, answer.reports, answer.is_equal && first != self.until);
         self.unknown = unknown.saturating_sub(known).min(most);
-        self.is_blind = !answer.reports && (answer.is_equal || self.is_blind);
+        let is_blind = self.is_blind();
+        self.set_blind(!answer.reports && (answer.is_equal || is_blind));
     }
 
     fn heard_of(&self, size: u64, reports: bool, is_equal: bool) -> u64
-        ensures { result ≡ heard_of size reports is_equal self.now }
+        ensures { result ≡ heard_of size reports is_equal (recovery_of self.now) }
     {
         if reports {
             0
@@ -454,16 +403,11 @@ impl LossRecovery {
     }
 
     /// Loses nothing that wasn't sent again, if such a thing has arrived.
-    fn take_arrival<const N: usize>(
-        &mut self,
-        numbers: SentNumbers,
-        scoreboard: &Scoreboard<N>,
-        unsent: u64,
-    )
-        ensures { self.new ≡ after_arrival unsent numbers.first_unacknowledged numbers.sent
-            scoreboard.now self.old }
+    fn take_arrival<B: Reported>(&mut self, numbers: SentNumbers, scoreboard: &B, unsent: u64)
+        ensures { recovery_of self.new ≡ after_arrival unsent numbers.first_unacknowledged numbers.sent
+            (B.set scoreboard.now) (recovery_of self.old) }
     {
-        if !self.is_blind && self.unsent_lost(numbers, scoreboard) < unsent {
+        if !self.is_blind() && self.unsent_lost(numbers, scoreboard) < unsent {
             self.withdraw();
             self.duplicated(numbers);
         }
@@ -471,36 +415,36 @@ impl LossRecovery {
 
     /// What is lost and wasn't sent again isn't lost.
     fn withdraw(&mut self)
-        ensures { self.new ≡ withdrawn self.old }
+        ensures { recovery_of self.new ≡ withdrawn (recovery_of self.old) }
     {
         self.turn = self.again;
         self.lost = self.lost.min(self.again.max(self.resume));
     }
 
     /// Finds what is lost by what was reported, or heard of.
-    fn find<const N: usize>(
+    fn find<B: Reported>(
         &mut self,
         numbers: SentNumbers,
-        scoreboard: &Scoreboard<N>,
+        scoreboard: &B,
         segment_size: usize,
         before: u64,
     ) -> bool
         ensures state { (lost highest : ℕ) →
-            IsLossBound self.old.duplicates segment_size scoreboard.now lost →
-            IsEnd scoreboard.now highest → self.new ≡ after_report segment_size
-            numbers.first_unacknowledged numbers.sent scoreboard.now
+            IsLossBound (recovery_of self.old).duplicates segment_size (B.set scoreboard.now) lost →
+            IsEnd (B.set scoreboard.now) highest → recovery_of self.new ≡ after_report segment_size
+            numbers.first_unacknowledged numbers.sent (B.set scoreboard.now)
             (max lost (blind_lost segment_size before numbers.first_unacknowledged numbers.sent
-            self.old)) highest self.old }
+            (recovery_of self.old))) highest (recovery_of self.old) }
         ensures begins { (lost highest : ℕ) →
-            IsLossBound self.old.duplicates segment_size scoreboard.now lost →
-            IsEnd scoreboard.now highest → result
-            ≡ (not (is_active self.old numbers.first_unacknowledged)
-            && nat_lt numbers.first_unacknowledged (found scoreboard.now
+            IsLossBound (recovery_of self.old).duplicates segment_size (B.set scoreboard.now) lost →
+            IsEnd (B.set scoreboard.now) highest → result
+            ≡ (not (is_active (recovery_of self.old) numbers.first_unacknowledged)
+            && nat_lt numbers.first_unacknowledged (found (B.set scoreboard.now)
             (max lost (blind_lost segment_size before numbers.first_unacknowledged numbers.sent
-            self.old)) highest self.old)) }
+            (recovery_of self.old))) highest (recovery_of self.old))) }
     {
         let highest = scoreboard.highest_reported();
-        let lost = scoreboard.lost_below(self.duplicates, segment_size);
+        let lost = scoreboard.lost_below(self.duplicates(), segment_size);
         let blind = self.blind_lost(numbers, segment_size, before);
         self.take_losses(numbers, scoreboard, segment_size, lost.max(blind), highest)
     }
@@ -508,7 +452,7 @@ impl LossRecovery {
     /// Returns below which position all is lost, if the peer reports nothing.
     fn blind_lost(&self, numbers: SentNumbers, segment_size: usize, before: u64) -> u64
         ensures { result ≡ blind_lost segment_size before numbers.first_unacknowledged
-            numbers.sent self.now }
+            numbers.sent (recovery_of self.now) }
     {
         let first = numbers.first_unacknowledged;
         let is_lost = if self.is_active(numbers) {
@@ -516,7 +460,7 @@ impl LossRecovery {
         } else {
             self.most_later(segment_size) < self.unknown
         };
-        if self.is_blind && is_lost {
+        if self.is_blind() && is_lost {
             numbers.sent.min(first.saturating_add(segment_size as u64))
         } else {
             0
@@ -525,28 +469,28 @@ impl LossRecovery {
 
     /// Returns how much of what was sent later may have arrived before something is lost.
     fn most_later(&self, segment_size: usize) -> u64
-        ensures { result ≡ most_later segment_size self.now }
+        ensures { result ≡ most_later segment_size (recovery_of self.now) }
     {
-        (self.duplicates.saturating_sub(1) as u64).saturating_mul(segment_size as u64)
+        (self.duplicates().saturating_sub(1) as u64).saturating_mul(segment_size as u64)
     }
 
     /// Finds what is lost, by the scoreboard's two limits.
-    fn take_losses<const N: usize>(
+    fn take_losses<B: Reported>(
         &mut self,
         numbers: SentNumbers,
-        scoreboard: &Scoreboard<N>,
+        scoreboard: &B,
         segment_size: usize,
         lost: u64,
         highest: u64,
     ) -> bool
-        ensures state { self.new ≡ after_report segment_size
-            numbers.first_unacknowledged numbers.sent scoreboard.now lost highest self.old }
-        ensures begins { result ≡ (not (is_active self.old numbers.first_unacknowledged)
-            && nat_lt numbers.first_unacknowledged (found scoreboard.now lost highest self.old)) }
+        ensures state { recovery_of self.new ≡ after_report segment_size
+            numbers.first_unacknowledged numbers.sent (B.set scoreboard.now) lost highest (recovery_of self.old) }
+        ensures begins { result ≡ (not (is_active (recovery_of self.old) numbers.first_unacknowledged)
+            && nat_lt numbers.first_unacknowledged (found (B.set scoreboard.now) lost highest (recovery_of self.old))) }
     {
         if self.is_answered(scoreboard) {
-            self.probe = None;
-            let asked = if self.is_blind { 0 } else { self.asked };
+            self.forget_probe();
+            let asked = if self.is_blind() { 0 } else { self.asked };
             return self.lose(
                 numbers,
                 scoreboard,
@@ -559,17 +503,17 @@ impl LossRecovery {
     }
 
     /// Loses what is below a position, and what was overtaken.
-    fn lose<const N: usize>(
+    fn lose<B: Reported>(
         &mut self,
         numbers: SentNumbers,
-        scoreboard: &Scoreboard<N>,
+        scoreboard: &B,
         segment_size: usize,
         lost: u64,
         is_answered: bool,
     ) -> bool
-        ensures state { self.new ≡ after_losses segment_size
-            numbers.first_unacknowledged numbers.sent scoreboard.now lost is_answered self.old }
-        ensures begins { result ≡ (not (is_active self.old numbers.first_unacknowledged)
+        ensures state { recovery_of self.new ≡ after_losses segment_size
+            numbers.first_unacknowledged numbers.sent (B.set scoreboard.now) lost is_answered (recovery_of self.old) }
+        ensures begins { result ≡ (not (is_active (recovery_of self.old) numbers.first_unacknowledged)
             && nat_lt numbers.first_unacknowledged lost) }
     {
         if self.is_active(numbers) {
@@ -585,15 +529,15 @@ impl LossRecovery {
     }
 
     /// Begins a pass, if what was sent again is lost again.
-    fn end_pass<const N: usize>(
+    fn end_pass<B: Reported>(
         &mut self,
         numbers: SentNumbers,
-        scoreboard: &Scoreboard<N>,
+        scoreboard: &B,
         segment_size: usize,
         is_answered: bool,
     )
-        ensures { self.new ≡ after_pass segment_size
-            numbers.first_unacknowledged numbers.sent scoreboard.now is_answered self.old }
+        ensures { recovery_of self.new ≡ after_pass segment_size
+            numbers.first_unacknowledged numbers.sent (B.set scoreboard.now) is_answered (recovery_of self.old) }
     {
         if is_answered {
             self.pass(numbers, self.again.max(self.resume));
@@ -607,42 +551,43 @@ impl LossRecovery {
 
     /// Loses what was sent before the pass, if the peer would have reported it.
     fn lose_earlier(&mut self)
-        ensures { self.new ≡ ordered self.old }
+        ensures { recovery_of self.new ≡ ordered (recovery_of self.old) }
     {
-        if !self.is_blind {
+        if !self.is_blind() {
             self.lost = self.lost.max(self.sent);
         }
     }
 
     /// Returns whether enough is reported of what was sent after a pass.
-    fn is_overtaken<const N: usize>(
+    fn is_overtaken<B: Reported>(
         &self,
         numbers: SentNumbers,
-        scoreboard: &Scoreboard<N>,
+        scoreboard: &B,
         segment_size: usize,
     ) -> bool
-        ensures { result ≡ overtaken segment_size scoreboard.now numbers.sent self.now }
+        ensures { result ≡ overtaken segment_size (B.set scoreboard.now) numbers.sent (recovery_of self.now) }
     {
         self.most_later(segment_size) < self.reported_later(numbers, scoreboard)
     }
 
     /// Returns whether the probe was reported.
-    fn is_answered<const N: usize>(&self, scoreboard: &Scoreboard<N>) -> bool
-        ensures { result ≡ is_answered scoreboard.now self.now.probe }
+    fn is_answered<B: Reported>(&self, scoreboard: &B) -> bool
+        ensures { result ≡ is_answered (B.set scoreboard.now) (recovery_of self.now).probe }
     {
-        match self.probe {
-            Some(start) => scoreboard.contains(start),
-            None => false,
-        }
+        self.has_probe != 0 && scoreboard.contains(self.probe)
+    }
+
+    /// Waits for no probe.
+    fn forget_probe(&mut self)
+        ensures { recovery_of self.new ≡ record (recovery_of self.old) { probe = None } }
+    {
+        self.probe = 0;
+        self.has_probe = 0;
     }
 
     /// Returns how many positions are reported of what was sent after a pass.
-    fn reported_later<const N: usize>(
-        &self,
-        numbers: SentNumbers,
-        scoreboard: &Scoreboard<N>,
-    ) -> u64
-        ensures { result ≡ later scoreboard.now numbers.sent self.now }
+    fn reported_later<B: Reported>(&self, numbers: SentNumbers, scoreboard: &B) -> u64
+        ensures { result ≡ later (B.set scoreboard.now) numbers.sent (recovery_of self.now) }
     {
         let again = scoreboard.missing_between(self.resume, self.again);
         let first = scoreboard.missing_between(self.sent, numbers.sent);
@@ -654,7 +599,7 @@ impl LossRecovery {
 
     /// Begins a pass up to a position: what was sent again from there on stays sent again.
     fn pass(&mut self, numbers: SentNumbers, turn: u64)
-        ensures { self.new ≡ with_pass numbers.first_unacknowledged numbers.sent turn self.old }
+        ensures { recovery_of self.new ≡ with_pass numbers.first_unacknowledged numbers.sent turn (recovery_of self.old) }
     {
         self.turn = turn;
         self.mark(numbers);
@@ -663,7 +608,7 @@ impl LossRecovery {
 
     /// Counts what is sent from now on as sent later than all that was sent again.
     fn mark(&mut self, numbers: SentNumbers)
-        ensures { self.new ≡ with_mark numbers.sent self.old }
+        ensures { recovery_of self.new ≡ with_mark numbers.sent (recovery_of self.old) }
     {
         self.resume = self.again.max(self.resume);
         self.sent = numbers.sent;
@@ -674,15 +619,11 @@ impl LossRecovery {
     /// nothing was for two round trips. Then send as `next_segment` says; if that sends nothing, `next_probe`.
     ///
     /// Returns whether this call begins a recovery: then halve the congestion window.
-    pub fn find_overdue<const N: usize>(
-        &mut self,
-        numbers: SentNumbers,
-        scoreboard: &Scoreboard<N>,
-    ) -> bool
-        ensures state { (highest : ℕ) → IsEnd scoreboard.now highest →
-            self.new ≡ after_silence numbers.first_unacknowledged numbers.sent highest self.old }
-        ensures begins { (highest : ℕ) → IsEnd scoreboard.now highest →
-            result ≡ (not (is_active self.old numbers.first_unacknowledged)
+    pub fn find_overdue<B: Reported>(&mut self, numbers: SentNumbers, scoreboard: &B) -> bool
+        ensures state { (highest : ℕ) → IsEnd (B.set scoreboard.now) highest →
+            recovery_of self.new ≡ after_silence numbers.first_unacknowledged numbers.sent highest (recovery_of self.old) }
+        ensures begins { (highest : ℕ) → IsEnd (B.set scoreboard.now) highest →
+            result ≡ (not (is_active (recovery_of self.old) numbers.first_unacknowledged)
             && nat_lt numbers.first_unacknowledged highest) }
     {
         let lost = scoreboard.highest_reported();
@@ -702,26 +643,26 @@ impl LossRecovery {
     /// recovery, or if the last position that was sent is reported, it is the first segment that isn't reported. A
     /// `segment_size` of 0 counts as 1. Call `probed` once it is sent.
     #[must_use]
-    pub fn next_probe<const N: usize>(
+    pub fn next_probe<B: Reported>(
         &self,
         numbers: SentNumbers,
-        scoreboard: &Scoreboard<N>,
+        scoreboard: &B,
         limit: u64,
         segment_size: usize,
     ) -> Option<(u64, u64)>
         ensures value { (highest : ℕ) (hole : Option (ℕ × ℕ)) →
             let first = numbers.first_unacknowledged in
-            IsEnd scoreboard.now highest →
-            IsHole scoreboard.now first (min numbers.sent limit) hole →
-            result ≡ next_probe self.now (max 1 segment_size) first numbers.sent limit highest
+            IsEnd (B.set scoreboard.now) highest →
+            IsHole (B.set scoreboard.now) first (min numbers.sent limit) hole →
+            result ≡ next_probe (recovery_of self.now) (max 1 segment_size) first numbers.sent limit highest
             hole }
         ensures progress { numbers.first_unacknowledged < min numbers.sent limit →
-            IsFalse (contains scoreboard.now numbers.first_unacknowledged) →
+            IsFalse (contains (B.set scoreboard.now) numbers.first_unacknowledged) →
             IsTrue (is_some result) }
         ensures within { IfSome result (λ g. (g.0 < g.1) × (g.1 ≤ limit)
             × (g.1 ≤ g.0 + max 1 segment_size)) }
         ensures unreported { IfSome result (λ g. (p : ℕ) → g.0 ≤ p → p < g.1 → p < numbers.sent →
-            IsFalse (contains scoreboard.now p)) }
+            IsFalse (contains (B.set scoreboard.now) p)) }
         ensures after { numbers.first_unacknowledged ≤ numbers.sent →
             IfSome result (λ g. numbers.first_unacknowledged ≤ g.0) }
     {
@@ -746,9 +687,10 @@ impl LossRecovery {
 
     /// Takes notice that a probe of these positions is sent. `numbers` are the sender's before that.
     pub fn probed(&mut self, numbers: SentNumbers, positions: Range<u64>)
-        ensures { self.new ≡ after_probe numbers.sent positions.start positions.end self.old }
+        ensures { recovery_of self.new ≡ after_probe numbers.sent positions.start positions.end (recovery_of self.old) }
     {
-        self.probe = Some(positions.start);
+        self.probe = positions.start;
+        self.has_probe = 1;
         self.asked = numbers.sent;
         self.copy(numbers, positions);
     }
@@ -758,15 +700,11 @@ impl LossRecovery {
     /// scoreboard begins again.
     ///
     /// Returns whether none lasted: then halve the congestion window.
-    pub fn lose_dropped<const N: usize>(
-        &mut self,
-        numbers: SentNumbers,
-        scoreboard: &Scoreboard<N>,
-    ) -> bool
-        ensures state { (highest : ℕ) → IsEnd scoreboard.now highest →
-            self.new ≡ begun numbers.first_unacknowledged
-            numbers.sent (max self.old.lost highest) self.old }
-        ensures begins { result ≡ not (is_active self.old numbers.first_unacknowledged) }
+    pub fn lose_dropped<B: Reported>(&mut self, numbers: SentNumbers, scoreboard: &B) -> bool
+        ensures state { (highest : ℕ) → IsEnd (B.set scoreboard.now) highest →
+            recovery_of self.new ≡ begun numbers.first_unacknowledged
+            numbers.sent (max (recovery_of self.old).lost highest) (recovery_of self.old) }
+        ensures begins { result ≡ not (is_active (recovery_of self.old) numbers.first_unacknowledged) }
     {
         let begins = !self.is_active(numbers);
         let lost = self.lost.max(scoreboard.highest_reported());
@@ -777,16 +715,16 @@ impl LossRecovery {
     /// Begins a recovery in which all that was sent and isn't reported is lost, as when the timer has expired. Three
     /// segments above a position tell again that it is lost.
     pub fn lose_all(&mut self, numbers: SentNumbers)
-        ensures { self.new ≡ begun numbers.first_unacknowledged numbers.sent numbers.sent
-            (forgotten self.old) }
+        ensures { recovery_of self.new ≡ begun numbers.first_unacknowledged numbers.sent numbers.sent
+            (forgotten (recovery_of self.old)) }
     {
-        self.duplicates = DUPLICATES;
+        self.set_duplicates(DUPLICATES);
         self.unknown = 0;
         self.begin(numbers, numbers.sent);
     }
 
     fn begin(&mut self, numbers: SentNumbers, lost: u64)
-        ensures { self.new ≡ begun numbers.first_unacknowledged numbers.sent lost self.old }
+        ensures { recovery_of self.new ≡ begun numbers.first_unacknowledged numbers.sent lost (recovery_of self.old) }
     {
         let (since, copies) = if self.is_active(numbers) {
             (self.since, self.copies)
@@ -801,23 +739,25 @@ impl LossRecovery {
             resume: numbers.first_unacknowledged,
             sent: numbers.sent,
             later: 0,
-            probe: None,
+            probe: 0,
+            has_probe: 0,
             asked: 0,
             is_blind: self.is_blind,
             unknown: self.unknown,
-            duplicates: self.duplicates,
             round: self.round,
             since,
             copies,
+            duplicates: self.duplicates,
+            has_duplicates: self.has_duplicates,
         };
     }
 
     /// Returns how many positions may be in flight: of those which were sent and aren't reported, the ones that
     /// aren't lost or were sent again, less those that have arrived and the peer doesn't report.
     #[must_use]
-    pub fn in_flight<const N: usize>(&self, numbers: SentNumbers, scoreboard: &Scoreboard<N>) -> u64
-        ensures { result ≡ in_flight self.now numbers.first_unacknowledged numbers.sent
-            scoreboard.now }
+    pub fn in_flight<B: Reported>(&self, numbers: SentNumbers, scoreboard: &B) -> u64
+        ensures { result ≡ in_flight (recovery_of self.now) numbers.first_unacknowledged numbers.sent
+            (B.set scoreboard.now) }
     {
         let first = numbers.first_unacknowledged;
         if !self.is_active(numbers) {
@@ -850,41 +790,41 @@ impl LossRecovery {
     /// `None` if there is nothing to send, or if with a whole segment more than `window` positions, the
     /// congestion window, would be in flight. The first unacknowledged number is sent whatever is in flight.
     #[must_use]
-    pub fn next_segment<const N: usize>(
+    pub fn next_segment<B: Reported>(
         &self,
         numbers: SentNumbers,
-        scoreboard: &Scoreboard<N>,
+        scoreboard: &B,
         limit: u64,
         window: u64,
         segment_size: usize,
     ) -> Option<(u64, u64)>
         ensures next { (lost others : Option (ℕ × ℕ)) → let first = numbers.first_unacknowledged in
-            IsHole scoreboard.now (resumed self.now first)
-            (min (min self.now.turn self.now.lost) limit) lost →
-            IsHole scoreboard.now (gone_on self.now first) (min self.now.lost limit) others →
+            IsHole (B.set scoreboard.now) (resumed (recovery_of self.now) first)
+            (min (min (recovery_of self.now).turn (recovery_of self.now).lost) limit) lost →
+            IsHole (B.set scoreboard.now) (gone_on (recovery_of self.now) first) (min (recovery_of self.now).lost limit) others →
             result ≡ next_segment first
-            (in_flight self.now first numbers.sent scoreboard.now) window
-            (max 1 segment_size) (next_range self.now first numbers.sent limit lost others) }
+            (in_flight (recovery_of self.now) first numbers.sent (B.set scoreboard.now)) window
+            (max 1 segment_size) (next_range (recovery_of self.now) first numbers.sent limit lost others) }
         // Guarantee.
         ensures within { IfSome result (λ segment. (segment.0 < segment.1) × (segment.1 ≤ limit)
             × (segment.1 ≤ segment.0 + max 1 segment_size)) }
         ensures room { IfSome result (λ segment. numbers.first_unacknowledged < segment.0 →
-            in_flight self.now numbers.first_unacknowledged numbers.sent scoreboard.now
+            in_flight (recovery_of self.now) numbers.first_unacknowledged numbers.sent (B.set scoreboard.now)
             + (segment.1 - segment.0) ≤ window) }
         ensures once { IfSome result (λ segment. (p : ℕ) → segment.0 ≤ p → p < segment.1 →
             p < numbers.sent →
-            IsFalse (contains scoreboard.now p)
-            × IsFalse (was_sent_again self.now numbers.first_unacknowledged p)) }
+            IsFalse (contains (B.set scoreboard.now) p)
+            × IsFalse (was_sent_again (recovery_of self.now) numbers.first_unacknowledged p)) }
         ensures progress { let first = numbers.first_unacknowledged in
-            IsTrue (is_active self.now first) →
-            IsFalse (was_sent_again self.now first first) → first < min self.now.lost limit →
-            IsFalse (contains scoreboard.now first) → IsTrue (begins_at first result) }
+            IsTrue (is_active (recovery_of self.now) first) →
+            IsFalse (was_sent_again (recovery_of self.now) first first) → first < min (recovery_of self.now).lost limit →
+            IsFalse (contains (B.set scoreboard.now) first) → IsTrue (begins_at first result) }
         ensures begins { let first = numbers.first_unacknowledged in
-            IsFalse (is_active self.now first) →
+            IsFalse (is_active (recovery_of self.now) first) →
             first ≡ numbers.sent → first < limit → IsTrue (begins_at first result) }
         ensures after { numbers.first_unacknowledged ≤ numbers.sent →
             IfSome result (λ segment. numbers.first_unacknowledged ≤ segment.0) }
-        ensures fresh { IsFalse (is_active self.now numbers.first_unacknowledged) →
+        ensures fresh { IsFalse (is_active (recovery_of self.now) numbers.first_unacknowledged) →
             IfSome result (λ segment. segment.0 ≡ numbers.sent) }
     {
         let Some((start, end)) = self.next_range(numbers, scoreboard, limit) else {
@@ -901,32 +841,32 @@ impl LossRecovery {
     }
 
     /// Returns the range of which the next segment is a part.
-    fn next_range<const N: usize>(
+    fn next_range<B: Reported>(
         &self,
         numbers: SentNumbers,
-        scoreboard: &Scoreboard<N>,
+        scoreboard: &B,
         limit: u64,
     ) -> Option<(u64, u64)>
         ensures next { (lost others : Option (ℕ × ℕ)) → let first = numbers.first_unacknowledged in
-            IsHole scoreboard.now (resumed self.now first)
-            (min (min self.now.turn self.now.lost) limit) lost →
-            IsHole scoreboard.now (gone_on self.now first) (min self.now.lost limit) others →
-            result ≡ next_range self.now first numbers.sent limit lost others }
+            IsHole (B.set scoreboard.now) (resumed (recovery_of self.now) first)
+            (min (min (recovery_of self.now).turn (recovery_of self.now).lost) limit) lost →
+            IsHole (B.set scoreboard.now) (gone_on (recovery_of self.now) first) (min (recovery_of self.now).lost limit) others →
+            result ≡ next_range (recovery_of self.now) first numbers.sent limit lost others }
         ensures within { IfSome result (λ range. (range.0 < range.1) × (range.1 ≤ limit)) }
         ensures once { IfSome result (λ range. (p : ℕ) → range.0 ≤ p → p < range.1 →
             p < numbers.sent →
-            IsFalse (contains scoreboard.now p)
-            × IsFalse (was_sent_again self.now numbers.first_unacknowledged p)) }
+            IsFalse (contains (B.set scoreboard.now) p)
+            × IsFalse (was_sent_again (recovery_of self.now) numbers.first_unacknowledged p)) }
         ensures progress { let first = numbers.first_unacknowledged in
-            IsTrue (is_active self.now first) →
-            IsFalse (was_sent_again self.now first first) → first < min self.now.lost limit →
-            IsFalse (contains scoreboard.now first) → IsTrue (begins_at first result) }
+            IsTrue (is_active (recovery_of self.now) first) →
+            IsFalse (was_sent_again (recovery_of self.now) first first) → first < min (recovery_of self.now).lost limit →
+            IsFalse (contains (B.set scoreboard.now) first) → IsTrue (begins_at first result) }
         ensures begins { let first = numbers.first_unacknowledged in
-            IsFalse (is_active self.now first) →
+            IsFalse (is_active (recovery_of self.now) first) →
             first ≡ numbers.sent → first < limit → IsTrue (begins_at first result) }
         ensures after { numbers.first_unacknowledged ≤ numbers.sent →
             IfSome result (λ range. numbers.first_unacknowledged ≤ range.0) }
-        ensures fresh { IsFalse (is_active self.now numbers.first_unacknowledged) →
+        ensures fresh { IsFalse (is_active (recovery_of self.now) numbers.first_unacknowledged) →
             IfSome result (λ range. range.0 ≡ numbers.sent) }
     {
         if !self.is_active(numbers) {
@@ -946,8 +886,8 @@ impl LossRecovery {
     /// that is lost below their end then counts as sent again. `numbers` are the sender's before that. Nothing
     /// changes outside of a recovery, or if none of them was sent before.
     pub fn sent(&mut self, numbers: SentNumbers, positions: Range<u64>)
-        ensures { self.new ≡ after_sending numbers.first_unacknowledged numbers.sent positions.start
-            positions.end self.old }
+        ensures { recovery_of self.new ≡ after_sending numbers.first_unacknowledged numbers.sent positions.start
+            positions.end (recovery_of self.old) }
     {
         if self.is_active(numbers) && positions.start < positions.end.min(numbers.sent) {
             let Range { start, end } = positions;

@@ -1,3 +1,4 @@
+mod CanonicalTimers
 pub mod WordSums
 pub mod WindowFacts
 pub mod Timers

@@ -17,7 +17,7 @@ use Rattle.net_tcp.specs.Retransmission.{IsUntil, expires_at, expiry, lasting, r
 use Rattle.net_tcp.specs.Retransmission.{arms, due_after}
 use Rattle.net_tcp.specs.declared.retransmission.TimeoutBounds.{TimeoutBounds}
 use Rattle.net_tcp.specs.declared.retransmission_timer.TimedSegment.{TimedSegment}
-use Rattle.net_tcp.specs.declared.retransmission_timer.RetransmissionTimer.{RetransmissionTimer}
+use Rattle.net_tcp.specs.Retransmission.{Timer}
 use Rattle.net_tcp.specs.declared.retransmission_timer.Expiry.TheVariants.{Probe}
 
 -- ---- the timeout
@@ -102,14 +102,14 @@ once_by true c d taken kept = taken refl
 once_by false c d taken kept = kept
 
 -- what starts a timer times nothing
-sent_timed : (delay : ℕ) (alone new : Bool) (pos : ℕ) (now : ℤ) (t : RetransmissionTimer) →
+sent_timed : (delay : ℕ) (alone new : Bool) (pos : ℕ) (now : ℤ) (t : Timer) →
     (lasting new pos (running delay alone new now t)).timed ≡ t.timed
 sent_timed delay alone new pos now t = search rules
 
 right_of : (a b : Bool) → (a && b) ≡ true → b ≡ true
 right_of a b both = search rules
 
-once_at : (c : Connection) (t : RetransmissionTimer) (pos end : ℕ) (now : ℤ) → IsKept c → t.timed ≡ c.timer.timed →
+once_at : (c : Connection) (t : Timer) (pos end : ℕ) (now : ℤ) → IsKept c → t.timed ≡ c.timer.timed →
     nat_lt pos end ≡ true → (s : TimedSegment) →
     (if nat_lt pos end then timed_after pos end c.sent now t else c.timer).timed ≡ Some s →
     sends_over s.pos ((pos, end, now) ∷ c.log) ≡ (s.pos, s.since) ∷ []
@@ -260,7 +260,7 @@ all_report : (b : TimeoutBounds) (c : Connection) (es : List Event) →
 all_report b c [] = refl
 all_report b c (e ∷ es) = all_report b (after_event b c e) es ∙ reports_on b c e
 
-no_probe : (t : RetransmissionTimer) (now : ℤ) → t.reports ≡ false → expiry t now ≡ Some Probe → ⊥
+no_probe : (t : Timer) (now : ℤ) → t.reports ≡ false → expiry t now ≡ Some Probe → ⊥
 no_probe t now none is = search rules
 
 pub is_silent : (b : TimeoutBounds) (t first : ℕ) (es : List Event) (now : ℤ) →

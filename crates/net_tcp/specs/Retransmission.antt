@@ -9,6 +9,8 @@
 --     first_wait e, allowance delay alone prompt      how long the first probe waits, and how much longer if a segment is alone
 --     prompt_wait delay e      how long it does then if none is expected to be late
 --     prompt_after delay r t      how many samples in a row weren't late, after one more
+--     Timer, timer_of t      what a timer knows, and what its numbers say
+--     IsCanonicalTimer t      its numbers are the only ones that say so, but for a timeout of 1 second
 --     restarted delay alone now t, waiting now t, started now t, stopped t      it runs from now on; so without a probe; that
 --         unless it runs; it doesn't run
 --     running delay alone new now t, hastened now t      what sending leaves; a probe is due two round trips from now
@@ -19,8 +21,8 @@
 --     probed now t, timed_out b now t      what a probe leaves, and a timeout
 --     Event, Connection, after_event, after_events      what happens to a connection, and what that leaves
 --     arms c e      whether that sets the moment at which the timeout passes
-use Rattle.std.specs.Prelude.{◌≡◌, ℕ, ℤ, ◌+◌, ◌-◌, ◌*◌, ◌/◌, ◌^◌, ◌<◌, ◌≤◌, min, max, Option, Some, None, is_none}
-use Rattle.std.specs.Prelude.{is_some, Bool, true, false, ◌&&◌, ◌||◌, nat_lt, nat_le, int_le, int_lt, IsTrue, if◌then◌else◌, List}
+use Rattle.std.specs.Prelude.{◌⊎◌, ◌≡◌, ℕ, ℤ, ◌+◌, ◌-◌, ◌*◌, ◌/◌, ◌^◌, ◌<◌, ◌≤◌, min, max, Option, Some, None, is_none}
+use Rattle.std.specs.Prelude.{is_some, Bool, true, false, ◌&&◌, ◌||◌, not, nat_eq, nat_lt, nat_le, int_le, int_lt, IsTrue, if◌then◌else◌, List}
 use Rattle.std.specs.Prelude.{[], ◌∷◌, filter, map, pos as whole}
 use Rattle.net_base.specs.Time.{elapsed, moment_after}
 use Rattle.net_tcp.specs.Estimate.{Estimate}
@@ -31,7 +33,6 @@ use Rattle.net_tcp.specs.declared.retransmission.Transmission.TheVariants.{Once,
 use Rattle.net_tcp.specs.declared.retransmission_timer.Expiry.{Expiry}
 use Rattle.net_tcp.specs.declared.retransmission_timer.Expiry.TheVariants.{Probe, Timeout}
 use Rattle.net_tcp.specs.declared.retransmission_timer.TimedSegment.{TimedSegment}
-use Rattle.net_tcp.specs.declared.retransmission_timer.TimerParts.{TimerParts}
 use Rattle.net_tcp.specs.declared.retransmission_timer.RetransmissionTimer.{RetransmissionTimer}
 
 -- ---- the timeout
@@ -99,36 +100,49 @@ allowance delay alone prompt = if alone then (if nat_lt prompt 8 then delay else
 abbrev pub prompt_wait : ℕ → Option Estimate → ℕ
 prompt_wait delay e = min (first_wait e + allowance delay true 8) (2 ^ 64 - 1)
 
-abbrev pub timer_of : TimerParts → RetransmissionTimer
-timer_of p = record {
-  timeout = p.timeout;
-  ends_at = p.ends_at;
-  probe_at = p.probe_at;
-  wait = p.wait;
-  is_alone = p.is_alone;
-  timed = p.timed;
-  last = p.last;
-  timeouts = p.timeouts;
-  reports = p.reports;
-  prompt = p.prompt;
-}
+-- what the numbers of a timer say
+pub record Timer : Type 0 where
+  pub timeout : RetransmissionTimeout
+  pub ends_at : Option ℤ
+  pub probe_at : ℤ
+  pub wait : ℕ
+  pub is_alone : Bool
+  pub timed : Option TimedSegment
+  pub last : ℕ
+  pub timeouts : ℕ
+  pub reports : Bool
+  pub prompt : ℕ
 
-abbrev pub parts_of : RetransmissionTimer → TimerParts
-parts_of t = record {
-  timeout = t.timeout;
-  ends_at = t.ends_at;
+-- a timeout that doesn't count is 1 second
+abbrev pub timer_of : RetransmissionTimer → Timer
+timer_of t = record {
+  timeout = record {
+    estimate = if nat_eq t.has_estimate 0 then None else Some (within t.srtt_8 t.rttvar_4);
+    timeout = if nat_eq t.has_timeout 0 then 1000000 else t.timeout;
+  };
+  ends_at = if nat_eq t.is_running 0 then None else Some t.ends_at;
   probe_at = t.probe_at;
   wait = t.wait;
-  is_alone = t.is_alone;
-  timed = t.timed;
+  is_alone = not (nat_eq t.is_alone 0);
+  timed = if nat_eq t.is_timing 0 then None else Some (record { pos = t.timed; since = t.timed_since });
   last = t.last;
   timeouts = t.timeouts;
-  reports = t.reports;
+  reports = not (nat_eq t.reports 0);
   prompt = t.prompt;
 }
 
 -- it doesn't run, and no segment is timed
-abbrev pub new_timer : ℕ → Bool → RetransmissionTimer
+-- its flags are 0 or 1, and the numbers of what isn't there are 0
+pub record IsCanonicalTimer (t : RetransmissionTimer) : Type 0 where
+  pub estimate : (t.has_estimate ≡ 1) ⊎ ((t.has_estimate ≡ 0) × (t.srtt_8 ≡ 0) × (t.rttvar_4 ≡ 0))
+  pub small : (t.srtt_8 ≤ 2 ^ 63) × (t.rttvar_4 ≤ 2 ^ 62)
+  pub timeout : (t.has_timeout ≡ 1) ⊎ ((t.has_timeout ≡ 0) × (t.timeout ≡ 0))
+  pub running : (t.is_running ≡ 1) ⊎ ((t.is_running ≡ 0) × (t.ends_at ≡ whole 0))
+  pub alone : t.is_alone ≤ 1
+  pub timing : (t.is_timing ≡ 1) ⊎ ((t.is_timing ≡ 0) × (t.timed ≡ 0) × (t.timed_since ≡ whole 0))
+  pub reports : t.reports ≤ 1
+
+abbrev pub new_timer : ℕ → Bool → Timer
 new_timer t reports = record {
   timeout = before_samples t;
   ends_at = None;
@@ -142,13 +156,35 @@ new_timer t reports = record {
   prompt = 0;
 }
 
+-- its numbers
+abbrev pub new_fields : ℕ → Bool → RetransmissionTimer
+new_fields t reports = record {
+  srtt_8 = 0;
+  rttvar_4 = 0;
+  has_estimate = 0;
+  timeout = t;
+  has_timeout = 1;
+  ends_at = whole 0;
+  is_running = 0;
+  probe_at = whole 0;
+  wait = 0;
+  is_alone = 0;
+  timed = 0;
+  timed_since = whole 0;
+  is_timing = 0;
+  last = 0;
+  timeouts = 0;
+  reports = if reports then 1 else 0;
+  prompt = 0;
+}
+
 -- a sample of one segment alone is late if a probe comes before it that doesn't expect that; another one changes nothing
-abbrev pub prompt_after : ℕ → ℕ → RetransmissionTimer → ℕ
+abbrev pub prompt_after : ℕ → ℕ → Timer → ℕ
 prompt_after delay r t =
     if t.is_alone then (if nat_le r (prompt_wait delay t.timeout.estimate) then min (t.prompt + 1) 8 else 0) else t.prompt
 
 -- the timeout from now on it ends; a probe is due two round trips from now on, and later if one segment is alone
-abbrev pub restarted : ℕ → Bool → ℤ → RetransmissionTimer → RetransmissionTimer
+abbrev pub restarted : ℕ → Bool → ℤ → Timer → Timer
 restarted delay alone now t = record t {
   ends_at = Some (moment_after now t.timeout.timeout);
   wait = min (first_wait t.timeout.estimate + allowance delay alone t.prompt) (2 ^ 64 - 1);
@@ -157,7 +193,7 @@ restarted delay alone now t = record t {
 }
 
 -- the same without a probe
-abbrev pub waiting : ℤ → RetransmissionTimer → RetransmissionTimer
+abbrev pub waiting : ℤ → Timer → Timer
 waiting now t = record t {
   ends_at = Some (moment_after now t.timeout.timeout);
   wait = no_wait;
@@ -165,11 +201,11 @@ waiting now t = record t {
   is_alone = false;
 }
 
-abbrev pub started : ℤ → RetransmissionTimer → RetransmissionTimer
+abbrev pub started : ℤ → Timer → Timer
 started now t = if is_none t.ends_at then waiting now t else t
 
 -- a probe is due two round trips from now on, and the timeout stays
-abbrev pub hastened : ℤ → RetransmissionTimer → RetransmissionTimer
+abbrev pub hastened : ℤ → Timer → Timer
 hastened now t = record t {
   wait = first_wait t.timeout.estimate;
   probe_at = moment_after now (first_wait t.timeout.estimate);
@@ -178,35 +214,35 @@ hastened now t = record t {
 
 -- where something is sent: it starts, unless it runs for what is on the way; then what is new brings the probe of a
 -- segment alone
-abbrev pub running : ℕ → Bool → Bool → ℤ → RetransmissionTimer → RetransmissionTimer
+abbrev pub running : ℕ → Bool → Bool → ℤ → Timer → Timer
 running delay alone new now t = if is_none t.ends_at || alone then restarted delay alone now t
     else (if t.is_alone && new then hastened now t else t)
 
-abbrev pub stopped : RetransmissionTimer → RetransmissionTimer
+abbrev pub stopped : Timer → Timer
 stopped t = record t { ends_at = None }
 
 abbrev pub is_between : ℕ → ℕ → Option TimedSegment → Bool
 is_between from to None = false
 is_between from to (Some s) = nat_le from s.pos && nat_lt s.pos to
 
-abbrev pub times : RetransmissionTimer → ℕ → ℕ → Bool
+abbrev pub times : Timer → ℕ → ℕ → Bool
 times t from to = is_between from to t.timed
 
-abbrev pub untimed : RetransmissionTimer → RetransmissionTimer
+abbrev pub untimed : Timer → Timer
 untimed t = record t { timed = None }
 
 -- Karn's rule: a segment is no longer timed once it is sent again, and none is timed that was sent before
-abbrev pub timed_after : ℕ → ℕ → ℕ → ℤ → RetransmissionTimer → RetransmissionTimer
+abbrev pub timed_after : ℕ → ℕ → ℕ → ℤ → Timer → Timer
 timed_after pos end sent now t =
     if times t pos end then untimed t
     else (if is_none t.timed && nat_le sent pos then record t { timed = Some (record { pos = pos; since = now }) } else t)
 
 -- where the last segment begins that has something new
-abbrev pub lasting : Bool → ℕ → RetransmissionTimer → RetransmissionTimer
+abbrev pub lasting : Bool → ℕ → Timer → Timer
 lasting new pos t = record t { last = if new then pos else t.last }
 
 -- (5.1): where something is sent, the timer is started. It is alone if nothing was on the way
-abbrev pub after_sending : TimeoutBounds → ℕ → ℕ → ℕ → ℕ → ℤ → RetransmissionTimer → RetransmissionTimer
+abbrev pub after_sending : TimeoutBounds → ℕ → ℕ → ℕ → ℕ → ℤ → Timer → Timer
 after_sending b pos end first sent now t =
     if nat_lt pos end
     then timed_after pos end sent now
@@ -214,7 +250,7 @@ after_sending b pos end first sent now t =
     else t
 
 -- a segment that was sent once has arrived
-abbrev pub with_sample_of : TimeoutBounds → ℤ → Option TimedSegment → RetransmissionTimer → RetransmissionTimer
+abbrev pub with_sample_of : TimeoutBounds → ℤ → Option TimedSegment → Timer → Timer
 with_sample_of b now None t = t
 with_sample_of b now (Some s) t = untimed (record t {
   timeout = after_sample b (elapsed now s.since) t.timeout;
@@ -222,61 +258,61 @@ with_sample_of b now (Some s) t = untimed (record t {
 })
 
 -- the timed segment has arrived
-abbrev pub with_sample : TimeoutBounds → ℤ → RetransmissionTimer → RetransmissionTimer
+abbrev pub with_sample : TimeoutBounds → ℤ → Timer → Timer
 with_sample b now t = with_sample_of b now t.timed t
 
 -- so has it if it is below that
-abbrev pub sampled_below : TimeoutBounds → ℕ → ℤ → RetransmissionTimer → RetransmissionTimer
+abbrev pub sampled_below : TimeoutBounds → ℕ → ℤ → Timer → Timer
 sampled_below b next now t = if times t 0 next then with_sample b now t else t
 
 -- an answer came: no timeout in a row
-abbrev pub answered : RetransmissionTimer → RetransmissionTimer
+abbrev pub answered : Timer → Timer
 answered t = record t { timeouts = 0 }
 
 -- anything new is acknowledged, (5.2): if all that was sent is, the timer is stopped; (5.3): else it is started again; one
 -- segment is alone if no later one had something new
-abbrev pub after_news : ℕ → ℕ → ℕ → ℤ → RetransmissionTimer → RetransmissionTimer
+abbrev pub after_news : ℕ → ℕ → ℕ → ℤ → Timer → Timer
 after_news delay sent next now t =
     if nat_le sent next then stopped (answered t) else restarted delay (nat_le t.last next) now (answered t)
 
 -- what was never sent isn't acknowledged: nothing changes
-abbrev pub after_acknowledged : TimeoutBounds → ℕ → ℕ → ℕ → ℤ → RetransmissionTimer → RetransmissionTimer
+abbrev pub after_acknowledged : TimeoutBounds → ℕ → ℕ → ℕ → ℤ → Timer → Timer
 after_acknowledged b first sent next now t =
     if nat_lt sent next then t
     else (let s = sampled_below b next now t in
     if nat_lt first next then after_news b.ack_delay sent next now s else s)
 
 -- where anything new is reported, it is started again, if it runs
-abbrev pub after_report : ℤ → RetransmissionTimer → RetransmissionTimer
+abbrev pub after_report : ℤ → Timer → Timer
 after_report now t = if is_some t.ends_at then restarted 0 false now (answered t) else answered t
 
 -- a probe is due if the peer can answer it, and the timeout doesn't pass before
-abbrev pub earlier : RetransmissionTimer → ℤ → ℤ
+abbrev pub earlier : Timer → ℤ → ℤ
 earlier t end = if t.reports && int_lt t.probe_at end then t.probe_at else end
 
-abbrev pub expires_from : RetransmissionTimer → Option ℤ → Option ℤ
+abbrev pub expires_from : Timer → Option ℤ → Option ℤ
 expires_from t None = None
 expires_from t (Some end) = Some (earlier t end)
 
-abbrev pub expires_at : RetransmissionTimer → Option ℤ
+abbrev pub expires_at : Timer → Option ℤ
 expires_at t = expires_from t t.ends_at
 
 abbrev pub is_due : ℤ → Option ℤ → Bool
 is_due now None = false
 is_due now (Some at) = int_le at now
 
-abbrev pub has_expired : RetransmissionTimer → ℤ → Bool
+abbrev pub has_expired : Timer → ℤ → Bool
 has_expired t now = is_due now (expires_at t)
 
 -- the timeout has passed
-abbrev pub has_ended : RetransmissionTimer → ℤ → Bool
+abbrev pub has_ended : Timer → ℤ → Bool
 has_ended t now = is_due now t.ends_at
 
-abbrev pub expiry : RetransmissionTimer → ℤ → Option Expiry
+abbrev pub expiry : Timer → ℤ → Option Expiry
 expiry t now = if has_expired t now then (if has_ended t now then Some Timeout else Some Probe) else None
 
 -- a probe doubles only the wait for the next one, and one more sample is wanted that isn't late
-abbrev pub probed : ℤ → RetransmissionTimer → RetransmissionTimer
+abbrev pub probed : ℤ → Timer → Timer
 probed now t = record t {
   wait = min (2 * t.wait) (2 ^ 64 - 1);
   probe_at = moment_after now (min (2 * t.wait) (2 ^ 64 - 1));
@@ -285,14 +321,14 @@ probed now t = record t {
 
 -- (5.5), (5.6): where the timeout has passed, it is doubled, and the timer is started again. What was on the way is
 -- sent again, so no segment is timed
-abbrev pub timed_out : TimeoutBounds → ℤ → RetransmissionTimer → RetransmissionTimer
+abbrev pub timed_out : TimeoutBounds → ℤ → Timer → Timer
 timed_out b now t = waiting now (record t {
   timeout = record t.timeout { timeout = doubled b t.timeout.timeout };
   timed = None;
   timeouts = min (t.timeouts + 1) (2 ^ 64 - 1);
 })
 
-abbrev pub after_expiry : TimeoutBounds → ℤ → RetransmissionTimer → RetransmissionTimer
+abbrev pub after_expiry : TimeoutBounds → ℤ → Timer → Timer
 after_expiry b now t =
     if has_expired t now then (if has_ended t now then timed_out b now t else probed now t) else t
 
@@ -312,7 +348,7 @@ pub data Event : Type 0 where
 -- the first position that isn't acknowledged, the one after the last that was sent, each range that was sent, as
 -- its positions and its moment; and the timeout after the last event that armed the timer
 pub record Connection : Type 0 where
-  pub timer : RetransmissionTimer
+  pub timer : Timer
   pub first : ℕ
   pub sent : ℕ
   pub log : List (ℕ × ℕ × ℤ)
@@ -334,7 +370,7 @@ arms c (Starts now) = is_none c.timer.ends_at
 arms c _ = false
 
 -- the timeout after that
-abbrev pub due_after : Bool → ℤ → RetransmissionTimer → ℤ → ℤ
+abbrev pub due_after : Bool → ℤ → Timer → ℤ → ℤ
 due_after arms now t due = if arms then moment_after now t.timeout.timeout else due
 
 -- nothing that is acknowledged is sent, and nothing is acknowledged that wasn't sent

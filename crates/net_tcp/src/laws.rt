@@ -11,6 +11,7 @@ ghost use Rattle.net_tcp.specs.Windows.{window_from, with_segment, no_window, Bo
 ghost use Rattle.net_tcp.specs.Windows.{Announcement, Heard, acknowledged, updated, heard, heard_all, IsNoLater};
 ghost use Rattle.net_tcp.specs.Windows.{IsNoNewer, IsFromNoNewer};
 ghost use Rattle.net_tcp.specs.Estimate.{Estimate, IsSmall};
+ghost use Rattle.net_tcp.specs.Retransmission.{timer_of};
 ghost use Rattle.net_tcp.specs.Retransmission.{next_estimate, distance, doubled, IsSettled, Event, Connection};
 ghost use Rattle.net_tcp.specs.Retransmission.{opened, after_event, after_events, runs, sends_over, IsNoStart};
 ghost use Rattle.net_tcp.specs.Retransmission.{IsNoStop, IsUnacknowledged, IsEnd, IsMove, IsUntil, expires_at, expiry};
@@ -144,8 +145,8 @@ pub fn is_sound_timeout(timeout: &RetransmissionTimeout)
 
 /// States of every timer what is true of its timeout.
 pub fn is_sound_timer(timer: &RetransmissionTimer)
-    ensures estimate { IfSome timer.now.timeout.estimate IsSmall }
-    ensures timeout { IsLength timer.now.timeout.timeout }
+    ensures estimate { IfSome (timer_of timer.now).timeout.estimate IsSmall }
+    ensures timeout { IsLength (timer_of timer.now).timeout.timeout }
 {
     is_small(timer.rtt());
     let _micros = timer.timeout().total_micros();

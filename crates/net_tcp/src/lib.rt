@@ -18,4 +18,4 @@ pub use arriving::{Arrival, Segment, classify, is_acceptable, is_acknowledgement
 pub use internet_sum::{PartsSum, checksum, is_valid, updated_checksum};
 pub use peer_window::{Announcement, PeerWindow, scaled};
 pub use retransmission::{RetransmissionTimeout, RttEstimate, TimeoutBounds, Transmission};
-pub use retransmission_timer::{Expiry, RetransmissionTimer, TimedSegment, TimerParts};
+pub use retransmission_timer::{Expiry, RetransmissionTimer, TimedSegment};

@@ -8,16 +8,21 @@ ghost use Rattle.std.specs.Prelude.{◌≡◌};
 ghost use Rattle.net_tcp.specs.Retransmission.{new_timer, restarted, started, stopped, times, timed_after, hastened};
 ghost use Rattle.net_tcp.specs.Retransmission.{after_sending, with_sample, after_acknowledged, has_expired, has_ended};
 ghost use Rattle.net_tcp.specs.Retransmission.{after_report, after_expiry, expiry, expires_at, first_wait, allowance};
-ghost use Rattle.net_tcp.specs.Retransmission.{timer_of, parts_of, running, probed, timed_out, waiting, after_news, sampled_below};
+ghost use Rattle.std.specs.Prelude.{IsFalse, not, nat_eq, Some, if◌then◌else◌};
+ghost use Rattle.net_base.specs.Time.{moment_after};
+ghost use Rattle.net_tcp.specs.Retransmission.{IsCanonicalTimer, new_fields, timer_of, untimed, after_sample, running, probed, timed_out, waiting, after_news, sampled_below};
 ghost use Rattle.net_tcp.specs.Retransmission.{prompt_after, prompt_wait};
 
 use crate::retransmission::{RetransmissionTimeout, RttEstimate, TimeoutBounds};
 use net_base::time::{Duration, Instant};
-use net_receiver::SentNumbers;
+use net_receiver::{SentNumbers, flag_of};
 use std::ops::Range;
 
 /// The least time without an answer after which a probe is sent, in microseconds.
 const LEAST_WAIT: u64 = 2_000;
+
+/// The timeout of a timer of zeros, in microseconds: 1 second, as RFC 6298 begins (2.1).
+const FIRST_TIMEOUT: u64 = 1_000_000;
 
 /// After so many segments alone in a row whose acknowledgements weren't late, that of the next isn't expected to be.
 const PROMPT: u64 = 8;
@@ -40,31 +45,6 @@ pub struct TimedSegment {
     pub since: Instant,
 }
 
-/// All that a timer knows.
-#[derive(Copy, Clone, Debug, PartialEq, Eq, Hash)]
-pub struct TimerParts {
-    /// The timeout.
-    pub timeout: RetransmissionTimeout,
-    /// When the timeout passes, while the timer runs.
-    pub ends_at: Option<Instant>,
-    /// When a probe is due, if the timer runs and that is earlier.
-    pub probe_at: Instant,
-    /// How long the probe has waited then. The next one waits twice that.
-    pub wait: Duration,
-    /// Whether it waits for an acknowledgement that may be delayed.
-    pub is_alone: bool,
-    /// The segment that is timed, if there is one.
-    pub timed: Option<TimedSegment>,
-    /// Where the last segment begins that had something new.
-    pub last: u64,
-    /// How often the timeout has passed since anything new was acknowledged or reported.
-    pub timeouts: u64,
-    /// Whether the peer reports blocks.
-    pub reports: bool,
-    /// How many samples in a row of one segment alone weren't late, up to 8.
-    pub prompt: u64,
-}
-
 /// The timer of retransmissions, by the rules of RFC 6298, section 5, and the one segment that is timed
 /// for a sample.
 ///
@@ -81,18 +61,45 @@ pub struct TimerParts {
 /// acknowledged; `start` also starts it where something else is waited for, as a window that opens. Then it
 /// runs until `stop`, or until all that was sent is acknowledged, if some of it wasn't before. What is sent where
 /// nothing is on the way starts it anew: its time isn't that of what was waited for.
+///
+/// It is numbers alone, so that C has it as it is: a flag is not 0 where it holds, and what there may be has one beside it.
+/// One of zeros is new, with a timeout of 1 second, of a peer that reports no blocks.
+#[repr(C)]
 #[derive(Copy, Clone, Debug, PartialEq, Eq, Hash)]
 pub struct RetransmissionTimer {
-    timeout: RetransmissionTimeout,
-    ends_at: Option<Instant>,
-    // The rest as in `TimerParts`.
-    probe_at: Instant,
-    wait: Duration,
-    is_alone: bool,
-    timed: Option<TimedSegment>,
+    /// Eight times the smoothed time of a round trip. No more than 2^63 of it counts, which samples don't exceed.
+    srtt_8: u64,
+    /// Four times its variation. No more than 2^62 of it counts.
+    rttvar_4: u64,
+    /// Not 0 once there was a sample.
+    has_estimate: u64,
+    /// The timeout, if `has_timeout` isn't 0; else it is 1 second.
+    timeout: u64,
+    /// Not 0 once `timeout` counts.
+    has_timeout: u64,
+    /// When the timeout passes, while it runs.
+    ends_at: i64,
+    /// Not 0 while it runs.
+    is_running: u64,
+    /// When a probe is due, if the timer runs and that is earlier.
+    probe_at: i64,
+    /// How long the probe has waited then. The next one waits twice that.
+    wait: u64,
+    /// Not 0 while it waits for an acknowledgement that may be delayed.
+    is_alone: u64,
+    /// The position of the timed segment, if there is one.
+    timed: u64,
+    /// When that was sent.
+    timed_since: i64,
+    /// Not 0 while a segment is timed.
+    is_timing: u64,
+    /// Where the last segment begins that had something new.
     last: u64,
+    /// How often the timeout has passed since anything new was acknowledged or reported.
     timeouts: u64,
-    reports: bool,
+    /// Not 0 if the peer reports blocks.
+    reports: u64,
+    /// How many samples in a row of one segment alone weren't late, up to 8.
     prompt: u64,
 }
 
@@ -101,108 +108,90 @@ impl RetransmissionTimer {
     /// whether the peer reports blocks (SACK): if not, no probe is ever due.
     #[must_use]
     pub const fn new(timeout: Duration, reports: bool) -> Self
-        ensures { result ≡ new_timer timeout reports }
+        ensures state { timer_of result ≡ new_timer timeout reports }
+        ensures numbers { result ≡ new_fields timeout reports }
+        ensures canonical { IsCanonicalTimer result }
     {
         RetransmissionTimer {
-            timeout: RetransmissionTimeout::new(timeout),
-            ends_at: None,
-            probe_at: Instant::ZERO,
-            wait: Duration::ZERO,
-            is_alone: false,
-            timed: None,
+            srtt_8: 0,
+            rttvar_4: 0,
+            has_estimate: 0,
+            timeout: timeout.total_micros(),
+            has_timeout: 1,
+            ends_at: 0,
+            is_running: 0,
+            probe_at: 0,
+            wait: 0,
+            is_alone: 0,
+            timed: 0,
+            timed_since: 0,
+            is_timing: 0,
             last: 0,
             timeouts: 0,
-            reports,
+            reports: flag_of(reports),
             prompt: 0,
-        }
-    }
-
-    /// Returns the timer of these parts.
-    #[must_use]
-    pub const fn from_parts(parts: TimerParts) -> Self
-        ensures { result ≡ timer_of parts }
-    {
-        RetransmissionTimer {
-            timeout: parts.timeout,
-            ends_at: parts.ends_at,
-            probe_at: parts.probe_at,
-            wait: parts.wait,
-            is_alone: parts.is_alone,
-            timed: parts.timed,
-            last: parts.last,
-            timeouts: parts.timeouts,
-            reports: parts.reports,
-            prompt: parts.prompt,
-        }
-    }
-
-    /// Returns its parts.
-    #[must_use]
-    pub const fn parts(&self) -> TimerParts
-        ensures value { result ≡ parts_of self.now }
-        ensures same { timer_of result ≡ self.now }
-    {
-        TimerParts {
-            timeout: self.timeout,
-            ends_at: self.ends_at,
-            probe_at: self.probe_at,
-            wait: self.wait,
-            is_alone: self.is_alone,
-            timed: self.timed,
-            last: self.last,
-            timeouts: self.timeouts,
-            reports: self.reports,
-            prompt: self.prompt,
         }
     }
 
     /// Returns the timeout.
     #[must_use]
     pub fn timeout(&self) -> Duration
-        ensures { result ≡ self.now.timeout.timeout }
+        ensures { result ≡ (timer_of self.now).timeout.timeout }
     {
-        self.timeout.timeout()
+        if self.has_timeout == 0 {
+            Duration::from_micros(FIRST_TIMEOUT)
+        } else {
+            Duration::from_micros(self.timeout)
+        }
     }
 
     /// Returns the estimate of the time of a round trip, if there was a sample.
     #[must_use]
     pub fn rtt(&self) -> Option<RttEstimate>
-        ensures { result ≡ self.now.timeout.estimate }
+        ensures { result ≡ (timer_of self.now).timeout.estimate }
     {
-        self.timeout.rtt()
+        if self.has_estimate == 0 {
+            None
+        } else {
+            Some(RttEstimate::from_scaled(self.srtt_8, self.rttvar_4))
+        }
     }
 
     /// Returns when it expires, if it runs: when the timeout passes, or a probe is due before that.
     #[must_use]
     pub fn expires_at(&self) -> Option<Instant>
-        ensures { result ≡ expires_at self.now }
+        ensures { result ≡ expires_at (timer_of self.now) }
     {
-        match self.ends_at {
-            Some(end) => {
-                let at = if self.reports && self.probe_at < end {
-                    self.probe_at
-                } else {
-                    end
-                };
-                Some(at)
-            }
-            None => None,
+        if self.is_running == 0 {
+            return None;
         }
+        let at = if self.reports != 0 && self.probe_at < self.ends_at {
+            self.probe_at
+        } else {
+            self.ends_at
+        };
+        Some(Instant::from_micros(at))
     }
 
     /// Returns the segment that is timed, if there is one.
     #[must_use]
     pub fn timed(&self) -> Option<TimedSegment>
-        ensures { result ≡ self.now.timed }
+        ensures { result ≡ (timer_of self.now).timed }
     {
-        self.timed
+        if self.is_timing == 0 {
+            return None;
+        }
+        Some(TimedSegment {
+            pos: self.timed,
+            since: Instant::from_micros(self.timed_since),
+        })
     }
 
     /// Returns how often the timeout has passed in a row, without anything new that was acknowledged or reported in
     /// between: enough of them, and the peer is gone. Those at a window that is shut count too, though each is answered.
     #[must_use]
     pub fn timeouts(&self) -> u64
-        ensures { result ≡ self.now.timeouts }
+        ensures { result ≡ (timer_of self.now).timeouts }
     {
         self.timeouts
     }
@@ -210,18 +199,21 @@ impl RetransmissionTimer {
     /// Starts the timer, unless it runs, where nothing is on the way: the timeout from `now` on it expires, and no
     /// probe is due.
     pub fn start(&mut self, now: Instant)
-        ensures { self.new ≡ started now self.old }
+        ensures state { timer_of self.new ≡ started now (timer_of self.old) }
+        ensures canonical { IsCanonicalTimer self.old → IsCanonicalTimer self.new }
     {
-        if self.ends_at.is_none() {
+        if self.is_running == 0 {
             self.wait_for_timeout(now);
         }
     }
 
     /// Stops the timer. A segment that is timed stays so.
     pub fn stop(&mut self)
-        ensures { self.new ≡ stopped self.old }
+        ensures state { timer_of self.new ≡ stopped (timer_of self.old) }
+        ensures canonical { IsCanonicalTimer self.old → IsCanonicalTimer self.new }
     {
-        self.ends_at = None;
+        self.is_running = 0;
+        self.ends_at = 0;
     }
 
     /// Takes notice that the segment with these positions is sent `now`, and starts the timer, unless it runs and
@@ -239,8 +231,9 @@ impl RetransmissionTimer {
         numbers: SentNumbers,
         now: Instant,
     )
-        ensures { self.new ≡ after_sending bounds positions.start positions.end
-            numbers.first_unacknowledged numbers.sent now self.old }
+        ensures state { timer_of self.new ≡ after_sending bounds positions.start positions.end
+            numbers.first_unacknowledged numbers.sent now (timer_of self.old) }
+        ensures canonical { IsCanonicalTimer self.old → IsCanonicalTimer self.new }
     {
         if positions.start >= positions.end {
             return;
@@ -257,56 +250,102 @@ impl RetransmissionTimer {
     /// Starts the timer if it doesn't run, or one segment `is_alone`: what it ran for is no longer waited for. Otherwise
     /// a second segment that `is_new` brings the probe of one that was alone.
     fn run(&mut self, ack_delay: Duration, is_alone: bool, is_new: bool, now: Instant)
-        ensures { self.new ≡ running ack_delay is_alone is_new now self.old }
+        ensures state { timer_of self.new ≡ running ack_delay is_alone is_new now (timer_of self.old) }
+        ensures canonical { IsCanonicalTimer self.old → IsCanonicalTimer self.new }
     {
-        if self.ends_at.is_none() || is_alone {
+        if self.is_running == 0 || is_alone {
             self.restart(ack_delay, is_alone, now);
-        } else if self.is_alone && is_new {
+        } else if self.is_alone != 0 && is_new {
             self.hasten(now);
         }
     }
 
     /// Has a probe due two round trips from now on.
     fn hasten(&mut self, now: Instant)
-        ensures { self.new ≡ hastened now self.old }
+        ensures state { timer_of self.new ≡ hastened now (timer_of self.old) }
+        ensures canonical { IsCanonicalTimer self.old → IsCanonicalTimer self.new }
     {
-        self.wait = first_wait(self.timeout.rtt());
-        self.probe_at = now.saturating_add(self.wait);
-        self.is_alone = false;
+        let wait = first_wait(self.rtt());
+        self.wait = wait.total_micros();
+        self.probe_at = now.saturating_add(wait).total_micros();
+        self.is_alone = 0;
     }
 
     /// Times a range that is sent now, or no longer times one that is in it.
     fn time(&mut self, pos: u64, end: u64, sent: u64, now: Instant)
-        ensures { self.new ≡ timed_after pos end sent now self.old }
+        ensures state { timer_of self.new ≡ timed_after pos end sent now (timer_of self.old) }
+        ensures canonical { IsCanonicalTimer self.old → IsCanonicalTimer self.new }
     {
         if self.times(pos, end) {
-            self.timed = None;
-        } else if self.timed.is_none() && sent <= pos {
-            self.timed = Some(TimedSegment { pos, since: now });
+            self.untime();
+        } else if self.is_timing == 0 && sent <= pos {
+            self.timed = pos;
+            self.timed_since = now.total_micros();
+            self.is_timing = 1;
         }
+    }
+
+    /// Times no segment.
+    fn untime(&mut self)
+        ensures state { timer_of self.new ≡ untimed (timer_of self.old) }
+        ensures canonical { IsCanonicalTimer self.old → IsCanonicalTimer self.new }
+    {
+        self.timed = 0;
+        self.timed_since = 0;
+        self.is_timing = 0;
     }
 
     /// Takes the sample of the timed segment, if there is one, since it has arrived: as `acknowledged`
     /// finds out, and as a SACK block may say.
     pub fn take_sample(&mut self, bounds: TimeoutBounds, now: Instant)
-        ensures { self.new ≡ with_sample bounds now self.old }
+        ensures state { timer_of self.new ≡ with_sample bounds now (timer_of self.old) }
+        ensures canonical { IsCanonicalTimer self.old → IsCanonicalTimer self.new }
     {
-        match self.timed {
-            Some(segment) => {
-                let time = now.saturating_duration_since(segment.since);
-                self.prompt = self.prompt_after(bounds.ack_delay, time);
-                self.timeout.take_sample(bounds, time);
-                self.timed = None;
-            }
-            None => {}
+        if let Some(segment) = self.timed() {
+            let time = now.saturating_duration_since(segment.since);
+            self.prompt = self.prompt_after(bounds.ack_delay, time);
+            self.take_time(bounds, time);
+            self.untime();
         }
+    }
+
+    /// Takes the time of a round trip.
+    fn take_time(&mut self, bounds: TimeoutBounds, time: Duration)
+        ensures state { timer_of self.new ≡ record (timer_of self.old) { timeout = after_sample bounds time (timer_of self.old).timeout } }
+        ensures canonical { IsCanonicalTimer self.old → IsCanonicalTimer self.new }
+    {
+        let mut timeout = RetransmissionTimeout::from_parts(self.rtt(), self.timeout());
+        timeout.take_sample(bounds, time);
+        self.set_timeout(timeout);
+    }
+
+    /// Sets the timeout, and the estimate.
+    fn set_timeout(&mut self, timeout: RetransmissionTimeout)
+        ensures state { timer_of self.new ≡ record (timer_of self.old) { timeout = timeout } }
+        ensures canonical { IsCanonicalTimer self.old → IsCanonicalTimer self.new }
+    {
+        match timeout.rtt() {
+            Some(estimate) => {
+                let (srtt_8, rttvar_4) = estimate.scaled();
+                self.srtt_8 = srtt_8;
+                self.rttvar_4 = rttvar_4;
+                self.has_estimate = 1;
+            }
+            None => {
+                self.srtt_8 = 0;
+                self.rttvar_4 = 0;
+                self.has_estimate = 0;
+            }
+        }
+        self.timeout = timeout.timeout().total_micros();
+        self.has_timeout = 1;
     }
 
     /// Returns how many segments alone in a row weren't acknowledged late, after one more sample.
     fn prompt_after(&self, ack_delay: Duration, time: Duration) -> u64
-        ensures { result ≡ prompt_after ack_delay time self.now }
+        ensures { result ≡ prompt_after ack_delay time (timer_of self.now) }
     {
-        if !self.is_alone {
+        if self.is_alone == 0 {
             self.prompt
         } else if time <= self.prompt_wait(ack_delay) {
             self.prompt.saturating_add(1).min(PROMPT)
@@ -317,10 +356,10 @@ impl RetransmissionTimer {
 
     /// Returns how long the first probe of a segment alone waits whose acknowledgement isn't expected to be late.
     fn prompt_wait(&self, ack_delay: Duration) -> Duration
-        ensures { result ≡ prompt_wait ack_delay self.now.timeout.estimate }
+        ensures { result ≡ prompt_wait ack_delay (timer_of self.now).timeout.estimate }
     {
         Duration::from_micros(
-            first_wait(self.timeout.rtt())
+            first_wait(self.rtt())
                 .total_micros()
                 .saturating_add(allowance(ack_delay, true, PROMPT)),
         )
@@ -340,8 +379,9 @@ impl RetransmissionTimer {
         next: u64,
         now: Instant,
     )
-        ensures { self.new ≡ after_acknowledged bounds
-            numbers.first_unacknowledged numbers.sent next now self.old }
+        ensures state { timer_of self.new ≡ after_acknowledged bounds
+            numbers.first_unacknowledged numbers.sent next now (timer_of self.old) }
+        ensures canonical { IsCanonicalTimer self.old → IsCanonicalTimer self.new }
     {
         if numbers.sent < next {
             return;
@@ -356,7 +396,8 @@ impl RetransmissionTimer {
 
     /// Takes the sample of the timed segment, if that is below `next`.
     fn sample_below(&mut self, bounds: TimeoutBounds, next: u64, now: Instant)
-        ensures { self.new ≡ sampled_below bounds next now self.old }
+        ensures state { timer_of self.new ≡ sampled_below bounds next now (timer_of self.old) }
+        ensures canonical { IsCanonicalTimer self.old → IsCanonicalTimer self.new }
     {
         if self.times(0, next) {
             self.take_sample(bounds, now);
@@ -365,7 +406,8 @@ impl RetransmissionTimer {
 
     /// Takes an acknowledgement of something new, below `next`.
     fn take_news(&mut self, ack_delay: Duration, sent: u64, next: u64, now: Instant)
-        ensures { self.new ≡ after_news ack_delay sent next now self.old }
+        ensures state { timer_of self.new ≡ after_news ack_delay sent next now (timer_of self.old) }
+        ensures canonical { IsCanonicalTimer self.old → IsCanonicalTimer self.new }
     {
         let is_alone = self.last <= next;
         self.timeouts = 0;
@@ -379,10 +421,11 @@ impl RetransmissionTimer {
     /// Takes notice that a block has reported what wasn't known: a timer that runs is started again. A peer that reports
     /// delays no acknowledgement.
     pub fn reported(&mut self, now: Instant)
-        ensures { self.new ≡ after_report now self.old }
+        ensures state { timer_of self.new ≡ after_report now (timer_of self.old) }
+        ensures canonical { IsCanonicalTimer self.old → IsCanonicalTimer self.new }
     {
         self.timeouts = 0;
-        if self.ends_at.is_some() {
+        if self.is_running != 0 {
             self.restart(Duration::ZERO, false, now);
         }
     }
@@ -393,8 +436,10 @@ impl RetransmissionTimer {
     /// that is doubled within the bounds, and the timer starts again; no segment is timed any longer, and no probe is due
     /// until something new is acknowledged or reported.
     pub fn expire(&mut self, bounds: TimeoutBounds, now: Instant) -> Option<Expiry>
-        ensures result { result ≡ expiry self.old now }
-        ensures state { self.new ≡ after_expiry bounds now self.old }
+        ensures result { result ≡ expiry (timer_of self.old) now }
+        ensures state { timer_of self.new ≡ after_expiry bounds now (timer_of self.old) }
+        ensures unchanged { IsFalse (has_expired (timer_of self.old) now) → self.new ≡ self.old }
+        ensures canonical { IsCanonicalTimer self.old → IsCanonicalTimer self.new }
     {
         if !self.has_expired(now) {
             return None;
@@ -409,26 +454,31 @@ impl RetransmissionTimer {
 
     /// Doubles the timeout, and starts the timer again.
     fn time_out(&mut self, bounds: TimeoutBounds, now: Instant)
-        ensures { self.new ≡ timed_out bounds now self.old }
+        ensures state { timer_of self.new ≡ timed_out bounds now (timer_of self.old) }
+        ensures canonical { IsCanonicalTimer self.old → IsCanonicalTimer self.new }
     {
-        self.timeout.expired(bounds);
-        self.timed = None;
+        let mut timeout = RetransmissionTimeout::from_parts(self.rtt(), self.timeout());
+        timeout.expired(bounds);
+        self.set_timeout(timeout);
+        self.untime();
         self.timeouts = self.timeouts.saturating_add(1);
         self.wait_for_timeout(now);
     }
 
     /// Has the next probe wait twice as long, and one more sample be wanted that isn't late.
     fn probe(&mut self, now: Instant)
-        ensures { self.new ≡ probed now self.old }
+        ensures state { timer_of self.new ≡ probed now (timer_of self.old) }
+        ensures canonical { IsCanonicalTimer self.old → IsCanonicalTimer self.new }
     {
         self.prompt = self.prompt.min(PROMPT - 1);
         self.wait = self.wait.saturating_mul(2);
-        self.probe_at = now.saturating_add(self.wait);
+        let wait = Duration::from_micros(self.wait);
+        self.probe_at = now.saturating_add(wait).total_micros();
     }
 
     /// Returns whether it runs, and it is time.
     fn has_expired(&self, now: Instant) -> bool
-        ensures { result ≡ has_expired self.now now }
+        ensures { result ≡ has_expired (timer_of self.now) now }
     {
         match self.expires_at() {
             Some(at) => at <= now,
@@ -438,46 +488,53 @@ impl RetransmissionTimer {
 
     /// Returns whether it runs, and the timeout has passed.
     fn has_ended(&self, now: Instant) -> bool
-        ensures { result ≡ has_ended self.now now }
+        ensures { result ≡ has_ended (timer_of self.now) now }
     {
-        match self.ends_at {
-            Some(at) => at <= now,
-            None => false,
-        }
+        self.is_running != 0 && self.ends_at <= now.total_micros()
     }
 
     /// Starts the timer, whether it runs or not. At most one segment is on the way if one `is_alone`.
     fn restart(&mut self, ack_delay: Duration, is_alone: bool, now: Instant)
-        ensures { self.new ≡ restarted ack_delay is_alone now self.old }
+        ensures state { timer_of self.new ≡ restarted ack_delay is_alone now (timer_of self.old) }
+        ensures canonical { IsCanonicalTimer self.old → IsCanonicalTimer self.new }
     {
-        let wait = first_wait(self.timeout.rtt());
-        self.ends_at = Some(now.saturating_add(self.timeout.timeout()));
-        self.wait = Duration::from_micros(
-            wait.total_micros()
-                .saturating_add(allowance(ack_delay, is_alone, self.prompt)),
-        );
-        self.probe_at = now.saturating_add(self.wait);
-        self.is_alone = is_alone;
+        let wait = first_wait(self.rtt());
+        self.end_after_timeout(now);
+        self.wait = wait
+            .total_micros()
+            .saturating_add(allowance(ack_delay, is_alone, self.prompt));
+        let wait = Duration::from_micros(self.wait);
+        self.probe_at = now.saturating_add(wait).total_micros();
+        self.is_alone = flag_of(is_alone);
+    }
+
+    /// Has the timeout pass its length from now on.
+    fn end_after_timeout(&mut self, now: Instant)
+        ensures state { timer_of self.new ≡ record (timer_of self.old) {
+          ends_at = Some (moment_after now (timer_of self.old).timeout.timeout);
+        } }
+        ensures canonical { IsCanonicalTimer self.old → IsCanonicalTimer self.new }
+    {
+        self.ends_at = now.saturating_add(self.timeout()).total_micros();
+        self.is_running = 1;
     }
 
     /// Starts the timer without a probe.
     fn wait_for_timeout(&mut self, now: Instant)
-        ensures { self.new ≡ waiting now self.old }
+        ensures state { timer_of self.new ≡ waiting now (timer_of self.old) }
+        ensures canonical { IsCanonicalTimer self.old → IsCanonicalTimer self.new }
     {
-        self.ends_at = Some(now.saturating_add(self.timeout.timeout()));
-        self.wait = Duration::MAX;
-        self.probe_at = now.saturating_add(Duration::MAX);
-        self.is_alone = false;
+        self.end_after_timeout(now);
+        self.wait = u64::MAX;
+        self.probe_at = now.saturating_add(Duration::MAX).total_micros();
+        self.is_alone = 0;
     }
 
     /// Returns whether the timed segment is at `from` or above, and below `to`.
     fn times(&self, from: u64, to: u64) -> bool
-        ensures { result ≡ times self.now from to }
+        ensures { result ≡ times (timer_of self.now) from to }
     {
-        match self.timed {
-            Some(segment) => from <= segment.pos && segment.pos < to,
-            None => false,
-        }
+        self.is_timing != 0 && from <= self.timed && self.timed < to
     }
 }
 

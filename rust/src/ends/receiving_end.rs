@@ -2,7 +2,7 @@
 //! What receives a stream that ends.
 
 use crate::rattle::prelude::*;
-use crate::stream::{FiniteError, FiniteReceiverOver, KeptBytes};
+use crate::stream::{FiniteError, FiniteReceiverOver, HeldRun, KeptBytes};
 use crate::storage::{ManagedSlice, Storage};
 use crate::tcp::{AdvertisedWindow, Arrival, Segment};
 
@@ -18,6 +18,183 @@ pub struct Acknowledgement {
     /// What came twice since the last one, if anything did (RFC 2883), and then the newest runs that were kept beyond
     /// `next`, the newest first.
     pub blocks: [Option<(u64, u64)>; 4],
+}
+
+/// What the rules of a receiving end know of its receiver: numbers.
+///
+/// Contracts: `crates/net_ends/src/receiving_end.rt`.
+#[derive(Copy, Clone, Debug, PartialEq, Eq)]
+pub struct Room {
+    /// The number that an acknowledgement names.
+    pub next: u64,
+    /// The end of the free room, or the last position if that doesn't fit 64 bits.
+    pub end: u64,
+    /// How many bytes the storage has.
+    pub capacity: u64,
+    /// Whether all bytes and the end have arrived.
+    pub is_complete: bool,
+}
+
+/// All of a receiving end but its receiver: what it announced, when it acknowledges, and what came twice. Its calls are
+/// given the receiver's numbers; who holds both has the receiver take what arrives.
+///
+/// It is numbers alone, so that C has it as it is. One of zeros is new, of a stream that begins at position 0, with
+/// segments of no bytes.
+///
+/// Contracts: `crates/net_ends/src/receiving_end.rt`.
+#[repr(C)]
+#[derive(Debug, Clone, Copy)]
+pub struct ReceivingHead {
+    /// What was announced.
+    pub advertised: AdvertisedWindow,
+    /// The position of the newest segment.
+    pub newest: u64,
+    /// The starts of the runs that were listed last.
+    pub recent: [u64; 4],
+    /// What came twice, and wasn't reported yet.
+    pub duplicate: HeldRun,
+    /// Not 0 if anything came twice, and wasn't reported yet.
+    pub has_duplicate: u32,
+    /// The most bytes of a segment.
+    pub segment_size: u16,
+    /// The scale of the windows.
+    pub scale: u8,
+    /// How many segments wait for an acknowledgement, 2 at most: it is due if as many do.
+    pub unanswered: u8,
+}
+
+impl ReceivingHead {
+    /// Returns the rules of a stream that begins at position `first`, of which nothing was announced.
+    pub const fn new(first: u64, segment_size: u16) -> Self {
+        ReceivingHead {
+            advertised: AdvertisedWindow::new(first),
+            newest: first,
+            recent: [0; 4],
+            duplicate: HeldRun { start: 0, end: 0 },
+            has_duplicate: 0,
+            segment_size,
+            scale: 0,
+            unanswered: 0,
+        }
+    }
+
+    /// Begins again with a stream that begins at position `first`, as `ReceivingEndOver::open` says. `room` is the
+    /// receiver's then.
+    pub fn open(&mut self, room: Room, first: u64, scale: u8) -> u16 {
+        *self = ReceivingHead::new(first, self.segment_size);
+        self.scale = scale;
+        self.advertised.announce(0, room.next, room.end)
+    }
+
+    /// Takes notice of a segment at `pos`, which is the last one or not: what of it came before, how many runs were held
+    /// before it, and what the receiver said of it.
+    pub fn take(
+        &mut self,
+        pos: u64,
+        is_last: bool,
+        part: Option<(u64, u64)>,
+        held: usize,
+        kept: Result<KeptBytes, FiniteError>,
+    ) {
+        if let Some((start, end)) = part {
+            self.duplicate = HeldRun { start, end };
+            self.has_duplicate = 1;
+        }
+        self.newest = pos;
+        self.wait(is_next(held, is_last, kept));
+    }
+
+    /// Counts a segment that waits for an acknowledgement, if it `is_next`, or else has one sent at once.
+    fn wait(&mut self, is_next: bool) {
+        self.unanswered = if is_next {
+            self.unanswered.saturating_add(1).min(2)
+        } else {
+            2
+        };
+    }
+
+    /// Has an acknowledgement sent at once.
+    pub fn answer(&mut self) {
+        self.unanswered = 2;
+    }
+
+    /// Returns whether an acknowledgement is to be sent at once.
+    pub fn is_due(&self) -> bool {
+        self.unanswered >= 2
+    }
+
+    /// Returns whether an acknowledgement is to be sent before one waits, as `ReceivingEndOver::is_wanted` says.
+    ///
+    /// # Requires
+    ///
+    /// The room ends at or beyond its number.
+    pub fn is_wanted(&self, room: Room) -> bool {
+        self.unanswered > 0 || self.is_update_due(room)
+    }
+
+    /// Returns whether an update of the window is worth a segment.
+    fn is_update_due(&self, room: Room) -> bool {
+        !room.is_complete
+            && self.advertised.is_update_due(
+                self.scale,
+                room.next,
+                room.end,
+                room.capacity,
+                self.segment_size,
+            )
+    }
+
+    /// Returns what a segment with bytes of its own tells, as `ReceivingEndOver::announce` says.
+    pub fn announce(&mut self, room: Room) -> (u64, u16) {
+        self.answer_one();
+        self.promise(room)
+    }
+
+    /// Takes notice that what waits for an acknowledgement has it, unless one is due.
+    fn answer_one(&mut self) {
+        if self.unanswered < 2 {
+            self.unanswered = 0;
+        }
+    }
+
+    /// Returns the number and the window of a segment without bytes, and takes notice that it tells them.
+    pub fn acknowledge(&mut self, room: Room) -> (u64, u16) {
+        self.unanswered = 0;
+        self.promise(room)
+    }
+
+    /// Returns the number and the window to announce, and promises that.
+    fn promise(&mut self, room: Room) -> (u64, u16) {
+        let window = self.advertised.announce_in_steps(
+            self.scale,
+            room.next,
+            room.end,
+            room.capacity,
+            self.segment_size,
+        );
+        (room.next, window)
+    }
+
+    /// Takes what came twice, if it is to be reported: an end in order lets go of what was held beyond it.
+    pub fn take_duplicate(&mut self, next: u64, is_complete: bool) -> Option<(u64, u64)> {
+        let part = self.reported(next, is_complete);
+        self.duplicate = HeldRun { start: 0, end: 0 };
+        self.has_duplicate = 0;
+        part
+    }
+
+    /// Returns what came twice, if it is to be reported.
+    fn reported(&self, next: u64, is_complete: bool) -> Option<(u64, u64)> {
+        if self.has_duplicate == 0 {
+            return None;
+        }
+        let part = self.duplicate;
+        if part.end <= next || !is_complete {
+            Some((part.start, part.end))
+        } else {
+            None
+        }
+    }
 }
 
 /// What receives a stream that ends, over storage that is lent or owned.
@@ -45,16 +222,7 @@ pub type ReceivingEnd<'a, const N: usize> = ReceivingEndOver<ManagedSlice<'a, u8
 /// Contracts: `crates/net_ends/src/receiving_end.rt`.
 pub struct ReceivingEndOver<S: Storage<u8>, const N: usize> {
     receiver: FiniteReceiverOver<S, N>,
-    advertised: AdvertisedWindow,
-    scale: u8,
-    segment_size: u16,
-    // The position of the newest segment, and the starts of the runs that were listed last.
-    newest: u64,
-    recent: [u64; 4],
-    // What came twice, and wasn't reported yet.
-    duplicate: Option<(u64, u64)>,
-    // How many segments wait for an acknowledgement, at most 2: it is sent for each second one.
-    unanswered: u8,
+    head: ReceivingHead,
 }
 
 impl<S: Storage<u8>, const N: usize> ReceivingEndOver<S, N> {
@@ -73,13 +241,7 @@ impl<S: Storage<u8>, const N: usize> ReceivingEndOver<S, N> {
         prove!(first < u64::MAX, "no number is left for an end");
         ReceivingEndOver {
             receiver: FiniteReceiverOver::over_at(storage, first),
-            advertised: AdvertisedWindow::new(first),
-            scale: 0,
-            segment_size,
-            newest: first,
-            recent: [0; 4],
-            duplicate: None,
-            unanswered: 0,
+            head: ReceivingHead::new(first, segment_size),
         }
     }
 
@@ -93,27 +255,19 @@ impl<S: Storage<u8>, const N: usize> ReceivingEndOver<S, N> {
     pub fn open(&mut self, first: u64, scale: u8) -> u16 {
         prove!(first < u64::MAX, "no number is left for an end");
         self.receiver.reset_at(first);
-        self.advertised = AdvertisedWindow::new(first);
-        self.scale = scale;
-        self.newest = first;
-        self.recent = [0; 4];
-        self.duplicate = None;
-        self.unanswered = 0;
-        self.announce_whole()
-    }
-
-    /// Announces all the room that is free, without a scale.
-    fn announce_whole(&mut self) -> u16 {
-        let (next, end) = self.free();
-        self.advertised.announce(0, next, end)
+        let room = self.room();
+        self.head.open(room, first, scale)
     }
 
     /// Returns what to do with a segment, as `net_tcp::classify` says, in the window that was announced. Its acknowledgement
     /// is taken if it is of a peer that hears of what is announced here, whatever the path does: law `heard_ends`.
     #[must_use]
     pub fn classify(&self, segment: Segment) -> Arrival {
-        self.advertised
-            .classify(self.receiver.acknowledged(), self.capacity(), segment)
+        self.head.advertised.classify(
+            self.receiver.acknowledged(),
+            self.receiver.receiver().capacity() as u64,
+            segment,
+        )
     }
 
     /// Takes the bytes of a segment, and the end if it `is_last`. A segment out of order, one with the end, and one
@@ -138,39 +292,22 @@ impl<S: Storage<u8>, const N: usize> ReceivingEndOver<S, N> {
 
     /// Takes a segment that has a byte or the end.
     fn take(&mut self, pos: u64, bytes: &[u8], is_last: bool) -> Result<KeptBytes, FiniteError> {
-        let duplicate = self.duplicate_after(pos, bytes.len());
+        let part = self.receiver.receiver().duplicate_of(pos, bytes.len());
         let held = self.receiver.receiver().held_count();
         let kept = self.receiver.keep(pos, bytes, is_last);
-        self.newest = pos;
-        self.duplicate = duplicate;
-        self.wait(is_next(held, is_last, kept));
+        self.head.take(pos, is_last, part, held, kept);
         kept
-    }
-
-    /// Returns what waits to be reported once a segment of `len` bytes at `pos` has come.
-    fn duplicate_after(&self, pos: u64, len: usize) -> Option<(u64, u64)> {
-        let part = self.receiver.receiver().duplicate_of(pos, len);
-        part.or(self.duplicate)
-    }
-
-    /// Counts a segment that waits for an acknowledgement, if it `is_next`, or else has one sent at once.
-    fn wait(&mut self, is_next: bool) {
-        self.unanswered = if is_next {
-            self.unanswered.saturating_add(1).min(2)
-        } else {
-            2
-        };
     }
 
     /// Has an acknowledgement sent at once.
     pub fn answer(&mut self) {
-        self.unanswered = 2;
+        self.head.answer();
     }
 
     /// Returns whether an acknowledgement is to be sent at once.
     #[must_use]
     pub fn is_due(&self) -> bool {
-        self.unanswered >= 2
+        self.head.is_due()
     }
 
     /// Returns whether an acknowledgement is to be sent before one waits: something came, or an update of the window
@@ -178,48 +315,23 @@ impl<S: Storage<u8>, const N: usize> ReceivingEndOver<S, N> {
     /// a peer that has closed its connection would answer it by a reset.
     #[must_use]
     pub fn is_wanted(&self) -> bool {
-        self.unanswered > 0 || self.is_update_due()
-    }
-
-    /// Returns whether an update of the window is worth a segment.
-    fn is_update_due(&self) -> bool {
-        let (next, end) = self.free();
-        !self.receiver.is_complete()
-            && self
-                .advertised
-                .is_update_due(self.scale, next, end, self.capacity(), self.segment_size)
+        self.head.is_wanted(self.room())
     }
 
     /// Returns what a segment with bytes of its own tells, and takes notice that it does: the first number that is
     /// missing, and the window, in units of the scale. The window's edge is moved only if that is worth a segment.
     /// An acknowledgement that is due stays so, since it lists runs.
     pub fn announce(&mut self) -> (u64, u16) {
-        self.answer_one();
-        self.promise()
-    }
-
-    /// Takes notice that what waits for an acknowledgement has it, unless one is due.
-    fn answer_one(&mut self) {
-        if self.unanswered < 2 {
-            self.unanswered = 0;
-        }
-    }
-
-    /// Returns the number and the window to announce, and promises that.
-    fn promise(&mut self) -> (u64, u16) {
-        let (next, end) = self.free();
-        let capacity = self.capacity();
-        let window = self
-            .advertised
-            .announce_in_steps(self.scale, next, end, capacity, self.segment_size);
-        (next, window)
+        let room = self.room();
+        self.head.announce(room)
     }
 
     /// Returns what a segment without bytes tells, and takes notice that it does. What came twice is told once.
     pub fn acknowledgement(&mut self) -> Acknowledgement {
-        self.unanswered = 0;
-        let (next, window) = self.promise();
-        let blocks = self.blocks();
+        let room = self.room();
+        let (next, window) = self.head.acknowledge(room);
+        let duplicate = self.head.take_duplicate(room.next, room.is_complete);
+        let blocks = in_front(duplicate, self.runs());
         Acknowledgement {
             next,
             window,
@@ -227,39 +339,13 @@ impl<S: Storage<u8>, const N: usize> ReceivingEndOver<S, N> {
         }
     }
 
-    /// Lists what came twice, and then the newest runs, at most four in all.
-    fn blocks(&mut self) -> [Option<(u64, u64)>; 4] {
-        let duplicate = self.take_duplicate();
-        in_front(duplicate, self.runs())
-    }
-
     /// Lists the newest runs, at most four.
     fn runs(&mut self) -> [Option<(u64, u64)>; 4] {
         let mut runs = self
             .receiver
             .receiver()
-            .newest_runs(self.newest, &mut self.recent);
+            .newest_runs(self.head.newest, &mut self.head.recent);
         [runs.next(), runs.next(), runs.next(), runs.next()]
-    }
-
-    /// Takes what came twice, if it is to be reported.
-    fn take_duplicate(&mut self) -> Option<(u64, u64)> {
-        let duplicate = self.reported();
-        self.duplicate = None;
-        duplicate
-    }
-
-    /// Returns what came twice, if it is to be reported.
-    fn reported(&self) -> Option<(u64, u64)> {
-        match self.duplicate {
-            Some(part) if self.is_reported(part) => Some(part),
-            _ => None,
-        }
-    }
-
-    /// Returns whether a part that came twice is to be reported: an end in order lets go of what was held beyond it.
-    fn is_reported(&self, part: (u64, u64)) -> bool {
-        part.1 <= self.receiver.acknowledged() || !self.receiver.is_complete()
     }
 
     /// Moves bytes from the head of the queue to the beginning of `into`, and returns how many: as many as are queued
@@ -296,19 +382,14 @@ impl<S: Storage<u8>, const N: usize> ReceivingEndOver<S, N> {
         &self.receiver
     }
 
-    /// Returns the number that an acknowledgement names, and the end of the free room, or the last position if that
-    /// doesn't fit 64 bits.
-    fn free(&self) -> (u64, u64) {
-        let next = self.receiver.acknowledged();
-        match self.receiver.window_end() {
-            Some(end) => (next, end),
-            None => (next, u64::MAX),
+    /// Returns the receiver's numbers.
+    fn room(&self) -> Room {
+        Room {
+            next: self.receiver.acknowledged(),
+            end: self.receiver.window_end().unwrap_or(u64::MAX),
+            capacity: self.receiver.receiver().capacity() as u64,
+            is_complete: self.receiver.is_complete(),
         }
-    }
-
-    /// Returns the capacity.
-    fn capacity(&self) -> u64 {
-        self.receiver.receiver().capacity() as u64
     }
 }
 

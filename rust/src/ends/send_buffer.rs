@@ -2,23 +2,39 @@
 //! What a stream that ends has sent, without a clock.
 
 use crate::rattle::prelude::*;
-use crate::ends::stream_sender::StreamSender;
 use crate::storage::Run;
-use crate::stream::{FiniteSender, FiniteSenderOver, Scoreboard, ScoreboardHead, SentNumbers};
-use crate::stream::{Answer, LossRecovery, is_duplicate_block, is_equal_acknowledgement};
-use crate::storage::Storage;
+use crate::stream::{FiniteSenderOver, ScoreboardHead, SentNumbers};
+use crate::stream::{
+    Answer, LentScoreboard, LossRecovery, is_duplicate_block, is_equal_acknowledgement,
+};
+use crate::storage::{ManagedSlice, Storage};
 use crate::rattle::std::ops::Range;
 
-/// All that a send buffer knows besides its sender.
+/// What a sender has sent, and what is queued, in numbers.
 ///
 /// Contracts: `crates/net_ends/src/send_buffer.rt`.
+#[derive(Copy, Clone, Debug, PartialEq, Eq)]
+pub struct Queued {
+    /// The first number that isn't acknowledged, and the one after the last that was sent.
+    pub numbers: SentNumbers,
+    /// The number after the last byte's, and after the end's once the stream is closed.
+    pub end: u64,
+    /// Whether the stream ends after what was written.
+    pub is_closed: bool,
+}
+
+/// What was reported and what is lost of what a sender has sent: a scoreboard, and a recovery. Its calls
+/// are given the sender's numbers and the scoreboard's runs; who holds both has the sender take what they say.
+///
+/// A head of zeros is new, of a stream that begins at position 0. It is sound if the scoreboard is, with the runs.
+///
+/// Contracts: `crates/net_ends/src/send_buffer.rt`.
+#[repr(C)]
 #[derive(Copy, Clone, Debug)]
-pub struct BufferParts<const N: usize> {
-    /// What the scoreboard knows.
+pub struct BufferHead {
+    /// What was reported, with runs that the caller keeps.
     pub scoreboard: ScoreboardHead,
-    /// The scoreboard's runs.
-    pub runs: [Run; N],
-    /// What the recovery knows.
+    /// What is lost.
     pub recovery: LossRecovery,
 }
 
@@ -61,9 +77,9 @@ pub enum Sending {
 }
 
 /// What a stream that ends has sent, over storage that is lent or owned.
-pub type SendBuffer<'a, const N: usize> = SendBufferOver<FiniteSender<'a>, N>;
+pub type SendBuffer<'a, const N: usize> = SendBufferOver<ManagedSlice<'a, u8>, N>;
 
-/// A [`SendBuffer`] over any sender: that, a scoreboard and a recovery. It knows bytes, what was reported and what
+/// A [`SendBuffer`] over any storage: a sender, a scoreboard and a recovery. It knows bytes, what was reported and what
 /// is lost, and no clock, no window of a peer and no size of a segment: what a stream of QUIC sends, too.
 ///
 /// ```
@@ -98,13 +114,13 @@ pub type SendBuffer<'a, const N: usize> = SendBufferOver<FiniteSender<'a>, N>;
 /// ```
 ///
 /// Contracts: `crates/net_ends/src/send_buffer.rt`.
-pub struct SendBufferOver<F: StreamSender, const N: usize> {
-    sender: F,
-    scoreboard: Scoreboard<N>,
-    recovery: LossRecovery,
+pub struct SendBufferOver<S: Storage<u8>, const N: usize> {
+    sender: FiniteSenderOver<S>,
+    runs: [Run; N],
+    head: BufferHead,
 }
 
-impl<S: Storage<u8>, const N: usize> SendBufferOver<FiniteSenderOver<S>, N> {
+impl<S: Storage<u8>, const N: usize> SendBufferOver<S, N> {
     /// Returns the buffer of a stream that begins at position `first`, to which nothing was written.
     ///
     /// A program in which `N` is 0 does not compile.
@@ -119,8 +135,8 @@ impl<S: Storage<u8>, const N: usize> SendBufferOver<FiniteSenderOver<S>, N> {
         prove!(first < u64::MAX, "no number is left for an end");
         SendBufferOver {
             sender: FiniteSenderOver::over_at(storage, first),
-            scoreboard: Scoreboard::empty_at(first),
-            recovery: LossRecovery::new(),
+            runs: [Run { start: 0, end: 0 }; N],
+            head: BufferHead::new_at(first),
         }
     }
 
@@ -133,8 +149,7 @@ impl<S: Storage<u8>, const N: usize> SendBufferOver<FiniteSenderOver<S>, N> {
     pub fn reset_at(&mut self, first: u64) {
         prove!(first < u64::MAX, "no number is left for an end");
         self.sender.reset_at(first);
-        self.scoreboard.reset_at(first);
-        self.recovery = LossRecovery::new();
+        self.head = BufferHead::new_at(first);
     }
 
     /// Returns how many bytes `write` would take.
@@ -168,76 +183,207 @@ impl<S: Storage<u8>, const N: usize> SendBufferOver<FiniteSenderOver<S>, N> {
     }
 }
 
-impl<F: StreamSender, const N: usize> SendBufferOver<F, N> {
-    /// Returns the buffer of a sender and these parts.
-    ///
-    /// # Requires
-    ///
-    /// The scoreboard's head is sound for its runs, as `ScoreboardHead::is_sound` tests.
-    pub(crate) fn from_parts(sender: F, parts: BufferParts<N>) -> Self {
-        let runs = parts.runs;
-        SendBufferOver {
-            sender,
-            scoreboard: Scoreboard::from_parts(parts.scoreboard, runs),
-            recovery: parts.recovery,
+impl BufferHead {
+    /// Returns that nothing was reported of a stream that begins at position `first`, and nothing is lost.
+    pub const fn new_at(first: u64) -> Self {
+        BufferHead {
+            scoreboard: ScoreboardHead::new_at(first),
+            recovery: LossRecovery::new(),
         }
     }
 
-    /// Returns the sender and the parts, which represent the buffer.
-    pub(crate) fn into_parts(self) -> (F, BufferParts<N>) {
-        let SendBufferOver {
-            sender,
-            scoreboard,
-            recovery,
-        } = self;
-        let (scoreboard, runs) = scoreboard.into_parts();
-        let parts = BufferParts {
-            scoreboard,
-            runs,
-            recovery,
-        };
-        (sender, parts)
+    /// Returns whether the scoreboard is sound with its runs. It looks at each used run.
+    pub fn is_sound(&self, runs: &[Run]) -> bool {
+        self.scoreboard.is_sound(runs)
     }
 
+    /// Lends the scoreboard.
+    fn board<'a>(&self, runs: &'a [Run]) -> LentScoreboard<'a> {
+        LentScoreboard::new(self.scoreboard, runs)
+    }
+
+    /// Returns whether a position was reported.
+    pub fn contains(&self, runs: &[Run], pos: u64) -> bool {
+        self.scoreboard.contains(runs, pos)
+    }
+
+    /// Takes an acknowledgement of all below `ack` that the sender takes, as `SendBufferOver::acknowledge` says.
+    /// `numbers` are the sender's before that.
+    pub fn acknowledged(
+        &mut self,
+        runs: &mut [Run],
+        numbers: SentNumbers,
+        ack: u64,
+        blocks: &[(u64, u64)],
+        segment_size: usize,
+        kind: AckKind,
+    ) -> TakenAck {
+        let unsent = self.recovery.unsent(numbers, &self.board(runs));
+        self.take(runs, numbers, unsent, ack, blocks, segment_size, kind)
+    }
+
+    /// Takes the blocks of an acknowledgement that the sender has taken, and finds what is lost.
+    fn take(
+        &mut self,
+        runs: &mut [Run],
+        numbers: SentNumbers,
+        unsent: u64,
+        ack: u64,
+        blocks: &[(u64, u64)],
+        segment_size: usize,
+        kind: AckKind,
+    ) -> TakenAck {
+        let reports = self.report(runs, ack, blocks, numbers.sent);
+        let is_bare = is_repeat(kind) && !has_block(blocks);
+        let answer = Answer {
+            first: numbers.first_unacknowledged,
+            unsent,
+            reports,
+            is_equal: is_equal_acknowledgement(numbers, ack, is_bare, true),
+        };
+        let begins = self.find_losses(runs, numbers, ack, blocks, segment_size, answer);
+        TakenAck {
+            new: ack.saturating_sub(numbers.first_unacknowledged),
+            reports,
+            begins,
+        }
+    }
+
+    /// Reports all below `ack`, and the blocks. Returns whether a block reports what wasn't known.
+    fn report(&mut self, runs: &mut [Run], ack: u64, blocks: &[(u64, u64)], sent: u64) -> bool {
+        self.scoreboard.acknowledge(runs, ack);
+        report_blocks(&mut self.scoreboard, runs, blocks, sent)
+    }
+
+    /// Finds what is lost by an acknowledgement, and returns whether a recovery begins.
+    fn find_losses(
+        &mut self,
+        runs: &[Run],
+        numbers: SentNumbers,
+        ack: u64,
+        blocks: &[(u64, u64)],
+        segment_size: usize,
+        answer: Answer,
+    ) -> bool {
+        self.doubt(numbers, ack, blocks);
+        let after = SentNumbers {
+            first_unacknowledged: ack,
+            sent: numbers.sent,
+        };
+        find_losses(
+            &mut self.recovery,
+            &mut self.scoreboard,
+            runs,
+            after,
+            segment_size,
+            answer,
+        )
+    }
+
+    /// Tells the recovery, if the first block reports what came twice.
+    pub fn doubt(&mut self, numbers: SentNumbers, ack: u64, blocks: &[(u64, u64)]) {
+        if is_duplicated(ack, blocks) {
+            let (from, to) = blocks[0];
+            self.recovery.came_twice(numbers, from..to);
+        }
+    }
+
+    /// Returns whether the last recovery was for nothing, and ends it then.
+    pub fn take_back(&mut self, runs: &[Run], numbers: SentNumbers) -> bool {
+        let board = self.board(runs);
+        self.recovery.take_back(numbers, &board)
+    }
+
+    /// Finds what is overdue, where nothing was reported for two round trips, and returns whether a recovery begins.
+    pub fn find_overdue(&mut self, runs: &[Run], numbers: SentNumbers) -> bool {
+        let board = self.board(runs);
+        self.recovery.find_overdue(numbers, &board)
+    }
+
+    /// Returns what to send next below `limit`, as `SendBufferOver::next` says.
+    pub fn next(
+        &self,
+        runs: &[Run],
+        numbers: SentNumbers,
+        limit: u64,
+        congestion_window: u64,
+        segment_size: usize,
+    ) -> Option<(u64, u64)> {
+        self.recovery.next_segment(
+            numbers,
+            &self.board(runs),
+            limit,
+            congestion_window,
+            segment_size,
+        )
+    }
+
+    /// Returns what a probe for an answer sends below `limit`, as `SendBufferOver::next_probe` says.
+    pub fn next_probe(
+        &self,
+        runs: &[Run],
+        numbers: SentNumbers,
+        limit: u64,
+        segment_size: usize,
+    ) -> Option<(u64, u64)> {
+        self.recovery
+            .next_probe(numbers, &self.board(runs), limit, segment_size)
+    }
+
+    /// Takes notice that a range is sent, as `SendBufferOver::mark` says. `numbers` are the sender's before that.
+    pub fn sent(&mut self, numbers: SentNumbers, from: u64, to: u64, sending: Sending) {
+        match sending {
+            Sending::Segment => self.recovery.sent(numbers, from..to),
+            Sending::TailProbe => self.recovery.probed(numbers, from..to),
+            // The peer drops it.
+            Sending::WindowProbe => self.recovery.lose_all(SentNumbers {
+                first_unacknowledged: numbers.first_unacknowledged,
+                sent: numbers.sent.max(to),
+            }),
+        }
+    }
+}
+
+impl<S: Storage<u8>, const N: usize> SendBufferOver<S, N> {
     /// Returns the first number that isn't acknowledged, and the one after the last that was sent.
     #[must_use]
     pub fn numbers(&self) -> SentNumbers {
-        self.sender.numbers()
+        self.sender.sent_numbers()
     }
 
     /// Returns the number after the last byte's, and after the end's once the stream is closed.
     #[must_use]
     pub fn numbers_end(&self) -> u64 {
-        self.sender.end()
+        self.sender.numbers_end()
     }
 
     /// Returns whether the stream ends after what was written.
     #[must_use]
     pub fn is_closed(&self) -> bool {
-        self.sender.has_end()
+        self.sender.is_closed()
     }
 
     /// Returns whether a position was reported.
     #[must_use]
     pub fn contains(&self, pos: u64) -> bool {
-        self.scoreboard.contains(pos)
+        self.head.contains(&self.runs, pos)
     }
 
     /// Returns whether a recovery lasts.
     #[must_use]
     pub fn is_recovering(&self) -> bool {
-        self.recovery.is_active(self.sender.numbers())
+        self.head.recovery.is_active(self.sender.sent_numbers())
     }
 
     /// Returns whether the peer reports nothing.
     #[must_use]
     pub fn is_blind(&self) -> bool {
-        self.recovery.is_blind()
+        self.head.recovery.is_blind()
     }
 
     /// Takes notice whether the peer reports what arrives.
     pub fn expect_reports(&mut self, reports: bool) {
-        self.recovery.expect_reports(reports);
+        self.head.recovery.expect_reports(reports);
     }
 
     /// Takes an acknowledgement of TCP: of all below `ack`, with its blocks, in a segment of that kind.
@@ -251,7 +397,14 @@ impl<F: StreamSender, const N: usize> SendBufferOver<F, N> {
         segment_size: usize,
         kind: AckKind,
     ) -> Option<TakenAck> {
-        self.acknowledge_at(self.numbers(), ack, blocks, segment_size, kind)
+        let numbers = self.numbers();
+        if !accept(&mut self.sender, ack) {
+            return None;
+        }
+        Some(
+            self.head
+                .acknowledged(&mut self.runs, numbers, ack, blocks, segment_size, kind),
+        )
     }
 
     /// Takes an acknowledgement of QUIC, or of another protocol that acknowledges ranges of a stream, each of them for
@@ -272,75 +425,34 @@ impl<F: StreamSender, const N: usize> SendBufferOver<F, N> {
             return self.acknowledge(ack, &block, segment_size, AckKind::Other);
         }
         let known = self
+            .head
             .scoreboard
-            .first_missing(range.end.max(numbers.first_unacknowledged));
+            .first_missing(&self.runs, range.end.max(numbers.first_unacknowledged));
         let ack = known.min(numbers.sent);
         self.acknowledge(ack, &[], segment_size, AckKind::Other)
-    }
-
-    /// Takes an acknowledgement, with the numbers before it.
-    pub(crate) fn acknowledge_at(
-        &mut self,
-        numbers: SentNumbers,
-        ack: u64,
-        blocks: &[(u64, u64)],
-        segment_size: usize,
-        kind: AckKind,
-    ) -> Option<TakenAck> {
-        let unsent = self.recovery.unsent(numbers, &self.scoreboard);
-        if !self.sender.accept(ack) {
-            return None;
-        }
-        self.scoreboard.acknowledge(ack);
-        let reports = report_blocks(&mut self.scoreboard, blocks, numbers.sent);
-        doubt(&mut self.recovery, numbers, ack, blocks);
-        let is_bare = is_repeat(kind) && !has_block(blocks);
-        let answer = Answer {
-            first: numbers.first_unacknowledged,
-            unsent,
-            reports,
-            is_equal: is_equal_acknowledgement(numbers, ack, is_bare, true),
-        };
-        let after = SentNumbers {
-            first_unacknowledged: ack,
-            sent: numbers.sent,
-        };
-        let begins = find_losses(
-            &mut self.recovery,
-            &mut self.scoreboard,
-            after,
-            segment_size,
-            answer,
-        );
-        Some(TakenAck {
-            new: ack.saturating_sub(numbers.first_unacknowledged),
-            reports,
-            begins,
-        })
     }
 
     /// Tells the recovery, if the first block of an acknowledgement reports what came twice: for one of TCP that
     /// `acknowledge` doesn't take, since it is an old one.
     pub fn doubt(&mut self, ack: u64, blocks: &[(u64, u64)]) {
         let numbers = self.numbers();
-        doubt(&mut self.recovery, numbers, ack, blocks);
+        self.head.doubt(numbers, ack, blocks);
     }
 
     /// Returns whether the last recovery was for nothing, and ends it then.
     pub fn take_back(&mut self) -> bool {
-        self.recovery
-            .take_back(self.sender.numbers(), &self.scoreboard)
+        let numbers = self.numbers();
+        self.head.take_back(&self.runs, numbers)
     }
-
     /// Finds what is overdue, where nothing was reported for two round trips, and returns whether a recovery begins.
     pub fn find_overdue(&mut self) -> bool {
-        self.recovery
-            .find_overdue(self.sender.numbers(), &self.scoreboard)
+        self.head
+            .find_overdue(&self.runs, self.sender.sent_numbers())
     }
 
     /// Loses all that was sent and isn't reported.
     pub fn lose_all(&mut self) {
-        self.recovery.lose_all(self.sender.numbers());
+        self.head.recovery.lose_all(self.sender.sent_numbers());
     }
 
     /// Returns what to send next below `limit`, as a start and an end, the end not included, at most a segment: what is
@@ -358,14 +470,9 @@ impl<F: StreamSender, const N: usize> SendBufferOver<F, N> {
         segment_size: usize,
     ) -> Option<(u64, u64)> {
         let numbers = self.numbers();
-        let top = limit.min(self.sender.end());
-        self.recovery.next_segment(
-            numbers,
-            &self.scoreboard,
-            top,
-            congestion_window,
-            segment_size,
-        )
+        let top = limit.min(self.sender.numbers_end());
+        self.head
+            .next(&self.runs, numbers, top, congestion_window, segment_size)
     }
 
     /// Returns what a probe for an answer sends below `limit`, whatever is in flight: in a recovery the first segment
@@ -374,29 +481,26 @@ impl<F: StreamSender, const N: usize> SendBufferOver<F, N> {
     #[must_use]
     pub fn next_probe(&self, limit: u64, segment_size: usize) -> Option<(u64, u64)> {
         let numbers = self.numbers();
-        let top = limit.min(self.sender.end());
-        self.recovery
-            .next_probe(numbers, &self.scoreboard, top, segment_size)
+        let top = limit.min(self.sender.numbers_end());
+        self.head.next_probe(&self.runs, numbers, top, segment_size)
     }
 
     /// Takes notice that the numbers from `from` on and below `to` are sent now, and why.
     pub fn mark(&mut self, from: u64, to: u64, sending: Sending) {
-        self.mark_at(self.numbers(), from, to, sending);
+        let numbers = self.numbers();
+        mark(&mut self.sender, to);
+        self.head.sent(numbers, from, to, sending);
     }
+}
 
-    /// Takes notice that a range is sent, with the numbers before it.
-    pub(crate) fn mark_at(&mut self, numbers: SentNumbers, from: u64, to: u64, sending: Sending) {
-        self.sender.mark(to);
-        match sending {
-            Sending::Segment => self.recovery.sent(numbers, from..to),
-            Sending::TailProbe => self.recovery.probed(numbers, from..to),
-            // The peer drops it.
-            Sending::WindowProbe => self.recovery.lose_all(SentNumbers {
-                first_unacknowledged: numbers.first_unacknowledged,
-                sent: numbers.sent.max(to),
-            }),
-        }
-    }
+/// Has a sender take an acknowledgement of all below `ack`, and returns whether it does.
+pub(crate) fn accept<S: Storage<u8>>(sender: &mut FiniteSenderOver<S>, ack: u64) -> bool {
+    sender.acknowledge(ack)
+}
+
+/// Has a sender take notice that all below `to` is sent.
+pub(crate) fn mark<S: Storage<u8>>(sender: &mut FiniteSenderOver<S>, to: u64) {
+    let _is_written = sender.mark_sent(to);
 }
 
 /// Returns whether an acknowledgement is of a kind that only repeats the last.
@@ -409,53 +513,63 @@ fn is_repeat(kind: AckKind) -> bool {
 
 /// Lends the bytes of a segment from `pos` on, whose numbers are below `end`, in two parts, and returns whether the
 /// stream ends after them.
-fn lend<S: Storage<u8>>(sender: &FiniteSenderOver<S>, pos: u64, end: u64) -> (&[u8], &[u8], bool) {
+pub(crate) fn lend<S: Storage<u8>>(
+    sender: &FiniteSenderOver<S>,
+    pos: u64,
+    end: u64,
+) -> (&[u8], &[u8], bool) {
     let (front, _ends) = sender.peek_at(pos, end);
     let after = pos + front.len() as u64;
     let (back, is_last) = sender.peek_at(after, end);
     (front, back, is_last)
 }
 
-/// Tells a recovery, if the first block of an acknowledgement reports what came twice.
-fn doubt(recovery: &mut LossRecovery, numbers: SentNumbers, ack: u64, blocks: &[(u64, u64)]) {
-    if is_duplicated(ack, blocks) {
-        let (from, to) = blocks[0];
-        recovery.came_twice(numbers, from..to);
-    }
-}
-
 /// Finds what is lost by an acknowledgement, and returns whether a recovery begins. If the peer has dropped what it had
 /// reported, that is lost: else it would acknowledge it (RFC 2018, section 8). Nothing counts as reported any more
 /// then.
-fn find_losses<const N: usize>(
+fn find_losses(
     recovery: &mut LossRecovery,
-    board: &mut Scoreboard<N>,
+    board: &mut ScoreboardHead,
+    runs: &[Run],
     after: SentNumbers,
     segment_size: usize,
     answer: Answer,
 ) -> bool {
-    if has_dropped(board, after) {
-        let begins = recovery.lose_dropped(after, board);
-        board.reset_at(after.first_unacknowledged);
+    if has_dropped(board, runs, after) {
+        let begins = lose_dropped(recovery, board, runs, after);
+        *board = ScoreboardHead::new_at(after.first_unacknowledged);
         return begins;
     }
-    recovery.find_losses(after, board, segment_size, answer)
+    let seen = LentScoreboard::new(*board, runs);
+    recovery.find_losses(after, &seen, segment_size, answer)
+}
+
+/// Loses what the peer had reported and has dropped, and returns whether a recovery begins.
+fn lose_dropped(
+    recovery: &mut LossRecovery,
+    board: &ScoreboardHead,
+    runs: &[Run],
+    after: SentNumbers,
+) -> bool {
+    let seen = LentScoreboard::new(*board, runs);
+    recovery.lose_dropped(after, &seen)
 }
 
 /// Returns whether the peer has dropped what it had reported: it acknowledges up to such a number.
-fn has_dropped<const N: usize>(board: &Scoreboard<N>, after: SentNumbers) -> bool {
-    after.first_unacknowledged < after.sent && board.contains(after.first_unacknowledged)
+fn has_dropped(board: &ScoreboardHead, runs: &[Run], after: SentNumbers) -> bool {
+    after.first_unacknowledged < after.sent && board.contains(runs, after.first_unacknowledged)
 }
 
 /// Reports blocks. Returns whether one of them reports what wasn't known.
-fn report_blocks<const N: usize>(
-    board: &mut Scoreboard<N>,
+fn report_blocks(
+    board: &mut ScoreboardHead,
+    runs: &mut [Run],
     blocks: &[(u64, u64)],
     sent: u64,
 ) -> bool {
     let mut reports = false;
     for block in blocks {
-        if report_block(board, block.0, block.1, sent) {
+        if report_block(board, runs, block.0, block.1, sent) {
             reports = true;
         }
     }
@@ -464,12 +578,18 @@ fn report_blocks<const N: usize>(
 
 /// Reports a block, if it begins beyond the first position that wasn't reported. Returns whether that wasn't known:
 /// what is refused is sent again.
-fn report_block<const N: usize>(board: &mut Scoreboard<N>, start: u64, end: u64, sent: u64) -> bool {
+fn report_block(
+    board: &mut ScoreboardHead,
+    runs: &mut [Run],
+    start: u64,
+    end: u64,
+    sent: u64,
+) -> bool {
     if start <= board.first_unreported() {
         return false;
     }
-    let is_new = board.first_missing(start) < end;
-    board.report(start, end, sent).is_ok() && is_new
+    let is_new = board.first_missing(runs, start) < end;
+    board.report(runs, start, end, sent).is_ok() && is_new
 }
 
 /// Returns whether one of the blocks has a position.

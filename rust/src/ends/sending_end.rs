@@ -21,11 +21,11 @@ use crate::rattle::prelude::*;
 // after each acknowledgement the first number that isn't acknowledged counts as missing (clause `missing` of
 // `acknowledged`), and a timeout sends it again.
 
-use crate::ends::send_buffer::{AckKind, BufferParts, SendBufferOver, Sending, TakenAck};
-use crate::ends::stream_sender::StreamSender;
+use crate::ends::send_buffer::{AckKind, BufferHead, Queued, Sending, TakenAck, accept, lend, mark};
+use crate::storage::Run;
 use crate::time::{Duration, Instant};
-use crate::stream::{FiniteSender, FiniteSenderOver, SentNumbers};
-use crate::storage::Storage;
+use crate::stream::{FiniteSenderOver, SentNumbers, flag_of};
+use crate::storage::{ManagedSlice, Storage};
 use crate::tcp::{
     Announcement, Expiry, PeerWindow, RetransmissionTimer, TimeoutBounds, is_acknowledgement,
 };
@@ -84,41 +84,43 @@ pub struct Outgoing {
     pub is_again: bool,
 }
 
-/// All that a sending end knows besides its sender.
+/// All of a sending end but its sender and the times that were set: what was reported and what is lost, the timer, and
+/// what the peer announced. Its calls are given the sender's numbers; who holds both has the sender take what they say.
+///
+/// It is numbers alone, so that C has it as it is: a flag is not 0 where it holds. One of zeros is new. It is sound if
+/// the scoreboard is, with its runs.
 ///
 /// Contracts: `crates/net_ends/src/sending_end.rt`.
+#[repr(C)]
 #[derive(Copy, Clone, Debug)]
-pub struct SendingParts<const N: usize> {
-    /// What the buffer knows besides it.
-    pub buffer: BufferParts<N>,
+pub struct SendingHead {
+    /// What was reported and what is lost.
+    pub buffer: BufferHead,
     /// The timer.
     pub timer: RetransmissionTimer,
-    /// The timeout before any sample.
-    pub first_timeout: Duration,
-    /// Between which bounds the timeout is.
-    pub bounds: TimeoutBounds,
     /// The peer's window.
     pub peer_window: PeerWindow,
     /// The greatest window that the peer ever announced.
     pub greatest_window: u64,
     /// The window that it announced last.
     pub last_window: u64,
-    /// The most bytes of a segment.
+    /// The most bytes of a segment. 0 counts as 1.
     pub segment_size: usize,
-    /// Whether the peer has acknowledged anything, if only the own SYN.
-    pub is_open: bool,
-    /// Whether Nagle's rule is enabled.
-    pub nagle: bool,
-    /// Whether the timeout has passed and nothing was sent since then.
-    pub is_window_probe_due: bool,
-    /// Whether the next segment is a probe for an answer, if nothing else may be sent.
-    pub is_overdue: bool,
+    /// Not 0 if Nagle's rule is disabled.
+    pub no_delay: usize,
+    /// Not 0 once the peer has acknowledged anything, if only the own SYN.
+    pub is_open: u64,
+    /// Not 0 if the timeout has passed and nothing was sent since then: nothing is held back, and if the window is shut,
+    /// the next segment is a probe of it.
+    pub is_window_probe_due: u64,
+    /// Not 0 if the next segment is a probe for an answer, if nothing else may be sent.
+    pub is_overdue: u64,
 }
 
 /// What sends a stream that ends, over storage that is lent or owned.
-pub type SendingEnd<'a, const N: usize> = SendingEndOver<FiniteSender<'a>, N>;
+pub type SendingEnd<'a, const N: usize> = SendingEndOver<ManagedSlice<'a, u8>, N>;
 
-/// A [`SendingEnd`] over any sender: a buffer, a timer and the peer's window.
+/// A [`SendingEnd`] over any storage: a sender, and all else in its head.
 ///
 /// ```
 /// use net_base::ends::{Acknowledged, Expired, SendingEnd};
@@ -154,29 +156,15 @@ pub type SendingEnd<'a, const N: usize> = SendingEndOver<FiniteSender<'a>, N>;
 /// ```
 ///
 /// Contracts: `crates/net_ends/src/sending_end.rt`.
-pub struct SendingEndOver<F: StreamSender, const N: usize> {
-    buffer: SendBufferOver<F, N>,
-    timer: RetransmissionTimer,
+pub struct SendingEndOver<S: Storage<u8>, const N: usize> {
+    sender: FiniteSenderOver<S>,
+    runs: [Run; N],
+    head: SendingHead,
     first_timeout: Duration,
     bounds: TimeoutBounds,
-    peer_window: PeerWindow,
-    // The greatest window that the peer ever announced, and the one that it announced last.
-    greatest_window: u64,
-    last_window: u64,
-    // The most bytes of a segment.
-    segment_size: usize,
-    // Whether the peer has acknowledged anything, if only the own SYN.
-    is_open: bool,
-    // Whether Nagle's rule is enabled.
-    nagle: bool,
-    // Whether the timeout has passed and nothing was sent since then: nothing is held back, and if the window is shut,
-    // the next segment is a probe of it.
-    is_window_probe_due: bool,
-    // Whether the next segment is a probe for an answer, if nothing else may be sent.
-    is_overdue: bool,
 }
 
-impl<S: Storage<u8>, const N: usize> SendingEndOver<FiniteSenderOver<S>, N> {
+impl<S: Storage<u8>, const N: usize> SendingEndOver<S, N> {
     /// Returns the end of a stream that begins at position `first`, to which nothing was written. `first_timeout` is
     /// that before any sample: 1 second for TCP (RFC 6298, 2.1).
     ///
@@ -191,18 +179,11 @@ impl<S: Storage<u8>, const N: usize> SendingEndOver<FiniteSenderOver<S>, N> {
         prove!(N >= 1, "N is at least 1");
         prove!(first < u64::MAX, "no number is left for an end");
         SendingEndOver {
-            buffer: SendBufferOver::over_at(storage, first),
-            timer: RetransmissionTimer::new(first_timeout, false),
+            sender: FiniteSenderOver::over_at(storage, first),
+            runs: [Run { start: 0, end: 0 }; N],
+            head: SendingHead::new_at(first, first_timeout),
             first_timeout,
             bounds,
-            peer_window: PeerWindow::new(),
-            greatest_window: 0,
-            last_window: 0,
-            segment_size: 1,
-            is_open: false,
-            nagle: true,
-            is_window_probe_due: false,
-            is_overdue: false,
         }
     }
 
@@ -215,142 +196,455 @@ impl<S: Storage<u8>, const N: usize> SendingEndOver<FiniteSenderOver<S>, N> {
     #[track_caller]
     pub fn reset_at(&mut self, first: u64) {
         prove!(first < u64::MAX, "no number is left for an end");
-        self.buffer.reset_at(first);
-        self.timer = RetransmissionTimer::new(self.first_timeout, false);
-        self.peer_window = PeerWindow::new();
-        self.greatest_window = 0;
-        self.last_window = 0;
-        self.segment_size = 1;
-        self.is_open = false;
-        self.is_window_probe_due = false;
-        self.is_overdue = false;
+        self.sender.reset_at(first);
+        let no_delay = self.head.no_delay;
+        self.head = SendingHead::new_at(first, self.first_timeout);
+        self.head.no_delay = no_delay;
     }
 
     /// Enqueues the first of these bytes, as many as there is room for, and returns how many.
     #[must_use]
     pub fn write(&mut self, bytes: &[u8]) -> usize {
-        self.buffer.write(bytes)
+        self.sender.write(bytes)
     }
 
     /// Ends the stream after what was written.
     pub fn close(&mut self) {
-        self.buffer.close();
+        self.sender.close();
     }
 
     /// Lends the bytes of a segment from `pos` on, whose numbers are below `end`, in two parts, and returns whether the
     /// stream ends after them. Of a position that is acknowledged it lends none.
     #[must_use]
     pub fn bytes(&self, pos: u64, end: u64) -> (&[u8], &[u8], bool) {
-        self.buffer.bytes(pos, end)
+        lend(&self.sender, pos, end)
     }
 
     /// Returns whether all that was written is acknowledged, and the end.
     #[must_use]
     pub fn is_done(&self) -> bool {
-        self.buffer.is_done()
+        self.sender.is_closed_and_acknowledged()
     }
 
     /// Returns how many bytes `write` would take.
     #[must_use]
     pub fn window(&self) -> usize {
-        self.buffer.window()
+        self.sender.window()
     }
 }
 
-impl<F: StreamSender, const N: usize> SendingEndOver<F, N> {
-    /// Returns the end of a sender and these parts.
-    ///
-    /// # Requires
-    ///
-    /// The scoreboard's head is sound for its runs, as `ScoreboardHead::is_sound` tests.
-    pub(crate) fn from_parts(sender: F, parts: SendingParts<N>) -> Self {
-        SendingEndOver {
-            buffer: SendBufferOver::from_parts(sender, parts.buffer),
-            timer: parts.timer,
-            first_timeout: parts.first_timeout,
-            bounds: parts.bounds,
-            peer_window: parts.peer_window,
-            greatest_window: parts.greatest_window,
-            last_window: parts.last_window,
-            segment_size: parts.segment_size,
-            is_open: parts.is_open,
-            nagle: parts.nagle,
-            is_window_probe_due: parts.is_window_probe_due,
-            is_overdue: parts.is_overdue,
+impl SendingHead {
+    /// Returns the rules of an end without a peer, of a stream that begins at position `first`.
+    pub const fn new_at(first: u64, first_timeout: Duration) -> Self {
+        SendingHead {
+            buffer: BufferHead::new_at(first),
+            timer: RetransmissionTimer::new(first_timeout, false),
+            peer_window: PeerWindow::new(),
+            greatest_window: 0,
+            last_window: 0,
+            segment_size: 0,
+            no_delay: 0,
+            is_open: 0,
+            is_window_probe_due: 0,
+            is_overdue: 0,
         }
-    }
-
-    /// Returns the sender and the parts, which represent the end.
-    pub(crate) fn into_parts(self) -> (F, SendingParts<N>) {
-        let SendingEndOver {
-            buffer,
-            timer,
-            first_timeout,
-            bounds,
-            peer_window,
-            greatest_window,
-            last_window,
-            segment_size,
-            is_open,
-            nagle,
-            is_window_probe_due,
-            is_overdue,
-        } = self;
-        let (sender, buffer) = buffer.into_parts();
-        let parts = SendingParts {
-            buffer,
-            timer,
-            first_timeout,
-            bounds,
-            peer_window,
-            greatest_window,
-            last_window,
-            segment_size,
-            is_open,
-            nagle,
-            is_window_probe_due,
-            is_overdue,
-        };
-        (sender, parts)
     }
 
     /// Begins with a peer, whose SYN announced a window, how many bytes a segment may have, and whether it reports
     /// blocks (SACK): one that doesn't couldn't answer a probe, and is sent none. What was written stays. It is done
     /// once, before anything is sent; a second time begins with another peer, and the timer runs if something is in
     /// flight.
-    pub fn open(&mut self, it: Announcement, segment_size: usize, reports: bool, now: Instant) {
-        self.buffer.expect_reports(reports);
-        self.renew(reports, now);
+    pub fn open(
+        &mut self,
+        numbers: SentNumbers,
+        first_timeout: Duration,
+        it: Announcement,
+        segment_size: usize,
+        reports: bool,
+        now: Instant,
+    ) {
+        self.buffer.recovery.expect_reports(reports);
+        self.renew(numbers, first_timeout, reports, now);
         self.peer_window = PeerWindow::of(it);
         self.greatest_window = it.window;
         self.last_window = it.window;
-        self.segment_size = segment_size.max(1);
-        self.is_window_probe_due = false;
-        self.is_overdue = false;
+        self.segment_size = segment_size;
+        self.is_window_probe_due = 0;
+        self.is_overdue = 0;
+    }
+
+    /// Begins again without a peer: the timer stops, unless something is in flight. What was written stays.
+    pub fn forget(&mut self, numbers: SentNumbers, first_timeout: Duration, now: Instant) {
+        self.renew(numbers, first_timeout, false, now);
+    }
+
+    /// Begins with a timer that had no sample.
+    fn renew(&mut self, numbers: SentNumbers, first_timeout: Duration, reports: bool, now: Instant) {
+        self.timer = RetransmissionTimer::new(first_timeout, reports);
+        if numbers.first_unacknowledged < numbers.sent {
+            self.timer.start(now);
+        }
+        self.is_open = 0;
+    }
+
+    /// Returns whether a SYN is to be sent now, the first one or one after a timeout, and starts the timer for the next.
+    /// Ask it only until something is acknowledged, at which it doesn't look.
+    pub fn is_opening_due(&mut self, bounds: TimeoutBounds, now: Instant) -> bool {
+        let is_first = self.timer.expires_at().is_none();
+        let has_expired = self.timer.expire(bounds, now).is_some();
+        self.timer.start(now);
+        has_expired || is_first
+    }
+
+    /// Takes what a segment acknowledges and announces, and the blocks that it reports. It `is_empty` if it has no byte
+    /// and no FIN. Whatever it says, the end stays sound.
+    ///
+    /// A block counts that begins above the first number that isn't reported, has a number, and ends where something
+    /// was sent and less than 2^32 above that one, if what is reported beyond that one is at most `N` runs then. Any
+    /// other block says nothing.
+    pub fn acknowledged(
+        &mut self,
+        runs: &mut [Run],
+        numbers: SentNumbers,
+        bounds: TimeoutBounds,
+        it: Announcement,
+        blocks: &[(u64, u64)],
+        is_empty: bool,
+        now: Instant,
+    ) -> Acknowledged {
+        if !is_acknowledgement(numbers, self.greatest_window, it.ack) {
+            return Acknowledged::Refused;
+        }
+        if it.ack < numbers.first_unacknowledged || numbers.sent < it.ack {
+            self.buffer.doubt(numbers, it.ack, blocks);
+            return Acknowledged::Old;
+        }
+        let taken = self.hear(runs, numbers, bounds, it, blocks, is_empty, now);
+        Acknowledged::Taken {
+            new: taken.new,
+            reports: taken.reports,
+            begins: taken.begins,
+        }
+    }
+
+    /// Takes an acknowledgement that the sender takes, and returns what it said.
+    fn hear(
+        &mut self,
+        runs: &mut [Run],
+        numbers: SentNumbers,
+        bounds: TimeoutBounds,
+        it: Announcement,
+        blocks: &[(u64, u64)],
+        is_empty: bool,
+        now: Instant,
+    ) -> TakenAck {
+        let kind = kind_of(is_empty && it.window == self.last_window);
+        let size = self.segment_size();
+        let taken = self
+            .buffer
+            .acknowledged(runs, numbers, it.ack, blocks, size, kind);
+        self.take(runs, numbers, bounds, it, taken.reports, now);
+        taken
+    }
+
+    /// Takes the window of an acknowledgement that the buffer has taken, and tells the timer.
+    fn take(
+        &mut self,
+        runs: &[Run],
+        numbers: SentNumbers,
+        bounds: TimeoutBounds,
+        it: Announcement,
+        reports: bool,
+        now: Instant,
+    ) {
+        self.take_window(numbers, it);
+        self.time(runs, numbers, bounds, it.ack, reports, now);
+    }
+
+    /// Stops the timer of the SYN, if this is the first acknowledgement and nothing is in flight.
+    fn synchronize(&mut self, numbers: SentNumbers) {
+        if self.is_open == 0 && numbers.sent <= numbers.first_unacknowledged {
+            self.timer.stop();
+        }
+        self.is_open = 1;
+    }
+
+    /// Takes the window that is announced, and that a peer answers.
+    fn take_window(&mut self, numbers: SentNumbers, it: Announcement) {
+        self.synchronize(numbers);
+        self.greatest_window = greatest_after_update(
+            &mut self.peer_window,
+            self.greatest_window,
+            numbers,
+            it,
+        );
+        self.last_window = it.window;
+    }
+
+    /// Takes the sample of a timed segment that is reported, and tells the timer what was acknowledged, and whether a
+    /// block reported what wasn't known.
+    fn time(
+        &mut self,
+        runs: &[Run],
+        numbers: SentNumbers,
+        bounds: TimeoutBounds,
+        ack: u64,
+        reports: bool,
+        now: Instant,
+    ) {
+        // A copy: one with times isn't passed twice.
+        let sampling = TimeoutBounds {
+            least: bounds.least,
+            most: bounds.most,
+            tick: bounds.tick,
+            ack_delay: bounds.ack_delay,
+        };
+        self.sample(runs, sampling, now);
+        tell(&mut self.timer, bounds, numbers, ack, reports, now);
+    }
+
+    /// Takes the sample of a timed segment that is reported.
+    fn sample(&mut self, runs: &[Run], bounds: TimeoutBounds, now: Instant) {
+        if let Some(segment) = self.timer.timed() {
+            if self.buffer.contains(runs, segment.pos) {
+                self.timer.take_sample(bounds, now);
+            }
+        }
+    }
+
+    /// Takes what the timer said when it ended and started again, and returns what that means. `next_segment` returns
+    /// what is then to be sent.
+    pub fn take_expiry(&mut self, runs: &[Run], queued: Queued, expiry: Expiry) -> Expired {
+        match expiry {
+            Expiry::Probe => self.take_silence(runs, queued),
+            Expiry::Timeout => self.take_timeout(queued),
+        }
+    }
+
+    /// Finds what is overdue, unless the peer's window is shut, or it reports nothing: then it is sent no probe.
+    fn take_silence(&mut self, runs: &[Run], queued: Queued) -> Expired {
+        let is_sought = self.is_sought(queued);
+        self.is_window_probe_due = 0;
+        self.is_overdue = flag_of(is_sought);
+        if self.buffer.recovery.is_blind() {
+            return Expired::No;
+        }
+        let begins = seek(&mut self.buffer, runs, queued.numbers, is_sought);
+        Expired::Overdue { begins }
+    }
+
+    /// Returns whether what is overdue is sought, where the timer's probe is due.
+    fn is_sought(&self, queued: Queued) -> bool {
+        !self.buffer.recovery.is_blind() && !self.is_shut(queued)
+    }
+
+    /// Loses all that was sent and isn't reported.
+    fn take_timeout(&mut self, queued: Queued) -> Expired {
+        self.buffer.recovery.lose_all(queued.numbers);
+        self.is_window_probe_due = 1;
+        self.is_overdue = 0;
+        if self.is_shut(queued) || queued.numbers.flight_size() == 0 {
+            Expired::Probe
+        } else {
+            Expired::Lost
+        }
+    }
+
+    /// Returns whether the peer's window is shut, and something waits.
+    fn is_shut(&self, queued: Queued) -> bool {
+        self.peer_window
+            .is_probe_allowed(queued.numbers.first_unacknowledged, queued.end)
+    }
+
+    /// Returns whether the next segment is a probe of a window that is shut.
+    fn asks(&self, queued: Queued) -> bool {
+        self.is_window_probe_due != 0 && self.is_shut(queued)
+    }
+
+    /// Returns the range that is to be sent next, and why: of a window that is shut a probe, once the timeout has
+    /// passed; else what `next_range` returns; and else, where no answer came, a probe for one.
+    fn choose(
+        &self,
+        runs: &[Run],
+        queued: Queued,
+        congestion_window: u64,
+    ) -> (Option<(u64, u64)>, Sending) {
+        let first = queued.numbers.first_unacknowledged;
+        if self.asks(queued) {
+            return (Some((first, first + 1)), Sending::WindowProbe);
+        }
+        let limit = self.peer_window.send_limit(queued.end);
+        let next = self.next_range(runs, queued, limit, congestion_window);
+        if next.is_some() || self.is_overdue == 0 {
+            return (next, Sending::Segment);
+        }
+        (
+            self.next_probe(runs, queued.numbers, limit),
+            Sending::TailProbe,
+        )
+    }
+
+    /// Returns what a probe for an answer sends below a limit.
+    fn next_probe(&self, runs: &[Run], numbers: SentNumbers, limit: u64) -> Option<(u64, u64)> {
+        self.buffer
+            .next_probe(runs, numbers, limit, self.segment_size())
+    }
+
+    /// Returns what the recovery sends next below a limit, unless that is held back.
+    fn next_range(
+        &self,
+        runs: &[Run],
+        queued: Queued,
+        limit: u64,
+        congestion_window: u64,
+    ) -> Option<(u64, u64)> {
+        let Some((from, to)) = self.buffer.next(
+            runs,
+            queued.numbers,
+            limit,
+            congestion_window,
+            self.segment_size(),
+        )
+        else {
+            return None;
+        };
+        if self.is_due(queued, from, to) {
+            Some((from, to))
+        } else {
+            None
+        }
+    }
+
+    /// Returns whether a range isn't held back: the timer asks for it, it was sent before, or it is worth a segment.
+    fn is_due(&self, queued: Queued, from: u64, to: u64) -> bool {
+        self.hurries() || from < queued.numbers.sent || self.is_worth(queued, from, to)
+    }
+
+    /// Returns whether the timer asks for a segment.
+    fn hurries(&self) -> bool {
+        self.is_window_probe_due != 0 || self.is_overdue != 0
+    }
+
+    /// Returns whether a range is worth a segment (RFC 9293, 3.8.6.2.1): a whole one; or, unless Nagle's rule has it
+    /// wait, all that is left, or half of the greatest window that the peer announced.
+    fn is_worth(&self, queued: Queued, from: u64, to: u64) -> bool {
+        let is_whole = self.segment_size() as u64 <= to.saturating_sub(from);
+        is_whole || self.is_enough(queued, from, to) && !self.delays(queued)
+    }
+
+    /// Returns whether a range is all that is left, or half of the greatest window that the peer announced.
+    fn is_enough(&self, queued: Queued, from: u64, to: u64) -> bool {
+        let len = to.saturating_sub(from);
+        queued.end <= to || self.greatest_window.saturating_sub(len) <= len
+    }
+
+    /// Returns whether less than a whole segment waits, by Nagle's rule: something is in flight, and the stream isn't
+    /// closed.
+    fn delays(&self, queued: Queued) -> bool {
+        let numbers = queued.numbers;
+        self.nagle_enabled() && numbers.first_unacknowledged < numbers.sent && !queued.is_closed
+    }
+
+    /// Starts the timer, unless it runs, if anything that was written isn't acknowledged.
+    fn wait(&mut self, queued: Queued, now: Instant) {
+        if queued.numbers.first_unacknowledged < queued.end {
+            self.timer.start(now);
+        }
+    }
+
+    /// Takes notice that a range is sent, and why.
+    fn mark(
+        &mut self,
+        numbers: SentNumbers,
+        bounds: TimeoutBounds,
+        from: u64,
+        to: u64,
+        sending: Sending,
+        now: Instant,
+    ) {
+        self.timer.sent(bounds, from..to, numbers, now);
+        self.is_window_probe_due = 0;
+        self.is_overdue = 0;
+        self.buffer.sent(numbers, from, to, sending);
+    }
+
+    /// Returns the segment that is to be sent now, and takes notice that it is: if the peer's window and the congestion
+    /// window have room for one, or as a probe. What was never sent is held back if it is less than a segment, unless
+    /// it is all that is left, or half of the greatest window that the peer announced (RFC 9293, 3.8.6.2.1), and
+    /// Nagle's rule doesn't have it wait. Once the timer has ended, the next segment isn't held back. While anything
+    /// that was written isn't acknowledged, the timer runs.
+    pub fn next_segment(
+        &mut self,
+        runs: &[Run],
+        queued: Queued,
+        bounds: TimeoutBounds,
+        congestion_window: u64,
+        now: Instant,
+    ) -> Option<Outgoing> {
+        let (chosen, sending) = self.choose(runs, queued, congestion_window);
+        let Some((from, to)) = chosen else {
+            // Not before something is sent: what `start` starts has no probe.
+            self.wait(queued, now);
+            return None;
+        };
+        self.mark(queued.numbers, bounds, from, to, sending, now);
+        Some(Outgoing {
+            pos: from,
+            end: to,
+            is_again: from < queued.numbers.sent,
+        })
+    }
+
+    /// Returns the smoothed time of a round trip, once there was a sample.
+    #[must_use]
+    pub fn round_trip(&self) -> Option<Duration> {
+        match self.timer.rtt() {
+            Some(estimate) => Some(estimate.srtt()),
+            None => None,
+        }
+    }
+
+    /// Returns whether Nagle's rule is enabled.
+    #[must_use]
+    pub fn nagle_enabled(&self) -> bool {
+        self.no_delay == 0
+    }
+
+    /// Returns the most bytes of a segment.
+    #[must_use]
+    pub fn segment_size(&self) -> usize {
+        self.segment_size.max(1)
+    }
+
+    /// Enables Nagle's rule (RFC 9293, 3.7.4), or disables it. While something that was sent isn't acknowledged, less
+    /// than a whole segment waits by it, unless the stream is closed or the timer has ended. It is enabled at first, as
+    /// in a socket of smoltcp: the RFC wants it so. Disable it where few bytes are written at a time, and none of them
+    /// is to wait.
+    pub fn set_nagle_enabled(&mut self, enabled: bool) {
+        self.no_delay = if enabled { 0 } else { 1 };
+    }
+}
+
+impl<S: Storage<u8>, const N: usize> SendingEndOver<S, N> {
+    /// Begins with a peer, whose SYN announced a window, how many bytes a segment may have, and whether it reports
+    /// blocks (SACK): one that doesn't couldn't answer a probe, and is sent none. What was written stays. It is done
+    /// once, before anything is sent; a second time begins with another peer, and the timer runs if something is in
+    /// flight.
+    pub fn open(&mut self, it: Announcement, segment_size: usize, reports: bool, now: Instant) {
+        let numbers = self.numbers();
+        self.head.open(numbers, self.first_timeout, it, segment_size, reports, now);
     }
 
     /// Begins again without a peer: the timer stops, unless something is in flight. What was written stays.
     pub fn forget(&mut self, now: Instant) {
-        self.renew(false, now);
-    }
-
-    /// Begins with a timer that had no sample.
-    fn renew(&mut self, reports: bool, now: Instant) {
         let numbers = self.numbers();
-        self.timer = RetransmissionTimer::new(self.first_timeout, reports);
-        if numbers.first_unacknowledged < numbers.sent {
-            self.timer.start(now);
-        }
-        self.is_open = false;
+        self.head.forget(numbers, self.first_timeout, now);
     }
 
     /// Returns whether a SYN is to be sent now, the first one or one after a timeout, and starts the timer for the next.
     /// Ask it only until something is acknowledged, at which it doesn't look.
     pub fn is_opening_due(&mut self, now: Instant) -> bool {
-        let is_first = self.expires_at().is_none();
-        let has_expired = self.expire(now).is_some();
-        self.timer.start(now);
-        has_expired || is_first
+        self.head.is_opening_due(self.bounds, now)
     }
 
     /// Takes what a segment acknowledges and announces, and the blocks that it reports. It `is_empty` if it has no byte
@@ -367,246 +661,43 @@ impl<F: StreamSender, const N: usize> SendingEndOver<F, N> {
         now: Instant,
     ) -> Acknowledged {
         let numbers = self.numbers();
-        if !self.is_acceptable(numbers, it.ack) {
-            return Acknowledged::Refused;
-        }
-        let repeats = self.only_repeats(is_empty, it.window);
-        let Some(taken) = self.hear(it.ack, blocks, repeats) else {
-            self.buffer.doubt(it.ack, blocks);
-            return Acknowledged::Old;
-        };
-        self.take(numbers, it, taken.reports, now);
-        Acknowledged::Taken {
-            new: it.ack - numbers.first_unacknowledged,
-            reports: taken.reports,
-            begins: taken.begins,
-        }
-    }
-
-    /// Returns whether a segment may acknowledge that.
-    ///
-    /// A function of its own, since `acknowledged` is proved by what it says of the end.
-    fn is_acceptable(&self, numbers: SentNumbers, ack: u64) -> bool {
-        is_acknowledgement(numbers, self.greatest_window, ack)
-    }
-
-    /// Returns whether a segment that announces a window only repeats the last acknowledgement.
-    fn only_repeats(&self, is_empty: bool, window: u64) -> bool {
-        is_empty && window == self.last_window
-    }
-
-    /// Has the buffer take an acknowledgement, as `SendBufferOver::acknowledge` says.
-    ///
-    /// A function of its own, since its clauses say by the end what those of the buffer say by the buffer: without it
-    /// the check of `acknowledged` didn't end in ten minutes.
-    fn hear(&mut self, ack: u64, blocks: &[(u64, u64)], repeats: bool) -> Option<TakenAck> {
-        let kind = kind_of(repeats);
-        self.buffer
-            .acknowledge(ack, blocks, self.segment_size, kind)
-    }
-
-    /// Takes the window of an acknowledgement that the buffer has taken, and tells the timer.
-    ///
-    /// A function of its own, since `acknowledged` is one event of the end, and this its half beside the buffer.
-    fn take(&mut self, numbers: SentNumbers, it: Announcement, reports: bool, now: Instant) {
-        self.take_window(numbers, it);
-        self.tell_timer(numbers, it.ack, reports, now);
+        let said = self.head.acknowledged(
+            &mut self.runs,
+            numbers,
+            self.bounds,
+            it,
+            blocks,
+            is_empty,
+            now,
+        );
+        let _is_taken = accept(&mut self.sender, it.ack);
+        said
     }
 
     /// Returns the first number that isn't acknowledged, near which those of an acknowledgement are, and the one after
     /// the last that was sent.
     #[must_use]
     pub fn numbers(&self) -> SentNumbers {
-        self.buffer.numbers()
+        self.sender.sent_numbers()
     }
 
-    /// Takes the window that an acknowledgement announces. If it is the first one and nothing is in flight, the timer of
-    /// the SYN stops.
-    fn take_window(&mut self, numbers: SentNumbers, it: Announcement) {
-        self.synchronize(numbers);
-        self.greatest_window = greatest_after_update(
-            &mut self.peer_window,
-            self.greatest_window,
-            numbers,
-            it,
-        );
-        self.last_window = it.window;
-    }
-
-    /// Stops the timer of the SYN, if this is the first acknowledgement and nothing is in flight.
-    ///
-    /// A function of its own, as `greatest_after_update` is, since each has a branch, and the prover joins the branches
-    /// of a whole end only by hand.
-    fn synchronize(&mut self, numbers: SentNumbers) {
-        if !self.is_open && numbers.sent <= numbers.first_unacknowledged {
-            self.timer.stop();
-        }
-        self.is_open = true;
-    }
-
-    /// Takes the sample of a timed segment that is reported, and tells the timer what was acknowledged, and whether a
-    /// block reported what wasn't known.
-    fn tell_timer(&mut self, numbers: SentNumbers, ack: u64, reports: bool, now: Instant) {
-        if let Some(segment) = self.timer.timed() {
-            if self.buffer.contains(segment.pos) {
-                self.timer.take_sample(self.bounds, now);
-            }
-        }
-        self.timer.acknowledged(self.bounds, numbers, ack, now);
-        if reports {
-            self.timer.reported(now);
+    /// Returns what the sender has sent, and what is queued.
+    fn queued(&self) -> Queued {
+        Queued {
+            numbers: self.sender.sent_numbers(),
+            end: self.sender.numbers_end(),
+            is_closed: self.sender.is_closed(),
         }
     }
 
     /// Returns whether the timer has ended, and what that means. If it has, it starts again, and `next_segment` returns
     /// what is then to be sent.
     pub fn expired(&mut self, now: Instant) -> Expired {
-        match self.expire(now) {
-            None => Expired::No,
-            Some(Expiry::Probe) => self.take_silence(),
-            Some(Expiry::Timeout) => self.take_timeout(),
-        }
-    }
-
-    /// Starts the timer again, if it has ended, and returns what that is.
-    fn expire(&mut self, now: Instant) -> Option<Expiry> {
-        self.timer.expire(self.bounds, now)
-    }
-
-    /// Finds what is overdue, unless the peer's window is shut, or it reports nothing: then it is sent no probe.
-    fn take_silence(&mut self) -> Expired {
-        let is_sought = self.is_sought();
-        self.is_window_probe_due = false;
-        self.is_overdue = is_sought;
-        if self.buffer.is_blind() {
+        let Some(expiry) = self.head.timer.expire(self.bounds, now) else {
             return Expired::No;
-        }
-        let begins = seek(&mut self.buffer, is_sought);
-        Expired::Overdue { begins }
-    }
-
-    /// Returns whether what is overdue is sought, where the timer's probe is due.
-    fn is_sought(&self) -> bool {
-        !self.buffer.is_blind() && !self.is_shut(self.numbers())
-    }
-
-    /// Loses all that was sent and isn't reported.
-    fn take_timeout(&mut self) -> Expired {
-        let numbers = self.numbers();
-        let is_shut = self.is_shut(numbers);
-        self.buffer.lose_all();
-        self.is_window_probe_due = true;
-        self.is_overdue = false;
-        if is_shut || numbers.flight_size() == 0 {
-            Expired::Probe
-        } else {
-            Expired::Lost
-        }
-    }
-
-    /// Returns whether the peer's window is shut, and something waits.
-    fn is_shut(&self, numbers: SentNumbers) -> bool {
-        self.peer_window
-            .is_probe_allowed(numbers.first_unacknowledged, self.buffer.numbers_end())
-    }
-
-    /// Returns the range that is to be sent next, and why: of a window that is shut a probe, once the timeout has
-    /// passed; else what `next_range` returns; and else, where no answer came, a probe for one.
-    fn choose(&self, numbers: SentNumbers, congestion_window: u64) -> (Option<(u64, u64)>, Sending) {
-        if self.asks(numbers) {
-            let first = self.numbers().first_unacknowledged;
-            // That it fits shows that the next number does: something waits.
-            let _end = self.buffer.numbers_end();
-            return (Some((first, first + 1)), Sending::WindowProbe);
-        }
-        let next = self.next_range(numbers, congestion_window);
-        if next.is_some() || !self.is_overdue {
-            return (next, Sending::Segment);
-        }
-        (self.next_probe(), Sending::TailProbe)
-    }
-
-    /// Returns whether the next segment is a probe of a window that is shut.
-    ///
-    /// A function of its own, since `choose` is proved by what it says of the end.
-    fn asks(&self, numbers: SentNumbers) -> bool {
-        self.is_window_probe_due && self.is_shut(numbers)
-    }
-
-    /// Returns what a probe for an answer sends below the peer's edge.
-    ///
-    /// A function of its own, as `next_range` is.
-    fn next_probe(&self) -> Option<(u64, u64)> {
-        self.buffer
-            .next_probe(self.peer_window.edge(), self.segment_size)
-    }
-
-    /// Returns what the recovery sends next below the peer's edge, unless that is held back.
-    ///
-    /// A function of its own, since its clauses say it by the end, and those of the buffer by the buffer.
-    fn next_range(&self, numbers: SentNumbers, congestion_window: u64) -> Option<(u64, u64)> {
-        let Some((from, to)) = self.buffer.next(
-            self.peer_window.edge(),
-            congestion_window,
-            self.segment_size,
-        )
-        else {
-            return None;
         };
-        if self.is_due(numbers, from, to) {
-            Some((from, to))
-        } else {
-            None
-        }
-    }
-
-    /// Returns whether a range isn't held back: the timer asks for a segment, the range was sent before, or it is worth
-    /// a segment.
-    ///
-    /// A function of its own, as the next three are, since the prover goes by one value of true or false at a time.
-    fn is_due(&self, numbers: SentNumbers, from: u64, to: u64) -> bool {
-        self.hurries() || from < numbers.sent || self.is_worth(numbers, from, to)
-    }
-
-    /// Returns whether the timer asks for a segment.
-    fn hurries(&self) -> bool {
-        self.is_window_probe_due || self.is_overdue
-    }
-
-    /// Returns whether a range is worth a segment (RFC 9293, 3.8.6.2.1): a whole one; or, unless Nagle's rule has it
-    /// wait, all that is left, or half of the greatest window that the peer announced.
-    fn is_worth(&self, numbers: SentNumbers, from: u64, to: u64) -> bool {
-        let is_whole = self.segment_size as u64 <= to.saturating_sub(from);
-        is_whole || self.is_enough(from, to) && !self.delays(numbers)
-    }
-
-    /// Returns whether a range is all that is left, or half of the greatest window that the peer announced.
-    fn is_enough(&self, from: u64, to: u64) -> bool {
-        let len = to.saturating_sub(from);
-        self.buffer.numbers_end() <= to || self.greatest_window.saturating_sub(len) <= len
-    }
-
-    /// Returns whether less than a whole segment waits, by Nagle's rule: something is in flight, and the stream isn't
-    /// closed.
-    fn delays(&self, numbers: SentNumbers) -> bool {
-        self.nagle && numbers.first_unacknowledged < numbers.sent && !self.buffer.is_closed()
-    }
-
-    /// Starts the timer, unless it runs, if anything that was written isn't acknowledged.
-    ///
-    /// A function of its own, as `mark` is, since each of them is one event of the end.
-    fn wait(&mut self, numbers: SentNumbers, now: Instant) {
-        if numbers.first_unacknowledged < self.buffer.numbers_end() {
-            self.timer.start(now);
-        }
-    }
-
-    /// Takes notice that a range is sent, and why.
-    fn mark(&mut self, numbers: SentNumbers, from: u64, to: u64, sending: Sending, now: Instant) {
-        self.timer.sent(self.bounds, from..to, numbers, now);
-        self.is_window_probe_due = false;
-        self.is_overdue = false;
-        self.buffer.mark_at(numbers, from, to, sending);
+        let queued = self.queued();
+        self.head.take_expiry(&self.runs, queued, expiry)
     }
 
     /// Returns the segment that is to be sent now, and takes notice that it is: if the peer's window and the congestion
@@ -615,25 +706,21 @@ impl<F: StreamSender, const N: usize> SendingEndOver<F, N> {
     /// Nagle's rule doesn't have it wait. Once the timer has ended, the next segment isn't held back. While anything
     /// that was written isn't acknowledged, the timer runs.
     pub fn next_segment(&mut self, congestion_window: u64, now: Instant) -> Option<Outgoing> {
-        let numbers = self.numbers();
-        let (chosen, sending) = self.choose(numbers, congestion_window);
-        let Some((from, to)) = chosen else {
-            // Not before something is sent: what `start` starts has no probe.
-            self.wait(numbers, now);
+        let queued = self.queued();
+        let Some(it) = self
+            .head
+            .next_segment(&self.runs, queued, self.bounds, congestion_window, now)
+        else {
             return None;
         };
-        self.mark(numbers, from, to, sending, now);
-        Some(Outgoing {
-            pos: from,
-            end: to,
-            is_again: from < numbers.sent,
-        })
+        mark(&mut self.sender, it.end);
+        Some(it)
     }
 
     /// Returns when `expired` is to be asked.
     #[must_use]
     pub fn expires_at(&self) -> Option<Instant> {
-        self.timer.expires_at()
+        self.head.timer.expires_at()
     }
 
     /// Returns how often the timeout has passed in a row, without anything new that was acknowledged or reported in
@@ -641,16 +728,13 @@ impl<F: StreamSender, const N: usize> SendingEndOver<F, N> {
     /// though each is answered.
     #[must_use]
     pub fn timeouts(&self) -> u64 {
-        self.timer.timeouts()
+        self.head.timer.timeouts()
     }
 
     /// Returns the smoothed time of a round trip, once there was a sample.
     #[must_use]
     pub fn round_trip(&self) -> Option<Duration> {
-        match self.timer.rtt() {
-            Some(estimate) => Some(estimate.srtt()),
-            None => None,
-        }
+        self.head.round_trip()
     }
 
     /// Returns whether the last recovery was for nothing, and ends it then: nothing that was found lost is missing but
@@ -659,26 +743,26 @@ impl<F: StreamSender, const N: usize> SendingEndOver<F, N> {
     /// another recovery begins.
     #[must_use]
     pub fn take_back(&mut self) -> bool {
-        self.buffer.take_back()
+        let numbers = self.numbers();
+        self.head.buffer.take_back(&self.runs, numbers)
     }
 
     /// Returns whether a recovery lasts.
     #[must_use]
     pub fn is_recovering(&self) -> bool {
-        self.buffer.is_recovering()
+        self.head.buffer.recovery.is_active(self.numbers())
     }
 
     /// Returns how many numbers were sent and aren't acknowledged.
     #[must_use]
     pub fn flight_size(&self) -> u64 {
-        self.buffer.numbers().flight_size()
+        self.numbers().flight_size()
     }
 
     /// Returns the number of a segment without positions.
     #[must_use]
     pub fn acknowledgement_number(&self) -> u64 {
-        self.peer_window
-            .acknowledgement_number(self.buffer.numbers())
+        self.head.peer_window.acknowledgement_number(self.numbers())
     }
 
     /// Enables Nagle's rule (RFC 9293, 3.7.4), or disables it. While something that was sent isn't acknowledged, less
@@ -686,25 +770,40 @@ impl<F: StreamSender, const N: usize> SendingEndOver<F, N> {
     /// in a socket of smoltcp: the RFC wants it so. Disable it where few bytes are written at a time, and none of them
     /// is to wait.
     pub fn set_nagle_enabled(&mut self, enabled: bool) {
-        self.nagle = enabled;
+        self.head.set_nagle_enabled(enabled);
     }
 
     /// Returns whether Nagle's rule is enabled.
     #[must_use]
     pub fn nagle_enabled(&self) -> bool {
-        self.nagle
+        self.head.nagle_enabled()
     }
 
     /// Returns the most bytes of a segment.
     #[must_use]
     pub fn segment_size(&self) -> usize {
-        self.segment_size
+        self.head.segment_size()
+    }
+}
+
+/// Tells the timer what was acknowledged, and whether a block reported what wasn't known.
+fn tell(
+    timer: &mut RetransmissionTimer,
+    bounds: TimeoutBounds,
+    numbers: SentNumbers,
+    ack: u64,
+    reports: bool,
+    now: Instant,
+) {
+    timer.acknowledged(bounds, numbers, ack, now);
+    if reports {
+        timer.reported(now);
     }
 }
 
 /// Finds what is overdue, if it is sought, and returns whether a recovery begins.
-fn seek<F: StreamSender, const N: usize>(buffer: &mut SendBufferOver<F, N>, is_sought: bool) -> bool {
-    is_sought && buffer.find_overdue()
+fn seek(buffer: &mut BufferHead, runs: &[Run], numbers: SentNumbers, is_sought: bool) -> bool {
+    is_sought && buffer.find_overdue(runs, numbers)
 }
 
 /// Takes the window that is announced. Returns the greatest one so far.

@@ -13,22 +13,16 @@ use crate::exports::refusals::{
 };
 use crate::exports::results::number_of;
 use crate::storage::Run;
+use crate::ends::{ReceivingHead, Room};
 use crate::stream::{FiniteError, FiniteReceiverHead, HeldRun, KeptBytes};
-use crate::tcp::{AdvertisedWindow, Segment};
+use crate::tcp::Segment;
 
 #[repr(C)]
 #[derive(Debug, Clone, Copy)]
 pub struct ReceivingEnd {
     pub receiver: FiniteReceiverHead,
     pub runs: [Run; RUNS],
-    pub advertised: AdvertisedWindow,
-    pub newest: u64,
-    pub recent: [u64; 4],
-    pub duplicate: HeldRun,
-    pub has_duplicate: u32,
-    pub segment_size: u16,
-    pub scale: u8,
-    pub unanswered: u8,
+    pub head: ReceivingHead,
 }
 
 #[repr(C)]
@@ -47,14 +41,18 @@ impl ReceivingEnd {
         ReceivingEnd {
             receiver: FiniteReceiverHead::new(first),
             runs: [Run { start: 0, end: 0 }; RUNS],
-            advertised: AdvertisedWindow::new(first),
-            newest: first,
-            recent: [0; 4],
-            duplicate: NO_BLOCK,
-            has_duplicate: 0,
-            segment_size,
-            scale: 0,
-            unanswered: 0,
+            head: ReceivingHead::new(first, segment_size),
+        }
+    }
+
+    #[inline(always)]
+    fn room(&self, capacity: usize) -> Room {
+        let (next, end) = self.free(capacity);
+        Room {
+            next,
+            end,
+            capacity: capacity as u64,
+            is_complete: self.receiver.is_complete(),
         }
     }
 
@@ -67,44 +65,7 @@ impl ReceivingEnd {
         }
     }
 
-    fn is_update_due(&self, capacity: usize) -> bool {
-        let (next, end) = self.free(capacity);
-        !self.receiver.is_complete()
-            && self
-                .advertised
-                .is_update_due(self.scale, next, end, capacity as u64, self.segment_size)
-    }
-
-    fn promise(&mut self, capacity: usize) -> (u64, u16) {
-        let (next, end) = self.free(capacity);
-        let window = self
-            .advertised
-            .announce_in_steps(self.scale, next, end, capacity as u64, self.segment_size);
-        (next, window)
-    }
-
-    fn answer_one(&mut self) {
-        if self.unanswered < 2 {
-            self.unanswered = 0;
-        }
-    }
-
-    fn note_duplicate(&mut self, pos: u64, len: usize) {
-        let end = pos.saturating_add(len as u64);
-        if let Some((start, end)) = self.receiver.receiver.duplicate_of(&self.runs, pos, end) {
-            self.duplicate = HeldRun { start, end };
-            self.has_duplicate = 1;
-        }
-    }
-
-    fn wait(&mut self, is_next: bool) {
-        self.unanswered = if is_next {
-            self.unanswered.saturating_add(1).min(2)
-        } else {
-            2
-        };
-    }
-
+    #[inline(always)]
     fn arrived(
         &mut self,
         storage: &mut [u8],
@@ -126,68 +87,59 @@ impl ReceivingEnd {
         is_last: bool,
     ) -> Result<KeptBytes, FiniteError> {
         are_sixteen(self.runs);
-        self.note_duplicate(pos, bytes.len());
+        let end = pos.saturating_add(bytes.len() as u64);
+        let part = self.receiver.receiver.duplicate_of(&self.runs, pos, end);
         let held = self.receiver.receiver.held.used;
         let kept = self
             .receiver
             .keep(storage, &mut self.runs, pos, bytes, is_last);
-        self.newest = pos;
-        self.wait(is_next(held, is_last, kept));
+        self.head.take(pos, is_last, part, held, kept);
         kept
-    }
-
-    fn take_duplicate(&mut self) -> Option<HeldRun> {
-        let part = self.duplicate;
-        let is_reported = self.has_duplicate != 0
-            && (part.end <= self.receiver.acknowledged() || !self.receiver.is_complete());
-        self.duplicate = NO_BLOCK;
-        self.has_duplicate = 0;
-        if is_reported { Some(part) } else { None }
     }
 
     fn list_runs(&mut self) -> ([HeldRun; 4], usize) {
         let mut runs = [NO_BLOCK; 4];
-        let count = self
-            .receiver
-            .receiver
-            .newest_runs(&self.runs, self.newest, &mut self.recent, &mut runs);
+        let count = self.receiver.receiver.newest_runs(
+            &self.runs,
+            self.head.newest,
+            &mut self.head.recent,
+            &mut runs,
+        );
         (runs, count)
     }
 
+    #[inline(always)]
     fn acknowledgement(&mut self, capacity: usize) -> Acknowledgement {
-        self.unanswered = 0;
-        let (next, window) = self.promise(capacity);
-        let duplicate = self.take_duplicate();
+        let room = self.room(capacity);
+        let (next, window) = self.head.acknowledge(room);
+        let duplicate = self.head.take_duplicate(room.next, room.is_complete);
         let (runs, count) = self.list_runs();
         let (blocks, block_count) = in_front(duplicate, runs, count);
         Acknowledgement {
             next,
-            window,
             blocks,
             block_count,
+            window,
         }
     }
 }
 
-fn in_front(duplicate: Option<HeldRun>, runs: [HeldRun; 4], count: usize) -> ([HeldRun; 4], usize) {
-    match duplicate {
-        Some(part) => (
-            [part, runs[0], runs[1], runs[2]],
-            count.saturating_add(1).min(4),
-        ),
-        None => (runs, count),
-    }
-}
-
 #[inline(always)]
-fn are_sixteen(runs: [Run; RUNS]) {
+pub(crate) fn are_sixteen(runs: [Run; RUNS]) {
     let _ = runs;
 }
 
-fn is_next(held: usize, is_last: bool, kept: Result<KeptBytes, FiniteError>) -> bool {
-    match kept {
-        Ok(kept) => held == 0 && !is_last && kept.queued > 0,
-        Err(_) => false,
+fn in_front(
+    duplicate: Option<(u64, u64)>,
+    runs: [HeldRun; 4],
+    count: usize,
+) -> ([HeldRun; 4], usize) {
+    match duplicate {
+        Some((start, end)) => (
+            [HeldRun { start, end }, runs[0], runs[1], runs[2]],
+            count.saturating_add(1).min(4),
+        ),
+        None => (runs, count),
     }
 }
 
@@ -220,10 +172,10 @@ pub fn net_base_receiving_end_open(
     if first == u64::MAX {
         return false;
     }
-    *end = ReceivingEnd::new(first, end.segment_size);
-    end.scale = scale;
-    let (next, last) = end.free(capacity);
-    *window = end.advertised.announce(0, next, last);
+    let segment_size = end.head.segment_size;
+    *end = ReceivingEnd::new(first, segment_size);
+    let room = end.room(capacity);
+    *window = end.head.open(room, first, scale);
     true
 }
 
@@ -237,7 +189,11 @@ pub fn net_base_receiving_end_classify(
         return NET_BASE_IGNORE;
     }
     let next = end.receiver.acknowledged();
-    number_of(end.advertised.classify(next, capacity as u64, *segment))
+    let arrival = end
+        .head
+        .advertised
+        .classify(next, capacity as u64, *segment);
+    number_of(arrival)
 }
 
 #[inline(always)]
@@ -267,18 +223,17 @@ pub fn net_base_receiving_end_arrived(
 
 #[inline(always)]
 pub fn net_base_receiving_end_answer(end: &mut ReceivingEnd) {
-    end.unanswered = 2;
+    end.head.answer();
 }
 
 #[inline(always)]
 pub fn net_base_receiving_end_is_due(end: &ReceivingEnd) -> bool {
-    end.unanswered >= 2
+    end.head.is_due()
 }
 
 #[inline(always)]
 pub fn net_base_receiving_end_is_wanted(end: &ReceivingEnd, capacity: usize) -> bool {
-    is_plausible(&end.receiver.receiver, capacity, RUNS)
-        && (end.unanswered > 0 || end.is_update_due(capacity))
+    is_plausible(&end.receiver.receiver, capacity, RUNS) && end.head.is_wanted(end.room(capacity))
 }
 
 #[inline(always)]
@@ -291,10 +246,8 @@ pub fn net_base_receiving_end_announce(
     if !is_plausible(&end.receiver.receiver, capacity, RUNS) {
         return false;
     }
-    end.answer_one();
-    let promise = end.promise(capacity);
-    *next = promise.0;
-    *window = promise.1;
+    let room = end.room(capacity);
+    (*next, *window) = end.head.announce(room);
     true
 }
 

@@ -3,90 +3,29 @@
 // Over a head and lent runs each rule would be written again, and proved again.
 
 use crate::exports::receiver::RUNS;
+use crate::exports::receiving_end::are_sixteen;
 use crate::exports::refusals::{
     AcknowledgedStatus, ExpiredStatus, NET_BASE_ANSWER, NET_BASE_DONE, NET_BASE_LOST,
     NET_BASE_NOTHING, NET_BASE_OLD, NET_BASE_OVERDUE, NET_BASE_PROBE, NET_BASE_REFUSED,
     OutgoingStatus, no_number,
 };
-use crate::exports::retransmission::{
-    FIRST_TIMEOUT, RetransmissionTimer, TimeoutBounds, bounds_from, fields_of_timer, flag_of,
-    given_or, timer_from,
-};
+use crate::exports::retransmission::{FIRST_TIMEOUT, TimeoutBounds, bounds_from, given_or};
 use crate::storage::Run;
 use crate::time::{Duration, Instant};
-use crate::ends::{Acknowledged, BufferParts, Expired, Outgoing, SendingEndOver, SendingParts};
-use crate::stream::{FiniteSenderHead, HeldRun, ScoreboardHead, SentNumbers};
-use crate::stream::RecoveryParts;
-use crate::tcp::{Announcement, PeerWindow};
-
-mod head_sender;
-
-use head_sender::{HeadSender, accept, mark};
+use crate::ends::{Acknowledged, Expired, Outgoing, Queued, SendingHead};
+use crate::stream::{FiniteSenderHead, HeldRun, SentNumbers};
+use crate::tcp::Announcement;
 
 const BLOCKS: usize = 4;
-
-const DUPLICATES: usize = 3;
-
-#[repr(C)]
-#[derive(Copy, Clone, Debug)]
-pub struct LossRecovery {
-    pub until: u64,
-    pub lost: u64,
-    pub again: u64,
-    pub turn: u64,
-    pub resume: u64,
-    pub sent: u64,
-    pub later: u64,
-    pub probe: u64,
-    pub has_probe: u64,
-    pub asked: u64,
-    pub is_blind: u64,
-    pub unknown: u64,
-    pub round: u64,
-    pub since: u64,
-    pub copies: u64,
-    pub duplicates: usize,
-    pub has_duplicates: usize,
-}
-
-const NO_LOSS: LossRecovery = LossRecovery {
-    until: 0,
-    lost: 0,
-    again: 0,
-    turn: 0,
-    resume: 0,
-    sent: 0,
-    later: 0,
-    probe: 0,
-    has_probe: 0,
-    asked: 0,
-    is_blind: 0,
-    unknown: 0,
-    round: 0,
-    since: 0,
-    copies: 0,
-    duplicates: 0,
-    has_duplicates: 0,
-};
 
 #[repr(C)]
 #[derive(Copy, Clone, Debug)]
 pub struct SendingEnd {
     pub sender: FiniteSenderHead,
-    pub scoreboard: ScoreboardHead,
     pub runs: [Run; RUNS],
-    pub recovery: LossRecovery,
-    pub timer: RetransmissionTimer,
+    pub head: SendingHead,
     pub first_timeout: u64,
     pub bounds: TimeoutBounds,
-    pub peer_window: PeerWindow,
-    pub greatest_window: u64,
-    pub last_window: u64,
-    pub segment_size: usize,
-    pub no_delay: usize,
-    pub is_open: u64,
-    pub is_window_probe_due: u64,
-    pub is_overdue: u64,
 }
 
 #[repr(C)]
@@ -214,70 +153,6 @@ fn fields_of_outgoing(it: Outgoing) -> OutgoingSegment {
 }
 
 #[inline(always)]
-fn recovery_from(fields: &LossRecovery) -> crate::stream::LossRecovery {
-    let probe = if fields.has_probe == 0 {
-        None
-    } else {
-        Some(fields.probe)
-    };
-    let duplicates = if fields.has_duplicates == 0 {
-        DUPLICATES
-    } else {
-        fields.duplicates
-    };
-    crate::stream::LossRecovery::from_parts(RecoveryParts {
-        until: fields.until,
-        lost: fields.lost,
-        again: fields.again,
-        turn: fields.turn,
-        resume: fields.resume,
-        sent: fields.sent,
-        later: fields.later,
-        probe,
-        asked: fields.asked,
-        is_blind: fields.is_blind != 0,
-        unknown: fields.unknown,
-        duplicates,
-        round: fields.round,
-        since: fields.since,
-        copies: fields.copies,
-    })
-}
-
-#[inline(always)]
-fn fields_of_probe(probe: Option<u64>) -> (u64, u64) {
-    match probe {
-        Some(at) => (at, 1),
-        None => (0, 0),
-    }
-}
-
-#[inline(always)]
-fn fields_of_recovery(recovery: crate::stream::LossRecovery) -> LossRecovery {
-    let parts = recovery.parts();
-    let (probe, has_probe) = fields_of_probe(parts.probe);
-    LossRecovery {
-        until: parts.until,
-        lost: parts.lost,
-        again: parts.again,
-        turn: parts.turn,
-        resume: parts.resume,
-        sent: parts.sent,
-        later: parts.later,
-        probe,
-        has_probe,
-        asked: parts.asked,
-        is_blind: flag_of(parts.is_blind),
-        unknown: parts.unknown,
-        round: parts.round,
-        since: parts.since,
-        copies: parts.copies,
-        duplicates: parts.duplicates,
-        has_duplicates: 1,
-    }
-}
-
-#[inline(always)]
 fn block_at(blocks: &[HeldRun], at: usize) -> (u64, u64) {
     if at < blocks.len() {
         let block = blocks[at];
@@ -317,70 +192,43 @@ fn moment(now: i64) -> Instant {
 
 #[inline(always)]
 fn is_sound(end: &SendingEnd, capacity: usize) -> bool {
-    end.sender.is_sound(capacity) && end.scoreboard.is_sound(&end.runs)
+    end.sender.is_sound(capacity) && end.head.buffer.is_sound(&end.runs)
 }
 
 #[inline(always)]
-fn end_from<'a>(end: &SendingEnd, storage: &'a [u8]) -> SendingEndOver<HeadSender<'a>, RUNS> {
-    let runs = end.runs;
-    let buffer = BufferParts {
-        scoreboard: end.scoreboard,
-        runs,
-        recovery: recovery_from(&end.recovery),
-    };
-    let parts = SendingParts {
-        buffer,
-        timer: timer_from(&end.timer),
-        first_timeout: Duration::from_micros(given_or(end.first_timeout, FIRST_TIMEOUT)),
-        bounds: bounds_from(&end.bounds),
-        peer_window: end.peer_window,
-        greatest_window: end.greatest_window,
-        last_window: end.last_window,
-        segment_size: end.segment_size.max(1),
-        is_open: end.is_open != 0,
-        nagle: end.no_delay == 0,
-        is_window_probe_due: end.is_window_probe_due != 0,
-        is_overdue: end.is_overdue != 0,
-    };
-    SendingEndOver::from_parts(HeadSender::new(end.sender, storage), parts)
+fn queued_from(sender: &FiniteSenderHead, _capacity: usize) -> Queued {
+    Queued {
+        numbers: numbers_from(sender),
+        end: sender.numbers_end(),
+        is_closed: sender.is_closed(),
+    }
 }
 
 #[inline(always)]
-fn put(end: &mut SendingEnd, it: SendingEndOver<HeadSender<'_>, RUNS>) {
-    let (_sender, parts) = it.into_parts();
-    let runs = parts.buffer.runs;
-    end.scoreboard = parts.buffer.scoreboard;
-    end.runs = runs;
-    end.recovery = fields_of_recovery(parts.buffer.recovery);
-    end.timer = fields_of_timer(parts.timer);
-    end.peer_window = parts.peer_window;
-    end.greatest_window = parts.greatest_window;
-    end.last_window = parts.last_window;
-    end.is_open = flag_of(parts.is_open);
-    end.is_window_probe_due = flag_of(parts.is_window_probe_due);
-    end.is_overdue = flag_of(parts.is_overdue);
+fn acknowledge(sender: &mut FiniteSenderHead, capacity: usize, ack: u64) {
+    let _is_taken = sender.acknowledge(capacity, ack);
+}
+
+#[inline(always)]
+fn mark(sender: &mut FiniteSenderHead, capacity: usize, to: u64) {
+    let _is_written = sender.mark_sent(capacity, to);
+}
+
+#[inline(always)]
+fn first_timeout(end: &SendingEnd) -> Duration {
+    Duration::from_micros(given_or(end.first_timeout, FIRST_TIMEOUT))
 }
 
 fn new_end(first: u64, first_timeout: u64, bounds: &TimeoutBounds) -> SendingEnd {
     SendingEnd {
         sender: FiniteSenderHead::new(first),
-        scoreboard: ScoreboardHead::new_at(first),
         runs: [Run { start: 0, end: 0 }; RUNS],
-        recovery: NO_LOSS,
-        timer: fields_of_timer(crate::tcp::RetransmissionTimer::new(
-            Duration::from_micros(first_timeout),
-            false,
-        )),
+        head: SendingHead::new_at(
+            first,
+            Duration::from_micros(given_or(first_timeout, FIRST_TIMEOUT)),
+        ),
         first_timeout,
         bounds: *bounds,
-        peer_window: PeerWindow::new(),
-        greatest_window: 0,
-        last_window: 0,
-        segment_size: 0,
-        no_delay: 0,
-        is_open: 0,
-        is_window_probe_due: 0,
-        is_overdue: 0,
     }
 }
 
@@ -415,10 +263,9 @@ pub fn net_base_sending_end_open(
     if !is_sound(end, storage.len()) {
         return false;
     }
-    let mut machine = end_from(end, storage);
-    machine.open(*it, segment_size, reports, moment(now));
-    put(end, machine);
-    end.segment_size = segment_size;
+    let (numbers, first) = (numbers_from(&end.sender), first_timeout(end));
+    end.head
+        .open(numbers, first, *it, segment_size, reports, moment(now));
     true
 }
 
@@ -431,9 +278,8 @@ pub fn net_base_sending_end_forget(
     if !is_sound(end, storage.len()) {
         return false;
     }
-    let mut machine = end_from(end, storage);
-    machine.forget(moment(now));
-    put(end, machine);
+    let (numbers, first) = (numbers_from(&end.sender), first_timeout(end));
+    end.head.forget(numbers, first, moment(now));
     true
 }
 
@@ -446,15 +292,13 @@ pub fn net_base_sending_end_is_opening_due(
     if !is_sound(end, storage.len()) {
         return false;
     }
-    let mut machine = end_from(end, storage);
-    let is_due = machine.is_opening_due(moment(now));
-    put(end, machine);
-    is_due
+    end.head
+        .is_opening_due(bounds_from(&end.bounds), moment(now))
 }
 
 #[inline(always)]
 pub fn net_base_sending_end_set_nagle_enabled(end: &mut SendingEnd, enabled: bool) {
-    end.no_delay = if enabled { 0 } else { 1 };
+    end.head.set_nagle_enabled(enabled);
 }
 
 #[inline(always)]
@@ -486,11 +330,19 @@ pub fn net_base_sending_end_acknowledged(
     if blocks.len() > BLOCKS || !is_sound(end, storage.len()) {
         return refused_taken_acknowledgement();
     }
+    are_sixteen(end.runs);
     let pairs = pairs_of(blocks);
-    let mut machine = end_from(end, storage);
-    let said = machine.acknowledged(*it, &pairs[..blocks.len()], is_empty, moment(now));
-    put(end, machine);
-    let _is_taken = accept(&mut end.sender, storage.len(), it.ack);
+    let numbers = numbers_from(&end.sender);
+    let said = end.head.acknowledged(
+        &mut end.runs,
+        numbers,
+        bounds_from(&end.bounds),
+        *it,
+        &pairs[..blocks.len()],
+        is_empty,
+        moment(now),
+    );
+    acknowledge(&mut end.sender, storage.len(), it.ack);
     fields_of_acknowledged(said)
 }
 
@@ -503,9 +355,11 @@ pub fn net_base_sending_end_expired(
     if !is_sound(end, storage.len()) {
         return refused_ended_timer();
     }
-    let mut machine = end_from(end, storage);
-    let said = machine.expired(moment(now));
-    put(end, machine);
+    let Some(expiry) = end.head.timer.expire(bounds_from(&end.bounds), moment(now)) else {
+        return ended(NET_BASE_DONE, false);
+    };
+    let queued = queued_from(&end.sender, storage.len());
+    let said = end.head.take_expiry(&end.runs, queued, expiry);
     fields_of_expired(said)
 }
 
@@ -514,10 +368,8 @@ pub fn net_base_sending_end_take_back(end: &mut SendingEnd, storage: &[u8]) -> b
     if !is_sound(end, storage.len()) {
         return false;
     }
-    let mut machine = end_from(end, storage);
-    let is_wrong = machine.take_back();
-    put(end, machine);
-    is_wrong
+    let numbers = numbers_from(&end.sender);
+    end.head.buffer.take_back(&end.runs, numbers)
 }
 
 #[inline(always)]
@@ -530,9 +382,14 @@ pub fn net_base_sending_end_next_segment(
     if !is_sound(end, storage.len()) {
         return refused_outgoing_segment();
     }
-    let mut machine = end_from(end, storage);
-    let said = machine.next_segment(congestion_window, moment(now));
-    put(end, machine);
+    let queued = queued_from(&end.sender, storage.len());
+    let said = end.head.next_segment(
+        &end.runs,
+        queued,
+        bounds_from(&end.bounds),
+        congestion_window,
+        moment(now),
+    );
     match said {
         None => no_segment(NET_BASE_NOTHING),
         Some(it) => {
@@ -571,7 +428,7 @@ pub fn net_base_sending_end_is_done(end: &SendingEnd) -> bool {
 
 #[inline(always)]
 pub fn net_base_sending_end_expires_at(end: &SendingEnd, moment: &mut i64) -> bool {
-    match timer_from(&end.timer).expires_at() {
+    match end.head.timer.expires_at() {
         Some(at) => {
             *moment = at.total_micros();
             true
@@ -594,11 +451,17 @@ pub fn net_base_sending_end_acknowledgement_number(end: &SendingEnd) -> u64 {
     if !has_first(&end.sender) {
         return u64::MAX;
     }
-    end.peer_window
+    end.head
+        .peer_window
         .acknowledgement_number(numbers_from(&end.sender))
 }
 
 #[inline(always)]
 pub fn net_base_sending_end_is_recovering(end: &SendingEnd) -> bool {
-    has_first(&end.sender) && recovery_from(&end.recovery).is_active(numbers_from(&end.sender))
+    has_first(&end.sender)
+        && end
+            .head
+            .buffer
+            .recovery
+            .is_active(numbers_from(&end.sender))
 }

@@ -18,7 +18,8 @@
 // Why: A range can't be lost while one before it isn't. Whether a probe repaired a loss itself (RFC 8985, section
 // 7.4) isn't decided: peers that report no copies answer alike where it did and where it didn't.
 
-use crate::stream::{Scoreboard, SentNumbers};
+use crate::stream::reported::Reported;
+use crate::stream::SentNumbers;
 use crate::rattle::std::ops::Range;
 
 /// How many segments above a position tell that it is lost, as long as nothing came twice (RFC 6675's DupThresh).
@@ -40,43 +41,6 @@ pub struct Answer {
     pub reports: bool,
     /// Whether it is an equal one, as `is_equal_acknowledgement` says: something has arrived, it doesn't say where.
     pub is_equal: bool,
-}
-
-/// All that a recovery knows.
-///
-/// Contracts: `crates/net_recovery/src/loss_recovery.rt`.
-#[derive(Copy, Clone, Debug, PartialEq, Eq, Hash)]
-pub struct RecoveryParts {
-    /// The recovery lasts until all positions below this one are acknowledged.
-    pub until: u64,
-    /// What is below this position and isn't reported is lost.
-    pub lost: u64,
-    /// What is lost below this position was sent again in this pass.
-    pub again: u64,
-    /// What is lost from this position on and below `resume` was sent again before this pass, which leaves it out.
-    pub turn: u64,
-    /// All that was sent again below this position was sent before what was sent again from there on.
-    pub resume: u64,
-    /// The number after the last one that was sent when `resume` was set.
-    pub sent: u64,
-    /// How many positions were sent again from `resume` on since then.
-    pub later: u64,
-    /// Where the probe begins that wasn't answered.
-    pub probe: Option<u64>,
-    /// The number after the last one that was sent when the probe was.
-    pub asked: u64,
-    /// Whether the peer doesn't report what has arrived.
-    pub is_blind: bool,
-    /// How many positions have arrived that it doesn't report.
-    pub unknown: u64,
-    /// How many segments above a position tell that it is lost.
-    pub duplicates: usize,
-    /// Until all positions below this one are acknowledged, `duplicates` stays.
-    pub round: u64,
-    /// The first position that wasn't acknowledged when the recovery began.
-    pub since: u64,
-    /// How many positions were sent again since then, less those that came twice.
-    pub copies: u64,
 }
 
 /// What a sender of TCP sends next where segments are lost: first what is lost, then what was never sent.
@@ -122,37 +86,47 @@ pub struct RecoveryParts {
 /// assert_eq!(recovery.next_probe(numbers, &scoreboard, 800, 100), Some((0, 100)));
 /// ```
 ///
+/// It is numbers alone, so that C has it as it is: a flag is not 0 where it holds, and what there may be has one beside it.
+/// One of zeros is new.
+///
 /// Contracts: `crates/net_recovery/src/loss_recovery.rt`.
+#[repr(C)]
 #[derive(Copy, Clone, Debug, PartialEq, Eq, Hash)]
 pub struct LossRecovery {
-    // It lasts until all positions below this one are acknowledged.
+    /// The recovery lasts until all positions below this one are acknowledged.
     until: u64,
-    // What is below this position and isn't reported is lost.
+    /// What is below this position and isn't reported is lost.
     lost: u64,
-    // What is lost below this position was sent again in this pass.
+    /// What is lost below this position was sent again in this pass.
     again: u64,
-    // What is lost from `turn` on and below `resume` was sent again before this pass, which leaves it out. All that was
-    // sent again below `resume` was sent before what was sent again from there on.
+    /// What is lost from this position on and below `resume` was sent again before this pass, which leaves it out.
     turn: u64,
+    /// All that was sent again below this position was sent before what was sent again from there on.
     resume: u64,
-    // The number after the last one that was sent when `resume` was set, and how many positions were sent again from
-    // `resume` on since then.
+    /// The number after the last one that was sent when `resume` was set.
     sent: u64,
+    /// How many positions were sent again from `resume` on since then.
     later: u64,
-    // Where the probe begins that wasn't answered.
-    probe: Option<u64>,
-    // The number after the last one that was sent when the probe was.
+    /// Where the probe begins that wasn't answered, if there is one.
+    probe: u64,
+    /// Not 0 while a probe wasn't answered.
+    has_probe: u64,
+    /// The number after the last one that was sent when the probe was.
     asked: u64,
-    // Whether the peer doesn't report what has arrived, and how many positions have that it doesn't.
-    is_blind: bool,
+    /// Not 0 if the peer doesn't report what has arrived.
+    is_blind: u64,
+    /// How many positions have arrived that it doesn't report.
     unknown: u64,
-    // How many segments above a position tell that it is lost, and until which number is acknowledged that stays so.
-    duplicates: usize,
+    /// Until all positions below this one are acknowledged, `duplicates` stays.
     round: u64,
-    // The first position that wasn't acknowledged when the recovery began, and how many were sent again since then, less
-    // those that came twice.
+    /// The first position that wasn't acknowledged when the recovery began.
     since: u64,
+    /// How many positions were sent again since then, less those that came twice.
     copies: u64,
+    /// How many segments above a position tell that it is lost, if `has_duplicates` isn't 0; else 3 do.
+    duplicates: usize,
+    /// Not 0 once `duplicates` counts.
+    has_duplicates: usize,
 }
 
 impl LossRecovery {
@@ -167,58 +141,16 @@ impl LossRecovery {
             resume: 0,
             sent: 0,
             later: 0,
-            probe: None,
+            probe: 0,
+            has_probe: 0,
             asked: 0,
-            is_blind: false,
+            is_blind: 0,
             unknown: 0,
-            duplicates: DUPLICATES,
             round: 0,
             since: 0,
             copies: 0,
-        }
-    }
-
-    /// Returns the recovery of these parts.
-    #[must_use]
-    pub const fn from_parts(parts: RecoveryParts) -> Self {
-        LossRecovery {
-            until: parts.until,
-            lost: parts.lost,
-            again: parts.again,
-            turn: parts.turn,
-            resume: parts.resume,
-            sent: parts.sent,
-            later: parts.later,
-            probe: parts.probe,
-            asked: parts.asked,
-            is_blind: parts.is_blind,
-            unknown: parts.unknown,
-            duplicates: parts.duplicates,
-            round: parts.round,
-            since: parts.since,
-            copies: parts.copies,
-        }
-    }
-
-    /// Returns its parts.
-    #[must_use]
-    pub const fn parts(&self) -> RecoveryParts {
-        RecoveryParts {
-            until: self.until,
-            lost: self.lost,
-            again: self.again,
-            turn: self.turn,
-            resume: self.resume,
-            sent: self.sent,
-            later: self.later,
-            probe: self.probe,
-            asked: self.asked,
-            is_blind: self.is_blind,
-            unknown: self.unknown,
-            duplicates: self.duplicates,
-            round: self.round,
-            since: self.since,
-            copies: self.copies,
+            duplicates: DUPLICATES,
+            has_duplicates: 1,
         }
     }
 
@@ -231,7 +163,17 @@ impl LossRecovery {
     /// Returns how many segments above a position tell that it is lost: 3 at first.
     #[must_use]
     pub fn duplicates(&self) -> usize {
-        self.duplicates
+        if self.has_duplicates == 0 {
+            DUPLICATES
+        } else {
+            self.duplicates
+        }
+    }
+
+    /// Sets how many segments above a position tell that it is lost.
+    fn set_duplicates(&mut self, duplicates: usize) {
+        self.duplicates = duplicates;
+        self.has_duplicates = 1;
     }
 
     /// Takes notice that something was sent again for nothing, as `came_twice` does where the peer says what. From now
@@ -241,7 +183,8 @@ impl LossRecovery {
         if numbers.first_unacknowledged < self.round {
             return;
         }
-        self.duplicates = self.duplicates.saturating_mul(4).min(MOST_DUPLICATES);
+        let duplicates = self.duplicates().saturating_mul(4).min(MOST_DUPLICATES);
+        self.set_duplicates(duplicates);
         self.round = numbers.sent;
     }
 
@@ -271,11 +214,7 @@ impl LossRecovery {
     /// it was when the recovery began. Ask it after each acknowledgement, an old one too, once `find_losses` has it.
     /// It is true once: not before another recovery begins.
     #[must_use]
-    pub fn take_back<const N: usize>(
-        &mut self,
-        numbers: SentNumbers,
-        scoreboard: &Scoreboard<N>,
-    ) -> bool {
+    pub fn take_back<B: Reported>(&mut self, numbers: SentNumbers, scoreboard: &B) -> bool {
         let is_wrong = self.until > 0 && self.copies == 0 && self.unsent(numbers, scoreboard) == 0;
         if is_wrong {
             self.until = 0;
@@ -286,20 +225,25 @@ impl LossRecovery {
     /// Takes notice whether the peer reports what arrives, as its SYN says: until it does, or an equal acknowledgement
     /// reports nothing.
     pub fn expect_reports(&mut self, reports: bool) {
-        self.is_blind = !reports;
+        self.set_blind(!reports);
         self.unknown = 0;
     }
 
     /// Returns whether the peer reports nothing: then no probe is answered, and none is to be sent.
     #[must_use]
     pub fn is_blind(&self) -> bool {
-        self.is_blind
+        self.is_blind != 0
+    }
+
+    /// Sets whether the peer reports nothing.
+    fn set_blind(&mut self, is_blind: bool) {
+        self.is_blind = if is_blind { 1 } else { 0 };
     }
 
     /// Returns how many positions are lost and weren't sent again. `find_losses` wants it as it was before the
     /// acknowledgement.
     #[must_use]
-    pub fn unsent<const N: usize>(&self, numbers: SentNumbers, scoreboard: &Scoreboard<N>) -> u64 {
+    pub fn unsent<B: Reported>(&self, numbers: SentNumbers, scoreboard: &B) -> u64 {
         if self.is_active(numbers) {
             self.unsent_lost(numbers, scoreboard)
         } else {
@@ -307,7 +251,7 @@ impl LossRecovery {
         }
     }
 
-    fn unsent_lost<const N: usize>(&self, numbers: SentNumbers, scoreboard: &Scoreboard<N>) -> u64 {
+    fn unsent_lost<B: Reported>(&self, numbers: SentNumbers, scoreboard: &B) -> u64 {
         let from = self.again.max(numbers.first_unacknowledged);
         let of_pass = scoreboard.missing_between(from, self.turn.min(self.lost));
         let others = scoreboard.missing_between(from.max(self.resume), self.lost);
@@ -327,10 +271,10 @@ impl LossRecovery {
     ///
     /// Returns whether this call begins a recovery: then halve the congestion window, until `take_back` says that this
     /// was wrong.
-    pub fn find_losses<const N: usize>(
+    pub fn find_losses<B: Reported>(
         &mut self,
         numbers: SentNumbers,
-        scoreboard: &Scoreboard<N>,
+        scoreboard: &B,
         segment_size: usize,
         answer: Answer,
     ) -> bool {
@@ -339,10 +283,10 @@ impl LossRecovery {
     }
 
     /// Takes what an acknowledgement answers.
-    fn take<const N: usize>(
+    fn take<B: Reported>(
         &mut self,
         numbers: SentNumbers,
-        scoreboard: &Scoreboard<N>,
+        scoreboard: &B,
         segment_size: usize,
         answer: Answer,
     ) {
@@ -372,7 +316,8 @@ impl LossRecovery {
         let most = end.saturating_sub(first).saturating_sub(size);
         let unknown = self.heard_of(size, answer.reports, answer.is_equal && first != self.until);
         self.unknown = unknown.saturating_sub(known).min(most);
-        self.is_blind = !answer.reports && (answer.is_equal || self.is_blind);
+        let is_blind = self.is_blind();
+        self.set_blind(!answer.reports && (answer.is_equal || is_blind));
     }
 
     fn heard_of(&self, size: u64, reports: bool, is_equal: bool) -> u64 {
@@ -386,13 +331,8 @@ impl LossRecovery {
     }
 
     /// Loses nothing that wasn't sent again, if such a thing has arrived.
-    fn take_arrival<const N: usize>(
-        &mut self,
-        numbers: SentNumbers,
-        scoreboard: &Scoreboard<N>,
-        unsent: u64,
-    ) {
-        if !self.is_blind && self.unsent_lost(numbers, scoreboard) < unsent {
+    fn take_arrival<B: Reported>(&mut self, numbers: SentNumbers, scoreboard: &B, unsent: u64) {
+        if !self.is_blind() && self.unsent_lost(numbers, scoreboard) < unsent {
             self.withdraw();
             self.duplicated(numbers);
         }
@@ -405,15 +345,15 @@ impl LossRecovery {
     }
 
     /// Finds what is lost by what was reported, or heard of.
-    fn find<const N: usize>(
+    fn find<B: Reported>(
         &mut self,
         numbers: SentNumbers,
-        scoreboard: &Scoreboard<N>,
+        scoreboard: &B,
         segment_size: usize,
         before: u64,
     ) -> bool {
         let highest = scoreboard.highest_reported();
-        let lost = scoreboard.lost_below(self.duplicates, segment_size);
+        let lost = scoreboard.lost_below(self.duplicates(), segment_size);
         let blind = self.blind_lost(numbers, segment_size, before);
         self.take_losses(numbers, scoreboard, segment_size, lost.max(blind), highest)
     }
@@ -426,7 +366,7 @@ impl LossRecovery {
         } else {
             self.most_later(segment_size) < self.unknown
         };
-        if self.is_blind && is_lost {
+        if self.is_blind() && is_lost {
             numbers.sent.min(first.saturating_add(segment_size as u64))
         } else {
             0
@@ -435,21 +375,21 @@ impl LossRecovery {
 
     /// Returns how much of what was sent later may have arrived before something is lost.
     fn most_later(&self, segment_size: usize) -> u64 {
-        (self.duplicates.saturating_sub(1) as u64).saturating_mul(segment_size as u64)
+        (self.duplicates().saturating_sub(1) as u64).saturating_mul(segment_size as u64)
     }
 
     /// Finds what is lost, by the scoreboard's two limits.
-    fn take_losses<const N: usize>(
+    fn take_losses<B: Reported>(
         &mut self,
         numbers: SentNumbers,
-        scoreboard: &Scoreboard<N>,
+        scoreboard: &B,
         segment_size: usize,
         lost: u64,
         highest: u64,
     ) -> bool {
         if self.is_answered(scoreboard) {
-            self.probe = None;
-            let asked = if self.is_blind { 0 } else { self.asked };
+            self.forget_probe();
+            let asked = if self.is_blind() { 0 } else { self.asked };
             return self.lose(
                 numbers,
                 scoreboard,
@@ -462,10 +402,10 @@ impl LossRecovery {
     }
 
     /// Loses what is below a position, and what was overtaken.
-    fn lose<const N: usize>(
+    fn lose<B: Reported>(
         &mut self,
         numbers: SentNumbers,
-        scoreboard: &Scoreboard<N>,
+        scoreboard: &B,
         segment_size: usize,
         lost: u64,
         is_answered: bool,
@@ -483,10 +423,10 @@ impl LossRecovery {
     }
 
     /// Begins a pass, if what was sent again is lost again.
-    fn end_pass<const N: usize>(
+    fn end_pass<B: Reported>(
         &mut self,
         numbers: SentNumbers,
-        scoreboard: &Scoreboard<N>,
+        scoreboard: &B,
         segment_size: usize,
         is_answered: bool,
     ) {
@@ -502,35 +442,34 @@ impl LossRecovery {
 
     /// Loses what was sent before the pass, if the peer would have reported it.
     fn lose_earlier(&mut self) {
-        if !self.is_blind {
+        if !self.is_blind() {
             self.lost = self.lost.max(self.sent);
         }
     }
 
     /// Returns whether enough is reported of what was sent after a pass.
-    fn is_overtaken<const N: usize>(
+    fn is_overtaken<B: Reported>(
         &self,
         numbers: SentNumbers,
-        scoreboard: &Scoreboard<N>,
+        scoreboard: &B,
         segment_size: usize,
     ) -> bool {
         self.most_later(segment_size) < self.reported_later(numbers, scoreboard)
     }
 
     /// Returns whether the probe was reported.
-    fn is_answered<const N: usize>(&self, scoreboard: &Scoreboard<N>) -> bool {
-        match self.probe {
-            Some(start) => scoreboard.contains(start),
-            None => false,
-        }
+    fn is_answered<B: Reported>(&self, scoreboard: &B) -> bool {
+        self.has_probe != 0 && scoreboard.contains(self.probe)
+    }
+
+    /// Waits for no probe.
+    fn forget_probe(&mut self) {
+        self.probe = 0;
+        self.has_probe = 0;
     }
 
     /// Returns how many positions are reported of what was sent after a pass.
-    fn reported_later<const N: usize>(
-        &self,
-        numbers: SentNumbers,
-        scoreboard: &Scoreboard<N>,
-    ) -> u64 {
+    fn reported_later<B: Reported>(&self, numbers: SentNumbers, scoreboard: &B) -> u64 {
         let again = scoreboard.missing_between(self.resume, self.again);
         let first = scoreboard.missing_between(self.sent, numbers.sent);
         let all = self
@@ -557,11 +496,7 @@ impl LossRecovery {
     /// nothing was for two round trips. Then send as `next_segment` says; if that sends nothing, `next_probe`.
     ///
     /// Returns whether this call begins a recovery: then halve the congestion window.
-    pub fn find_overdue<const N: usize>(
-        &mut self,
-        numbers: SentNumbers,
-        scoreboard: &Scoreboard<N>,
-    ) -> bool {
+    pub fn find_overdue<B: Reported>(&mut self, numbers: SentNumbers, scoreboard: &B) -> bool {
         let lost = scoreboard.highest_reported();
         if self.is_active(numbers) {
             self.lost = self.lost.max(lost);
@@ -579,10 +514,10 @@ impl LossRecovery {
     /// recovery, or if the last position that was sent is reported, it is the first segment that isn't reported. A
     /// `segment_size` of 0 counts as 1. Call `probed` once it is sent.
     #[must_use]
-    pub fn next_probe<const N: usize>(
+    pub fn next_probe<B: Reported>(
         &self,
         numbers: SentNumbers,
-        scoreboard: &Scoreboard<N>,
+        scoreboard: &B,
         limit: u64,
         segment_size: usize,
     ) -> Option<(u64, u64)> {
@@ -607,7 +542,8 @@ impl LossRecovery {
 
     /// Takes notice that a probe of these positions is sent. `numbers` are the sender's before that.
     pub fn probed(&mut self, numbers: SentNumbers, positions: Range<u64>) {
-        self.probe = Some(positions.start);
+        self.probe = positions.start;
+        self.has_probe = 1;
         self.asked = numbers.sent;
         self.copy(numbers, positions);
     }
@@ -617,11 +553,7 @@ impl LossRecovery {
     /// scoreboard begins again.
     ///
     /// Returns whether none lasted: then halve the congestion window.
-    pub fn lose_dropped<const N: usize>(
-        &mut self,
-        numbers: SentNumbers,
-        scoreboard: &Scoreboard<N>,
-    ) -> bool {
+    pub fn lose_dropped<B: Reported>(&mut self, numbers: SentNumbers, scoreboard: &B) -> bool {
         let begins = !self.is_active(numbers);
         let lost = self.lost.max(scoreboard.highest_reported());
         self.begin(numbers, lost);
@@ -631,7 +563,7 @@ impl LossRecovery {
     /// Begins a recovery in which all that was sent and isn't reported is lost, as when the timer has expired. Three
     /// segments above a position tell again that it is lost.
     pub fn lose_all(&mut self, numbers: SentNumbers) {
-        self.duplicates = DUPLICATES;
+        self.set_duplicates(DUPLICATES);
         self.unknown = 0;
         self.begin(numbers, numbers.sent);
     }
@@ -650,21 +582,23 @@ impl LossRecovery {
             resume: numbers.first_unacknowledged,
             sent: numbers.sent,
             later: 0,
-            probe: None,
+            probe: 0,
+            has_probe: 0,
             asked: 0,
             is_blind: self.is_blind,
             unknown: self.unknown,
-            duplicates: self.duplicates,
             round: self.round,
             since,
             copies,
+            duplicates: self.duplicates,
+            has_duplicates: self.has_duplicates,
         };
     }
 
     /// Returns how many positions may be in flight: of those which were sent and aren't reported, the ones that
     /// aren't lost or were sent again, less those that have arrived and the peer doesn't report.
     #[must_use]
-    pub fn in_flight<const N: usize>(&self, numbers: SentNumbers, scoreboard: &Scoreboard<N>) -> u64 {
+    pub fn in_flight<B: Reported>(&self, numbers: SentNumbers, scoreboard: &B) -> u64 {
         let first = numbers.first_unacknowledged;
         if !self.is_active(numbers) {
             let all = scoreboard.missing_between(first, numbers.sent);
@@ -700,10 +634,10 @@ impl LossRecovery {
     ///
     /// - on `Some(segment)`: `segment.0 < segment.1` and `segment.1 <= limit` and `segment.1 <= segment.0 + max(1, segment_size)`
     #[must_use]
-    pub fn next_segment<const N: usize>(
+    pub fn next_segment<B: Reported>(
         &self,
         numbers: SentNumbers,
-        scoreboard: &Scoreboard<N>,
+        scoreboard: &B,
         limit: u64,
         window: u64,
         segment_size: usize,
@@ -722,10 +656,10 @@ impl LossRecovery {
     }
 
     /// Returns the range of which the next segment is a part.
-    fn next_range<const N: usize>(
+    fn next_range<B: Reported>(
         &self,
         numbers: SentNumbers,
-        scoreboard: &Scoreboard<N>,
+        scoreboard: &B,
         limit: u64,
     ) -> Option<(u64, u64)> {
         if !self.is_active(numbers) {

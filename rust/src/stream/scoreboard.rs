@@ -73,28 +73,6 @@ impl<const N: usize> Scoreboard<N> {
         }
     }
 
-    /// Returns the scoreboard that a head and runs represent.
-    ///
-    /// # Requires
-    ///
-    /// They are sound, as `ScoreboardHead::is_sound` tests.
-    pub(crate) fn from_parts(head: ScoreboardHead, runs: [Run; N]) -> Self {
-        // The head of an assembler without runs may have any start. A scoreboard's is canonical: 0 in both numbers.
-        if head.reported.used == 0 {
-            return Scoreboard {
-                head: ScoreboardHead::new_at(head.base),
-                runs,
-            };
-        }
-        Scoreboard { head, runs }
-    }
-
-    /// Returns the head and the runs, which represent the scoreboard.
-    pub(crate) fn into_parts(self) -> (ScoreboardHead, [Run; N]) {
-        let Scoreboard { head, runs } = self;
-        (head, runs)
-    }
-
     /// Begins again: a stream that begins at position `first`, to which nothing was reported. All
     /// positions below `first` count as reported. A sender that forgets what was reported, as when its timer
     /// ends (RFC 2018, section 8), gives the first unacknowledged position.

@@ -129,7 +129,7 @@ impl ScoreboardHead {
     }
 
     /// Returns the first position that wasn't reported.
-    pub(crate) fn first_unreported(&self) -> u64 {
+    pub fn first_unreported(&self) -> u64 {
         self.base
     }
 
@@ -189,7 +189,7 @@ impl ScoreboardHead {
     /// # Requires
     ///
     /// The scoreboard is sound with the runs.
-    pub(crate) fn first_missing(&self, runs: &[Run], pos: u64) -> u64 {
+    pub fn first_missing(&self, runs: &[Run], pos: u64) -> u64 {
         let from = pos.max(self.base);
         let missing = self.reported.first_missing(runs, self.offset_of(from));
         from.max(self.base + missing as u64)

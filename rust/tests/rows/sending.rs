@@ -4,14 +4,13 @@ use crate::storages::{with_storage, Stored};
 use crate::timer::moment;
 use crate::{Call, Subject};
 use net_base::ends::{Acknowledged, Expired, Outgoing, SendingEnd, SendingEndOver};
-use net_base::finite::FiniteSenderOver;
 use net_base::storage::Storage;
 use net_base::tcp::{Announcement, TimeoutBounds};
 use net_base::time::Duration;
 
 /// An end, and its stream's first position.
 struct Sending<S: Storage<u8>, const N: usize> {
-    end: SendingEndOver<FiniteSenderOver<S>, N>,
+    end: SendingEndOver<S, N>,
     first: u64,
 }
 

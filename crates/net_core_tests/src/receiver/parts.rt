@@ -1,6 +1,6 @@
-//! Receivers, senders and scoreboards in parts: a head, and a storage, runs or both.
+//! Receivers and senders in parts: a head, and a storage, runs or both.
 use crate::assertions::assert_holds;
-use net_receiver::{FiniteReceiverOver, FiniteSenderOver, ReceiverOver, Scoreboard, SenderOver};
+use net_receiver::{FiniteReceiverOver, FiniteSenderOver, ReceiverOver, SenderOver};
 
 /// A receiver over a slice of bytes is put together from its parts again.
 #[test]
@@ -55,15 +55,4 @@ fn a_finite_sender_goes_on_from_its_parts(rt: HostRuntime) {
     let (shown, is_last) = sender.peek_at(5, 99);
     assert_holds(&rt, taken && shown == b"ab".as_slice(), ("bytes", 2));
     assert_holds(&rt, is_last && sender.numbers_end() == 8, ("end", 7));
-}
-
-/// A scoreboard keeps what was reported.
-#[test]
-fn a_scoreboard_goes_on_from_its_parts(rt: HostRuntime) {
-    let mut scoreboard = Scoreboard::<2>::empty_at(5);
-    let reported = scoreboard.report(7, 9, 20).is_ok();
-    let (head, runs) = scoreboard.into_parts();
-    let scoreboard = Scoreboard::<2>::from_parts(head, runs);
-    assert_holds(&rt, reported && scoreboard.contains(8), ("reported", 8));
-    assert_holds(&rt, scoreboard.first_unreported() == 5, ("unreported", 5));
 }

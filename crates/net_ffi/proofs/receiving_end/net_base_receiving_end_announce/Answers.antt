@@ -1,25 +1,27 @@
 use Rattle.std.proofs.Common.{max, ap, ◌∙◌}
 use Rattle.std.specs.Prelude.{nat_lt, if◌then◌else◌}
-use Rattle.net_receiver.specs.Finite.{acknowledged}
-use Rattle.net_ends.specs.Receiving.{field_of, promise}
-use Rattle.net_ffi.specs.ReceivingEnds.{receiving_of}
+use Rattle.net_receiver.specs.FiniteHead.{finite_of}
+use Rattle.net_ends.specs.ReceivingRules.{receiving_of as end_of, field_at, promise_at}
+use Rattle.net_ends.specs.declared.receiving_end.ReceivingHead.{ReceivingHead}
+use Rattle.net_ends.specs.declared.receiving_end.Room.{Room}
 use Rattle.net_ffi.proofs.receiving_end.net_base_receiving_end_announce.Goals as goal
 
 pub returns-clause-value : goal.returns-clause-value
 returns-clause-value c = λ _ storage room.
-    let told = c.promise-promise.ensures.value storage room
-    ∙ ap (λ e. let r = receiving_of e storage in (acknowledged r.receiver, field_of r)) c.answer_one.ensures in
-    (ap (λ p. p.0) told, ap (λ p. p.1) told)
+    let it = c.args.end.now in
+    let known = c.room-room.ensures.value storage room in
+    let told = c.announce.ensures.value in (
+      ap (λ p. p.0) told ∙ ap (λ (r : Room). r.next) known,
+      ap (λ p. p.1) told ∙ ap (λ (r : Room). field_at it.head r) known,
+    )
 
 pub returns-clause-step : goal.returns-clause-step
 returns-clause-step c = λ _ storage room.
     let it = c.args.end.now in
-    let advertised = c.promise-promise.new.self.advertised in
-    let edge = c.promise-promise.ensures.edge storage room
-    ∙ ap (λ e. max e.advertised.edge (promise (receiving_of e storage))) c.answer_one.ensures in
-    ap (λ e. receiving_of e storage) c.promise-promise.ensures.rest
-    ∙ ap (λ e. receiving_of (record e { advertised = advertised }) storage) c.answer_one.ensures
-    ∙ (λ i. record (receiving_of it storage) {
-      edge = edge i;
-      unanswered = if nat_lt it.unanswered 2 then 0 else it.unanswered;
+    let s = finite_of it.receiver storage it.runs in
+    let known = c.room-room.ensures.value storage room in
+    ap (λ (h : ReceivingHead). end_of s h) c.announce.ensures.state
+    ∙ (λ i. record (end_of s it.head) {
+      edge = max it.head.advertised.edge (promise_at it.head (known i));
+      unanswered = if nat_lt it.head.unanswered 2 then 0 else it.head.unanswered;
     })

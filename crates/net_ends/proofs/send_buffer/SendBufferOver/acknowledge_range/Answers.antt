@@ -2,7 +2,7 @@
 use Rattle.std.proofs.Common.{ap, ◌∙◌, ◌∷◌, [], arith, min, max}
 use Rattle.std.proofs.lemmas.Bool.Decides.{nat_tests}
 use Rattle.net_assembler.specs.Positions.{first_missing}
-use Rattle.net_ends.specs.Buffers.{Buffer}
+use Rattle.net_ends.specs.Buffers.{Buffer, board_of}
 use Rattle.net_ends.proofs.Ranges.{all_of, is_block, is_first, block_taken, first_taken, refused_by}
 use Rattle.net_ends.proofs.send_buffer.SendBufferOver.acknowledge_range.Goals as goal
 
@@ -34,7 +34,7 @@ returns-clause-refused g c =
     first_taken c.args.self.now at c.args.range.end c.min-ack.result _ c.numbers-numbers.ensures.value
     c.numbers-numbers.ensures.order (grind (arith, nat_tests, c.if-numbers-range.false))
     (c.min-ack.ensures ∙ ap (λ k. min k at.sent) (c.first_missing-known.ensures
-    ∙ ap (first_missing c.self.inside.scoreboard) c.max.ensures
+    ∙ ap (first_missing (board_of c.self.inside.head c.self.inside.runs)) c.max.ensures
     ∙ ap (λ (x : Buffer). first_missing x.reported (max c.args.range.end at.first_unacknowledged)) c.self.view_is))
     c.acknowledge-2.ensures.refused
 
@@ -49,7 +49,7 @@ returns-clause-takes g c =
     c.min-ack.result c.acknowledge-2.result c.numbers-numbers.ensures.value
     (grind (arith, nat_tests, c.if-numbers-range-2.false))
     (c.min-ack.ensures ∙ ap (λ k. min k at.sent) (c.first_missing-known.ensures
-    ∙ ap (first_missing c.self.inside.scoreboard) c.max.ensures
+    ∙ ap (first_missing (board_of c.self.inside.head c.self.inside.runs)) c.max.ensures
     ∙ ap (λ (x : Buffer). first_missing x.reported (max c.args.range.end at.first_unacknowledged)) c.self.view_is))
     (all_of g.row.N c.args.segment_size c.args.self.now c.acknowledge-2.new.self c.min-ack.result [] _
     c.acknowledge-2.result said.state said.new said.reports said.recovery)

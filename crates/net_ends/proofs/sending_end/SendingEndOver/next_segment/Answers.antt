@@ -1,24 +1,63 @@
--- What is sent is what was chosen, as what was chosen.
-use Rattle.std.proofs.Common.{ap, ◌∙◌}
-use Rattle.net_ends.specs.Acknowledgements.{after_segment, numbers_of}
-use Rattle.net_ends.specs.Buffers.{is_tail_probe}
+use Rattle.std.proofs.Common.{refl, sym, ap, subst, ◌∙◌}
+use Rattle.std.specs.Prelude.{Option}
+use Rattle.net_receiver.specs.FiniteSender.{FiniteSenderState}
+use Rattle.net_ends.specs.Calls.{Chooses}
 use Rattle.net_ends.specs.Ends.{End}
+use Rattle.net_ends.specs.Parts.{end_of, marked}
+use Rattle.net_ends.specs.Rules.{queued_of}
+use Rattle.net_ends.specs.declared.sending_end.Outgoing.{Outgoing}
+use Rattle.net_ends.proofs.Heads.{chooses_of}
 use Rattle.net_ends.proofs.sending_end.SendingEndOver.next_segment.Goals as goal
 
-pub returns-clause-recovery : goal.returns-clause-recovery
-returns-clause-recovery g c = λ lost others holes.
-    let e = c.args.self.now in
-    ap (λ (x : End). x.recovery) c.mark.ensures
-    ∙ (λ i. after_segment (numbers_of e.sender) c.in-Some.from c.in-Some.to (c.choose-chosen.ensures.asks i)
-    (c.choose-chosen.ensures.counts lost others holes i) e.recovery)
+-- What the head says, of the sender's state.
+pub returns-in_default : goal.returns-in_default
+returns-in_default g c =
+    let s = c.self.inside.sender in
+    let is = ap (λ (e : End). queued_of e.sender) c.self.view_is ∙ sym c.queued-queued.ensures.value in
+    let chosen = subst (λ (r : Option Outgoing). Chooses
+    (end_of s c.self.inside.head c.self.inside.runs c.self.inside.first_timeout c.self.inside.bounds)
+    c.args.congestion_window c.args.now r
+    (end_of (marked s r) c.next_segment.new.self c.self.inside.runs c.self.inside.first_timeout c.self.inside.bounds))
+    c.in_default.is (c.next_segment.ensures.chooses s c.self.inside.first_timeout is) in
+    let all = chooses_of _ c.args.self.now _ _ c.args.congestion_window c.args.now _ c.self.view_is refl chosen in
+    record {
+      within = all.within;
+      probe = all.probe;
+      asked = all.asked;
+      worth = all.worth;
+      late = all.late;
+      next = all.next;
+      answer = all.answer;
+      again = all.again;
+      rests = all.rests;
+      sends = all.sends;
+      recovery = all.recovery;
+      noted = all.noted;
+    }
 
-pub returns-clause-noted : goal.returns-clause-noted
-returns-clause-noted g c =
-    let e = c.args.self.now in
-    let probe = is_tail_probe c.choose-chosen.result.1 in (
-      probe,
-      c.choose-chosen.ensures.overdue,
-      ap (λ (x : End). x.recovery) c.mark.ensures
-          ∙ (λ i. after_segment (numbers_of e.sender) c.in-Some.from c.in-Some.to (c.choose-chosen.ensures.asks i) probe
-          e.recovery),
-    )
+pub returns : goal.returns
+returns g c =
+    let s = c.self.inside.sender in
+    let is = ap (λ (e : End). queued_of e.sender) c.self.view_is ∙ sym c.queued-queued.ensures.value in
+    let chosen = subst (λ (r : Option Outgoing). Chooses
+    (end_of s c.self.inside.head c.self.inside.runs c.self.inside.first_timeout c.self.inside.bounds)
+    c.args.congestion_window c.args.now r
+    (end_of (marked s r) c.next_segment.new.self c.self.inside.runs c.self.inside.first_timeout c.self.inside.bounds))
+    c.in-Some.is (c.next_segment.ensures.chooses s c.self.inside.first_timeout is) in
+    let all = chooses_of _ c.args.self.now _ _ c.args.congestion_window c.args.now _ c.self.view_is
+    (ap (λ (x : FiniteSenderState). end_of x c.next_segment.new.self c.self.inside.runs c.self.inside.first_timeout
+    c.self.inside.bounds) c.mark.ensures) chosen in
+    record {
+      within = all.within;
+      probe = all.probe;
+      asked = all.asked;
+      worth = all.worth;
+      late = all.late;
+      next = all.next;
+      answer = all.answer;
+      again = all.again;
+      rests = all.rests;
+      sends = all.sends;
+      recovery = all.recovery;
+      noted = all.noted;
+    }

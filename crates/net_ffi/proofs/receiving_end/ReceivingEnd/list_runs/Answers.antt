@@ -8,14 +8,14 @@ use Rattle.net_ffi.proofs.receiving_end.ReceivingEnd.list_runs.Goals as goal
 
 pub returns-clause-recent : goal.returns-clause-recent
 returns-clause-recent c = λ storage sound.
-    let it = c.args.self.now in
+    let it = c.args.self.now.head in
     let list = c.newest_runs-count.ensures.listed
     ∙ ap (λ held. newest_runs 4 held (it.newest ∷ it.recent)) (held_is storage sound.parts) in
     c.newest_runs-count.ensures.recent ∙ ap (with_starts it.recent) list
 
 pub returns-clause-value : goal.returns-clause-value
 returns-clause-value c = λ storage sound.
-    let it = c.args.self.now in
+    let it = c.args.self.now.head in
     let count = c.newest_runs-count.result in let into = c.newest_runs-count.new.into in
     let list = c.newest_runs-count.ensures.listed
     ∙ ap (λ held. newest_runs 4 held (it.newest ∷ it.recent)) (held_is storage sound.parts) in

@@ -1,19 +1,21 @@
-use Rattle.std.proofs.Common.{ap, ◌∙◌, not}
+use Rattle.std.proofs.Common.{ap, ◌∙◌, not, subst}
 use Rattle.std.specs.Prelude.{◌&&◌, nat_lt, max}
-use Rattle.net_recovery.specs.LossRecovery.{after_report, found, is_active, blind_lost}
+use Rattle.net_recovery.specs.LossRecovery.{recovery_of, after_report, found, is_active, blind_lost}
+use Rattle.net_receiver.specs.Scoreboards.{IsLossBound}
 use Rattle.net_receiver.proofs.Scoreboards.{one_bound}
 use Rattle.net_recovery.proofs.Missing.{one_end}
 use Rattle.net_recovery.proofs.loss_recovery.LossRecovery.find.Goals as goal
 
 pub returns-clause-state : goal.returns-clause-state
 returns-clause-state g c = λ lost highest bound end.
-    let s = c.args.scoreboard.now in
-    let r = c.args.self.now in
+    let s = g.B.Reported.set c.args.scoreboard.now in
+    let r = recovery_of c.args.self.now in
     let first = c.args.numbers.first_unacknowledged in
     let sent = c.args.numbers.sent in
     let blind = blind_lost c.args.segment_size c.args.before first sent r in
-    let same = one_bound r.duplicates c.args.segment_size s c.lost_below-lost.result lost
-    c.lost_below-lost.ensures bound in
+    let low = subst (λ n. IsLossBound n c.args.segment_size s c.lost_below-lost.result) c.duplicates.ensures
+    c.lost_below-lost.ensures in
+    let same = one_bound r.duplicates c.args.segment_size s c.lost_below-lost.result lost low bound in
     let top = one_end s c.highest_reported-highest.result highest c.highest_reported-highest.ensures end in
     c.take_losses.ensures.state
     ∙ ap (λ l. after_report c.args.segment_size first sent s l c.highest_reported-highest.result r) c.max.ensures
@@ -24,13 +26,14 @@ returns-clause-state g c = λ lost highest bound end.
 
 pub returns-clause-begins : goal.returns-clause-begins
 returns-clause-begins g c = λ lost highest bound end.
-    let s = c.args.scoreboard.now in
-    let r = c.args.self.now in
+    let s = g.B.Reported.set c.args.scoreboard.now in
+    let r = recovery_of c.args.self.now in
     let first = c.args.numbers.first_unacknowledged in
     let sent = c.args.numbers.sent in
     let blind = blind_lost c.args.segment_size c.args.before first sent r in
-    let same = one_bound r.duplicates c.args.segment_size s c.lost_below-lost.result lost
-    c.lost_below-lost.ensures bound in
+    let low = subst (λ n. IsLossBound n c.args.segment_size s c.lost_below-lost.result) c.duplicates.ensures
+    c.lost_below-lost.ensures in
+    let same = one_bound r.duplicates c.args.segment_size s c.lost_below-lost.result lost low bound in
     let top = one_end s c.highest_reported-highest.result highest c.highest_reported-highest.ensures end in
     c.take_losses.ensures.begins
     ∙ ap (λ l. not (is_active r first) && nat_lt first (found s l c.highest_reported-highest.result r)) c.max.ensures

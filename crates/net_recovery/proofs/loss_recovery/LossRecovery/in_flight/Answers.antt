@@ -1,15 +1,15 @@
 use Rattle.std.proofs.Common.{◌≡◌, ◌∙◌, true, arith}
 use Rattle.std.proofs.lemmas.Bool.Decides.{nat_tests}
-use Rattle.net_recovery.specs.LossRecovery.{is_active}
+use Rattle.net_recovery.specs.LossRecovery.{recovery_of, is_active}
 use Rattle.net_recovery.proofs.Flight.{flight}
 use Rattle.net_recovery.proofs.loss_recovery.LossRecovery.in_flight.Goals as goal
 
 pub returns-then-lost-numbers : goal.returns-then-lost-numbers
 returns-then-lost-numbers g c =
-    let r = c.args.self.now in
+    let r = recovery_of c.args.self.now in
     let first = c.args.numbers.first_unacknowledged in
     let active : is_active r first ≡ true = grind (arith, nat_tests, c.is_active.ensures, c.if-not-is_active.false) in
-    let is = flight c.args.scoreboard.now r first c.args.numbers.sent c.max-from.result c.max-turn.result
+    let is = flight (g.B.Reported.set c.args.scoreboard.now) r first c.args.numbers.sent c.max-from.result c.max-turn.result
     c.max-resume.result
     c.max-lost.result active c.max-from.ensures (c.max-turn.ensures ∙ omega (arith, c.min.ensures)) c.max-resume.ensures
     c.max-lost.ensures (grind (arith, nat_tests, c.if-turn-resume.true))

@@ -6,13 +6,13 @@ use Rattle.net_recovery.proofs.loss_recovery.LossRecovery.next_probe.Goals as go
 pub returns-in-None-clause-progress : goal.returns-in-None-clause-progress
 returns-in-None-clause-progress g c = λ some misses.
     let end = c.min-end.ensures in
-    let has = none_has c.args.scoreboard.now c.args.numbers.first_unacknowledged c.min-end.result c.in-None.ensures
+    let has = none_has (g.B.Reported.set c.args.scoreboard.now) c.args.numbers.first_unacknowledged c.min-end.result c.in-None.ensures
     (omega (arith, end, some)) in
     absurd (false≢true (sym misses ∙ has))
 
 pub returns-in-Some-clause-after : goal.returns-in-Some-clause-after
 returns-in-Some-clause-after g c = λ low.
     let hole = c.in-Some.ensures in
-    let at = hole_from c.args.scoreboard.now c.args.numbers.first_unacknowledged c.min-end.result c.in-Some.start
+    let at = hole_from (g.B.Reported.set c.args.scoreboard.now) c.args.numbers.first_unacknowledged c.min-end.result c.in-Some.start
     c.in-Some.end hole.0 hole.1 in
     omega (arith, at)
