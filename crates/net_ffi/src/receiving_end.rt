@@ -10,8 +10,8 @@
 
 // Why: This end is over a `FiniteReceiverHead`, whose calls take the storage. A `ReceivingEndOver` that an export
 // made of a lent storage would leave nothing known of that, since no contract says that it keeps the reference. So
-// the rules of a receiving end, which are of numbers, are here once more, with the definitions of `net_ends` as
-// contracts.
+// the calls of the receiver, and the list of blocks, are here once more, with the definitions of `net_ends` as
+// contracts. The rules, which are of numbers, are those of its `ReceivingHead`.
 
 ghost use Rattle.std.specs.Prelude.{◌≡◌, ◌↔◌, ◌+◌, ◌-◌, ◌<◌, ◌≤◌, ◌++◌, ◌&&◌, ◌||◌, ℕ, List, length, max, min};
 ghost use Rattle.std.specs.Prelude.{take, drop, nat_lt, nat_le, nat_eq, not, IsTrue, IsFalse, MatchResult, OnErr};

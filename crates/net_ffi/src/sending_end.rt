@@ -11,8 +11,8 @@
 //! `net_base_sending_end_expired`. Calls that look at a sender, a window or a timer may look at `sender`, `peer_window`
 //! and `timer`.
 
-// Why: An end of C has its 16 runs in its struct, since `LossRecovery` reads a `Scoreboard` with its runs in it.
-// Over a head and lent runs each rule would be written again, and proved again.
+// Why: The rules are those of `SendingHead`, over runs that are lent. An end of C lends the 16 in its struct, so that
+// all of it but the bytes is one struct.
 
 ghost use Rattle.std.specs.Prelude.{◌≡◌, ◌↔◌, ◌+◌, ◌-◌, ◌<◌, ◌≤◌, ◌^◌, ◌==◌, ◌++◌, ◌||◌, ℕ, List, length, min};
 ghost use Rattle.std.specs.Prelude.{take, drop, nat_eq, slice_get, IsTrue, IsFalse, is_some, is_none, unwrap_or};

@@ -1,8 +1,8 @@
 // Written by tools/erase.py from crates/net_ffi/src/receiving_end.rt: a change here would be lost.
 // Why: This end is over a `FiniteReceiverHead`, whose calls take the storage. A `ReceivingEndOver` that an export
 // made of a lent storage would leave nothing known of that, since no contract says that it keeps the reference. So
-// the rules of a receiving end, which are of numbers, are here once more, with the definitions of `net_ends` as
-// contracts.
+// the calls of the receiver, and the list of blocks, are here once more, with the definitions of `net_ends` as
+// contracts. The rules, which are of numbers, are those of its `ReceivingHead`.
 
 use crate::exports::finite_receiver::has_number;
 use crate::exports::receiver::{KeptCounts, RUNS, is_plausible, is_readable};

@@ -1,6 +1,6 @@
 // Written by tools/erase.py from crates/net_ffi/src/sending_end.rt: a change here would be lost.
-// Why: An end of C has its 16 runs in its struct, since `LossRecovery` reads a `Scoreboard` with its runs in it.
-// Over a head and lent runs each rule would be written again, and proved again.
+// Why: The rules are those of `SendingHead`, over runs that are lent. An end of C lends the 16 in its struct, so that
+// all of it but the bytes is one struct.
 
 use crate::exports::receiver::RUNS;
 use crate::exports::receiving_end::are_sixteen;
