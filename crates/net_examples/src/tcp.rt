@@ -47,11 +47,16 @@ pub fn take_older(window: &mut PeerWindow, numbers: SentNumbers, it: Announcemen
     let _is_taken = window.update(numbers, it);
 }
 
-/// Returns the number of a segment without bytes. The peer takes what that acknowledges, whatever it has kept.
+/// Returns the number of a segment without bytes. The peer takes what that acknowledges, whatever it has kept. At a shut
+/// window it is in the table of a peer of other rules too, unless that has kept a probe.
 pub fn number_without_bytes(window: &PeerWindow, numbers: SentNumbers) -> u64
-    ensures { (next edge most : ℕ) →
+    ensures heard { (next edge most : ℕ) →
         BothEnds window.now numbers.first_unacknowledged numbers.sent next edge most →
         IsTaken next (edge - next) result 0 ⊎ IsHeard next (edge - next) most result 0 }
+    ensures shut { (next edge most : ℕ) →
+        BothEnds window.now numbers.first_unacknowledged numbers.sent next edge most →
+        window.now.edge ≤ numbers.first_unacknowledged → numbers.first_unacknowledged ≡ next →
+        IsInTable next (edge - next) result 0 }
 {
     laws::acknowledgements();
     window.acknowledgement_number(numbers)

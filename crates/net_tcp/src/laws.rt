@@ -228,8 +228,13 @@ pub fn agreement()
 /// sent, and that no more is on the way than the greatest window, or one position if that is 0. So it is of both ends
 /// of any path, by `heard_ends` of `net_ends`. No lower number is taken than such an end may have (`exact`), and
 /// the number is not below what was acknowledged: the peer that acknowledged it finds it at its first missing position or
-/// above, unless more has come since, and doesn't answer it (`ends`). The number after a probe is not in RFC 9293's
-/// table at a shut window (`next_number`).
+/// above, unless more has come since, and doesn't answer it (`ends`).
+///
+/// It also states when the number is in the table of RFC 9293, so that a peer of other rules takes it: where the window
+/// known here is shut, unless the peer has kept a probe (`shut`); where the peer promised more since, unless it has kept
+/// what is beyond the window known here (`later`); and where it didn't, unless all of the window was sent and some of
+/// it is missing: then the number is the edge (`known`). The number after a probe is not in the table at a shut window
+/// (`next_number`).
 pub fn acknowledgements()
     ensures heard { (w : PeerWindow) (first sent next edge most : ℕ) →
         BothEnds w first sent next edge most →
@@ -240,5 +245,16 @@ pub fn acknowledgements()
         BothEnds w seq next next next most × (acknowledgement_number w seq next ≡ seq) }
     ensures ends { (w : PeerWindow) (first sent next most : ℕ) → next ≤ first → first ≤ sent →
         IsBehind next most (acknowledgement_number w first sent) 0 → ⊥ }
+    ensures shut { (w : PeerWindow) (first sent next edge most : ℕ) →
+        BothEnds w first sent next edge most → w.edge ≤ first → first ≡ next →
+        IsInTable next (edge - next) (acknowledgement_number w first sent) 0 }
+    ensures known { (w : PeerWindow) (first sent next edge most : ℕ) →
+        BothEnds w first sent next edge most → first ≤ next → next ≤ edge → w.edge ≡ edge →
+        IsInTable next (edge - next) (acknowledgement_number w first sent) 0
+        ⊎ ((acknowledgement_number w first sent ≡ edge) × (next < edge) × (edge ≤ sent)) }
+    ensures later { (w : PeerWindow) (first sent next edge most : ℕ) →
+        BothEnds w first sent next edge most → first ≤ next → next ≤ edge → w.edge < edge →
+        next ≤ max w.edge first →
+        IsInTable next (edge - next) (acknowledgement_number w first sent) 0 }
     ensures next_number { (next sent : ℕ) → next < sent → IsInTable next 0 sent 0 → ⊥ }
 {}
