@@ -1817,7 +1817,8 @@ NET_BASE_MUST_USE uint64_t net_base_peer_window_acknowledgement_number(
  *
  * A timer of zeros is new, of a peer that reports no blocks: there was no sample, the timer
  * doesn't run, no segment is timed, and the timeout is 1 second, which the RFC begins with. Bounds
- * of zeros are the RFC's.
+ * of zeros are the RFC's. A timer that was new, and that these calls alone have changed, has 0 or
+ * 1 in each flag and 0 where there is nothing. No call stores 0 as a timeout.
  */
 struct net_base_retransmission_timer {
     /** Eight times the smoothed time of a round trip. No more than 2^63 of it counts, which samples

@@ -2,7 +2,9 @@
 //! of time are in microseconds, and so are moments, of one clock.
 //!
 //! A timer of zeros is new, of a peer that reports no blocks: there was no sample, the timer doesn't run, no segment is
-//! timed, and the timeout is 1 second, which the RFC begins with. Bounds of zeros are the RFC's.
+//! timed, and the timeout is 1 second, which the RFC begins with. Bounds of zeros are the RFC's. A timer that was new,
+//! and that these calls alone have changed, has 0 or 1 in each flag and 0 where there is nothing. No call stores 0 as a
+//! timeout.
 ghost use Rattle.std.specs.Prelude.{◌≡◌, ◌≤◌, unwrap_or, is_some, IsTrue, IsFalse};
 ghost use Rattle.net_tcp.specs.Retransmission.{new_timer, started, stopped, after_sending, with_sample, after_report};
 ghost use Rattle.net_tcp.specs.Retransmission.{after_acknowledged, has_expired, after_expiry, expiry};
