@@ -20,8 +20,8 @@ The rules:
 3. An impl of `Drop` goes, since rustc drops fields by itself: the comparison finds a `drop` that does more. An impl of
    `Model`, which has ghost members alone, goes too. An impl of `Clone` is one of the trait of this name in `rattle.rs`,
    which Rust's `Clone` calls. A bound by `Drop` is one by `Sized`.
-4. A public function whose signature names a head, the parts of an end or `Turns` becomes `pub(crate)`. An export loses
-   `extern "C"` and its documentation, and becomes `inline(always)`.
+4. A public function whose signature names a head or `Turns` becomes `pub(crate)`. An export loses `extern "C"` and its
+   documentation, and becomes `inline(always)`.
 5. `erase_list.py` has what else differs, with its files and how often: lifetimes, attributes, and types.
 6. A law goes that no text but laws names, and so does a function of `UNCALLED`: free functions, and methods whose names no
    trait has. From an import goes what only contracts name, unless it is a trait or std's, and so do a `pub use` of another
@@ -192,7 +192,7 @@ class Eraser(Text):
         owner = OWNER.match(impl[-1])[1] if impl and self.margin(head) else ''
         pub = next((j for j in range(head, k) if self.tokens[j][1] == 'pub' and self.tokens[j + 1][1] != '('), None)
         if pub is not None and self.crate != given.EXPORTS and not owner.endswith('Head'):
-            if re.search(r'Head\b|Parts<|\bTurns\b', self.source(k, begin)):
+            if re.search(r'Head\b|\bTurns\b', self.source(k, begin)):
                 self.put(pub, pub + 1, 'pub(crate)')
         is_law = self.laws is not None and self.name(k) not in self.laws
         if (is_law or self.name(k) in self.uncalled) and not (owner and OF_TRAIT.search(impl[-1])):
