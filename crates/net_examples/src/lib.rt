@@ -63,7 +63,7 @@ pub use one_byte::{byte_at, stage};
 pub use outbox::Outbox;
 pub use packets::{push_packet, wipe_first};
 pub use ranges::came;
-pub use recovery::{find_losses, send_again};
+pub use recovery::{find_losses, send_again, send_again_and_ask};
 pub use samples::Samples;
 pub use send_frame::send_bytes;
 pub use split_ring::read_written;

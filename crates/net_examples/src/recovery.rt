@@ -16,6 +16,22 @@ pub fn send_again(recovery: &mut LossRecovery, numbers: SentNumbers, start: u64,
     recovery.sent(numbers, start..end);
 }
 
+/// Sends again what is lost, and asks whether the recovery was for nothing: not before what was sent again came twice.
+pub fn send_again_and_ask(
+    recovery: &mut LossRecovery,
+    numbers: SentNumbers,
+    scoreboard: &Scoreboard<4>,
+    start: u64,
+    end: u64,
+) -> bool
+    ensures { IsTrue (is_active (recovery_of recovery.old) numbers.first_unacknowledged) →
+        start < min numbers.sent end → IsFalse result }
+{
+    net_recovery::laws::take_backs();
+    recovery.sent(numbers, start..end);
+    recovery.take_back(numbers, scoreboard)
+}
+
 /// Finds what is lost. If a probe is answered in a recovery, where the peer reports, that is all that was sent before
 /// the probe.
 pub fn find_losses(
