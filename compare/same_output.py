@@ -18,43 +18,19 @@ import common
 
 CRATE = Path(__file__).resolve().parent.parent / "rust"
 PROGRAM = CRATE / "examples/ported"
-MANAGED = CRATE.parent / "overlay/vendor/managed"
-FILES = ["storage/mod.rs", "storage/assembler.rs", "storage/packet_buffer.rs", "storage/ring_buffer.rs", "time.rs"]
-
-ROOT = """#![allow(dead_code, unused, unexpected_cfgs, clippy::all)]
-extern crate alloc;
-mod config {
-    pub const ASSEMBLER_MAX_SEGMENT_COUNT: usize = 4;
-}
-pub mod rand;
-pub mod storage;
-pub mod time;
-"""
-
-MANIFEST = """[package]
-name = "smoltcp"
-version = "0.14.0"
-edition = "2024"
-
-[features]
-default = ["std"]
-alloc = []
-std = ["alloc"]
-
-[dependencies]
-managed = {{ path = "{}", features = ["std"] }}
-"""
+CHECKOUT = CRATE.parent / "overlay/checkout"
+FILES = [file for file in common.FILES if not file.startswith("phy/")]
 
 
 def smoltcp_crate(sources, folder):
     """Makes a crate of smoltcp's files."""
-    (folder / "src/storage").mkdir(parents=True)
+    shutil.copytree(CHECKOUT, folder)
+    (folder / "src/storage").mkdir()
     for file in FILES:
         shutil.copy2(sources / file, folder / "src" / file)
-    text = (sources / "rand.rs").read_text()
-    (folder / "src/rand.rs").write_text(text.replace("pub(crate) ", "pub "))
-    (folder / "src/lib.rs").write_text(ROOT)
-    (folder / "Cargo.toml").write_text(MANIFEST.format(MANAGED))
+    for file, old, new in [("rand.rs", "pub(crate) ", "pub "), ("lib.rs", "\nmod rand;", "\npub mod rand;")]:
+        path = folder / "src" / file
+        path.write_text(path.read_text().replace(old, new))
 
 
 def program(line, folder):

@@ -61,13 +61,8 @@ def said(*words, **options):
 class Sizes:
     def __init__(self, smoltcp, folder):
         self.folder, self.kit = folder, os.environ.get("RUST_KIT") and Path(os.environ["RUST_KIT"]).resolve()
-        sources = folder / "smoltcp"
-        same_output.smoltcp_crate(smoltcp / "src", sources)
-        manifest, root = sources / "Cargo.toml", sources / "src/lib.rs"
-        manifest.write_text(manifest.read_text().replace(', features = ["std"]', ""))
-        text = root.read_text().replace("extern crate alloc;\n", "")
-        root.write_text(text.replace("#![allow", "#![no_std]\n#![allow", 1))
-        self.crates = {"smoltcp": f'path = "{sources}"',
+        same_output.smoltcp_crate(smoltcp / "src", folder / "smoltcp")
+        self.crates = {"smoltcp": f'path = "{folder / "smoltcp"}"',
                        "net-base": f'package = "net-base", path = "{same_output.CRATE}"'}
 
     def has(self, target):

@@ -139,7 +139,7 @@ def prepare(sources, crate):
     manifest = crate / "Cargo.toml"
     manifest.write_text(re.sub(r"^\[\[example\]\]\n(?:.+\n)*", "", manifest.read_text(), flags=re.M))
     with manifest.open("a") as file:
-        file.write(f'\n[dev-dependencies]\nrand = {{ path = "{OVERLAY / "vendor/rand"}" }}\n')
+        file.write(f'\n[dev-dependencies]\nrand = {{ path = "{OVERLAY / "checkout/rand"}" }}\n')
     print("rand: replaced: the crate, by its two functions that a test calls")
     return count
 

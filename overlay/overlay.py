@@ -76,8 +76,8 @@ TESTS = [
      (MODULES / "storage/assembler_tests.rs").read_text()),
 ]
 
-# What of smoltcp's own `time` stays: std's clocks, its texts for defmt, and core's lengths.
-TIME = r"""^(?:#\[cfg\(feature = "(?:std|defmt)"\)\]\nimpl |impl From<::core::time::Duration> for Duration ).*?^}\n"""
+# What net-base's `time` has by hand: conversions, among them those of std's clocks and core's lengths.
+TIME = r"\A.*?^(?=impl Instant \{$)"
 
 
 def digest(data):
@@ -122,6 +122,11 @@ def check(root):
         sys.exit(f"{root} isn't as smoltcp {VERSION} was released: {', '.join(edited)}")
 
 
+def unrun(text):
+    """A text whose examples aren't run: they are net-base's, which runs them."""
+    return re.sub(r"```(.*)\n((?:.*\n)*?.*```)", lambda fence: f"```{fence[1] or 'ignore'}\n{fence[2]}", text)
+
+
 def proved_files():
     """The files of src/proved."""
     source = NET_BASE / "src"
@@ -130,9 +135,7 @@ def proved_files():
     for name, pattern, by, count in CHANGES:
         new[name] = changed(source / name, pattern, by, count, new.get(name, ""))
     for name, text in new.items():
-        text = re.sub(r"\bcrate::(rattle|storage|time|rand)\b", r"crate::proved::\1", text)
-        # Examples are net-base's, which runs them.
-        new[name] = re.sub(r"```(.*)\n((?:.*\n)*?.*```)", lambda fence: f"```{fence[1] or 'ignore'}\n{fence[2]}", text)
+        new[name] = unrun(re.sub(r"\bcrate::(rattle|storage|time|rand)\b", r"crate::proved::\1", text))
     new["mod.rs"] = (MODULES / "proved/mod.rs").read_text()
     return {f"src/proved/{name}": text for name, text in new.items()}
 
@@ -140,10 +143,8 @@ def proved_files():
 def other_files(root):
     """The files by hand around them, with smoltcp's test modules, and lib.rs."""
     new = {name: (MODULES / name.removeprefix("src/")).read_text() for name in DIGESTS}
-    code = parts(read(root / "src/time.rs"))[0]
-    own = "\n".join(re.findall(TIME, code, flags=re.M | re.S))
-    page = code[: code.index("use core::")]
-    new["src/time.rs"] = f"{page}{new['src/time.rs']}\n{own.replace('val.micros as', 'val.total_micros() as')}"
+    page = read(root / "src/time.rs").partition("use core::")[0]
+    new["src/time.rs"] = f"{page}{new['src/time.rs']}{unrun(changed(NET_BASE / 'src/time.rs', TIME, '', 1))}"
     for name in new:
         tests = parts(read(root / name))[1]
         for _, pattern, by in [entry for entry in TESTS if entry[0] == name]:

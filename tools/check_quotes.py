@@ -42,7 +42,7 @@ EXAMPLES = ["net_examples", "net_core_tests"]
 SOURCES = ["crates/**/*", "overlay/**/*", "compare/**/*", "rust/**/*", "c/**/*", "tools/**/*", ".ci/run", "*", "docs/*"]
 ELSEWHERE = set("""
     MODULE axioms nat dac8208d650f15bf __builtin_add_overflow int32_t spsc defmt Format Debug2Format HOLE
-    c.storage-1.given time_t VecInner Cursor ANTT
+    c.storage-1.given time_t VecInner Cursor ANTT iface send_with
 """.split())
 NAME = re.compile(r"[A-Za-z_][A-Za-z0-9_]*")
 IMPL = re.compile(r"^impl(?:<[^{]*?>)? (?:\w+::)*(\w+)(?:<.*>)? for (\w+)", re.M)

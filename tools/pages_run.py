@@ -48,7 +48,7 @@ SLOW = {
     "sh rust/examples/endpoint/run.sh --runs": "it wants a TUN device, and takes an hour",
     "sh compare/peers/run.sh --runs": "it wants lwIP and a TUN device, and takes an hour",
 }
-CHECKOUT = "it wants a checkout of smoltcp; overlay/test.py runs the script over a stand-in"
+CHECKOUT = "it wants a checkout of smoltcp; overlay/test.py runs the script over its modules alone"
 TARGET = "it wants Rust's library, or a compiler, for another processor; c/targets.sh runs it, or builds for it"
 ELSEWHERE = {
     "cargo cinstall": "it wants cargo-c",
@@ -65,7 +65,6 @@ ELSEWHERE = {
     "cargo package": "package.sh runs it",
     "python3 overlay/overlay.py CHECKOUT COPY": CHECKOUT,
     "SMOLTCP=CHECKOUT ..": CHECKOUT,
-    "(cd CHECKOUT && cargo test); (cd COPY && cargo test)": CHECKOUT,
 }
 
 
