@@ -12,28 +12,8 @@
 # machine has no lwIP or no TUN device, or lends no namespace. TERM ends all of it.
 set -eu
 here=$(cd "$(dirname "$0")" && pwd)
-child= out=$(mktemp -d)
-
-leave() {
-    [ -z "$child" ] || { kill "$child"; wait "$child" || :; } 2> /dev/null
-    rm -rf "$out"
-}
-trap leave EXIT
-trap 'exit 143' TERM INT HUP
-
-# Runs a command that doesn't outlive this one. Returns its status.
-guarded() {
-    "$@" &
-    child=$! status=0
-    wait "$child" || status=$?
-    child=
-    return $status
-}
-
-not_run() {
-    echo "peers: not run: $1"
-    exit 2
-}
+name=peers
+. "$here/../../rust/examples/endpoint/namespace.sh"
 
 case "${1-}" in
     --sample | --matrix | --goodput | --runs) call=${1#--} ;;
@@ -51,11 +31,7 @@ with_lwip() {
     cc -O2 -Wall -Wextra -Werror -isystem /usr/include/lwip -o "$out/lwip" "$here/lwip.c" -llwip
 }
 case $call in sample | matrix) with_lwip ;; esac
-command -v ip > /dev/null || not_run "no command ip here: apt-get install -y iproute2"
-space="unshare --net"
-$space true 2> /dev/null || space="unshare --map-root-user --net"
-$space true 2> /dev/null || not_run "no right to make a network namespace here"
-$space ip tuntap add dev tun0 mode tun 2> /dev/null || not_run "no /dev/net/tun here, or no right to use it"
+find_space
 
 export CARGO_PROFILE_RELEASE_OVERFLOW_CHECKS=true CARGO_PROFILE_RELEASE_LTO=false
 cd "$here/.."
