@@ -37,12 +37,12 @@ use std::ops::{Add, AddAssign, Div, DivAssign, Mul, MulAssign, Shl, ShlAssign, S
 
 '''
 # Functions with a precondition that no guard at their beginning tests, so that there is no checked call of them:
-# why, and the statements that test it. What a closure counted is known once it has returned.
-SLICES = 'a slice of Rust tests its indices', ''
-CLOSURE = 'Rust knows that a closure can be called', ''
+# why, and the beginnings of what tests it. What a closure counted is known once it has returned.
+SLICES = 'a slice of Rust tests its indices',
+CLOSURE = 'Rust knows that a closure can be called',
 COUNT = 'Rust knows that a closure can be called; what it counts is tested after the call'
-READ = (COUNT, 'let lent = part.len(); let answer = f(part); prove!(answer.0 <= lent, "more bytes than were lent");')
-MANY = 'let answer = f(self.storage.part_mut(from, to)); prove!(answer.0 <= to - from, "more elements than were lent");'
+READ = COUNT, 'let lent = part.len(); let answer = f(part); prove!(answer.0 <= lent,'
+MANY = COUNT, 'let answer = f(self.storage.part_mut(from, to)); prove!(answer.0 <= to - from,'
 UNGUARDED = {
     'Storage::part': SLICES,
     'Storage::part_mut': SLICES,
@@ -51,20 +51,18 @@ UNGUARDED = {
     'RingOver::enqueue_one_with': CLOSURE,
     'RingOver::dequeue_one_with': CLOSURE,
     'PacketsOver::dequeue_with': CLOSURE,
-    'RingOver::enqueue_many_with': (COUNT, MANY),
-    'RingOver::dequeue_many_with': (COUNT, MANY),
+    'RingOver::enqueue_many_with': MANY,
+    'RingOver::dequeue_many_with': MANY,
     'PacketsOver::enqueue_with_infallible':
-        (COUNT, 'let count = f(self.bytes.part_mut(place.from, place.from + max_size)); '
-                'prove!(count <= max_size, "more bytes than were lent");'),
+        (COUNT, 'f(self.bytes.part_mut(place.from, place.from + max_size)); prove!(count <= max_size,'),
     'ReceiverOver::read_with': READ,
     'FiniteReceiverOver::read_with': READ,
     'ReceivingEndOver::read_with': READ,
-    'Instant::earliest': ('Rust knows that an iterator can be asked; whether it ends no call tells', ''),
+    'Instant::earliest': ('Rust knows that an iterator can be asked; whether it ends no call tells',),
     'PacketsOver::last_dequeued_mut':
         ('no public call tells where the bytes before the read index begin',
-         'let capacity = self.bytes.count(); prove!(size <= capacity - self.head.bytes.length, "the bytes are not free"); '
-         'let from = self.head.bytes.last_dequeued_index(capacity, size); '
-         'prove!(size <= capacity - from, "the bytes are not contiguous");'),
+         'let capacity = self.bytes.count(); prove!(size <= capacity - self.head.bytes.length,',
+         'self.head.bytes.last_dequeued_index(capacity, size); prove!(size <= capacity - from,'),
 }
 BOUND = '"in any `usize`"'
 HEADER = re.compile(r'impl(?:<(.*?)>)? (?:\S+ for )?(\w+)(<.*>)?\s*')
@@ -86,7 +84,7 @@ def guarded():
     """The functions that can be called from outside and require something, or have guards: name, header of the impl,
     signature, what the guards test."""
     left = set(UNGUARDED)
-    for crate, _, text in erase.sources():
+    for crate, path, text in erase.sources():
         eraser = erase.Eraser(text, crate)
         eraser.run()
         for owner, header, k, head, begin, body, pub in eraser.functions:
@@ -104,8 +102,11 @@ def guarded():
             tests = [*guards_of(eraser, body)] if end > body else []
             if name in UNGUARDED:
                 left -= {name}
-                if ' '.join(erase.words(UNGUARDED[name][1])) not in ' '.join(erase.words(eraser.source(body, end))):
-                    raise SystemExit(f'guards: {name} has other statements than the list')
+                said = ' '.join(erase.words(eraser.source(body, end)))
+                for test in UNGUARDED[name][1:]:
+                    if ' '.join(erase.words(test)) not in said:
+                        where = f'crates/{crate}/src/{path}: {name}'
+                        raise SystemExit(f'{where} has no `{test} ..`: UNGUARDED of tools/guards.py')
             elif asked or is_operator or tests:
                 if {*tests} - {'N >= 1'} and 'track_caller' not in eraser.source(head, k):
                     raise SystemExit(f'guards: {name} has no #[track_caller]')
