@@ -9,6 +9,8 @@ from pathlib import Path
 COMPARE = Path(__file__).resolve().parent
 REPOSITORY = COMPARE.parent
 OUT = Path(os.environ.get("COMPARE_OUT") or Path(tempfile.gettempdir()) / "net_base_compare")
+# Cargo's default profile of a release, in place of the one of this workspace.
+DEFAULT_PROFILE = {"CARGO_PROFILE_RELEASE_LTO": "false", "CARGO_PROFILE_RELEASE_CODEGEN_UNITS": "16"}
 FILES = [
     "storage/mod.rs", "storage/assembler.rs", "storage/packet_buffer.rs", "storage/ring_buffer.rs",
     "phy/mod.rs", "phy/loopback.rs", "rand.rs", "time.rs",

@@ -24,12 +24,11 @@ LOOPS = {
     "times": "moments and lengths",
 }
 ROUNDS = [10_000, 20_000]
-DEFAULT_PROFILE = {"CARGO_PROFILE_RELEASE_LTO": "false", "CARGO_PROFILE_RELEASE_CODEGEN_UNITS": "16"}
 
 
 def built(smoltcp, over_smoltcp):
     """The path of the example."""
-    variables = DEFAULT_PROFILE | {"RUSTFLAGS": "", "CARGO_TARGET_DIR": str(common.OUT / "loops")}
+    variables = common.DEFAULT_PROFILE | {"RUSTFLAGS": "", "CARGO_TARGET_DIR": str(common.OUT / "loops")}
     if over_smoltcp:
         return common.cargo("release", ["loops"], smoltcp, **variables) / "loops"
     folder = common.REPOSITORY / "rust"

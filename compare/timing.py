@@ -26,10 +26,6 @@ from pathlib import Path
 sys.dont_write_bytecode = True
 import common
 
-# Cargo's default profile of a release, in place of the one of this workspace.
-DEFAULT_PROFILE = {"CARGO_PROFILE_RELEASE_LTO": "false", "CARGO_PROFILE_RELEASE_CODEGEN_UNITS": "16"}
-
-
 # Functions begin at multiples of 16 bytes, and a processor fetches code in blocks of 64.
 PLACEMENTS = [0, 16, 32, 48]
 # Where a side's code begins, before it is moved by a placement.
@@ -39,13 +35,13 @@ COUNTED = 4000
 SYSTEM = ["-lgcc_s", "-lutil", "-lrt", "-lpthread", "-lm", "-ldl", "-lc"]
 
 
-def placed(built, name, libraries, placements):
+def placed(built, name, placements):
     """A side as shared libraries, one for each placement of its code."""
     paths = []
     for pad in placements:
         path = built / f"{name}_{pad}.so"
         words = ["cc", "-shared", "-fuse-ld=bfd", "-o", path, "-Wl,-Bsymbolic", "-Wl,-u,side_workloads"]
-        words += [f"-Wl,-Ttext={TEXT + pad:#x}", built / f"lib{name}.a", *libraries, *SYSTEM]
+        words += [f"-Wl,-Ttext={TEXT + pad:#x}", built / f"lib{name}.a", *SYSTEM]
         common.run(words, f"link_{path.stem}")
         paths.append(str(path))
     return ":".join(paths)
@@ -225,7 +221,7 @@ def machine():
 
 def rust_sides(smoltcp):
     """Builds what times the crate net-base."""
-    common.cargo("release", ["side_original", "side_rust"], smoltcp, RUSTFLAGS="", **DEFAULT_PROFILE)
+    common.cargo("release", ["side_original", "side_rust"], smoltcp, RUSTFLAGS="", **common.DEFAULT_PROFILE)
     return common.cargo("release", ["driver"], smoltcp, only=["--bin", "driver"], RUSTFLAGS="")
 
 
@@ -233,7 +229,7 @@ def timed(smoltcp, arguments):
     """Times the workloads: tables, and what differs."""
     built = rust_sides(smoltcp)
     placements = PLACEMENTS[:1] if arguments.once else PLACEMENTS
-    sides = [placed(built, "side_rust", [], placements), placed(built, "side_original", [], placements)]
+    sides = [placed(built, "side_rust", placements), placed(built, "side_original", placements)]
     print(f"{datetime.date.today()}; {machine()}; {len(placements)} placements of each side, "
           f"{arguments.samples} samples of {arguments.milliseconds:g} ms a row and placement\n")
     rows, differ = workloads(built, sides, arguments)

@@ -140,16 +140,21 @@ def proved_files():
     return {f"src/proved/{name}": text for name, text in new.items()}
 
 
+def tests_of(root, name):
+    """The test module of a file of smoltcp, with an empty line before it, over the types of net-base."""
+    tests = parts(read(root / name))[1]
+    for _, pattern, by in [entry for entry in TESTS if entry[0] == name]:
+        tests = re.sub(pattern, by, tests, flags=re.M | re.S)
+    return "\n" * bool(tests) + tests
+
+
 def other_files(root):
     """The files by hand around them, with smoltcp's test modules, and lib.rs."""
     new = {name: (MODULES / name.removeprefix("src/")).read_text() for name in DIGESTS}
     page = read(root / "src/time.rs").partition("use core::")[0]
     new["src/time.rs"] = f"{page}{new['src/time.rs']}{unrun(changed(NET_BASE / 'src/time.rs', TIME, '', 1))}"
     for name in new:
-        tests = parts(read(root / name))[1]
-        for _, pattern, by in [entry for entry in TESTS if entry[0] == name]:
-            tests = re.sub(pattern, by, tests, flags=re.M | re.S)
-        new[name] += "\n" * bool(tests) + tests
+        new[name] += tests_of(root, name)
     item = "#[rustfmt::skip]\nmod proved;\nmod rand;"
     new["src/lib.rs"] = changed(root / "src/lib.rs", r"^mod rand;$", item, 1)
     return new
