@@ -1,8 +1,10 @@
 #!/bin/sh
-# Packs the crate, and builds and tests it from the archive, where each file that README links or names has to be: its
-# tests, its examples, those of the documentation, and what must not compile.
+# Packs the crate, and builds and tests it from the archive, where each file that README links or names has to be: the
+# library's own tests, its examples, those of the documentation, and what must not compile. Then the folder `tests`, which
+# the archive lacks, is laid into it, with the manifest as it is here.
 set -eu
 cd "$(dirname "$0")"
+here=$PWD
 out=$(mktemp -d)
 trap 'rm -rf "$out"' EXIT
 cargo package --offline --quiet --allow-dirty --no-verify --target-dir "$out/target"
@@ -19,7 +21,7 @@ done
 export CARGO_TARGET_DIR="${CARGO_TARGET_DIR:-$out/target}/package"
 # Without Rust's own tests of overflow, and without assertions of debug builds: what must panic does by a test of the crate's.
 export CARGO_PROFILE_DEV_OVERFLOW_CHECKS=false CARGO_PROFILE_DEV_DEBUG_ASSERTIONS=false
-cargo test --offline --quiet --lib --tests
+cargo test --offline --quiet --lib
 # Codes of what must not compile are compared where rustdoc's unstable features are on.
 RUSTC_BOOTSTRAP=1 cargo test --offline --doc > "$out/said" 2>&1 || { cat "$out/said"; exit 1; }
 refused=$(grep -c 'Refused.* - compile fail ... ok' "$out/said")
@@ -29,4 +31,7 @@ cargo build --offline --quiet --examples
 for example in stream transfer reassembly bridge interrupt split_ring; do
     "$CARGO_TARGET_DIR/debug/examples/$example" > "$out/said" || { echo "package: the example $example failed" >&2; exit 1; }
 done
-sh examples/net_bench/run.sh "$CARGO_TARGET_DIR/debug/examples/net_bench"
+sh "$here/examples/net_bench/run.sh" "$CARGO_TARGET_DIR/debug/examples/net_bench"
+cp -r "$here/tests" .
+mv Cargo.toml.orig Cargo.toml
+cargo test --offline --quiet --tests

@@ -14,8 +14,8 @@ The rules:
 1. These go: contracts, `requires` and `ensures` between a function's signature and its body, with their comments; ghost
    items and members; attributes `tactic` and `error`; `Drop` and `Error` in lists of derives. The text of `error` becomes
    that of the error's `Display`; `{0}` in it is the only field.
-2. Modules that are listed below, and imports from them, go: Rust has them by hand, or not at all. So do the crates' roots,
-   whose constants have to stand in Rust's. Before the paths `crate`, `std` and those of crates there is the module where
+2. Modules of `UNERASED` of `erase_list.py`, and imports from them, go: Rust has them by hand, or not at all. So do the
+   crates' roots, whose constants have to stand in Rust's. Before the paths `crate`, `std` and those of crates there is the module where
    Rust has them, as `FOLDERS` and `MOVED` of `erase_list.py` say.
 3. An impl of `Drop` goes, since rustc drops fields by itself: the comparison finds a `drop` that does more. An impl of
    `Model`, which has ghost members alone, goes too. An impl of `Clone` is one of the trait of this name in `rattle.rs`,
@@ -32,19 +32,6 @@ The rules:
    imports `rattle::prelude`, where `prove!` is `assert!`. It is tested when a program is compiled if it is about `N`, and
    in debug builds alone if it is of a `usize` of any width.
 9. In documentation what a public function requires and tests is under "Panics".
-
-Not erased:
-
-- `net_ring/ring_buffer/managed`, `net_packets/packet_buffer/managed`, `net_receiver/receiver/managed`,
-  `net_base/storage/fragments/managed`, `net_base/time/instant/numbers`: Rust's take all that converts to storage, or to
-  a number, as smoltcp's
-- `net_assembler/assembler/new`: Rust's has no `N`, as smoltcp's
-- `net_base/phy/device`, `net_base/phy/loopback`, `net_base/phy/echo`: Rust's tokens borrow their device, which
-  Rattle's can't
-- `net_base/phy/non_zero`: in Rust it is core's
-- `net_base/phy/frame_lists`, `net_base/phy/laws`, `net_bench_lib/laws`: only proofs want them
-- `net_receiver/schedule`: the example `net_bench` alone has it
-- `net_bench_lib/arguments`: in the example `net_bench` the words are Rust's
 """
 import re
 import sys

@@ -5,7 +5,8 @@
 
 A command is a line of a block of a page, or a text of two words or more between backquotes, that begins with one of
 FIRST. A block that changes the folder is one command, which ends at the first of its lines that fails. A block of text
-after a block of commands is what the last of them prints, but for what is after three spaces in a line of it, a remark.
+after a block of commands is what the last of them prints, but for what is after three spaces in a line of it, a remark;
+and so is a text after `# prints`.
 `my.c` is the program in C of docs/C.md. Commands that take more than seconds, SLOW, are run with `--all` alone, and may say by
 status 2 that something is missing here; with `--proved` those that prove something are run alone; those of ELSEWHERE
 never. Both lists have the reasons; a name that ends in ` ..` is the beginning of commands. Status 1 if a command fails,
@@ -35,12 +36,8 @@ SLOW = {
     ".ci/run": "it is the gate",
     "rt new crates/my_crate start_lib ..": PROVES,
     "(cd rust && cargo test --offline) && sh c/run.sh": GATE,
-    "cargo test --offline": GATE,
-    "sh features.sh": GATE,
-    "sh package.sh": GATE,
     "sh c/run.sh": GATE,
     "python3 overlay/test.py": GATE,
-    "sh rust/targets.sh": EMULATORS,
     "sh c/targets.sh": EMULATORS,
     "sh c/targets.sh --table": EMULATORS,
     "sh examples/endpoint/run.sh": "it wants a TUN device, and takes minutes",
@@ -62,7 +59,6 @@ ELSEWHERE = {
     "(cd c && cargo build --release --target ..": TARGET,
     "(cd c && cargo build --profile small --target ..": TARGET,
     "arm-none-eabi-gcc ..": TARGET,
-    "cargo package": "package.sh runs it",
     "python3 overlay/overlay.py CHECKOUT COPY": CHECKOUT,
     "SMOLTCP=CHECKOUT ..": CHECKOUT,
 }
@@ -71,7 +67,8 @@ ELSEWHERE = {
 def blocks(text):
     """The blocks of a page, each a list of lines, and what is said to be printed, if anything is."""
     for block in BLOCK.finditer(text):
-        said = re.compile(r"\n?```text\n(.*?)^```$", re.M | re.S).match(text, block.end())
+        said = re.compile(r"\n?```text\n(.*?)\n```$", re.M | re.S).match(text, block.end())
+        said = said or re.search(r'# prints "(.*)"$', block[0], re.M)
         yield re.sub("^    ", "", block[0], flags=re.M).split("\n"), said and re.sub(r"   +.*", "", said[1])
 
 
@@ -119,7 +116,7 @@ def main():
                 done = subprocess.run(["sh", "-ec", command], cwd=at, env=environment, capture_output=True, text=True)
                 run += 1
                 told = f"{page}: {command}: status {done.returncode}\n{done.stdout[-2000:]}{done.stderr[-2000:]}"
-                if said is not None and not done.returncode and done.stdout != said:
+                if said is not None and not done.returncode and done.stdout.rstrip("\n") != said:
                     failed.append(f"{told}\nThe page has:\n{said}")
                 if done.returncode == 127:
                     lacking.append(f"not run, for want of a program, whose package has its name: {told}")

@@ -34,5 +34,7 @@ pub use crate::stream::receiver_head::ReceiverHead;
 pub use crate::stream::scoreboard_head::ScoreboardHead;
 pub use crate::stream::sender_head::SenderHead;
 pub use crate::stream::sent_numbers::SentNumbers;
-pub use crate::tcp::{AdvertisedWindow, Announcement, AnswerLimit, LossRecovery, PartsSum, PeerWindow};
+pub use crate::tcp::{
+    AdvertisedWindow, Announcement, AnswerLimit, LossRecovery, PartsSum, PeerWindow,
+};
 pub use crate::tcp::{RetransmissionTimer, Segment};

@@ -26,9 +26,9 @@
 //! # What is proved
 //!
 //! All but what is by hand is written in Rattle, Rust in which functions have contracts: a prover shows for all arguments
-//! that a body meets its contract. Then the contracts are taken out. A type's page says which file of the repository has
-//! them. What a contract requires of a caller is tested: a call that breaks it panics, and says where. In Rattle such a
-//! test is shown never to fail if the contract is kept.
+//! that a body meets its contract. Then the contracts are taken out. The file of the repository that has them is named in
+//! the first line of each source that a "Source" link opens. What a contract requires of a caller is tested: a call that
+//! breaks it panics, and says where. In Rattle such a test is shown never to fail if the contract is kept.
 //!
 //! # Guarantees
 //!
@@ -49,6 +49,7 @@
 //!
 //! Overflow panics here in every build, unless an item says otherwise.
 #![no_std]
+#![cfg_attr(docsrs, feature(doc_cfg))]
 #![forbid(unsafe_code)]
 #![deny(missing_docs, missing_debug_implementations, unnameable_types, unreachable_pub)]
 

@@ -47,9 +47,9 @@ pub use sequence_number::SequenceNumber;
 pub(crate) use finite_receiver_head::FiniteReceiverHead;
 #[cfg(feature = "c")]
 pub(crate) use finite_sender_head::FiniteSenderHead;
+pub(crate) use flags::flag_of;
 pub(crate) use held_runs::HeldRun;
 #[cfg(feature = "c")]
 pub(crate) use receiver_head::ReceiverHead;
-pub(crate) use flags::flag_of;
 pub(crate) use reported::LentScoreboard;
 pub(crate) use scoreboard_head::ScoreboardHead;

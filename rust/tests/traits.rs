@@ -16,8 +16,8 @@ use net_base::storage::{
     RingOver, Storage, TooManyHolesError,
 };
 use net_base::tcp::{
-    AdvertisedWindow, Announcement, LossRecovery, PartsSum, PeerWindow,
-    RetransmissionTimeout, RetransmissionTimer, RttEstimate, TimeoutBounds, Transmission,
+    AdvertisedWindow, Announcement, LossRecovery, PartsSum, PeerWindow, RetransmissionTimeout,
+    RetransmissionTimer, RttEstimate, TimeoutBounds, Transmission,
 };
 use net_base::time::{Duration, Instant};
 

@@ -50,10 +50,6 @@ UNCALLED = {
 # Names that a `pub use` gives to other crates of Rattle, and that nothing of Rust has.
 UNNAMED = {'net_base/time': ['earlier'], 'net_bench_lib/lib': ['run']}
 
-# Where the repository's files are on the web, such as `https://..../blob/main`: a type's page then links its contracts.
-# The maintainers fill it in, with `repository` of rust/Cargo.toml.
-SOURCES = ''
-
 # The exports for C, which the shim of `c` calls: they are compiled with the feature `c` alone, and have no
 # documentation.
 EXPORTS = 'net_ffi'

@@ -6,7 +6,6 @@ is refused.
 """
 import re
 
-from parts import erase_list
 from parts.erase_tokens import Refused
 
 LEVELS = '↔', '→', '⊎', '×', '≡ ≢ ≤ <', '++ ∷', '+ -', '* /', '^'           # the loosest first
@@ -116,14 +115,8 @@ def said(clause, begin=''):
     return (f'for each {names}: {sentence(read(text, held))}', CASE) if names else read(text, held)
 
 
-def place(file):
-    """A file of the repository, and where it is, if the list says so."""
-    return f'[`{file}`]({erase_list.SOURCES}/{file})' if erase_list.SOURCES else f'`{file}`'
-
-
 def document(eraser):
-    """Adds lines to the documentation: of public functions the marked clauses, of public types the file with the
-    contracts."""
+    """Adds the marked clauses of public functions to their documentation."""
     tokens, shown, calls = eraser.tokens, [], {}
     for owner, header, k, head, begin, body, pub in eraser.functions:
         clauses = [j for j in range(begin, body) if tokens[j][0] == 'clause']
@@ -159,7 +152,3 @@ def document(eraser):
             eraser.after[docs[-1]] = ''.join(lines)
     for k in marks.values():
         eraser.refuse(tokens[k][2], 'a mark of no clause that is shown')
-    for item in re.finditer(r'^///[^\n]*(?=\n(?:#\[[^\n]*\n)*pub (?:struct|enum|trait)\b)', eraser.text,
-                            re.M) if shown else ():
-        k = next(j for j, token in enumerate(tokens) if token[2] == item.start())
-        eraser.after[k] = f'\n///\n/// Contracts: {place(eraser.file)}.'

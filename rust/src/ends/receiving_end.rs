@@ -7,8 +7,6 @@ use crate::storage::{ManagedSlice, Storage};
 use crate::tcp::{AdvertisedWindow, Arrival, Segment};
 
 /// What a segment without bytes tells the peer.
-///
-/// Contracts: `crates/net_ends/src/receiving_end.rt`.
 #[derive(Copy, Clone, Debug, PartialEq, Eq)]
 pub struct Acknowledgement {
     /// The first number that is missing.
@@ -21,8 +19,6 @@ pub struct Acknowledgement {
 }
 
 /// What the rules of a receiving end know of its receiver: numbers.
-///
-/// Contracts: `crates/net_ends/src/receiving_end.rt`.
 #[derive(Copy, Clone, Debug, PartialEq, Eq)]
 pub struct Room {
     /// The number that an acknowledgement names.
@@ -40,8 +36,6 @@ pub struct Room {
 ///
 /// It is numbers alone, so that C has it as it is. One of zeros is new, of a stream that begins at position 0, with
 /// segments of no bytes.
-///
-/// Contracts: `crates/net_ends/src/receiving_end.rt`.
 #[repr(C)]
 #[derive(Debug, Clone, Copy)]
 pub struct ReceivingHead {
@@ -218,8 +212,6 @@ pub type ReceivingEnd<'a, const N: usize> = ReceivingEndOver<ManagedSlice<'a, u8
 /// assert!(receiving.receiver().has_read_all() && receiving.is_due());
 /// assert_eq!(receiving.acknowledgement().next, 117);
 /// ```
-///
-/// Contracts: `crates/net_ends/src/receiving_end.rt`.
 pub struct ReceivingEndOver<S: Storage<u8>, const N: usize> {
     receiver: FiniteReceiverOver<S, N>,
     head: ReceivingHead,

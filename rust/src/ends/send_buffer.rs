@@ -11,8 +11,6 @@ use crate::storage::{ManagedSlice, Storage};
 use crate::rattle::std::ops::Range;
 
 /// What a sender has sent, and what is queued, in numbers.
-///
-/// Contracts: `crates/net_ends/src/send_buffer.rt`.
 #[derive(Copy, Clone, Debug, PartialEq, Eq)]
 pub struct Queued {
     /// The first number that isn't acknowledged, and the one after the last that was sent.
@@ -27,8 +25,6 @@ pub struct Queued {
 /// are given the sender's numbers and the scoreboard's runs; who holds both has the sender take what they say.
 ///
 /// A head of zeros is new, of a stream that begins at position 0. It is sound if the scoreboard is, with the runs.
-///
-/// Contracts: `crates/net_ends/src/send_buffer.rt`.
 #[repr(C)]
 #[derive(Copy, Clone, Debug)]
 pub struct BufferHead {
@@ -40,8 +36,6 @@ pub struct BufferHead {
 
 /// What kind of segment an acknowledgement came in. By it a sender of TCP tells one that only repeats the last, from
 /// which it learns that a segment has arrived (RFC 5681, section 2).
-///
-/// Contracts: `crates/net_ends/src/send_buffer.rt`.
 #[derive(Copy, Clone, Debug, PartialEq, Eq)]
 pub enum AckKind {
     /// It has no byte and no FIN, and announces the window that was announced last.
@@ -51,8 +45,6 @@ pub enum AckKind {
 }
 
 /// What an acknowledgement said that was taken.
-///
-/// Contracts: `crates/net_ends/src/send_buffer.rt`.
 #[derive(Copy, Clone, Debug, PartialEq, Eq)]
 pub struct TakenAck {
     /// How many numbers it acknowledged that weren't before.
@@ -64,8 +56,6 @@ pub struct TakenAck {
 }
 
 /// Why a range is sent.
-///
-/// Contracts: `crates/net_ends/src/send_buffer.rt`.
 #[derive(Copy, Clone, Debug, PartialEq, Eq)]
 pub enum Sending {
     /// As `SendBufferOver::next` returned it: a segment, or a part of it from its start on.
@@ -112,8 +102,6 @@ pub type SendBuffer<'a, const N: usize> = SendBufferOver<ManagedSlice<'a, u8>, N
 /// assert_eq!(stream.next(33, 1200, 8), None);
 /// assert!(stream.acknowledge_range(16..20, 8).is_some() && stream.is_done());
 /// ```
-///
-/// Contracts: `crates/net_ends/src/send_buffer.rt`.
 pub struct SendBufferOver<S: Storage<u8>, const N: usize> {
     sender: FiniteSenderOver<S>,
     runs: [Run; N],

@@ -31,8 +31,6 @@ use crate::tcp::{
 };
 
 /// What an acknowledgement was.
-///
-/// Contracts: `crates/net_ends/src/sending_end.rt`.
 #[derive(Copy, Clone, Debug, PartialEq, Eq)]
 pub enum Acknowledged {
     /// One that no peer sends: of what was never sent, or too far below what is acknowledged. Nothing of its segment is
@@ -52,8 +50,6 @@ pub enum Acknowledged {
 }
 
 /// What the timer's end means.
-///
-/// Contracts: `crates/net_ends/src/sending_end.rt`.
 #[derive(Copy, Clone, Debug, PartialEq, Eq)]
 pub enum Expired {
     /// It hasn't ended, or a probe is due and the peer reports nothing, so that it couldn't answer.
@@ -72,8 +68,6 @@ pub enum Expired {
 }
 
 /// A segment to send now, whose bytes `SendingEnd::bytes` lends.
-///
-/// Contracts: `crates/net_ends/src/sending_end.rt`.
 #[derive(Copy, Clone, Debug, PartialEq, Eq)]
 pub struct Outgoing {
     /// The position of its first byte, or of the end.
@@ -89,8 +83,6 @@ pub struct Outgoing {
 ///
 /// It is numbers alone, so that C has it as it is: a flag is not 0 where it holds. One of zeros is new. It is sound if
 /// the scoreboard is, with its runs.
-///
-/// Contracts: `crates/net_ends/src/sending_end.rt`.
 #[repr(C)]
 #[derive(Copy, Clone, Debug)]
 pub struct SendingHead {
@@ -154,8 +146,6 @@ pub type SendingEnd<'a, const N: usize> = SendingEndOver<ManagedSlice<'a, u8>, N
 /// let it = sending.next_segment(8, now).expect("what was lost");
 /// assert_eq!((it.pos, it.end, it.is_again), (108, 116, true));
 /// ```
-///
-/// Contracts: `crates/net_ends/src/sending_end.rt`.
 pub struct SendingEndOver<S: Storage<u8>, const N: usize> {
     sender: FiniteSenderOver<S>,
     runs: [Run; N],

@@ -12,8 +12,6 @@ pub mod table;
 pub use head::FragmentsHead;
 
 /// Why a fragment or a size is refused.
-///
-/// Contracts: `crates/net_base/src/storage/fragments.rt`.
 #[derive(Debug, Clone, Copy, PartialEq, Eq, Hash)]
 pub enum FragmentError {
     /// It reaches past the end of the buffer.
@@ -35,8 +33,6 @@ pub enum FragmentError {
 /// add(7, "hij")      abcde..hij
 /// add(3, "DEFG")     abcDEFGhij
 /// ```
-///
-/// Contracts: `crates/net_base/src/storage/fragments.rt`.
 #[derive(Clone)]
 pub struct FragmentsOver<B: Storage<u8>, const N: usize> {
     // Invariant: the runs are those of an assembler, the positions of the bytes that arrived. They end

@@ -21,8 +21,6 @@ use crate::rattle::std::marker::PhantomData;
 ///
 /// Which packets are refused depends on the number of slots, the number of bytes, the read index, and
 /// the sizes and gaps of the packets.
-///
-/// Contracts: `crates/net_packets/src/packet_buffer.rt`.
 #[derive(Clone)]
 pub struct PacketsOver<H, M: Storage<PacketMetadata<H>>, B: Storage<u8>> {
     // Invariant: the head is sound for the storages. The slots in use are packets and gaps, whose sizes

@@ -23,8 +23,6 @@ mod iter;
 ///
 /// Only the calls whose element type is `Copy` copy elements. The others lend parts of the storage,
 /// as `&mut` wherever they can, so that a packet can be filled in or changed in place.
-///
-/// Contracts: `crates/net_ring/src/ring_buffer.rt`.
 #[derive(Clone)]
 pub struct RingOver<T, S: Storage<T>> {
     // Invariant: the head is sound for the storage.

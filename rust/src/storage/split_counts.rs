@@ -37,8 +37,6 @@ use crate::storage::width::most;
 /// assert_eq!(SplitCounts { written, taken: 0 }.free(4, 4).span.count, 2);
 /// assert_eq!(SplitCounts { written, taken }.free(4, 4).span.count, 4);
 /// ```
-///
-/// Contracts: `crates/net_ring/src/split_counts.rt`.
 #[repr(C)]
 #[derive(Debug, Clone, Copy)]
 pub struct SplitCounts {
@@ -50,8 +48,6 @@ pub struct SplitCounts {
 
 /// The elements that one end may write or read, and its count after them. An end that wrote or read fewer of them
 /// stores the count that it gets for so many, by the same counts.
-///
-/// Contracts: `crates/net_ring/src/split_counts.rt`.
 #[repr(C)]
 #[derive(Debug, Clone, Copy)]
 pub struct SplitSpan {

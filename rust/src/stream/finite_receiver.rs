@@ -23,8 +23,6 @@ use crate::storage::{ManagedSlice, Storage};
 /// Segments may arrive in any order, the last one too. `receiver` lends the receiver of the bytes, for
 /// all that isn't about the end: how many are queued, a look at them, the window, the held runs. The
 /// list of held runs doesn't show an end that came early, so its sender sends it again.
-///
-/// Contracts: `crates/net_receiver/src/finite_receiver.rt`.
 #[derive(Clone)]
 pub struct FiniteReceiverOver<S: Storage<u8>, const N: usize> {
     // Invariant: the first missing position and the end of each held run are at most the end, and below

@@ -15,8 +15,6 @@ use crate::storage::{ManagedSlice, Storage};
 /// the mark of what was sent itself, which counts the end.
 ///
 /// No call takes memory. smoltcp has no such type.
-///
-/// Contracts: `crates/net_receiver/src/finite_sender.rt`.
 #[derive(Clone)]
 pub struct FiniteSenderOver<S: Storage<u8>> {
     // Invariant: the end is acknowledged only once the sender is closed and its queue is empty. What

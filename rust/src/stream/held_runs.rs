@@ -11,8 +11,6 @@ use crate::rattle::std::mem;
 ///
 /// It yields (start, end) of each run as absolute positions in rising order, the end not included,
 /// and then ends.
-///
-/// Contracts: `crates/net_receiver/src/held_runs.rt`.
 #[derive(Clone)]
 pub struct HeldRunIter<'a> {
     runs: RunIter<'a>,
@@ -49,8 +47,6 @@ impl<'a> Iterator for HeldRunIter<'a> {
 ///
 /// It yields (start, end) of each hole as absolute positions in rising order, the end not included,
 /// and then ends.
-///
-/// Contracts: `crates/net_receiver/src/held_runs.rt`.
 #[derive(Clone)]
 pub struct MissingRunIter<'a> {
     // The held runs that are left, and where the queue or the run before them ended.
@@ -83,8 +79,6 @@ impl<'a> Iterator for MissingRunIter<'a> {
 }
 
 /// A held run, by absolute positions: from `start` on, up to `end`, which is not included.
-///
-/// Contracts: `crates/net_receiver/src/held_runs.rt`.
 #[repr(C)]
 #[derive(Debug, Clone, Copy, PartialEq, Eq)]
 pub struct HeldRun {
@@ -97,8 +91,6 @@ pub struct HeldRun {
 /// An iterator over held runs, the newest first, made by `newest_runs`: at most `K`.
 ///
 /// It yields (start, end) of each run as absolute positions, the end not included.
-///
-/// Contracts: `crates/net_receiver/src/held_runs.rt`.
 #[derive(Debug)]
 pub struct NewestRunIter<const K: usize> {
     runs: [HeldRun; K],

@@ -29,8 +29,6 @@ const DUPLICATES: usize = 3;
 const MOST_DUPLICATES: usize = 1024;
 
 /// What an acknowledgement answers, for `LossRecovery::find_losses`.
-///
-/// Contracts: `crates/net_recovery/src/loss_recovery.rt`.
 #[derive(Copy, Clone, Debug, PartialEq, Eq)]
 pub struct Answer {
     /// The first number that wasn't acknowledged before it.
@@ -88,8 +86,6 @@ pub struct Answer {
 ///
 /// It is numbers alone, so that C has it as it is: a flag is not 0 where it holds, and what there may be has one beside it.
 /// One of zeros is new.
-///
-/// Contracts: `crates/net_recovery/src/loss_recovery.rt`.
 #[repr(C)]
 #[derive(Copy, Clone, Debug, PartialEq, Eq, Hash)]
 pub struct LossRecovery {

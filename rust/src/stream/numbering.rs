@@ -21,8 +21,6 @@ use crate::stream::sequence_number::SequenceNumber;
 /// assert!(receiver.keep(pos, b"..ab").is_ok());
 /// assert_eq!(numbering.number(receiver.next()).get(), 9);
 /// ```
-///
-/// Contracts: `crates/net_receiver/src/numbering.rt`.
 #[derive(Debug, Copy, Clone, PartialEq, Eq)]
 pub struct Numbering {
     /// The number of the stream's first byte. In TCP it is the initial sequence number, that of the SYN, plus 1.

@@ -30,8 +30,6 @@ use crate::storage::{Run, TooManyHolesError};
 /// // The second frame would make a second run, and the receiver holds at most one.
 /// assert!(!all && receiver.held_count() == 0);
 /// ```
-///
-/// Contracts: `crates/net_receiver/src/plan.rt`.
 #[derive(Debug, Clone)]
 pub struct Plan<const N: usize> {
     head: ReceiverHead,

@@ -36,8 +36,6 @@ use crate::storage::{ManagedSlice, Storage};
 ///
 /// No call takes memory. smoltcp's TCP socket joins ring and assembler in its own `process`; this is
 /// the part of it that stores what was received.
-///
-/// Contracts: `crates/net_receiver/src/receiver.rt`.
 #[derive(Clone)]
 pub struct ReceiverOver<S: Storage<u8>, const N: usize> {
     // Invariant: the queue is that of the ring, whose read index is the count of bytes read modulo the

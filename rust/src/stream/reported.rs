@@ -5,8 +5,6 @@ use crate::storage::Run;
 use crate::stream::{Scoreboard, ScoreboardHead};
 
 /// Which positions a sender knows that the other end has: a `Scoreboard`, or a head and lent runs.
-///
-/// Contracts: `crates/net_recovery/src/reported.rt`.
 pub trait Reported {
     /// Returns whether a position was reported.
     fn contains(&self, pos: u64) -> bool;
@@ -47,8 +45,6 @@ impl<const N: usize> Reported for Scoreboard<N> {
 }
 
 /// A scoreboard whose runs are lent, for reading.
-///
-/// Contracts: `crates/net_recovery/src/reported.rt`.
 pub struct LentScoreboard<'a> {
     head: ScoreboardHead,
     runs: &'a [Run],

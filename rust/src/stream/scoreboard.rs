@@ -26,8 +26,6 @@ use crate::storage::Run;
 /// assert_eq!(scoreboard.next_hole(120, 200), Some((120, 140)));
 /// assert_eq!(scoreboard.next_hole(140, 200), Some((160, 200)));
 /// ```
-///
-/// Contracts: `crates/net_receiver/src/scoreboard.rt`.
 #[derive(Clone)]
 pub struct Scoreboard<const N: usize> {
     // Invariant: the runs are those of an assembler, counted from the first position that wasn't

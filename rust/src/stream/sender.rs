@@ -14,8 +14,6 @@ use crate::storage::{ManagedSlice, Storage};
 /// the most bytes that are queued.
 ///
 /// No call takes memory. smoltcp's TCP socket has its transmit buffer inside.
-///
-/// Contracts: `crates/net_receiver/src/sender.rt`.
 #[derive(Clone)]
 pub struct SenderOver<S: Storage<u8>> {
     // Invariant: the head has the numbers of a ring of the storage, and the position after the queue

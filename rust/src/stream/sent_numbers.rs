@@ -3,8 +3,6 @@
 
 /// What a sender sent of its stream, and what was acknowledged: the numbers that RFC 9293 calls SND.UNA and
 /// SND.NXT, as positions.
-///
-/// Contracts: `crates/net_receiver/src/sent_numbers.rt`.
 #[repr(C)]
 #[derive(Copy, Clone, Debug, PartialEq, Eq, Hash)]
 pub struct SentNumbers {

@@ -19,8 +19,6 @@ pub fn scale_for(capacity: u64) -> u8 {
 }
 
 /// What a receiver has announced: how far its promise reaches.
-///
-/// Contracts: `crates/net_tcp/src/advertised_window.rt`.
 #[repr(C)]
 #[derive(Copy, Clone, Debug, PartialEq, Eq, Hash)]
 pub struct AdvertisedWindow {

@@ -16,8 +16,6 @@ const PERIOD: u64 = 500_000;
 /// to know. What `AcknowledgementOnly` asks for isn't limited: by law `acknowledgements` the end that takes such
 /// an answer doesn't send such a segment again, unless something new comes; and each question whether this end is
 /// there is answered.
-///
-/// Contracts: `crates/net_tcp/src/answer_limit.rt`.
 #[derive(Copy, Clone, Debug, PartialEq, Eq, Hash)]
 pub struct AnswerLimit {
     /// When the next such segment is answered.

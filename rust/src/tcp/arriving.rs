@@ -4,8 +4,6 @@
 use crate::stream::SentNumbers;
 
 /// The positions and the flags of an arriving segment.
-///
-/// Contracts: `crates/net_tcp/src/arriving.rt`.
 #[repr(C)]
 #[derive(Copy, Clone, Debug, PartialEq, Eq, Hash)]
 pub struct Segment {
@@ -37,8 +35,6 @@ impl Segment {
 }
 
 /// What to do with a segment that arrives on a connection that both ends have opened.
-///
-/// Contracts: `crates/net_tcp/src/arriving.rt`.
 #[derive(Copy, Clone, Debug, PartialEq, Eq)]
 pub enum Arrival {
     /// Take what it acknowledges, its window, its bytes and its end.

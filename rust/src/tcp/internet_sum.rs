@@ -8,8 +8,6 @@ use crate::storage::width::most;
 
 /// The sum of the 16-bit words of a message, which is given in parts of any lengths, one after another.
 /// One of zeros is that of no bytes.
-///
-/// Contracts: `crates/net_tcp/src/internet_sum.rt`.
 #[repr(C)]
 #[derive(Copy, Clone, Debug, PartialEq, Eq, Hash)]
 pub struct PartsSum {

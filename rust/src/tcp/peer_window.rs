@@ -6,8 +6,6 @@ use crate::stream::SentNumbers;
 
 /// What a segment announces: the window from the position that it acknowledges on, and the numbers by
 /// which its age is told.
-///
-/// Contracts: `crates/net_tcp/src/peer_window.rt`.
 #[repr(C)]
 #[derive(Copy, Clone, Debug, PartialEq, Eq, Hash)]
 pub struct Announcement {
@@ -21,8 +19,6 @@ pub struct Announcement {
 
 /// The window that the peer announced, and the segment that it is from. It is kept as its right edge, a
 /// position.
-///
-/// Contracts: `crates/net_tcp/src/peer_window.rt`.
 #[repr(C)]
 #[derive(Copy, Clone, Debug, PartialEq, Eq, Hash)]
 pub struct PeerWindow {

@@ -8,8 +8,6 @@ const LONGEST_SAMPLE: u64 = 1 << 60;
 
 /// An estimate of the time of a round trip: the smoothed time, in eighths of a microsecond, and its
 /// variation, in quarters.
-///
-/// Contracts: `crates/net_tcp/src/retransmission.rt`.
 #[derive(Copy, Clone, Debug, PartialEq, Eq, Hash)]
 pub struct RttEstimate {
     srtt_8: u64,
@@ -18,8 +16,6 @@ pub struct RttEstimate {
 
 /// The bounds of a timeout, the tick of the clock that the samples are read from, and how long a peer delays an
 /// acknowledgement.
-///
-/// Contracts: `crates/net_tcp/src/retransmission.rt`.
 #[derive(Copy, Clone, Debug, PartialEq, Eq, Hash)]
 pub struct TimeoutBounds {
     /// The least timeout.
@@ -35,8 +31,6 @@ pub struct TimeoutBounds {
 
 /// When an acknowledged segment was sent. A segment that was sent again gives no sample: which of
 /// the copies was acknowledged is not known (Karn).
-///
-/// Contracts: `crates/net_tcp/src/retransmission.rt`.
 #[derive(Copy, Clone, Debug, PartialEq, Eq, Hash)]
 pub enum Transmission {
     /// Once, at this moment.
@@ -98,8 +92,6 @@ impl RttEstimate {
 }
 
 /// The time until a retransmission.
-///
-/// Contracts: `crates/net_tcp/src/retransmission.rt`.
 #[derive(Copy, Clone, Debug, PartialEq, Eq, Hash)]
 pub struct RetransmissionTimeout {
     estimate: Option<RttEstimate>,

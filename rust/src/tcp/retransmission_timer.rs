@@ -20,8 +20,6 @@ const FIRST_TIMEOUT: u64 = 1_000_000;
 const PROMPT: u64 = 8;
 
 /// What is due where a timer has expired.
-///
-/// Contracts: `crates/net_tcp/src/retransmission_timer.rt`.
 #[derive(Copy, Clone, Debug, PartialEq, Eq, Hash)]
 pub enum Expiry {
     /// A probe: nothing is known to be lost, and the timeout passes when it would have passed.
@@ -31,8 +29,6 @@ pub enum Expiry {
 }
 
 /// A segment that is timed: it was sent once.
-///
-/// Contracts: `crates/net_tcp/src/retransmission_timer.rt`.
 #[derive(Copy, Clone, Debug, PartialEq, Eq, Hash)]
 pub struct TimedSegment {
     /// Its first position.
@@ -60,8 +56,6 @@ pub struct TimedSegment {
 ///
 /// It is numbers alone, so that C has it as it is: a flag is not 0 where it holds, and what there may be has one beside it.
 /// One of zeros is new, with a timeout of 1 second, of a peer that reports no blocks.
-///
-/// Contracts: `crates/net_tcp/src/retransmission_timer.rt`.
 #[repr(C)]
 #[derive(Copy, Clone, Debug, PartialEq, Eq, Hash)]
 pub struct RetransmissionTimer {

@@ -19,8 +19,6 @@ use crate::rattle::std::ops::{
 /// let timeout = Duration::from_millis(13) * 22;
 /// assert_eq!((timeout.total_micros(), timeout.to_string()), (286_000, "0.286s".into()));
 /// ```
-///
-/// Contracts: `crates/net_base/src/time/duration.rt`.
 #[derive(Debug, Default, Copy, Clone, PartialEq, Eq, PartialOrd, Ord, Hash)]
 pub struct Duration {
     micros: u64,

@@ -19,8 +19,6 @@ use crate::rattle::std::ops::{Add, AddAssign, Sub, SubAssign};
 /// let end = start + Duration::from_secs(2);
 /// assert_eq!((end - start, end.to_string()), (Duration::from_millis(2_000), "3.500s".into()));
 /// ```
-///
-/// Contracts: `crates/net_base/src/time/instant.rt`.
 #[derive(Debug, Copy, Clone, PartialEq, Eq, PartialOrd, Ord, Hash)]
 pub struct Instant {
     micros: i64,

@@ -29,8 +29,6 @@ use crate::time::Instant;
 use crate::storage::{Full, Storage};
 
 /// Why a fragment is refused. Nothing changes then.
-///
-/// Contracts: `crates/net_base/src/storage/fragments/table.rt`.
 #[derive(Debug, Clone, Copy, PartialEq, Eq, Hash)]
 pub enum AcceptError {
     /// It has no bytes.
@@ -57,8 +55,6 @@ fn refusal(error: FragmentError) -> AcceptError {
 }
 
 /// A buffer of fragments, and the key of the packet that it is for, if it is for one.
-///
-/// Contracts: `crates/net_base/src/storage/fragments/table.rt`.
 pub struct FragmentSlot<K, B: Storage<u8>, const N: usize> {
     /// The key of the packet, such as its source, destination, protocol and identification.
     pub key: Option<K>,

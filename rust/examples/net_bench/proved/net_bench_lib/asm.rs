@@ -14,8 +14,6 @@ use crate::rattle::std::alloc::Allocator;
 const REFUSED: &str = "refused too many holes\n";
 
 /// A line of the mode.
-///
-/// Contracts: `crates/net_bench_lib/src/asm.rt`.
 pub enum AsmLine {
     /// `a NUM NUM`: the range of this offset and size is added.
     Add(usize, usize),
@@ -28,8 +26,6 @@ pub enum AsmLine {
 }
 
 /// An assembler that lines add ranges to.
-///
-/// Contracts: `crates/net_bench_lib/src/asm.rt`.
 pub struct AsmSession<const N: usize> {
     assembler: Assembler<N>,
 }

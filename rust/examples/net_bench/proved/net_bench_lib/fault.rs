@@ -5,8 +5,6 @@ use crate::proved::net_bench_lib::error::BenchError;
 use crate::rattle::std::alloc::AllocError;
 
 /// A fault of a line.
-///
-/// Contracts: `crates/net_bench_lib/src/fault.rt`.
 #[derive(Clone, Copy, Debug, PartialEq, Eq)]
 pub enum Fault {
     /// It is not a line of the mode.
@@ -32,8 +30,6 @@ impl Fault {
 }
 
 /// Why a line has no reply.
-///
-/// Contracts: `crates/net_bench_lib/src/fault.rt`.
 #[derive(Debug)]
 pub enum Refusal {
     /// It has this fault.

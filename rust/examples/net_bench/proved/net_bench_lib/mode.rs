@@ -27,8 +27,6 @@ pub(crate) enum ModeKind {
 }
 
 /// A mode of `run`, as the words of a command line name it.
-///
-/// Contracts: `crates/net_bench_lib/src/mode.rt`.
 #[derive(Debug)]
 pub struct Mode {
     kind: ModeKind,

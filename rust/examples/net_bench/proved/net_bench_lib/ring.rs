@@ -11,8 +11,6 @@ use crate::rattle::net_ring::{ManagedSlice, RingBuffer};
 use crate::rattle::std::alloc::{AllocError, Allocator};
 
 /// A line of the mode.
-///
-/// Contracts: `crates/net_bench_lib/src/ring.rt`.
 pub enum RingLine<A: Allocator + Copy> {
     /// `w HEX`: these bytes come in.
     Write(Vec<u8, A>),
@@ -22,8 +20,6 @@ pub enum RingLine<A: Allocator + Copy> {
 
 /// A ring of bytes that lines fill and empty. A contract sees its queue and its capacity, and not
 /// where in the storage it is read.
-///
-/// Contracts: `crates/net_bench_lib/src/ring.rt`.
 pub struct RingSession<'a> {
     ring: RingBuffer<'a, u8>,
 }

@@ -6,8 +6,6 @@ use crate::proved::net_bench_lib::fault::Refusal;
 use crate::rattle::std::alloc::Allocator;
 
 /// The state of a mode, whose replies are in memory of `A`.
-///
-/// Contracts: `crates/net_bench_lib/src/session.rt`.
 pub trait Session<A: Allocator + Copy> {
     /// Executes a line of at most 4,096 bytes, and makes its reply, in an empty text. After an error
     /// the session is over, and the text is no reply.

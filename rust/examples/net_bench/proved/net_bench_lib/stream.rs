@@ -15,8 +15,6 @@ use crate::rattle::std::mem;
 mod reply_lines;
 
 /// A line of the mode.
-///
-/// Contracts: `crates/net_bench_lib/src/stream.rt`.
 pub enum StreamLine<A: Allocator + Copy> {
     /// `s NUM HEX`, `r NUM` or `?`: a command to the receiver.
     ToReceiver(Command<A>),
@@ -27,8 +25,6 @@ pub enum StreamLine<A: Allocator + Copy> {
 /// A receiver that lines send segments to and read from, and after `--` also the one before it.
 ///
 /// The storage of the second schedule is made when it begins, in the list that `second` lends.
-///
-/// Contracts: `crates/net_bench_lib/src/stream.rt`.
 pub struct StreamSession<'a, A: Allocator + Copy, const N: usize> {
     first: u64,
     capacity: usize,

@@ -7,8 +7,6 @@
 use crate::rattle::memchr::memchr;
 
 /// The words of a line. Three is the most that any mode uses.
-///
-/// Contracts: `crates/net_bench_lib/src/words.rt`.
 pub enum Words<'a> {
     /// One word.
     One(&'a [u8]),

@@ -8,8 +8,6 @@ use crate::rattle::net_assembler::TooManyHolesError;
 use crate::rattle::std::alloc::{AllocError, Allocator, Global};
 
 /// A command to a receiver. A segment's bytes are in memory of `A`.
-///
-/// Contracts: `crates/net_receiver/src/schedule.rt`.
 pub enum Command<A: Allocator + Copy = Global> {
     /// These bytes arrive, the first of them at position `pos`.
     Segment { pos: u64, bytes: Vec<u8, A> },
@@ -20,8 +18,6 @@ pub enum Command<A: Allocator + Copy = Global> {
 }
 
 /// The reply to a command. Its lists are in memory of `A`.
-///
-/// Contracts: `crates/net_receiver/src/schedule.rt`.
 pub enum Reply<A: Allocator + Copy = Global> {
     /// The result of a segment, or its refusal.
     Segment(Result<Kept, TooManyHolesError>),
