@@ -1,0 +1,117 @@
+"""The numbers that pages have of other files, for tools/check_quotes.py.
+
+A figure is a text of a page, with `{}` in the place of each number, the file that says these, and what it says.
+README.md and docs/PERFORMANCE.md have no other number in prose and tables but those of FIXED.
+"""
+import functools
+import re
+from pathlib import Path
+
+ROOT = Path(__file__).resolve().parent.parent.parent
+# What no file counts: what is asked for, and versions.
+FIXED = ["32 and 64 bits", "16 bytes of buffer", "smoltcp 0.14.0", "until 1.0", "Rust 1.87 and Python 3.9",
+         "that is 1 |", "smoltcp's is 1", "[0BSD]"]
+WORDS = "none one two three four five six seven eight nine ten eleven twelve".split()
+NUMBER = rf"(\d(?:[\w.,-]*\w)?|(?i:{'|'.join(WORDS)}))"
+
+
+def count(form, *patterns):
+    """How often files have a form."""
+    return sum(len(re.findall(form, file.read_text(), re.M)) for it in patterns for file in ROOT.glob(it))
+
+
+def cells(path):
+    """The rows of a result's tables that have numbers."""
+    lines = re.findall(r"^\| (.*\d.*?) *\|$", (ROOT / path).read_text(), re.M)
+    return [[cell.strip(" *") for cell in line.split(" | ")] for line in lines]
+
+
+def value(cell):
+    return float(re.match(r"[\d.,]+", cell)[0].replace(",", ""))
+
+
+def span(ratios):
+    return [f"{min(ratios):.2f}", f"{max(ratios):.2f}"]
+
+
+def tens(number):
+    """A count, rounded down to two digits."""
+    unit = 10 ** (len(str(number)) - 2)
+    return f"{number // unit * unit:,}"
+
+
+def measured():
+    times, loops, sizes, peers = (f"compare/results/{name}.md" for name in ("times", "loops", "sizes", "peers"))
+    rows = {row[0]: value(row[1]) for row in cells(times)}
+    groups = [ratio for name, ratio in rows.items() if name.startswith("group ")]
+    yield "{} to {}; the worst row {}", times, [*span(groups), f"{max(rows.values()):.2f}"]
+    ratios = [value(row[2]) / value(row[1]) for row in cells(loops)]
+    yield "{} to {}; {} above 1", loops, [*span(ratios), WORDS[sum(ratio > 1 for ratio in ratios)]]
+    ratios = [value(row[k + 1]) / value(row[k]) for row in cells(sizes) if len(row) == 6 for k in (2, 4)]
+    paths = {row[0]: [*map(value, row[1:3])] for row in cells(sizes) if ";" in row[1]}
+    ours = [here / there for name in ("net-base's `Receiver`, `keep`", "the same, `segment`")
+            for here, there in zip(paths[name], paths["smoltcp"])]
+    yield "{} to {}; by `Receiver` {} to {}", sizes, [*span(ratios), *span(ours)]
+    linux = {row[0]: [*map(value, row[4:])] for row in cells(peers) if len(row) == 6}
+    lost, late, many = (linux[name][0] for name in ("1 % lost", "5 % delayed", "10 % lost"))
+    yield "{} with 1 % lost, {} with 5 % late, {} times with 10 % lost", peers, [
+        f"{lost:.2f}", f"{late:.2f}", f"{many:.0f}"]
+    for name, ratios in linux.items():
+        yield f"| {name} | {{}} | {{}} |", peers, [f"{ratio:.2f}" for ratio in ratios]
+    lwip = [cell for row in cells(peers) if len(row) == 5 for cell in row[1:3]]
+    ratios = [value(cell) for cell in lwip if re.match(r"[\d.]+;", cell)]
+    yield "{} to {} of the time that Linux takes; with bursts and 10 % lost over {} s", peers, [
+        *span(ratios), re.search(r"over (\d+) s", " ".join(lwip))[1]]
+
+
+def counted():
+    cargo, rows, rattle = "rust/Cargo.toml", "rust/tests/rows/rows.txt", "crates/*/src/**/*.rt"
+    script, calls = "tools/same_program.py", "overlay/calls.rs"
+    first = lambda form, path: re.search(form, (ROOT / path).read_text(), re.M | re.S)[1]
+    yield "Rust {} or later", cargo, [first(r'^rust-version = "(.*?)"', cargo)]
+    yield "Version {};", cargo, [first(r'^version = "(.*?)"', cargo)]
+    yield "each function; [{}]", "crates/must-fail.md", [str(count(r"^\| .* \| `.*` \| `", "crates/must-fail.md"))]
+    yield "{} tests; {} rows", f"rust/src, rust/tests, {rows}", [
+        tens(count(r"#\[test\]", "rust/src/**/*.rs", "rust/tests/**/*.rs")), tens(count(" => ", rows))]
+    yield "{} by hand; {}", "tools/exports.txt, c/targets/run.py", [
+        tens(count(" -> ", "tools/exports.txt")), f'{int(first(r"^CALLS.*? = ([0-9_]+)", "c/targets/run.py")):,}']
+    seeds, kinds = first(r"SEEDS: u64 = (\d+)", calls), first(r"KINDS: [^=]*; (\d+)\]", calls)
+    for text in ("{} sequences |", "{} sequences of [random calls]"):
+        yield text, calls, [f"{int(seeds) * int(kinds):,}"]
+    for text in ("each function but [{}]", "{} functions that `LEFT`"):
+        yield text, script, [WORDS[first(r"^LEFT = \{\n(.*?)^\}", script).count("\n")]]
+    yield "declares {}.", rattle, [WORDS[count(r'^\s*(?:unsafe )?extern(?: "\w+")? \{', rattle)]]
+    yield "{} `unsafe impl`", rattle, [WORDS[count(r"^\s*unsafe impl\b", rattle)]]
+    yield "by hand of [{} functions]", "crates/*/proofs", [WORDS[len([*ROOT.glob("crates/*/proofs/**/Proof.antt")])]]
+
+
+@functools.cache
+def figures():
+    return [*measured(), *counted()]
+
+
+def pattern(form):
+    """The texts of a form, with any numbers in the place of `{}`."""
+    return re.escape(form).replace(r"\{\}", NUMBER).replace(r"\ ", r"\s+")
+
+
+def written(text):
+    """A page with the numbers that the files have."""
+    for form, _, values in figures():
+        for found in [*re.finditer(pattern(form), text)][::-1]:
+            for k, it in [*enumerate(values, 1)][::-1]:
+                text = text[:found.start(k)] + (it.capitalize() if found[k][0].isupper() else it) + text[found.end(k):]
+    return text
+
+
+def blanked(form, text, kept=""):
+    """A text with spaces in the place of a form, but for line feeds, and one character that is kept."""
+    return re.sub(form, lambda it: kept + re.sub(r"[^\n]", " ", it[0])[len(kept):], text, flags=re.M | re.S)
+
+
+def strays(text):
+    """The numbers of a page in no figure, no block, no link and not between backquotes, each with its place."""
+    for form in (*FIXED, *(form for form, *_ in figures())):
+        text = blanked(pattern(form), text)
+    text = blanked(r"^```.*?^```$|^    [^\n]*$|`[^`\n]*`|\]\([^)]*\)|<!--.*?-->", text)
+    return [(found.start(), found[0]) for found in re.finditer(r"(?<![\w-])\d[\w.,]*", text)]
