@@ -26,8 +26,8 @@
 //! # What is proved
 //!
 //! All but what is by hand is written in Rattle, Rust in which functions have contracts: a prover shows for all arguments
-//! that a body meets its contract. Then the contracts are taken out. The file of the repository that has them is named in
-//! the first line of each source that a "Source" link opens. What a contract requires of a caller is tested: a call that
+//! that a body meets its contract. Then the contracts are taken out. The first line of a proved source, which a "Source"
+//! link opens, names the file of the repository that has them. What a contract requires of a caller is tested: a call that
 //! breaks it panics, and says where. In Rattle such a test is shown never to fail if the contract is kept.
 //!
 //! # Guarantees
