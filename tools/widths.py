@@ -68,7 +68,7 @@ OWN = re.compile(r'(?!core::)[a-z_]+\w*::|<.* as (?!core::)\w+::|<(?!core::)\w+:
 # A pattern that has a name: of `let`, of `for`, of a closure, of an arm.
 HIDES = r'\blet\b[^=;]*{0}|\bfor\b[^{{]*{0}[^{{]*\bin\b|\|[^|;]*{0}[^|;]*\||{0}[^;{{]*=>'
 # The proofs that say how many bits a `usize` has.
-KNOWING = {'net_assembler/proofs/width/most/Answers.antt', 'net_assembler/proofs/laws/is_usize/Answers.antt'}
+KNOWING = {'net_ring/proofs/width/most/Answers.antt', 'net_ring/proofs/laws/is_usize/Answers.antt'}
 FLAGS = ['--emit=mir', '-Coverflow-checks=on', '-Zmir-opt-level=0', '-Zmir-include-spans=on',
          '-Ztrim-diagnostic-paths=no', '-Awarnings']
 
@@ -79,7 +79,7 @@ class File:
     def __init__(self, text):
         self.text = text
         blank = lambda m: m.group() if m.group() == MARK else re.sub(r'[^\n]', ' ', m.group())
-        self.code = re.sub(r'//[^\n]*|b?"(?:\\.|[^"\\])*"|b?\'(?:\\.[^\']*|[^\\\'])\'', blank, text)
+        self.code = re.sub(r'//[^\n]*|b?"(?:\\[\s\S]|[^"\\])*"|b?\'(?:\\.[^\']*|[^\\\'])\'', blank, text)
         self.lines = [0]
         for line in text.split('\n'):
             self.lines.append(self.lines[-1] + len(line) + 1)
@@ -300,6 +300,8 @@ class Reader:
         cast = re.fullmatch(r'\(?([\w.-]+)\)?asusize', text)
         own = {text, f'{cast[1]}:u64'} if cast else {text}
         blocks = file.blocks(start)
+        if not blocks:                             # a constant's: no test follows it
+            return False
         statement = next((a, b) for a, b in file.statements(blocks[0]) if a <= start < b)
         names = own | self.named(file, statement, start, end)
         # What is run with the operation, and after it, may give its value to the right side of a bound.
