@@ -39,7 +39,7 @@ EXAMPLES = ["net_examples", "net_core_tests"]
 # Where names are looked for.
 SOURCES = [*(f"{folder}/**/*" for folder in "crates overlay compare rust c tools .ci .github".split()), "*", "docs/*"]
 ELSEWHERE = set("""
-    MODULE axioms nat dac8208d650f15bf __builtin_add_overflow int32_t spsc defmt Format Debug2Format HOLE
+    MODULE axioms nat __builtin_add_overflow int32_t spsc defmt Format Debug2Format HOLE
     c.storage-1.given time_t VecInner Cursor ANTT iface send_with yml
 """.split())
 LONGEST = 30
@@ -99,7 +99,8 @@ def names_of_sources():
 
 def is_named(name):
     known = names_of_sources()
-    return name in known or name.endswith("_") and any(it.startswith(name) for it in known) \
+    is_sum = re.fullmatch("[0-9a-f]{16}", name)    # a kit's
+    return is_sum or name in known or name.endswith("_") and any(it.startswith(name) for it in known) \
         or name.startswith("_") and any(it.endswith(name) for it in known)
 
 

@@ -24,8 +24,15 @@ def rlib(crate):
 
 
 def kit():
-    """The kit's folder."""
-    return Path(subprocess.run(['rt', 'doc'], check=True, capture_output=True, text=True).stdout.strip()).parent
+    """The kit's folder; ends the script if it is another kit than docs/CONTRACTS.md names: what that one keeps of a proof
+    is read here."""
+    named = re.search(r'`rt version` prints\s+`(.*?)`', (REPOSITORY / 'docs/CONTRACTS.md').read_text())[1]
+    this, page = (subprocess.run(['rt', word], check=True, capture_output=True, text=True).stdout.strip()
+                  for word in ('version', 'doc'))
+    if named not in this:
+        sys.exit(f'{Path(sys.argv[0]).stem}: it reads what the kit with {named} keeps of a proof, which '
+                 f'docs/CONTRACTS.md names; this is {this}: name that one there once every step passes with it')
+    return Path(page).parent
 
 
 def over(uses, verb, crate, source, kept, *words):

@@ -508,11 +508,16 @@ def unfolded(crates):
 
 def kit_of(folders, temporary):
     """The first of the folders, or one that is made, with the compiler of rust/kit.sh; ends the script if that can't be
-    had."""
-    kit = Path(folders[0]).resolve() if folders else temporary / 'kit'
-    if status := subprocess.run(['sh', REPOSITORY / 'rust/kit.sh', kit]).returncode:
+    had, or if there is another one: what is read here is what this one prints."""
+    kit, script = Path(folders[0]).resolve() if folders else temporary / 'kit', REPOSITORY / 'rust/kit.sh'
+    if status := subprocess.run(['sh', script, kit]).returncode:
         print(f'{Path(sys.argv[0]).stem}: not run: no compiler', file=sys.stderr)
         sys.exit(status)
+    pinned = re.search(r'^version=(.*)', script.read_text(), re.M)[1]
+    this = subprocess.run([kit / 'rustc', '--version'], capture_output=True, text=True).stdout.strip()
+    if this.split()[1:2] != [pinned]:
+        sys.exit(f'{Path(sys.argv[0]).stem}: it reads the MIR that rustc {pinned} prints, which rust/kit.sh unpacks; '
+                 f'this is {this}: name another folder than {kit}')
     return kit
 
 

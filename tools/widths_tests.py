@@ -10,9 +10,11 @@ import subprocess
 import sys
 import tempfile
 from pathlib import Path
+from unittest import mock
 
 sys.dont_write_bytecode = True
 import erase
+import libraries
 import widths
 from parts.mir_text import tables
 
@@ -104,10 +106,26 @@ def covers(reader, name):
     return [cover for cover in found if cover != 'no growth']
 
 
+def check_refusals(folder):
+    """Another rustc is refused in a sentence, and so is another kit of the prover's."""
+    folder.mkdir()
+    for program in ('rustc', 'rt'):
+        (folder / program).write_text('#!/bin/sh\necho rustc 1.0.0\n')
+        (folder / program).chmod(0o755)
+    with mock.patch.dict(os.environ, PATH=f'{folder}:{os.environ["PATH"]}'):
+        for refuse in (lambda: widths.kit_of([folder], folder), libraries.kit):
+            try:
+                refuse()
+                raise AssertionError('not refused')
+            except SystemExit as ended:
+                assert '; this is rustc 1.0.0: name ' in ended.code, ended
+
+
 def main(arguments):
     with tempfile.TemporaryDirectory() as temporary:
         temporary = Path(temporary)
         kit = widths.kit_of(arguments, temporary)
+        check_refusals(temporary / 'others')
         body = 'pub fn f(a: usize, b: usize, x: u64, xs: &mut [u8], s: &mut S) -> usize {{\n    {}\n}}'
         covered = [(text, cover) for cover, texts in COVERED.items() for text in texts]
         modules = {f'covered{k}': body.format(text) for k, (text, _) in enumerate(covered)}
