@@ -1,8 +1,9 @@
 #!/usr/bin/env python3
 """Compares the erased text with Rattle's, token by token, by a reader of its own: what tools/erase.py takes out are
 contracts, ghosts, the functions and modules of tools/parts/erase_list.py, and names of imports; what it puts in the
-place of a token are that list's texts and the paths of the Cargo crate. So attributes, visibility, derives and defaults
-are Rattle's, but that `pub` may be `pub(crate)`. The status is 1 if a file has anything else.
+place of a token are that list's texts and the paths of the Cargo crate. So attributes, visibility, derives, defaults
+and the text of each error are Rattle's, but that `pub` may be `pub(crate)`. The status is 1 if a file has anything
+else, or if no file begins with the line that names a source.
 """
 import re
 import sys
@@ -61,9 +62,10 @@ def end_of(words, k, sign=None):
 
 
 def read(words, path=None, gone=None, is_export=False):
-    """The tokens of a text's items, those of its imports, and its texts of errors: of the erased text, or as they are
-    when it is erased, from Rattle's, of whose functions some are `gone`."""
+    """The tokens of a text's items, those of its imports, and the names and texts of its errors: of the erased text, or
+    as they are when it is erased, from Rattle's, of whose functions some are `gone`."""
     out, imports, texts, k, head = [], [], [], 0, 0
+    named = lambda words: next(word for word in words if word[0].isupper())
     path = path or (lambda words, k: words[k])
     while k < len(words):
         word, follows, inner = words[k], words[k + 1:k + 2], None
@@ -72,7 +74,7 @@ def read(words, path=None, gone=None, is_export=False):
             end, name = end_of(words, bracket), words[bracket + 1]
             inner = words[k:end]
             if gone and name in ('tactic', 'error'):
-                texts += [one for one in inner if name == 'error' and one[0] == '"']
+                texts += [(named(words[end:]), one) for one in inner if name == 'error' and one[0] == '"']
                 inner = []
             elif gone and name == 'derive':
                 kept = [one for one in inner[4:-2] if one not in ('Drop', 'Error', ',')]
@@ -96,7 +98,7 @@ def read(words, path=None, gone=None, is_export=False):
             end = end_of(words, end_of(words, k, '{'))
         elif word == 'error_text' and not gone:
             end = end_of(words, k + 2) + 1
-            texts += [one for one in words[k:end] if one[0] == '"']
+            texts += [(named(words[j::-1]), words[j]) for j in range(k, end) if words[j][0] == '"']
             del out[-4:]                           # `crate::rattle::`
         if end > k:
             del out[head:]
@@ -141,7 +143,7 @@ def differences(crate, path, text, rust, by_hand):
     left = iter(every)
     missing = [word for word in ' '.join(imports).replace(PRELUDE, '').split() if word not in left]
     return [f'more: {" ".join(two[len(one):])}'] * (len(two) > len(one)) + \
-        [f'imports: {" ".join(imports)}'] * bool(missing) + [f'texts: {texts}'] * (len(said) != len(texts))
+        [f'imports: {" ".join(imports)}'] * bool(missing) + [f'texts: {texts}'] * (said != texts)
 
 
 def main():
@@ -155,6 +157,8 @@ def main():
                 count += 1
                 bad += [f'{file.relative_to(erase.REPOSITORY)}: {one}'
                         for one in differences(crate, path, text, rust, by_hand)]
+            elif path.stem != 'laws' and f'{crate}/{path.with_suffix("")}' not in given.ROOTS:
+                bad.append(f'no file begins with {first}')
     print(*bad, sep='\n', end='\n' * bool(bad))
     print(f'{count} erased files, {len(bad)} differ from Rattle\'s text')
     return bool(bad)
