@@ -2,7 +2,7 @@
 """Erases Rattle to Rust: what can't run goes, all else stays.
 
     python3 tools/erase.py             writes what is erased in rust/src, of the crates that tools/parts/erase_list.py
-                                       names, and the program, rust/examples/net_bench/proved
+                                       names, and of the program in rust/examples/net_bench
     python3 tools/erase.py --check     writes nothing, and names each file that isn't so
 
 What it does are the rules below, and no more; what they refuse is said with its file and line. What is taken out ends
@@ -44,21 +44,7 @@ from parts import erase_says
 from parts.erase_tokens import SPACE, Refused, Text, words
 
 REPOSITORY = Path(__file__).resolve().parent.parent
-OUT, EXAMPLE = REPOSITORY / 'rust/src', REPOSITORY / 'rust/examples/net_bench/proved'
-TOP = '''//! The proved code: crates of the repository without their contracts, as `tools/erase.py` writes them.
-// Which item is public in a crate of Rattle isn't which one is in this program. A parameter may be for contracts alone. The
-// rest is what Rattle has no other form for.
-#![allow(unreachable_pub, unused_variables)]
-#![allow(clippy::manual_filter, clippy::manual_find, clippy::manual_map, clippy::needless_range_loop, clippy::question_mark)]
-#![allow(clippy::int_plus_one, clippy::len_without_is_empty, clippy::needless_lifetimes, clippy::new_without_default)]
-#![allow(clippy::precedence, clippy::redundant_closure, clippy::redundant_pattern_matching, clippy::single_match)]
-#![allow(clippy::too_many_arguments)]
-'''
-PROGRAM = '''// Some names are for tests alone, and labels for contracts. A line feed is in a text, as in what is read.
-#![cfg_attr(not(test), allow(unused_imports))]
-#![allow(unused_labels, clippy::write_with_newline)]
-
-''' + ''.join(f'pub mod {name};\n' for name in given.PROGRAM) + 'pub mod {} {{\n    pub mod {};\n}}\n'.format(*given.SCHEDULE.split('/'))
+OUT, EXAMPLE = REPOSITORY / 'rust/src', REPOSITORY / 'rust/examples/net_bench'
 ROOT, RATTLE = 'crate::proved', 'crate::rattle'
 WRITTEN = '// Written by tools/erase.py from '
 HEADER = WRITTEN + '{}: a change here would be lost.\n'
@@ -329,14 +315,15 @@ def called_laws():
 
 def erased(said):
     """Each file of the result, by its path, with its text; what is refused is appended to `said`."""
-    files = {EXAMPLE / 'mod.rs': HEADER.format('crates') + TOP + PROGRAM}
+    files = {}
     left = {file for *_, found in given.REPLACED for file in found}
     laws, of_crate, of_program, of_traits, gone = called_laws(), [*sources()], program(), set(), set()
     traits = {name for *_, text in of_crate + of_program
               for name in re.findall(r'^ *(?:pub(?:\([^)]*\))? )?trait (\w+)', text, re.M)}
     lawless = {Path(crate, path).parent for crate, path, text in of_crate
                if path.stem == 'laws' and not laws & {*re.findall(r'^pub fn (\w+)', text, re.M)}}
-    for out, by_hand, (crate, path, text) in [(OUT, (), each) for each in of_crate] + [(EXAMPLE, given.BY_HAND, each) for each in of_program]:
+    for out, by_hand, (crate, path, text) in [*((OUT, (), each) for each in of_crate),
+                                              *((EXAMPLE, given.BY_HAND, each) for each in of_program)]:
         file = f'{crate}/{path.with_suffix("")}'
         left -= {file}
         if path.stem == 'laws' and Path(crate, path).parent in lawless:
@@ -347,12 +334,10 @@ def erased(said):
             eraser = Eraser(replaced(file, text), crate, left_out, f'crates/{crate}/src/{path}',
                             laws if path.stem == 'laws' else None, traits, by_hand)
             text = eraser.run()
-            if out == EXAMPLE:
-                files[out / crate / ('mod.rs' if path.name == 'lib.rt' else path.with_suffix('.rs'))] = text
-            elif file not in given.ROOTS:
+            if file not in given.ROOTS:
                 files[out / f'{placed(file)}.rs'] = relocated(text)
-            elif missing := [item for item in constants(text) if item not in by_hand_root(file)]:
-                said.append(f'rust/src: {missing[0]} of {eraser.file} is by hand in no root')
+            elif missing := [item for item in constants(text) if item not in by_hand_root(out, file)]:
+                said.append(f'{out.relative_to(REPOSITORY)}: {missing[0]} of {eraser.file} is by hand in no root')
             gone |= {f'{file} {name}' for name in eraser.gone}
             of_traits |= {eraser.name(k) for _, impl, k, *_ in eraser.functions if OF_TRAIT.search(impl)}
         except Refused as refused:
@@ -377,7 +362,7 @@ def placed(module):
 
 def relocated(text):
     """A text with the paths that modules have in the Cargo crate."""
-    names = [name.replace('/', '::') for name in [*given.MOVED, *given.CRATES]]
+    names = [name.replace('/', '::') for name in [*given.MOVED, *given.FOLDERS]]
     place = lambda name: '::'.join(['crate', *placed(name[1].replace('::', '/')).split('/')]).removesuffix('::')
     return re.sub(rf'{ROOT}::({"|".join(names)})\b', place, text)
 
@@ -387,10 +372,10 @@ def constants(text):
     return re.findall(r'^const .*;$', text, re.M)
 
 
-def by_hand_root(file):
+def by_hand_root(out, file):
     """The file by hand in the place of a root."""
     module = placed(file.removesuffix('/lib'))
-    roots = [OUT / name for name in (f'{module}.rs', f'{module}/mod.rs', 'lib.rs')]
+    roots = [out / name for name in (f'{module}.rs', f'{module}/mod.rs', 'lib.rs')]
     return next(root.read_text() for root in roots if root.is_file())
 
 

@@ -134,7 +134,7 @@ def differences(crate, path, text, rust, by_hand):
     gone = lambda name: name in given.UNCALLED.get(file, ()) or path.stem == 'laws' and name not in defined
     one, every, said = read(tokens(text, True), rattle_path(crate, by_hand), gone, crate == given.EXPORTS)
     one, every = (' '.join(words).replace(' :: ', '::') for words in (one, every))
-    one, every = ((text if by_hand else erase.relocated(text)).replace('::', ' :: ').split() for text in (one, every))
+    one, every = (erase.relocated(text).replace('::', ' :: ').split() for text in (one, every))
     for k, word in enumerate(one):
         if two[k:k + 4] == 'pub ( crate )'.split() and one[k:k + 2] != ['pub', '(']:
             del two[k + 1:k + 4]

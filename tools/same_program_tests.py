@@ -182,8 +182,8 @@ def planted(kit, temporary, proved):
                       '    crate::storage::AssemblerHead::new()\n}\n')
     for file, part, plant, _ in PLANTS:
         is_program = file.split('/')[0] in same_program.given.PROGRAM
-        path = crate / (f'examples/net_bench/proved/{file}' if is_program
-                        else f'src/{erase.placed(file.removesuffix(".rs"))}.rs')
+        folder = crate / ('examples/net_bench' if is_program else 'src')
+        path = folder / f'{erase.placed(file.removesuffix(".rs"))}.rs'
         assert part in path.read_text(), (file, part)
         path.write_text(path.read_text().replace(part, plant, 1))
     library, example = same_program.compiled(crate, kit, temporary / 'target2')

@@ -1,23 +1,25 @@
 """All that tools/erase.py knows by name: the modules that aren't erased, and what else Rust has in place of Rattle's
 text."""
-# The crates that are erased, and the folder of rust/src that each one's modules are in.
+# The program, which is erased into an example: its library, and the module of the core that only it has. In it these
+# crates are modules of the example's `rattle.rs`.
+PROGRAM, SCHEDULE = ['net_bench_lib'], 'net_receiver/schedule'
+BY_HAND = ['net_ring', 'net_assembler', 'net_receiver', 'arrayvec', 'hex', 'memchr']
+
+# The crates that are erased, and the folder of rust/src that each one's modules are in; the program's is one of
+# rust/examples/net_bench.
 FOLDERS = {
     'net_ring': 'storage', 'net_packets': 'storage', 'net_assembler': 'storage', 'net_receiver': 'stream',
     'net_base': '', 'net_tcp': 'tcp', 'net_recovery': 'stream', 'net_ends': 'ends', 'net_ffi': 'exports',
+    'net_bench_lib': 'lines',
 }
-CRATES = [*FOLDERS]
+CRATES = [crate for crate in FOLDERS if crate not in PROGRAM]
 
-# Modules that have another place there: two heads of one folder, and what smoltcp has in `phy/mod.rs`.
+# Modules that have another place there: two heads of one folder, what smoltcp has in `phy/mod.rs`, and the program's.
 MOVED = {'net_ring/head': 'storage/ring_head', 'net_packets/head': 'storage/packets_head',
-         'net_base/phy': 'phy/capabilities'}
+         'net_base/phy': 'phy/capabilities', SCHEDULE: 'schedule'}
 
 # The roots, in whose place are files by hand: they list modules, and their constants stand there too.
-ROOTS = {f'{crate}/lib' for crate in CRATES} | {'net_base/storage', 'net_base/time'}
-
-# The program, erased into an example: its library, and the module of the core that only it has. In it these crates are
-# modules of the example's `rattle.rs`.
-PROGRAM, SCHEDULE = ['net_bench_lib'], 'net_receiver/schedule'
-BY_HAND = ['net_ring', 'net_assembler', 'net_receiver', 'arrayvec', 'hex', 'memchr']
+ROOTS = {f'{crate}/lib' for crate in FOLDERS} | {'net_base/storage', 'net_base/time'}
 
 # The modules of them that aren't, and why.
 UNERASED = {
@@ -48,7 +50,7 @@ UNCALLED = {
 }
 
 # Names that a `pub use` gives to other crates of Rattle, and that nothing of Rust has.
-UNNAMED = {'net_base/time': ['earlier'], 'net_bench_lib/lib': ['run']}
+UNNAMED = {'net_base/time': ['earlier']}
 
 # The exports for C, which the shim of `c` calls: they are compiled with the feature `c` alone, and have no
 # documentation.

@@ -4,11 +4,8 @@
 // Most of it is for the rest of the program.
 #[allow(dead_code, unused_imports, unused_macros)]
 pub mod rattle;
-#[rustfmt::skip]
-#[path = "../../examples/net_bench/proved/net_receiver/schedule.rs"]
-pub mod schedule;
 
-/// Where `rattle` looks for it.
-pub mod net_receiver {
-    pub use super::schedule;
+erased! {
+    #[path = "../../examples/net_bench/schedule.rs"]
+    pub mod schedule;
 }

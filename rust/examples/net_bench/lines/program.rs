@@ -2,10 +2,10 @@
 //! The program `net_bench`, from its words and streams to its exit status.
 
 use crate::rattle::prelude::*;
-use crate::proved::net_bench_lib::dispatch::run;
-use crate::proved::net_bench_lib::error::BenchError;
-use crate::proved::net_bench_lib::mode::Mode;
-use crate::proved::net_bench_lib::writer::write_text;
+use crate::lines::dispatch::run;
+use crate::lines::error::BenchError;
+use crate::lines::mode::Mode;
+use crate::lines::writer::write_text;
 use crate::rattle::arrayvec::ArrayString;
 use crate::rattle::std::alloc::Allocator;
 use crate::rattle::std::fmt::Write as _;

@@ -2,11 +2,11 @@
 //! Mode `asm`: ranges are added to a set of positions, and its front is removed.
 
 use crate::rattle::prelude::*;
-use crate::proved::net_bench_lib::fault::{Fault, Refusal};
-use crate::proved::net_bench_lib::numeral::number;
-use crate::proved::net_bench_lib::session::Session;
-use crate::proved::net_bench_lib::words;
-use crate::proved::net_bench_lib::words::Words;
+use crate::lines::fault::{Fault, Refusal};
+use crate::lines::numeral::number;
+use crate::lines::session::Session;
+use crate::lines::words;
+use crate::lines::words::Words;
 use crate::rattle::net_assembler::Assembler;
 use crate::rattle::std::alloc::Allocator;
 

@@ -5,12 +5,12 @@ use crate::rattle::prelude::*;
 // Why: A line of mode `stream` goes through `execute`. To `replay` it as a list of one is the same (law `calls`),
 // and asks for memory once more. The line of an error is an `arrayvec`, since memory may be what is missing.
 
-use crate::proved::net_bench_lib::asm::AsmSession;
-use crate::proved::net_bench_lib::bench::run_lines;
-use crate::proved::net_bench_lib::error::BenchError;
-use crate::proved::net_bench_lib::mode::{Mode, ModeKind, MostRuns};
-use crate::proved::net_bench_lib::ring::RingSession;
-use crate::proved::net_bench_lib::stream::StreamSession;
+use crate::lines::asm::AsmSession;
+use crate::lines::bench::run_lines;
+use crate::lines::error::BenchError;
+use crate::lines::mode::{Mode, ModeKind, MostRuns};
+use crate::lines::ring::RingSession;
+use crate::lines::stream::StreamSession;
 use crate::rattle::net_receiver::laws;
 use crate::rattle::std::alloc::Allocator;
 use crate::rattle::std::io::{Read, Write};

@@ -1,7 +1,7 @@
 // Written by tools/erase.py from crates/net_bench_lib/src/writer.rt: a change here would be lost.
 //! Writing a text whole.
 
-use crate::proved::net_bench_lib::error::BenchError;
+use crate::lines::error::BenchError;
 use crate::rattle::std::io::Write;
 
 /// Writes all of the text. A write that returns an error or takes no byte ends it: then a prefix of

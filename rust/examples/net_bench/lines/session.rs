@@ -2,7 +2,7 @@
 //! The trait of a mode: a state that lines change.
 
 use crate::rattle::prelude::*;
-use crate::proved::net_bench_lib::fault::Refusal;
+use crate::lines::fault::Refusal;
 use crate::rattle::std::alloc::Allocator;
 
 /// The state of a mode, whose replies are in memory of `A`.

@@ -2,11 +2,11 @@
 //! Mode `stream`: segments of a stream arrive in any order, and its bytes are read in order.
 
 use crate::rattle::prelude::*;
-use crate::proved::net_bench_lib::fault::{Fault, Refusal};
-use crate::proved::net_bench_lib::numeral::number;
-use crate::proved::net_bench_lib::session::Session;
-use crate::proved::net_bench_lib::words::Words;
-use crate::proved::net_bench_lib::{text, words};
+use crate::lines::fault::{Fault, Refusal};
+use crate::lines::numeral::number;
+use crate::lines::session::Session;
+use crate::lines::words::Words;
+use crate::lines::{text, words};
 use crate::rattle::net_receiver::{Command, Receiver, execute};
 use crate::rattle::net_ring::ManagedSlice;
 use crate::rattle::std::alloc::{AllocError, Allocator};

@@ -2,7 +2,7 @@
 //! The replies of a receiver as text.
 
 use crate::rattle::prelude::*;
-use crate::proved::net_bench_lib::text;
+use crate::lines::text;
 use crate::rattle::net_receiver::{Kept, Reply};
 use crate::rattle::std::alloc::{AllocError, Allocator};
 use crate::rattle::std::fmt;

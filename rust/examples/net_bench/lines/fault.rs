@@ -1,7 +1,7 @@
 // Written by tools/erase.py from crates/net_bench_lib/src/fault.rt: a change here would be lost.
 //! Why a line has no reply.
 
-use crate::proved::net_bench_lib::error::BenchError;
+use crate::lines::error::BenchError;
 use crate::rattle::std::alloc::AllocError;
 
 /// A fault of a line.

@@ -2,11 +2,11 @@
 //! Lines in, replies out, for any mode.
 
 use crate::rattle::prelude::*;
-use crate::proved::net_bench_lib::error::BenchError;
-use crate::proved::net_bench_lib::fault::Fault;
-use crate::proved::net_bench_lib::limits::{MAX_LINE, ROOM};
-use crate::proved::net_bench_lib::session::Session;
-use crate::proved::net_bench_lib::writer::write_text;
+use crate::lines::error::BenchError;
+use crate::lines::fault::Fault;
+use crate::lines::limits::{MAX_LINE, ROOM};
+use crate::lines::session::Session;
+use crate::lines::writer::write_text;
 use crate::rattle::memchr::memchr;
 use crate::rattle::std::alloc::Allocator;
 use crate::rattle::std::io::{Read, Write};

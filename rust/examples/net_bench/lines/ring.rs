@@ -2,11 +2,11 @@
 //! Mode `ring`: bytes go in, and come out in order.
 
 use crate::rattle::prelude::*;
-use crate::proved::net_bench_lib::fault::{Fault, Refusal};
-use crate::proved::net_bench_lib::numeral::number;
-use crate::proved::net_bench_lib::session::Session;
-use crate::proved::net_bench_lib::words::Words;
-use crate::proved::net_bench_lib::{text, words};
+use crate::lines::fault::{Fault, Refusal};
+use crate::lines::numeral::number;
+use crate::lines::session::Session;
+use crate::lines::words::Words;
+use crate::lines::{text, words};
 use crate::rattle::net_ring::{ManagedSlice, RingBuffer};
 use crate::rattle::std::alloc::{AllocError, Allocator};
 

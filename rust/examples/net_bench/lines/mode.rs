@@ -2,8 +2,8 @@
 //! The modes of the bench.
 
 use crate::rattle::prelude::*;
-use crate::proved::net_bench_lib::limits::MAX_CAPACITY;
-use crate::proved::net_bench_lib::numeral::number;
+use crate::lines::limits::MAX_CAPACITY;
+use crate::lines::numeral::number;
 
 /// The most runs that an assembler may have.
 #[derive(Debug, Clone, Copy, PartialEq, Eq)]
