@@ -15,9 +15,6 @@ in the source or where an answer to it fails; that has to be a goal of this clau
 callee's precondition, a loop's invariant, and a name that a proof no longer finds refuse an edit too,
 and say nothing of the contract.
 
-A right body of the same shape may be refused like the edit. So each `new:` is followed by a line
-`# twin:`, which `rt` takes for a comment, the text of a right body in its place, which was proved once.
-
 An edit is the body that its name says: lines `# row: CALL => REPLY` are a block of rows of rust/tests/rows,
 each with what the reply begins with that the wrong body gives, or nothing. `--rows` plays them over the Cargo
 crate with the edited text erased, where each must be so, and over the right text, where one must not. An edit
