@@ -139,7 +139,8 @@ def differences(crate, path, text, rust, by_hand):
         if two[k:k + 4] == 'pub ( crate )'.split() and one[k:k + 2] != ['pub', '(']:
             del two[k + 1:k + 4]
         if two[k:k + 1] != [word]:
-            return [f'{" ".join(one[k - 8:k + 12])} -> {" ".join(two[k - 8:k + 12])}']
+            near = slice(max(k - 8, 0), k + 12)
+            return [f'{" ".join(one[near])} -> {" ".join(two[near])}']
     left = iter(every)
     missing = [word for word in ' '.join(imports).replace(PRELUDE, '').split() if word not in left]
     return [f'more: {" ".join(two[len(one):])}'] * (len(two) > len(one)) + \
