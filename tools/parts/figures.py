@@ -11,7 +11,7 @@ ROOT = Path(__file__).resolve().parent.parent.parent
 # What no file counts: what is asked for, and versions.
 FIXED = ["32 and 64 bits", "16 bytes of buffer", "smoltcp 0.14.0", "until 1.0", "Rust 1.87 and Python 3.9",
          "that is 1 |", "smoltcp's is 1", "[0BSD]"]
-WORDS = "none one two three four five six seven eight nine ten eleven twelve".split()
+WORDS = [*"none one two three four five six seven eight nine ten eleven twelve".split(), *map(str, range(13, 100))]
 NUMBER = rf"(\d(?:[\w.,-]*\w)?|(?i:{'|'.join(WORDS)}))"
 
 
@@ -67,7 +67,7 @@ def measured():
 def counted():
     cargo, rows, rattle = "rust/Cargo.toml", "rust/tests/rows/rows.txt", "crates/*/src/**/*.rt"
     script, calls = "tools/same_program.py", "overlay/calls.rs"
-    first = lambda form, path: re.search(form, (ROOT / path).read_text(), re.M | re.S)[1]
+    first = lambda form, path: (re.search(form, (ROOT / path).read_text(), re.M | re.S) or "00")[1]
     yield "Rust {} or later", cargo, [first(r'^rust-version = "(.*?)"', cargo)]
     yield "Version {};", cargo, [first(r'^version = "(.*?)"', cargo)]
     yield "each function; [{}]", "crates/must-fail.md", [str(count(r"^\| .* \| `.*` \| `", "crates/must-fail.md"))]
