@@ -99,13 +99,15 @@ sed 's/ - |$//' "$out/sizes" | while read -r row; do
     grep -qF "$row" "$here/../docs/C.md" || fail "docs/C.md has no row that begins: $row"
 done
 at="an example"
-# Two threads, where clang can tell of a race.
+"$compiler" -std=c11 -O2 -pthread $warnings $sanitizers "$here/programs/byte_ring.c" -o "$out/byte_ring"
+"$out/byte_ring"
+# Clang can tell of a race.
 threads="-std=c11 -O1 -g -fsanitize=thread -pthread"
 if command -v clang > /dev/null && clang $threads "$out/empty.c" -o "$out/empty" 2> "$out/errors"; then
-    clang $threads $warnings -I "$here" "$here/programs/split.c" "$library" -o "$out/split"
-    "$out/split" 10000000
+    clang $threads $warnings "$here/programs/byte_ring.c" -o "$out/byte_ring"
+    "$out/byte_ring"
 else
-    lacks "clang with its thread sanitizer" "programs/split.c isn't"
+    lacks "clang with its thread sanitizer" "programs/byte_ring.c isn't by it"
 fi
 if command -v "${CXX:-c++}" > /dev/null; then
     "${CXX:-c++}" -std=c++17 -O2 $warnings -Wold-style-cast $sanitizers -I "$here" "$here/programs/receiver.cpp" "$library" \

@@ -122,7 +122,7 @@ def is_there(page, span):
 def quotable():
     """The texts that blocks of pages are from, by their marks."""
     examples = [re.sub(r"^ *//[/!] ?", "", text, flags=re.M) for text in texts("rust/src/**/*.rs")]
-    return {"rust": texts("crates/*/src/**/*.rt", "rust/examples/**/*.rs") + examples, "c": texts("c/programs/*.c")}
+    return {"rust": texts("crates/*/src/**/*.rt", "rust/examples/**/*.rs") + examples, "c": texts("c/programs/*.[ch]")}
 
 
 # What follows looks at a page or a source, and yields places in its text, each with what is wrong there.

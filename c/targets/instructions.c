@@ -1,7 +1,7 @@
 /* Prints how many instructions a round of each main call takes, by the emulator's count (`-icount shift=0`): without those of the
  * loop around it. Under Linux nothing counts: `instructions KIND ROUNDS` makes rounds of a kind, 0 being an empty one. */
 #include "net_base.h"
-#include <stdatomic.h>
+#include "programs/byte_ring.h"
 #include <stdio.h>
 #include <stdlib.h>
 
@@ -12,7 +12,7 @@ static struct net_base_run runs[RUNS];
 static volatile unsigned status;
 static struct net_base_packet_slot slots[SLOTS];
 static struct net_base_ring ring;
-static _Atomic size_t split_written, split_taken;
+static struct byte_ring byte_ring;
 static struct net_base_assembler assembler;
 static struct net_base_packets packets;
 static struct net_base_finite_receiver receiver;
@@ -59,34 +59,9 @@ static void slices(void) {
     net_base_ring_dequeue_slice(&ring, storage, CAPACITY, bytes, 16);
 }
 
-/* What one end of a ring of two counts knows, where the other is an interrupt on the same processor. */
-static struct net_base_split_counts known(void) {
-    struct net_base_split_counts counts = {
-        atomic_load_explicit(&split_written, memory_order_relaxed), atomic_load_explicit(&split_taken, memory_order_relaxed)};
-    atomic_signal_fence(memory_order_acquire);
-    return counts;
-}
-
-static void store(_Atomic size_t *count, size_t next) {
-    atomic_signal_fence(memory_order_release);
-    atomic_store_explicit(count, next, memory_order_relaxed);
-}
-
-static void put(void) {
-    struct net_base_split_span lent = net_base_split_ring_free(known(), CAPACITY, 1);
-    if (lent.span.count != 0) storage[lent.span.from] = bytes[0];
-    store(&split_written, lent.next);
-}
-
-static void get(void) {
-    struct net_base_split_span lent = net_base_split_ring_queued(known(), CAPACITY, 1);
-    if (lent.span.count != 0) bytes[0] = storage[lent.span.from];
-    store(&split_taken, lent.next);
-}
-
-static void split_one(void) {
-    put();
-    get();
+static void byte(void) {
+    byte_ring_put(&byte_ring, bytes[0]);
+    byte_ring_take(&byte_ring, bytes);
 }
 
 static void ranges(void) {
@@ -134,7 +109,7 @@ int main(int count, char **words) {
     } kinds[] = {
         {"ring: one element in and out", one},
         {"ring: 16 bytes in and out", slices},
-        {"ring of two counts: a byte in and out", split_one},
+        {"byte_ring.h: a byte in and out", byte},
         {"assembler: a range too early, and the one before it", ranges},
         {"packets: one in and out", packet},
         {"receiver: a segment of 32 bytes and a read", segment},

@@ -1,0 +1,38 @@
+/* A ring of bytes that two sides share without a lock: threads, or an interrupt and what it interrupts. docs/C.md
+ * quotes it.
+ */
+#ifndef BYTE_RING_H
+#define BYTE_RING_H
+#include <stdatomic.h>
+#include <stdbool.h>
+#include <stddef.h>
+#include <stdint.h>
+
+enum { BYTE_RING_SIZE = 256 }; /* a power of two */
+
+/* A ring of zeros is empty. Both counts run free: what is in it is their difference. */
+struct byte_ring {
+    _Atomic size_t in, out;
+    uint8_t bytes[BYTE_RING_SIZE];
+};
+
+/* Puts a byte into the ring, unless it is full. One side alone calls this. */
+static inline bool byte_ring_put(struct byte_ring *ring, uint8_t byte) {
+    size_t in = atomic_load_explicit(&ring->in, memory_order_relaxed);
+    size_t out = atomic_load_explicit(&ring->out, memory_order_acquire);
+    if (in - out == BYTE_RING_SIZE) return false;
+    ring->bytes[in % BYTE_RING_SIZE] = byte;
+    atomic_store_explicit(&ring->in, in + 1, memory_order_release);
+    return true;
+}
+
+/* Takes a byte out of the ring, unless it is empty. The other side alone calls this. */
+static inline bool byte_ring_take(struct byte_ring *ring, uint8_t *byte) {
+    size_t out = atomic_load_explicit(&ring->out, memory_order_relaxed);
+    size_t in = atomic_load_explicit(&ring->in, memory_order_acquire);
+    if (in == out) return false;
+    *byte = ring->bytes[out % BYTE_RING_SIZE];
+    atomic_store_explicit(&ring->out, out + 1, memory_order_release);
+    return true;
+}
+#endif
