@@ -110,9 +110,7 @@ static void use_receiver(void) {
     printf("read \"%.*s\"\n", (int)count, (const char *)into);
 }
 
-static void use_time(void) {
-    int64_t now = 1000000, later = net_base_instant_saturating_add(now, 3 * UINT64_C(250000));
-    printf("three timeouts after %lld us: %lld us\n", (long long)now, (long long)later);
+static void use_random_words(void) {
     uint64_t state = 7;
     printf("a port: %u\n", (unsigned)net_base_rand_source_port(&state));
 }
@@ -121,6 +119,6 @@ int main(void) {
     use_ring();
     use_packets();
     use_receiver();
-    use_time();
+    use_random_words();
     return 0;
 }

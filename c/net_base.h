@@ -9,9 +9,6 @@
  *     enqueue_span, dequeue_span, rewind_if_empty
  *   `net_base_ring_`: allocated, unallocated, read_allocated, write_unallocated, enqueue, dequeue,
  *     drop_last
- * - A queue between an interrupt and a program, or two threads, which neither masks nor waits; for
- *   bytes through a UART alone a ring of a power of two is quicker (docs/C.md):
- *   `net_base_split_ring_`: is_sound, free, queued
  * - Packets in the order of their arrival:
  *   `net_base_packets_`: init, is_sound, enqueue, shorten_last, peek, dequeue, take_slot
  * - A packet out of its fragments, and its checksum:
@@ -34,27 +31,9 @@
  *   `net_base_sequence_number_`: position
  *   `net_base_tcp_`: scale_for, scaled
  *   `net_base_answer_limit_`: init, allows
- * - Parts of an end of other rules, which nobody needs beside these two: what is received, SACK
- *   blocks:
+ * - A stream's receiver alone, for other rules of what is announced and acknowledged, as QUIC has:
  *   `net_base_finite_receiver_`: init, is_sound, segment, read, remove, can_end, count_new,
  *     window_end
- *   `net_base_receiver_`: is_sound, next, window, peek_slice, newest_runs, run_at
- * - Parts of an end of other rules: what is sent, what is lost:
- *   `net_base_finite_sender_`: init, is_sound, write, close, send_at, peek_at, mark_sent,
- *     acknowledge, is_block, first_number, numbers_end
- *   `net_base_finite_sender_`: is_closed, is_closed_and_acknowledged
- *   `net_base_scoreboard_`: init, is_sound, report, acknowledge, lost_below, next_hole, contains,
- *     highest_reported, count_beyond
- * - Parts of an end of other rules: windows, segments that aren't acceptable:
- *   `net_base_advertised_window_`: init, announce, announce_in_steps, is_update_due, classify
- *   `net_base_peer_window_`: init, update, usable, send_limit, is_probe_allowed,
- *     acknowledgement_number
- *   `net_base_tcp_`: classify, is_acknowledgement
- * - Parts of an end of other rules: when to send again:
- *   `net_base_retransmission_timer_`: init, timeout, expires_at, sent, acknowledged, reported,
- *     expire, take_sample, start, stop
- * - Time:
- *   `net_base_instant_`: saturating_add, distance
  * - Sets of positions:
  *   `net_base_assembler_`: init, is_sound, add, add_then_remove_front, remove_front, peek_front,
  *     shift, contains, run_at, hole_at
@@ -77,8 +56,8 @@
  *
  * Fields of a head may be read: `length` is how many elements are queued, `used` how many runs are
  * stored. `start` and `end` of a stored run are offsets from `first_start` of the head, so the
- * first one starts at 0. A run that a call returns is counted from position 0 of the assembler, or
- * has positions of the receiver's stream.
+ * first one starts at 0. A run that a call returns is counted from position 0 of the assembler, and
+ * a block has positions of the stream.
  *
  * Duties
  *
@@ -94,9 +73,7 @@
  * 2. What a call may write overlaps nothing else that it is passed.
  * 3. Two calls that share memory aren't made at once, in threads or in an interrupt and what it
  *    interrupts, unless both take it by `const`. So mask the interrupt around each call, with what
- *    copies its elements, and around what reads fields. Calls of a ring of two counts,
- *    `net_base_split_ring_..`, share none. There each end alone stores its own count, with release,
- *    once it has written or read elements; before that it loads the other's, with acquire.
+ *    copies its elements, and around what reads fields.
  * 4. There is stack enough for a call.
  * 5. A storage, its runs and its slots have the same lengths in each call on a head.
  * 6. A head, its runs and its slots are written by calls of its own kind alone, those of a finite
@@ -126,12 +103,10 @@
  *
  * - moments and lengths of time: `+`, `-`, `*`, `<` on `int64_t` and `uint64_t`. A moment plus or
  *   minus a length is cast to `int64_t`. Where it may not fit, write `__builtin_add_overflow` and
- *   the like, or call `net_base_instant_..`
+ *   the like. A moment is later than an earlier one by `(uint64_t)later - (uint64_t)earlier`
  * - sequence numbers: they are added and subtracted as `uint32_t`, and one is later if
  *   `(int32_t)(later - number) > 0`
  * - the payload of each fragment but the last: `(mtu - header) & ~7`
- * - the sample of a segment that was sent once: the moment of its acknowledgement less that of its
- *   sending, at least 0
  * - a word of a pseudo-header in a sum: its high byte and its low byte, to `net_base_parts_sum_add`
  * - whether two assemblers have the same positions: both numbers of the heads, and the runs in use,
  *   are equal
@@ -163,14 +138,14 @@
 /** The number of this interface. It is in the name that each function is linked by, so that no
  * library of another version links or loads.
  */
-#define NET_BASE_INTERFACE 4
+#define NET_BASE_INTERFACE 5
 /** @cond */
 #ifdef NET_BASE_PLAIN_NAMES
 #define NET_BASE_LINK(name)
 #else
 #define NET_BASE_TEXT(text) #text
 #define NET_BASE_LABEL(before, name) __asm__(NET_BASE_TEXT(before) name)
-#define NET_BASE_LINK(name) NET_BASE_LABEL(__USER_LABEL_PREFIX__, "net_base_4_" #name)
+#define NET_BASE_LINK(name) NET_BASE_LABEL(__USER_LABEL_PREFIX__, "net_base_5_" #name)
 #endif
 /** @endcond */
 
@@ -250,14 +225,6 @@ enum NET_BASE_32_BITS net_base_segment_status {
     NET_BASE_SEGMENT_REFUSED = 2,
 };
 
-/** Whether a hole was looked for: `DONE` or `REFUSED`. */
-enum NET_BASE_32_BITS net_base_hole_status {
-    /** The call was done. */
-    NET_BASE_HOLE_DONE = 0,
-    /** What was passed is nonsense. Nothing changes. */
-    NET_BASE_HOLE_REFUSED = 2,
-};
-
 /** What to do with a segment that arrives: `TAKE`, `ACKNOWLEDGEMENT_ONLY`, `ANSWER`, `IGNORE`,
  * `RESET`; `REFUSED` for null alone.
  */
@@ -276,20 +243,6 @@ enum NET_BASE_32_BITS net_base_arrival_status {
     NET_BASE_ARRIVAL_RESET = 10,
     /** What was passed is nonsense. Nothing changes. */
     NET_BASE_ARRIVAL_REFUSED = 2,
-};
-
-/** What is due: `DONE`, `PROBE` or `TIMEOUT`; `REFUSED` for null alone. */
-enum NET_BASE_32_BITS net_base_expiry_status {
-    /** Nothing is due, and nothing changes. */
-    NET_BASE_EXPIRY_DONE = 0,
-    /** No answer has come in time: find what is overdue, and send a probe if nothing of it may be
-     * sent.
-     */
-    NET_BASE_EXPIRY_PROBE = 11,
-    /** The timeout has passed: all that was sent and isn't acknowledged is lost. */
-    NET_BASE_EXPIRY_TIMEOUT = 12,
-    /** What was passed is nonsense. Nothing changes. */
-    NET_BASE_EXPIRY_REFUSED = 2,
 };
 
 /** What became of an acknowledgement: `DONE`, `OLD`, `ANSWER` or `REFUSED`. */
@@ -518,77 +471,6 @@ NET_BASE_MUST_USE size_t net_base_ring_enqueue_one(
  */
 NET_BASE_MUST_USE size_t net_base_ring_dequeue_one(
     struct net_base_ring *place, size_t capacity) NET_BASE_LINK(ring_dequeue_one);
-
-/** @} */
-
-/** @defgroup net_base_split_ring Rings whose two ends have a count each
- *
- * Rings whose two ends have a count each: where elements are in a storage that the caller keeps,
- * beside two counts of its own.
- *
- * @{
- */
-
-/** The two counts of a ring, as one of its ends knows them: its own, and the other's as it last
- * loaded it.
- *
- * Both counts are 0 at first. The end that writes elements alone stores `written`, and the end
- * that reads them `taken`, each once it has written or read what a span says: the `next` of that
- * span, or of one of fewer elements by the same counts. The order of memory is the caller's duty:
- * for each call an end loads the other's count by `memory_order_acquire`, and stores its own by
- * `memory_order_release`. Between an interrupt and what it interrupts on one processor
- * `memory_order_relaxed` is enough, with `atomic_signal_fence` of the same order after the load
- * and before the store. A `known` is loaded for each call anew, and none is older than the one
- * before it, as C's atomics have it.
- *
- * What one end was lent stays as it is and where it is until that end stores its next count,
- * whatever the other does: DMA may hold it.
- */
-struct net_base_split_counts {
-    /** How many elements were written, modulo twice the capacity. */
-    size_t written;
-    /** How many elements were taken, modulo twice the capacity. */
-    size_t taken;
-};
-
-/** The elements that one end may write or read, and its count after them. An end that wrote or read
- * fewer of them stores the count that it gets for so many, by the same counts.
- */
-struct net_base_split_span {
-    /** Where they are. */
-    struct net_base_span span;
-    /** The count that the end stores once it has written or read them. */
-    size_t next;
-};
-
-/** Returns whether the counts are those of a ring of `capacity` elements: twice the capacity is a
- * `size_t`, each count is below it, or 0, and at most `capacity` elements were written and not
- * taken.
- */
-NET_BASE_MUST_USE bool net_base_split_ring_is_sound(
-    struct net_base_split_counts known, size_t capacity) NET_BASE_LINK(split_ring_is_sound);
-
-/** Returns where the end that writes may write at most `size` elements, and the count to store once
- * it has.
- *
- * It is refused if the counts of `known` aren't those of a ring of `capacity` elements: `from` is
- * `NET_BASE_NONE`, `count` and `contiguous` are 0, and `next` is `known.written`, which may be
- * stored.
- */
-NET_BASE_MUST_USE struct net_base_split_span net_base_split_ring_free(
-    struct net_base_split_counts known, size_t capacity, size_t size)
-    NET_BASE_LINK(split_ring_free);
-
-/** Returns where the end that reads finds at most `size` elements, and the count to store once it
- * has read them.
- *
- * It is refused if the counts of `known` aren't those of a ring of `capacity` elements: `from` is
- * `NET_BASE_NONE`, `count` and `contiguous` are 0, and `next` is `known.taken`, which may be
- * stored.
- */
-NET_BASE_MUST_USE struct net_base_split_span net_base_split_ring_queued(
-    struct net_base_split_counts known, size_t capacity, size_t size)
-    NET_BASE_LINK(split_ring_queued);
 
 /** @} */
 
@@ -1000,20 +882,16 @@ NET_BASE_MUST_USE bool net_base_fragments_complete(
 
 /** @} */
 
-/** @defgroup net_base_receiver What the receiver of a stream that ends has of the bytes, and the
- * calls that look at it
+/** @defgroup net_base_finite_receiver Receivers of a stream of bytes, which ends or not
  *
- * What the receiver of a stream that ends has of the bytes, and the calls that look at it.
+ * Receivers of a stream of bytes, which ends or not. The end is the position after the last byte.
+ * It has a number, as TCP's FIN has, and needs no room. It is known once a segment has said so; a
+ * stream whose segments never say so doesn't end.
  *
  * @{
  */
 
-/** What a receiver has besides its storage and its held runs: numbers.
- *
- * The queue is the ring of `place`. The first missing position is `first`, plus the bytes read,
- * plus those queued. The held runs are those of the assembler `held`, whose position 0 is that
- * position: the first of them starts `held.first_start` after it.
- */
+/** What a receiver has besides its storage and its held runs: numbers. */
 struct net_base_receiver {
     /** The position of the stream's first byte. */
     uint64_t first;
@@ -1025,233 +903,13 @@ struct net_base_receiver {
     struct net_base_assembler held;
 };
 
-/** A held run, by absolute positions: from `start` on, up to `end`, which is not included. */
-struct net_base_held_run {
-    /** The first position. */
-    uint64_t start;
-    /** The position after the last one. */
-    uint64_t end;
-};
-
-/** Returns whether this head, a storage of `capacity` bytes and runs are sound: `place` is that of
- * a ring of the storage, whose `read_at` is `count_read` modulo the capacity; the first missing
- * position fits 64 bits; `held` and the runs are those of an assembler without position 0; and
- * each held position is in the free window, and the one after it fits 64 bits. It looks at each
- * held run, and at no byte.
- */
-NET_BASE_MUST_USE bool net_base_receiver_is_sound(
-    const struct net_base_receiver *receiver, size_t capacity, const struct net_base_run *runs,
-    size_t runs_length) NET_BASE_LINK(receiver_is_sound);
-
-/** Writes to `next` the first missing position: the first position, plus the count of bytes read,
- * plus those queued.
- *
- * It is refused if `next` doesn't fit 64 bits: false, and nothing changes.
- */
-NET_BASE_MUST_USE bool net_base_receiver_next(
-    const struct net_base_receiver *NET_BASE_RESTRICT receiver, uint64_t *NET_BASE_RESTRICT next)
-    NET_BASE_LINK(receiver_next);
-
-/** Returns the window, where the storage has `capacity` bytes: how many bytes have room after the
- * queue, held ones among them.
- *
- * It is refused if `capacity` is `NET_BASE_NONE`, or if more than `capacity` elements are queued:
- * `NET_BASE_NONE`.
- */
-NET_BASE_MUST_USE size_t net_base_receiver_window(
-    const struct net_base_receiver *receiver, size_t capacity) NET_BASE_LINK(receiver_window);
-
-/** Copies bytes from the head of the queue to the beginning of `into`, and returns how many: as
- * many as are queued and as `into` has room for. The rest of `into` stays as it is, and the queue
- * too.
- *
- * It is refused if `receiver.place` isn't that of a ring of `storage_length` elements:
- * `NET_BASE_NONE`, and nothing changes.
- */
-NET_BASE_MUST_USE size_t net_base_receiver_peek_slice(
-    const struct net_base_receiver *NET_BASE_RESTRICT receiver,
-    const uint8_t *NET_BASE_RESTRICT storage, size_t storage_length,
-    uint8_t *NET_BASE_RESTRICT into, size_t into_length) NET_BASE_LINK(receiver_peek_slice);
-
-/** Lists held runs at the beginning of `into`, the newest first, and returns how many: as many as
- * are held, or as `into` has elements. The rest of `into` stays as it is.
- *
- * The first is the run that has `position`, that of the segment just taken, if it is held; then
- * come the runs that have the positions in `recent`, in their order, and then the others, in
- * rising order; each comes once. The call writes the starts of the runs that it lists to the
- * beginning of `recent`, as many as there is room for. The caller sets `recent` to zeros before
- * the first call, and doesn't change it afterwards. It is enough if `recent` and `into` have as
- * many elements in each call as the longest acknowledgement has SACK blocks; a shorter one has the
- * first of them. RFC 2018, section 4, wants this order. Each run that is listed is found by a
- * search.
- *
- * It is refused if `next` doesn't fit 64 bits, or `held.used` is above `runs_length`:
- * `NET_BASE_NONE`, and nothing changes.
- *
- * Requires: head and runs are sound, as `net_base_receiver_is_sound` tests.
- */
-NET_BASE_MUST_USE size_t net_base_receiver_newest_runs(
-    const struct net_base_receiver *NET_BASE_RESTRICT receiver,
-    const struct net_base_run *NET_BASE_RESTRICT runs, size_t runs_length, uint64_t position,
-    uint64_t *NET_BASE_RESTRICT recent, size_t recent_length,
-    struct net_base_held_run *NET_BASE_RESTRICT into, size_t into_length)
-    NET_BASE_LINK(receiver_newest_runs);
-
-/** Returns the held run with number `index`, counted from 0 in rising order. If there are no more
- * than `index`, start and end are 0.
- *
- * If `next` doesn't fit 64 bits, or `held.used` is above `runs_length`, it is refused: start and
- * end are `UINT64_MAX`.
- *
- * Requires: head and runs are sound, as `net_base_receiver_is_sound` tests.
- */
-NET_BASE_MUST_USE struct net_base_held_run net_base_receiver_run_at(
-    const struct net_base_receiver *receiver, const struct net_base_run *runs, size_t runs_length,
-    size_t index) NET_BASE_LINK(receiver_run_at);
-
-/** @} */
-
-/** @defgroup net_base_scoreboard Scoreboards
- *
- * Scoreboards: what a sender knows of the positions that the other end has, in runs that the
- * caller keeps.
- *
- * @{
- */
-
-/** What a scoreboard has besides its runs.
- *
- * A head of zeros is new, of a stream that begins at position 0: all positions below `base` count
- * as reported. At most as many runs are stored, beyond the first position that wasn't reported, as
- * the slice has elements. Each call but `net_base_scoreboard_init` looks at each run, and refuses
- * a scoreboard that isn't sound.
- */
-struct net_base_scoreboard {
-    /** The first position that wasn't reported. */
-    uint64_t base;
-    /** The positions beyond that were, counted from `base`: the head of an assembler. */
-    struct net_base_assembler reported;
-};
-
-/** A range of positions that weren't reported, and whether the call was done. */
-struct net_base_hole {
-    /** `NET_BASE_HOLE_DONE` or `NET_BASE_HOLE_REFUSED`. */
-    enum net_base_hole_status status;
-    /** The first position; 0 if the call was refused. */
-    uint64_t start;
-    /** The position after the last one; 0 if the call was refused. */
-    uint64_t end;
-};
-
-/** Makes `scoreboard` a scoreboard of a stream that begins at position `first`, to which nothing
- * was reported, whatever its runs. All positions below `first` count as reported.
- */
-void net_base_scoreboard_init(
-    struct net_base_scoreboard *scoreboard, uint64_t first) NET_BASE_LINK(scoreboard_init);
-
-/** Returns whether the scoreboard is sound with these runs, for any numbers in both: `reported` and
- * they are those of an assembler, `base` isn't reported, and each end fits 64 bits. It looks at
- * each used run.
- */
-NET_BASE_MUST_USE bool net_base_scoreboard_is_sound(
-    const struct net_base_scoreboard *scoreboard, const struct net_base_run *runs,
-    size_t runs_length) NET_BASE_LINK(scoreboard_is_sound);
-
-/** Reports the positions from `start` on and below `end`, as a SACK block of an acknowledgement
- * does. Blocks may overlap. Positions below `base` are known already. `sent` is the position after
- * the last byte that was ever sent.
- *
- * Returns `NET_BASE_ROOM_REFUSED`, and changes nothing, if no such block can be: `start` isn't
- * below `end`, `end` is above `sent`, or the block begins beyond `base` and ends 2^32 or more
- * above it, while TCP's numbers have 32 bits.
- *
- * Returns `NET_BASE_ROOM_TOO_MANY_RUNS`, and changes nothing, if such a block can be, it begins
- * beyond `base`, and there would be more runs than the slice has elements. Then the block isn't
- * known, and its bytes are sent again.
- *
- * It is refused if `scoreboard` isn't sound with `runs`: `NET_BASE_ROOM_REFUSED`, and nothing
- * changes.
- */
-NET_BASE_MUST_USE enum net_base_room_status net_base_scoreboard_report(
-    struct net_base_scoreboard *NET_BASE_RESTRICT scoreboard,
-    struct net_base_run *NET_BASE_RESTRICT runs, size_t runs_length, uint64_t start, uint64_t end,
-    uint64_t sent) NET_BASE_LINK(scoreboard_report);
-
-/** Reports all positions below `next`, whatever the number of runs.
- *
- * It is refused if `scoreboard` isn't sound with `runs`: false, and nothing changes.
- */
-NET_BASE_MUST_USE bool net_base_scoreboard_acknowledge(
-    struct net_base_scoreboard *NET_BASE_RESTRICT scoreboard,
-    struct net_base_run *NET_BASE_RESTRICT runs, size_t runs_length, uint64_t next)
-    NET_BASE_LINK(scoreboard_acknowledge);
-
-/** Returns whether `position` was reported.
- *
- * It is refused if `scoreboard` isn't sound with `runs`: false.
- */
-NET_BASE_MUST_USE bool net_base_scoreboard_contains(
-    const struct net_base_scoreboard *scoreboard, const struct net_base_run *runs,
-    size_t runs_length, uint64_t position) NET_BASE_LINK(scoreboard_contains);
-
-/** Returns the next range that wasn't reported, as a start and an end: it begins at the first
- * position from `position` on that wasn't reported, and ends at the next one that was, or at
- * `limit`. If there is none below `limit`, both are `limit`. Most of it may be in flight:
- * `net_base_scoreboard_lost_below` gives the limit of what is lost.
- *
- * It is refused if `scoreboard` isn't sound with `runs`: the status is `NET_BASE_HOLE_REFUSED`,
- * and start and end 0.
- */
-NET_BASE_MUST_USE struct net_base_hole net_base_scoreboard_next_hole(
-    const struct net_base_scoreboard *scoreboard, const struct net_base_run *runs,
-    size_t runs_length, uint64_t position, uint64_t limit) NET_BASE_LINK(scoreboard_next_hole);
-
-/** Writes to `end` the position after the last one that was reported; 0 if none was.
- *
- * It is refused if `scoreboard` isn't sound with `runs`: false, and nothing changes.
- */
-NET_BASE_MUST_USE bool net_base_scoreboard_highest_reported(
-    const struct net_base_scoreboard *NET_BASE_RESTRICT scoreboard,
-    const struct net_base_run *NET_BASE_RESTRICT runs, size_t runs_length,
-    uint64_t *NET_BASE_RESTRICT end) NET_BASE_LINK(scoreboard_highest_reported);
-
-/** Returns how many positions were reported beyond the first one that wasn't, which is `base`.
- *
- * It is refused if `scoreboard` isn't sound with `runs`: `NET_BASE_NONE`.
- */
-NET_BASE_MUST_USE size_t net_base_scoreboard_count_beyond(
-    const struct net_base_scoreboard *scoreboard, const struct net_base_run *runs,
-    size_t runs_length) NET_BASE_LINK(scoreboard_count_beyond);
-
-/** Writes to `limit` the position below which all that wasn't reported is lost, by the rule of RFC
- * 6675, section 4: from it on `duplicates` runs were reported (3 in TCP; 0 counts as 1), or more
- * bytes than `duplicates - 1` segments of `segment_size` bytes have. It is the start of a run, the
- * last one of which this is so, or 0 if nothing is lost. A run counts as above a position if it
- * begins above it; of a position that wasn't reported that is the RFC's rule exactly, by law
- * `losses` of `net_receiver`.
- *
- * It is refused if `scoreboard` isn't sound with `runs`: false, and nothing changes.
- */
-NET_BASE_MUST_USE bool net_base_scoreboard_lost_below(
-    const struct net_base_scoreboard *NET_BASE_RESTRICT scoreboard,
-    const struct net_base_run *NET_BASE_RESTRICT runs, size_t runs_length, size_t duplicates,
-    size_t segment_size, uint64_t *NET_BASE_RESTRICT limit) NET_BASE_LINK(scoreboard_lost_below);
-
-/** @} */
-
-/** @defgroup net_base_finite_receiver Receivers of a stream of bytes, which ends or not
- *
- * Receivers of a stream of bytes, which ends or not. The end is the position after the last byte.
- * It has a number, as TCP's FIN has, and needs no room. It is known once a segment has said so; a
- * stream whose segments never say so doesn't end.
- *
- * @{
- */
-
 /** What a receiver of a stream that ends has besides its storage and its held runs: numbers.
  *
- * A head of zeros is new, of a stream that begins at position 0. The calls of a receiver look at
- * `receiver`.
+ * A head of zeros is new, of a stream that begins at position 0. The queue is the ring of
+ * `receiver.place`, at which `net_base_ring_read_allocated` and `net_base_ring_allocated` look;
+ * the rest of the storage is free. The first missing position is `receiver.first`, plus the bytes
+ * read, plus those queued. The held runs are those of the assembler `receiver.held`, whose
+ * position 0 is that position: `net_base_assembler_run_at` counts from there.
  */
 struct net_base_finite_receiver {
     /** The receiver of the bytes. */
@@ -1402,11 +1060,12 @@ NET_BASE_MUST_USE bool net_base_finite_receiver_window_end(
 
 /** @} */
 
-/** @defgroup net_base_finite_sender Senders of a stream of bytes, which ends or not
+/** @defgroup net_base_finite_sender Senders of a stream of bytes, which ends or not, as a sending
+ * end has one
  *
- * Senders of a stream of bytes, which ends or not. Once one is closed nothing can be written, and
- * the end has the number after the last byte's: it is sent and acknowledged as a byte is, and
- * takes no room.
+ * Senders of a stream of bytes, which ends or not, as a sending end has one. Once one is closed
+ * nothing can be written, and the end has the number after the last byte's: it is sent and
+ * acknowledged as a byte is, and takes no room.
  *
  * @{
  */
@@ -1421,9 +1080,8 @@ struct net_base_sender {
 
 /** What a sender of a stream that ends has besides its storage: numbers.
  *
- * A head of zeros is new, of a stream that begins at position 0. The queue, of bytes that are not
- * acknowledged, is the ring of `sender.place`. What SACK blocks report is kept in a scoreboard. A
- * number is kept for the end.
+ * The queue, of bytes that are not acknowledged, is the ring of `sender.place`. A number is kept
+ * for the end.
  */
 struct net_base_finite_sender {
     /** The sender of the bytes. */
@@ -1436,54 +1094,8 @@ struct net_base_finite_sender {
     uint64_t sent;
 };
 
-/** Where the bytes of a segment are, and whether it ends the stream. */
-struct net_base_segment_span {
-    /** The index of the first byte; `NET_BASE_NONE` if the call was refused. */
-    size_t from;
-    /** How many bytes are queued from the segment's position on, below its limit. */
-    size_t count;
-    /** How many of these are contiguous in the storage: the bytes of the segment. */
-    size_t contiguous;
-    /** Whether the segment ends the stream. */
-    bool is_last;
-};
-
-/** Makes `sender` the head of a sender of a stream that begins at position `first`; nothing was
- * written. It is sound for every storage.
- *
- * It is refused if `first` is `UINT64_MAX`: false, and nothing changes.
- */
-NET_BASE_MUST_USE bool net_base_finite_sender_init(
-    struct net_base_finite_sender *sender, uint64_t first) NET_BASE_LINK(finite_sender_init);
-
-/** Returns whether this head is sound for a storage of `capacity` bytes: `sender.place` is that of
- * a ring of as many; `closed` and `finished` are 0 or 1, and `finished` is 1 only if `closed` is
- * and the queue is empty; and `sent` is from the first number that isn't acknowledged up to the
- * number after the last one, which fits 64 bits.
- */
-NET_BASE_MUST_USE bool net_base_finite_sender_is_sound(
-    const struct net_base_finite_sender *sender, size_t capacity)
-    NET_BASE_LINK(finite_sender_is_sound);
-
-/** Writes to `number` the first number that isn't acknowledged.
- *
- * It is refused if the number doesn't fit 64 bits: false, and nothing changes.
- */
-NET_BASE_MUST_USE bool net_base_finite_sender_first_number(
-    const struct net_base_finite_sender *NET_BASE_RESTRICT sender,
-    uint64_t *NET_BASE_RESTRICT number) NET_BASE_LINK(finite_sender_first_number);
-
-/** Writes to `number` the number after the last byte's, and after the end's once the sender is
- * closed.
- *
- * It is refused if the number doesn't fit 64 bits: false, and nothing changes.
- */
-NET_BASE_MUST_USE bool net_base_finite_sender_numbers_end(
-    const struct net_base_finite_sender *NET_BASE_RESTRICT sender,
-    uint64_t *NET_BASE_RESTRICT number) NET_BASE_LINK(finite_sender_numbers_end);
-
-/** Returns how many bytes `net_base_finite_sender_write` would take: none once the sender is
- * closed. The number 2^64 - 2 is kept for the end, which has one after it.
+/** Returns how many bytes `net_base_sending_end_write` would take: none once the sender is closed.
+ * The number 2^64 - 2 is kept for the end, which has one after it.
  *
  * It is refused if `capacity` is `NET_BASE_NONE`, or if `sender` isn't that of a sender over
  * `capacity` bytes: `NET_BASE_NONE`.
@@ -1491,145 +1103,14 @@ NET_BASE_MUST_USE bool net_base_finite_sender_numbers_end(
 NET_BASE_MUST_USE size_t net_base_finite_sender_room(
     const struct net_base_finite_sender *sender, size_t capacity) NET_BASE_LINK(finite_sender_room);
 
-/** Enqueues the first of these bytes, as many as `net_base_finite_sender_room` says, and returns
- * how many. Unless the sender is closed, an empty queue is rewound before, also for no bytes.
- *
- * It is refused if `sender` isn't that of a sender over `storage_length` bytes: `NET_BASE_NONE`,
- * and nothing changes.
- */
-NET_BASE_MUST_USE size_t net_base_finite_sender_write(
-    struct net_base_finite_sender *NET_BASE_RESTRICT sender, uint8_t *NET_BASE_RESTRICT storage,
-    size_t storage_length, const uint8_t *NET_BASE_RESTRICT bytes, size_t bytes_length)
-    NET_BASE_LINK(finite_sender_write);
-
-/** Ends the stream after what was written. A second call changes nothing. */
-void net_base_finite_sender_close(
-    struct net_base_finite_sender *sender) NET_BASE_LINK(finite_sender_close);
-
-/** Returns where the bytes of a segment from `position` on are, none if the byte at `position`
- * isn't queued, and whether the segment ends the stream: the sender is closed, and the bytes end
- * where it does. Its numbers, the end's among them, are below `limit`: the end of the window is
- * one, and `position` plus the segment size another. A segment at `position` without bytes that
- * ends the stream is the end alone.
- *
- * It is refused if `sender` isn't that of a sender over `capacity` bytes: `from` is
- * `NET_BASE_NONE`, `count` and `contiguous` are 0, `is_last` is false.
- */
-NET_BASE_MUST_USE struct net_base_segment_span net_base_finite_sender_peek_at(
-    const struct net_base_finite_sender *sender, size_t capacity, uint64_t position, uint64_t limit)
-    NET_BASE_LINK(finite_sender_peek_at);
-
-/** Returns what `net_base_finite_sender_peek_at` does, and notes that the segment was sent: `sent`
- * is the number after its last one, the end's counted, unless that is below. It changes nothing if
- * the segment has no number.
- *
- * It is refused if `sender` isn't that of a sender over `capacity` bytes: `from` is
- * `NET_BASE_NONE`, `count` and `contiguous` are 0, `is_last` is false, and nothing changes.
- */
-NET_BASE_MUST_USE struct net_base_segment_span net_base_finite_sender_send_at(
-    struct net_base_finite_sender *sender, size_t capacity, uint64_t position, uint64_t limit)
-    NET_BASE_LINK(finite_sender_send_at);
-
-/** Notes that all numbers below `position` were sent, the end's among them if `position` is past
- * it. Returns false, and changes nothing, if `position` is above
- * `net_base_finite_sender_numbers_end`.
- *
- * It is refused if `sender` isn't that of a sender over `capacity` bytes: false, and nothing
- * changes.
- */
-NET_BASE_MUST_USE bool net_base_finite_sender_mark_sent(
-    struct net_base_finite_sender *sender, size_t capacity, uint64_t position)
-    NET_BASE_LINK(finite_sender_mark_sent);
-
-/** Drops the bytes below `next`, and notes that the end is acknowledged if `next` is past it.
- * Returns false, and changes nothing, if `next` is below `net_base_finite_sender_first_number` or
- * above what was sent.
- *
- * It is refused if `sender` isn't that of a sender over `capacity` bytes: false, and nothing
- * changes.
- */
-NET_BASE_MUST_USE bool net_base_finite_sender_acknowledge(
-    struct net_base_finite_sender *sender, size_t capacity, uint64_t next)
-    NET_BASE_LINK(finite_sender_acknowledge);
-
-/** Returns whether a SACK block can be right: it has a number, and none above those that were sent,
- * of which the end's is one.
- */
-NET_BASE_MUST_USE bool net_base_finite_sender_is_block(
-    const struct net_base_finite_sender *sender, uint64_t start, uint64_t end)
-    NET_BASE_LINK(finite_sender_is_block);
-
-/** Returns whether the sender is closed. */
-NET_BASE_MUST_USE bool net_base_finite_sender_is_closed(
-    const struct net_base_finite_sender *sender) NET_BASE_LINK(finite_sender_is_closed);
-
-/** Returns whether all bytes and the end are acknowledged. Once it is so it stays so. */
-NET_BASE_MUST_USE bool net_base_finite_sender_is_closed_and_acknowledged(
-    const struct net_base_finite_sender *sender)
-    NET_BASE_LINK(finite_sender_is_closed_and_acknowledged);
-
 /** @} */
 
 /** @defgroup net_base_tcp What a TCP computes
  *
- * What a TCP computes: acceptable segments, the scale of its window, the Internet checksum.
+ * What a TCP computes: the scale of its window, the Internet checksum.
  *
  * @{
  */
-
-/** The positions and the flags of an arriving segment. */
-struct net_base_segment {
-    /** The position of its first byte, or of its SYN. */
-    uint64_t seq;
-    /** How many positions it has: its bytes, and one each for a SYN and a FIN. */
-    uint64_t len;
-    /** Whether its flag SYN is set. */
-    bool syn;
-    /** Whether its flag ACK is set. */
-    bool ack;
-    /** Whether its flag RST is set. */
-    bool rst;
-};
-
-/** What a sender sent of its stream, and what was acknowledged: the numbers that RFC 9293 calls
- * SND.UNA and SND.NXT, as positions.
- */
-struct net_base_sent_numbers {
-    /** The first number that isn't acknowledged. */
-    uint64_t first_unacknowledged;
-    /** The number after the last one that was sent. */
-    uint64_t sent;
-};
-
-/** Returns what to do with a segment, for a receiver whose first missing position is `next`, which
- * announced `window` positions from there on, and never more than `greatest_window`: its capacity
- * will do. It is as RFC 9293, section 3.10.7.4, has it, but for what follows. Resets and SYNs are
- * answered as RFC 5961 has it: a reset counts only at `next`.
- *
- * No position is in a window that is shut. Of a segment with positions that begins at `next` then,
- * as a probe does, the acknowledgement is taken all the same: otherwise two ends that both fill
- * the other's window never hear of one another. So it is of a segment without positions whose
- * number is below `next`, by `greatest_window` at most, and by one if that is 0. No honest peer's
- * number is below that: it is not below what was acknowledged to the peer, which has no more than
- * such a window on the way, or a probe. If all of the window is on the way, and some of it is
- * missing, its number is the one after the window: that is taken too. By law `acknowledgements` no
- * other number is needed. Otherwise two ends whose acknowledgements were lost, or came in another
- * order, may refuse one another's for ever, and answer each.
- *
- * Whether a segment may acknowledge what it does is tested afterwards, by
- * `net_base_tcp_is_acknowledgement`.
- */
-NET_BASE_MUST_USE enum net_base_arrival_status net_base_tcp_classify(
-    uint64_t next, uint64_t window, uint64_t greatest_window,
-    const struct net_base_segment *segment) NET_BASE_LINK(tcp_classify);
-
-/** Returns whether a segment may acknowledge `ack`: it isn't above what was sent, nor below the
- * first unacknowledged position by more than the greatest window that the peer ever announced (RFC
- * 5961, section 5). If it may not, nothing of the segment is taken, and it is answered.
- */
-NET_BASE_MUST_USE bool net_base_tcp_is_acknowledgement(
-    const struct net_base_sent_numbers *numbers, uint64_t greatest_window, uint64_t ack)
-    NET_BASE_LINK(tcp_is_acknowledgement);
 
 /** Returns the least scale by which this capacity, rounded down to a unit, can be announced, or 14
  * if none can.
@@ -1651,322 +1132,6 @@ uint16_t net_base_tcp_updated_checksum(
 
 /** @} */
 
-/** @defgroup net_base_advertised_window What a receiver has announced
- *
- * What a receiver has announced.
- *
- * @{
- */
-
-/** What a receiver has announced: how far its promise reaches.
- *
- * A head of zeros is new, before the stream's byte at position 0: nothing was announced.
- */
-struct net_base_advertised_window {
-    /** The position after the last one that was ever promised. */
-    uint64_t edge;
-};
-
-/** Makes `advertised` a window of which nothing was announced, before the byte at `first`. */
-void net_base_advertised_window_init(
-    struct net_base_advertised_window *advertised, uint64_t first)
-    NET_BASE_LINK(advertised_window_init);
-
-/** Returns what to do with a segment, as `net_base_tcp_classify` says, in the window that was
- * announced: from `next`, the first missing position, up to the edge, whatever is free now. No
- * window is greater than the receiver's capacity.
- */
-NET_BASE_MUST_USE enum net_base_arrival_status net_base_advertised_window_classify(
-    const struct net_base_advertised_window *advertised, uint64_t next, uint64_t capacity,
-    const struct net_base_segment *segment) NET_BASE_LINK(advertised_window_classify);
-
-/** Returns the number to announce, in units of 2^`scale`, if `next` is the first missing position
- * and `window_end` the end of the free room: the greatest that doesn't promise more than there is.
- * In a segment with a SYN the scale is 0. A scale above 14 counts as 14 (RFC 7323, section 2.3).
- *
- * No number keeps a promise whose rest is not a multiple of the unit, unless there is room up to
- * the next multiple: at one scale the number may then be less than what was promised, by less than
- * a unit. What was promised is still acceptable, and `edge` stays.
- *
- * If the window ends before `next`, there is no room, as where the storage is full and the end,
- * which has a number, is acknowledged.
- */
-uint16_t net_base_advertised_window_announce(
-    struct net_base_advertised_window *advertised, uint8_t scale, uint64_t next,
-    uint64_t window_end) NET_BASE_LINK(advertised_window_announce);
-
-/** Returns the number to announce in a segment that is sent anyway, as
- * `net_base_advertised_window_announce` does, but moves the edge beyond `next` only if an update
- * would be due: otherwise it announces what was promised before, rounded down. So the edge grows
- * by what is worth an update, or only up to `next` (RFC 9293, section 3.8.6.2.2).
- */
-uint16_t net_base_advertised_window_announce_in_steps(
-    struct net_base_advertised_window *advertised, uint8_t scale, uint64_t next,
-    uint64_t window_end, uint64_t capacity, uint16_t mss)
-    NET_BASE_LINK(advertised_window_announce_in_steps);
-
-/** Returns whether an update is worth a segment of its own: whether the edge would move, from where
- * it is, below `next` too, by half of the receiver's capacity, rounded up, or by one segment of
- * `mss` bytes, and by 1 at least.
- *
- * None is due if the window ends before `next`. Pass such a `window_end`, as 0, once all up to the
- * end is acknowledged: nothing follows that needs room, and a peer that has closed its connection
- * would answer an update by a reset.
- */
-NET_BASE_MUST_USE bool net_base_advertised_window_is_update_due(
-    const struct net_base_advertised_window *advertised, uint8_t scale, uint64_t next,
-    uint64_t window_end, uint64_t capacity, uint16_t mss)
-    NET_BASE_LINK(advertised_window_is_update_due);
-
-/** @} */
-
-/** @defgroup net_base_peer_window The window that the peer announced, and the segment that it is
- * from
- *
- * The window that the peer announced, and the segment that it is from.
- *
- * @{
- */
-
-/** The window that the peer announced, and the segment that it is from. It is kept as its right
- * edge, a position.
- *
- * A head of zeros is that before any segment: nothing may be sent but a probe, and no segment is
- * older.
- */
-struct net_base_peer_window {
-    /** The position after the window's last one. */
-    uint64_t edge;
-    /** The position of the segment that the window is from, by the peer's numbers. */
-    uint64_t seq;
-    /** The position that this segment acknowledged. */
-    uint64_t ack;
-};
-
-/** What a segment announces: the window from the position that it acknowledges on, and the numbers
- * by which its age is told.
- */
-struct net_base_announcement {
-    /** The position of the segment's first byte, in the peer's stream. */
-    uint64_t seq;
-    /** The position that it acknowledges. */
-    uint64_t ack;
-    /** How many bytes may be sent from there on, as `scaled` returns it. */
-    uint64_t window;
-};
-
-/** Makes `peer` the window before any segment: nothing may be sent but a probe, and no segment is
- * older.
- */
-void net_base_peer_window_init(struct net_base_peer_window *peer) NET_BASE_LINK(peer_window_init);
-
-/** Takes over the window of an acceptable segment, unless it acknowledges a position below the
- * first unacknowledged one or above what was sent, or is older than the one before and
- * acknowledges no more. Returns whether it did. A window may shrink.
- *
- * RFC 9293 takes none of an older number. So one forged segment ahead in the window would shut out
- * each later one. It makes no difference whether the sender takes what the segment acknowledges
- * before this call or after it.
- */
-bool net_base_peer_window_update(
-    struct net_base_peer_window *NET_BASE_RESTRICT peer,
-    const struct net_base_sent_numbers *NET_BASE_RESTRICT numbers,
-    const struct net_base_announcement *NET_BASE_RESTRICT it) NET_BASE_LINK(peer_window_update);
-
-/** Returns how many bytes from `position` on may be sent: none if the edge is at or below it, as it
- * may be after the window shrank.
- */
-NET_BASE_MUST_USE uint64_t net_base_peer_window_usable(
-    const struct net_base_peer_window *peer, uint64_t position) NET_BASE_LINK(peer_window_usable);
-
-/** Returns the end of what may be sent of the bytes below `end`. */
-NET_BASE_MUST_USE uint64_t net_base_peer_window_send_limit(
-    const struct net_base_peer_window *peer, uint64_t end) NET_BASE_LINK(peer_window_send_limit);
-
-/** Returns whether a probe may be sent, the one byte at `first_unacknowledged`: the window has
- * closed, and there are bytes below `end` that wait.
- */
-NET_BASE_MUST_USE bool net_base_peer_window_is_probe_allowed(
-    const struct net_base_peer_window *peer, uint64_t first_unacknowledged, uint64_t end)
-    NET_BASE_LINK(peer_window_is_probe_allowed);
-
-/** Returns the number of a segment without positions, as an acknowledgement is: `sent`, or the end
- * of the window if that is below it, or the first unacknowledged position if the window ends
- * before that.
- *
- * A peer whose window is shut takes no number beyond it, though a probe was sent there, nor what
- * such a segment acknowledges.
- */
-NET_BASE_MUST_USE uint64_t net_base_peer_window_acknowledgement_number(
-    const struct net_base_peer_window *peer, const struct net_base_sent_numbers *numbers)
-    NET_BASE_LINK(peer_window_acknowledgement_number);
-
-/** @} */
-
-/** @defgroup net_base_retransmission The time until a retransmission (RFC 6298), and its timer,
- * with the one segment that is timed for a sample
- *
- * The time until a retransmission (RFC 6298), and its timer, with the one segment that is timed
- * for a sample. Lengths of time are in microseconds, and so are moments, of one clock.
- *
- * @{
- */
-
-/** The timer of retransmissions, by the rules of RFC 6298, section 5, and the one segment that is
- * timed for a sample.
- *
- * A timer of zeros is new, of a peer that reports no blocks: there was no sample, the timer
- * doesn't run, no segment is timed, and the timeout is 1 second, which the RFC begins with. Bounds
- * of zeros are the RFC's. A timer that was new, and that these calls alone have changed, has 0 or
- * 1 in each flag and 0 where there is nothing. No call stores 0 as a timeout.
- */
-struct net_base_retransmission_timer {
-    /** Eight times the smoothed time of a round trip. No more than 2^63 of it counts, which samples
-     * don't exceed.
-     */
-    uint64_t srtt_8;
-    /** Four times its variation. No more than 2^62 of it counts. */
-    uint64_t rttvar_4;
-    /** Not 0 once there was a sample. */
-    uint64_t has_estimate;
-    /** The timeout, if `has_timeout` isn't 0; else it is 1 second. */
-    uint64_t timeout;
-    /** Not 0 once `timeout` counts. */
-    uint64_t has_timeout;
-    /** When the timeout passes, while it runs. */
-    int64_t ends_at;
-    /** Not 0 while it runs. */
-    uint64_t is_running;
-    /** When a probe is due, if the timer runs and that is earlier. */
-    int64_t probe_at;
-    /** How long the probe has waited then. The next one waits twice that. */
-    uint64_t wait;
-    /** Not 0 while it waits for an acknowledgement that may be delayed. */
-    uint64_t is_alone;
-    /** The position of the timed segment, if there is one. */
-    uint64_t timed;
-    /** When that was sent. */
-    int64_t timed_since;
-    /** Not 0 while a segment is timed. */
-    uint64_t is_timing;
-    /** Where the last segment begins that had something new. */
-    uint64_t last;
-    /** How often the timeout has passed since anything new was acknowledged or reported. */
-    uint64_t timeouts;
-    /** Not 0 if the peer reports blocks. */
-    uint64_t reports;
-    /** How many samples in a row of one segment alone weren't late, up to 8. */
-    uint64_t prompt;
-};
-
-/** The bounds of a timeout, the tick of the clock that the samples are read from, and how long a
- * peer delays an acknowledgement.
- */
-struct net_base_timeout_bounds {
-    /** The least timeout. 0 counts as 1 second (RFC 6298, 2.4). */
-    uint64_t least;
-    /** The greatest, unless `least` is above it. 0 counts as 60 seconds (2.5). */
-    uint64_t most;
-    /** The time between two ticks of the clock; 0 if it counts each microsecond. */
-    uint64_t tick;
-    /** The longest time for which the peer delays the acknowledgement of one segment: 200,000 for
-     * TCP.
-     */
-    uint64_t ack_delay;
-};
-
-/** Makes `timer` a timer that doesn't run, with a timeout before any sample. In place of 0 it is 1
- * second, which the RFC has. `reports` says whether the peer reports blocks (SACK): if not, no
- * probe is ever due.
- */
-void net_base_retransmission_timer_init(
-    struct net_base_retransmission_timer *timer, uint64_t timeout, bool reports)
-    NET_BASE_LINK(retransmission_timer_init);
-
-/** Returns the timeout: the timer expires as long after it is started. */
-NET_BASE_MUST_USE uint64_t net_base_retransmission_timer_timeout(
-    const struct net_base_retransmission_timer *timer) NET_BASE_LINK(retransmission_timer_timeout);
-
-/** Returns whether the timer runs, and writes to `moment` when it expires, if it does: the earlier
- * of the moments at which the timeout passes and a probe is due.
- */
-NET_BASE_MUST_USE bool net_base_retransmission_timer_expires_at(
-    const struct net_base_retransmission_timer *NET_BASE_RESTRICT timer,
-    int64_t *NET_BASE_RESTRICT moment) NET_BASE_LINK(retransmission_timer_expires_at);
-
-/** Starts the timer, unless it runs, where nothing is on the way: it expires the timeout from `now`
- * on, at `INT64_MAX` if that is above it, and no probe is due.
- */
-void net_base_retransmission_timer_start(
-    struct net_base_retransmission_timer *timer, int64_t now)
-    NET_BASE_LINK(retransmission_timer_start);
-
-/** Stops the timer. A segment that is timed stays so. */
-void net_base_retransmission_timer_stop(
-    struct net_base_retransmission_timer *timer) NET_BASE_LINK(retransmission_timer_stop);
-
-/** Takes notice that the segment with the positions from `position` on and below `end` is sent
- * `now`, and starts the timer, unless it runs. `numbers` are the sender's before that. Nothing
- * changes if there are no positions.
- *
- * If no segment is timed, one of which nothing was sent before is then. One that was timed is no
- * longer if it is sent again: which of the copies an acknowledgement is for is not known (Karn).
- *
- * Where nothing else is on the way, the probe waits longer by `ack_delay`. The second segment that
- * has something new brings it to two round trips from `now`.
- */
-void net_base_retransmission_timer_sent(
-    struct net_base_retransmission_timer *NET_BASE_RESTRICT timer,
-    const struct net_base_timeout_bounds *NET_BASE_RESTRICT bounds, uint64_t position, uint64_t end,
-    const struct net_base_sent_numbers *NET_BASE_RESTRICT numbers, int64_t now)
-    NET_BASE_LINK(retransmission_timer_sent);
-
-/** Takes the sample of the timed segment, if there is one, since it has arrived:
- * `net_base_retransmission_timer_acknowledged` does so of what is acknowledged; a SACK block may
- * say so before.
- */
-void net_base_retransmission_timer_take_sample(
-    struct net_base_retransmission_timer *NET_BASE_RESTRICT timer,
-    const struct net_base_timeout_bounds *NET_BASE_RESTRICT bounds, int64_t now)
-    NET_BASE_LINK(retransmission_timer_take_sample);
-
-/** Takes an acknowledgement of all positions below `next`: the sample of the timed segment, if that
- * is below; then, if it acknowledges something new, it stops the timer if all that was sent is
- * below `next`, and otherwise starts it again. A repeated acknowledgement does neither. One of
- * what was never sent changes nothing.
- *
- * `numbers` are the sender's before it takes the acknowledgement.
- */
-void net_base_retransmission_timer_acknowledged(
-    struct net_base_retransmission_timer *NET_BASE_RESTRICT timer,
-    const struct net_base_timeout_bounds *NET_BASE_RESTRICT bounds,
-    const struct net_base_sent_numbers *NET_BASE_RESTRICT numbers, uint64_t next, int64_t now)
-    NET_BASE_LINK(retransmission_timer_acknowledged);
-
-/** Takes notice that a block has reported what wasn't known: a timer that runs is started again. A
- * peer that reports delays no acknowledgement.
- *
- * Call it once for an acknowledgement of which `net_base_scoreboard_report` took a block that had
- * something new, so that the scoreboard isn't as it was before, after
- * `net_base_retransmission_timer_acknowledged` if it acknowledges something new too.
- */
-void net_base_retransmission_timer_reported(
-    struct net_base_retransmission_timer *timer, int64_t now)
-    NET_BASE_LINK(retransmission_timer_reported);
-
-/** Returns what is due: `NET_BASE_EXPIRY_DONE` if nothing is, and then nothing changes;
- * `NET_BASE_EXPIRY_PROBE` where no answer has come: the next probe waits twice as long, and the
- * timeout passes when it would have passed; and `NET_BASE_EXPIRY_TIMEOUT` where that has: then it
- * is doubled within the bounds, the timer starts again, no segment is timed any longer, and no
- * probe is due until something new is acknowledged or reported.
- */
-NET_BASE_MUST_USE enum net_base_expiry_status net_base_retransmission_timer_expire(
-    struct net_base_retransmission_timer *NET_BASE_RESTRICT timer,
-    const struct net_base_timeout_bounds *NET_BASE_RESTRICT bounds, int64_t now)
-    NET_BASE_LINK(retransmission_timer_expire);
-
-/** @} */
-
 /** @defgroup net_base_answer_limit How often a segment is answered of which nothing is taken
  *
  * How often a segment is answered of which nothing is taken. Moments are in microseconds, of one
@@ -1984,13 +1149,27 @@ struct net_base_answer_limit {
     int64_t until;
 };
 
+/** The positions and the flags of an arriving segment. */
+struct net_base_segment {
+    /** The position of its first byte, or of its SYN. */
+    uint64_t seq;
+    /** How many positions it has: its bytes, and one each for a SYN and a FIN. */
+    uint64_t len;
+    /** Whether its flag SYN is set. */
+    bool syn;
+    /** Whether its flag ACK is set. */
+    bool ack;
+    /** Whether its flag RST is set. */
+    bool rst;
+};
+
 /** Makes `limit` one before any answer, which allows one at any moment. */
 void net_base_answer_limit_init(
     struct net_base_answer_limit *limit) NET_BASE_LINK(answer_limit_init);
 
 /** Returns whether to answer a segment of which nothing is taken, `NET_BASE_ANSWER` of
- * `net_base_tcp_classify` or of `net_base_sending_end_acknowledged`, and takes notice that it is
- * answered.
+ * `net_base_receiving_end_classify` or of `net_base_sending_end_acknowledged`, and takes notice
+ * that it is answered.
  *
  * A segment without positions, which may be an answer itself, and a SYN are answered at most twice
  * a second: otherwise two ends that take nothing of one another, after a forged segment, answer
@@ -2062,6 +1241,20 @@ NET_BASE_MUST_USE bool net_base_parts_sum_write_checksum(
  *
  * @{
  */
+
+/** What a receiver has announced: how far its promise reaches. */
+struct net_base_advertised_window {
+    /** The position after the last one that was ever promised. */
+    uint64_t edge;
+};
+
+/** A held run, by absolute positions: from `start` on, up to `end`, which is not included. */
+struct net_base_held_run {
+    /** The first position. */
+    uint64_t start;
+    /** The position after the last one. */
+    uint64_t end;
+};
 
 /** All of a receiving end but its receiver: what it announced, when it acknowledges, and what came
  * twice. Its calls are given the receiver's numbers; who holds both has the receiver take what
@@ -2146,9 +1339,23 @@ NET_BASE_MUST_USE bool net_base_receiving_end_open(
     struct net_base_receiving_end *NET_BASE_RESTRICT end, size_t capacity, uint64_t first,
     uint8_t scale, uint16_t *NET_BASE_RESTRICT window) NET_BASE_LINK(receiving_end_open);
 
-/** Returns what to do with a segment, as `net_base_tcp_classify` says, in the window that was
- * announced, where the storage has `capacity` bytes. Its acknowledgement is taken if it is of a
- * peer that hears of what is announced here, whatever the path does.
+/** Returns what to do with a segment, in the window that was announced, whatever is free now.
+ * `capacity` is how many bytes the storage has. It is as RFC 9293, section 3.10.7.4, has it, but
+ * for what follows. Resets and SYNs are answered as RFC 5961 has it: a reset counts only at
+ * `next`, the first number that is missing.
+ *
+ * No position is in a window that is shut. Of a segment with positions that begins at `next` then,
+ * as a probe does, the acknowledgement is taken all the same: otherwise two ends that both fill
+ * the other's window never hear of one another. So it is of a segment without positions whose
+ * number is below `next`, by `capacity` at most, and by one if that is 0. No honest peer's number
+ * is below that: it is not below what was acknowledged to the peer, which has no more than such a
+ * window on the way, or a probe. If all of the window is on the way, and some of it is missing,
+ * its number is the one after the window: that is taken too. By law `acknowledgements` no other
+ * number is needed. Otherwise two ends whose acknowledgements were lost, or came in another order,
+ * may refuse one another's for ever, and answer each.
+ *
+ * Whether a segment may acknowledge what it does is tested afterwards, by
+ * `net_base_sending_end_acknowledged`.
  *
  * If the number after `next` doesn't fit 64 bits, as in no sound head: `NET_BASE_ARRIVAL_IGNORE`.
  */
@@ -2249,6 +1456,14 @@ NET_BASE_MUST_USE size_t net_base_receiving_end_read(
  * @{
  */
 
+/** What a scoreboard has besides its runs. */
+struct net_base_scoreboard {
+    /** The first position that wasn't reported. */
+    uint64_t base;
+    /** The positions beyond that were, counted from `base`: the head of an assembler. */
+    struct net_base_assembler reported;
+};
+
 /** What a sender of TCP sends next where segments are lost: first what is lost, then what was never
  * sent.
  */
@@ -2306,6 +1521,60 @@ struct net_base_buffer {
     struct net_base_loss_recovery recovery;
 };
 
+/** The timer of retransmissions, by the rules of RFC 6298, section 5, and the one segment that is
+ * timed for a sample.
+ */
+struct net_base_retransmission_timer {
+    /** Eight times the smoothed time of a round trip. No more than 2^63 of it counts, which samples
+     * don't exceed.
+     */
+    uint64_t srtt_8;
+    /** Four times its variation. No more than 2^62 of it counts. */
+    uint64_t rttvar_4;
+    /** Not 0 once there was a sample. */
+    uint64_t has_estimate;
+    /** The timeout, if `has_timeout` isn't 0; else it is 1 second. */
+    uint64_t timeout;
+    /** Not 0 once `timeout` counts. */
+    uint64_t has_timeout;
+    /** When the timeout passes, while it runs. */
+    int64_t ends_at;
+    /** Not 0 while it runs. */
+    uint64_t is_running;
+    /** When a probe is due, if the timer runs and that is earlier. */
+    int64_t probe_at;
+    /** How long the probe has waited then. The next one waits twice that. */
+    uint64_t wait;
+    /** Not 0 while it waits for an acknowledgement that may be delayed. */
+    uint64_t is_alone;
+    /** The position of the timed segment, if there is one. */
+    uint64_t timed;
+    /** When that was sent. */
+    int64_t timed_since;
+    /** Not 0 while a segment is timed. */
+    uint64_t is_timing;
+    /** Where the last segment begins that had something new. */
+    uint64_t last;
+    /** How often the timeout has passed since anything new was acknowledged or reported. */
+    uint64_t timeouts;
+    /** Not 0 if the peer reports blocks. */
+    uint64_t reports;
+    /** How many samples in a row of one segment alone weren't late, up to 8. */
+    uint64_t prompt;
+};
+
+/** The window that the peer announced, and the segment that it is from. It is kept as its right
+ * edge, a position.
+ */
+struct net_base_peer_window {
+    /** The position after the window's last one. */
+    uint64_t edge;
+    /** The position of the segment that the window is from, by the peer's numbers. */
+    uint64_t seq;
+    /** The position that this segment acknowledged. */
+    uint64_t ack;
+};
+
 /** All of a sending end but its sender and the times that were set: what was reported and what is
  * lost, the timer, and what the peer announced. Its calls are given the sender's numbers; who
  * holds both has the sender take what they say.
@@ -2335,6 +1604,22 @@ struct net_base_sending {
     uint64_t is_overdue;
 };
 
+/** The bounds of a timeout, the tick of the clock that the samples are read from, and how long a
+ * peer delays an acknowledgement.
+ */
+struct net_base_timeout_bounds {
+    /** The least timeout. 0 counts as 1 second (RFC 6298, 2.4). */
+    uint64_t least;
+    /** The greatest, unless `least` is above it. 0 counts as 60 seconds (2.5). */
+    uint64_t most;
+    /** The time between two ticks of the clock; 0 if it counts each microsecond. */
+    uint64_t tick;
+    /** The longest time for which the peer delays the acknowledgement of one segment: 200,000 for
+     * TCP.
+     */
+    uint64_t ack_delay;
+};
+
 /** The sending end of a stream.
  *
  * A head of zeros is new, of a stream that begins at position 0, whose first timeout is 1 second
@@ -2345,8 +1630,8 @@ struct net_base_sending {
  * with it. Each segment that is taken is acknowledged by `net_base_sending_end_acknowledged`. What
  * is to be sent, `net_base_sending_end_next_segment` says, until it says that nothing is, and
  * `net_base_sending_end_bytes` where it is. At the moment of `net_base_sending_end_expires_at` the
- * timer is asked by `net_base_sending_end_expired`. Calls that look at a sender, a window or a
- * timer may look at `sender`, `peer_window` and `timer`.
+ * timer is asked by `net_base_sending_end_expired`. How much more can be written,
+ * `net_base_finite_sender_room` says of `sender`.
  */
 struct net_base_sending_end {
     /** The sender. */
@@ -2359,6 +1644,18 @@ struct net_base_sending_end {
     uint64_t first_timeout;
     /** The bounds of the timeout. */
     struct net_base_timeout_bounds bounds;
+};
+
+/** What a segment announces: the window from the position that it acknowledges on, and the numbers
+ * by which its age is told.
+ */
+struct net_base_announcement {
+    /** The position of the segment's first byte, in the peer's stream. */
+    uint64_t seq;
+    /** The position that it acknowledges. */
+    uint64_t ack;
+    /** How many bytes may be sent from there on, as `scaled` returns it. */
+    uint64_t window;
 };
 
 /** What an acknowledgement said. */
@@ -2405,6 +1702,16 @@ struct net_base_segment_parts {
     size_t rest_count;
     /** Whether the segment ends the stream. */
     bool is_last;
+};
+
+/** What a sender sent of its stream, and what was acknowledged: the numbers that RFC 9293 calls
+ * SND.UNA and SND.NXT, as positions.
+ */
+struct net_base_sent_numbers {
+    /** The first number that isn't acknowledged. */
+    uint64_t first_unacknowledged;
+    /** The number after the last one that was sent. */
+    uint64_t sent;
 };
 
 /** Makes `end` the end of a stream that begins at position `first`, to which nothing was written.
@@ -2628,27 +1935,6 @@ NET_BASE_MUST_USE bool net_base_sequence_number_position(
 
 /** @} */
 
-/** @defgroup net_base_time Moments (signed, from an origin of the caller's own) and lengths of
- * time, in microseconds
- *
- * Moments (signed, from an origin of the caller's own) and lengths of time, in microseconds.
- *
- * Both are numbers: C adds and compares them, and divides by 1,000 and 1,000,000. Here is what
- * overflows if C computes it.
- *
- * @{
- */
-
-/** Returns `instant + duration`, or `INT64_MAX` if that is above it. */
-int64_t net_base_instant_saturating_add(
-    int64_t instant, uint64_t duration) NET_BASE_LINK(instant_saturating_add);
-
-/** Returns how far apart two moments are, whichever is the later one. Any two have a distance. */
-NET_BASE_MUST_USE uint64_t net_base_instant_distance(
-    int64_t instant, int64_t other) NET_BASE_LINK(instant_distance);
-
-/** @} */
-
 /* END */
 
 /** @cond */
@@ -2683,24 +1969,11 @@ NET_BASE_SLICES(fragments_add, NET_BASE_WRITES(2, 3) NET_BASE_WRITES(4, 5) NET_B
 NET_BASE_SLICES(fragments_differs, NET_BASE_READS(2, 3) NET_BASE_READS(4, 5) NET_BASE_READS(7, 8))
 NET_BASE_SLICES(fragments_overlaps, NET_BASE_READS(2, 3))
 NET_BASE_SLICES(fragments_complete, NET_BASE_READS(3, 4))
-NET_BASE_SLICES(receiver_is_sound, NET_BASE_READS(3, 4))
-NET_BASE_SLICES(receiver_peek_slice, NET_BASE_READS(2, 3) NET_BASE_WRITES(4, 5))
-NET_BASE_SLICES(receiver_newest_runs, NET_BASE_READS(2, 3) NET_BASE_WRITES(5, 6) NET_BASE_WRITES(7, 8))
-NET_BASE_SLICES(receiver_run_at, NET_BASE_READS(2, 3))
-NET_BASE_SLICES(scoreboard_is_sound, NET_BASE_READS(2, 3))
-NET_BASE_SLICES(scoreboard_report, NET_BASE_WRITES(2, 3))
-NET_BASE_SLICES(scoreboard_acknowledge, NET_BASE_WRITES(2, 3))
-NET_BASE_SLICES(scoreboard_contains, NET_BASE_READS(2, 3))
-NET_BASE_SLICES(scoreboard_next_hole, NET_BASE_READS(2, 3))
-NET_BASE_SLICES(scoreboard_highest_reported, NET_BASE_READS(2, 3))
-NET_BASE_SLICES(scoreboard_count_beyond, NET_BASE_READS(2, 3))
-NET_BASE_SLICES(scoreboard_lost_below, NET_BASE_READS(2, 3))
 NET_BASE_SLICES(finite_receiver_is_sound, NET_BASE_READS(3, 4))
 NET_BASE_SLICES(finite_receiver_can_end, NET_BASE_READS(2, 3))
 NET_BASE_SLICES(finite_receiver_read, NET_BASE_READS(2, 3) NET_BASE_WRITES(4, 5))
 NET_BASE_SLICES(finite_receiver_count_new, NET_BASE_READS(3, 4))
 NET_BASE_SLICES(finite_receiver_segment, NET_BASE_WRITES(2, 3) NET_BASE_WRITES(4, 5) NET_BASE_READS(7, 8))
-NET_BASE_SLICES(finite_sender_write, NET_BASE_WRITES(2, 3) NET_BASE_READS(4, 5))
 NET_BASE_SLICES(parts_sum_add, NET_BASE_READS(2, 3))
 NET_BASE_SLICES(parts_sum_write_checksum, NET_BASE_WRITES(2, 3))
 NET_BASE_SLICES(receiving_end_arrived, NET_BASE_WRITES(2, 3) NET_BASE_READS(5, 6))

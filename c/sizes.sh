@@ -3,8 +3,8 @@
 # machine, of 32 bits those of a Cortex-M4, by clang; where there is none, a dash. c/run.sh compares docs/C.md with it.
 set -eu
 here=$(cd "$(dirname "$0")" && pwd)
-kept="ring packets packet_slot split_counts assembler run fragments receiver finite_receiver finite_sender scoreboard
-advertised_window peer_window retransmission_timer answer_limit parts_sum receiving_end sending_end"
+kept="ring packets packet_slot assembler run fragments finite_receiver answer_limit parts_sum receiving_end
+sending_end"
 folder=$(mktemp -d)
 trap 'rm -rf "$folder"' EXIT
 {

@@ -38,9 +38,8 @@ HEADER = ROOT / "c/net_base.h"
 CONFIG = ROOT / "c/net_base.pc"
 ABI = ROOT / "c/abi.txt"
 # Modules whose sections come first: what the others refer to.
-FIRST = ["refusals", "ring", "split_ring", "packets", "assembler", "fragments", "receiver", "scoreboard"]
-FIRST += ["finite_receiver", "finite_sender", "tcp", "advertised_window", "peer_window",
-          "retransmission", "answer_limit", "parts_sum", "receiving_end", "sending_end"]
+FIRST = ["refusals", "ring", "packets", "assembler", "fragments"]
+FIRST += ["finite_receiver", "finite_sender", "tcp", "answer_limit", "parts_sum", "receiving_end", "sending_end"]
 PAGE = ROOT / "docs/C.md"
 PAGE_BEGIN = "<!-- Written by tools/ffi.py from crates/net_ffi/src/lib.rt, up to the line END. -->"
 PAGE_END = "<!-- END -->"
@@ -66,8 +65,6 @@ REFUSED_FOR_NULL = {name for name, doc in ALIASES.items() if "`REFUSED` for null
 C_TYPES |= {name: f"enum net_base_{re.sub('Status$', '', name).lower()}_status" for name in ANSWERS}
 # Results that a refusal shows in. Of other numbers 0 is returned for null alone.
 REFUSES = {"bool", "usize", "u64", *ANSWERS}
-# Refused for null alone, and there is nothing to do where an older segment's window isn't taken.
-MAY_DROP = {"net_base_peer_window_update"}
 C_LIMITS = {"usize": "SIZE"}
 C_LIMITS |= {f"{sign}{bits}": f"{'U' * (sign == 'u')}INT{bits}" for sign in "iu" for bits in (8, 16, 32, 64)}
 
@@ -367,7 +364,7 @@ def said(lines, answer):
 
 def must_use(item, structs):
     """Whether a result isn't to be thrown away: it may say that the call was refused, or the call does nothing else."""
-    return (item.type in REFUSES or item.type in structs) and item.name not in MAY_DROP
+    return item.type in REFUSES or item.type in structs
 
 
 def attributes(item):

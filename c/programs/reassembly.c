@@ -89,7 +89,7 @@ static struct context *context_of(uint16_t id, int64_t now) {
         if (!it->is_used) found = it;
     }
     if (found == NULL) return NULL;
-    net_base_fragments_init(&found->fragments, net_base_instant_saturating_add(now, TIMEOUT));
+    net_base_fragments_init(&found->fragments, now + TIMEOUT);
     found->is_used = true;
     found->id = id;
     return found;

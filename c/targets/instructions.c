@@ -16,7 +16,9 @@ static struct byte_ring byte_ring;
 static struct net_base_assembler assembler;
 static struct net_base_packets packets;
 static struct net_base_finite_receiver receiver;
-static struct net_base_finite_sender sender;
+static struct net_base_sending_end sender;
+/* What the peer announces. */
+static struct net_base_announcement announced = {0, 0, CAPACITY};
 static struct net_base_fragments fragments;
 
 #ifdef __riscv
@@ -82,9 +84,10 @@ static void segment(void) {
 }
 
 static void send(void) {
-    net_base_finite_sender_write(&sender, storage, CAPACITY, bytes, 32);
-    net_base_finite_sender_send_at(&sender, CAPACITY, sender.sent, sender.sent + 32);
-    net_base_finite_sender_acknowledge(&sender, CAPACITY, sender.sent);
+    net_base_sending_end_write(&sender, storage, CAPACITY, bytes, 32);
+    announced.ack = net_base_sending_end_next_segment(&sender, storage, CAPACITY, UINT64_MAX, 0).end;
+    net_base_sending_end_bytes(&sender, CAPACITY, announced.ack - 32, announced.ack);
+    status = net_base_sending_end_acknowledged(&sender, storage, CAPACITY, &announced, NULL, 0, true, 0).status;
 }
 
 static void fragment(void) {
@@ -113,9 +116,10 @@ int main(int count, char **words) {
         {"assembler: a range too early, and the one before it", ranges},
         {"packets: one in and out", packet},
         {"receiver: a segment of 32 bytes and a read", segment},
-        {"sender: 32 bytes written, found and acknowledged", send},
+        {"sending end: 32 bytes written, sent and acknowledged", send},
         {"fragments: two of 16 bytes, the size, the packet", fragment},
     };
+    net_base_sending_end_open(&sender, storage, CAPACITY, &announced, 32, true, 0);
     if (count == 3) {
         int kind = atoi(words[1]);
         for (volatile int i = atoi(words[2]); i > 0; i--) (kind == 0 ? nothing : kinds[kind - 1].round)();

@@ -15,7 +15,6 @@ erased! {
     pub mod ring;
     pub mod sending_end;
     pub mod sequence_number;
-    pub mod time;
 }
 
 pub use crate::ends::receiving_end::{ReceivingHead, Room};
@@ -26,7 +25,6 @@ pub use crate::storage::fragments::FragmentsHead;
 pub use crate::storage::packet_slot::PacketSlot;
 pub use crate::storage::packets_head::{FirstPacket, PacketPlace, PacketsHead};
 pub use crate::storage::ring_head::{RingHead, Span};
-pub use crate::storage::split_counts::{SplitCounts, SplitSpan};
 pub use crate::stream::finite_receiver_head::FiniteReceiverHead;
 pub use crate::stream::finite_sender_head::FiniteSenderHead;
 pub use crate::stream::held_runs::HeldRun;
@@ -34,7 +32,5 @@ pub use crate::stream::receiver_head::ReceiverHead;
 pub use crate::stream::scoreboard_head::ScoreboardHead;
 pub use crate::stream::sender_head::SenderHead;
 pub use crate::stream::sent_numbers::SentNumbers;
-pub use crate::tcp::{
-    AdvertisedWindow, Announcement, AnswerLimit, LossRecovery, PartsSum, PeerWindow,
-};
+pub use crate::tcp::{AdvertisedWindow, Announcement, LossRecovery, PartsSum, PeerWindow};
 pub use crate::tcp::{RetransmissionTimer, Segment};

@@ -2,8 +2,8 @@
 part of ffi.py.
 
 An export is a line of heads.txt, whose first lines say what the line says. Of the method it has the comment, with C's
-names (`in_c`); the parameters, where elements are bytes, and a pointer is passed in place of a struct; and each clause
-`ensures`, after the test that it was not refused. What the method requires is tested, and where that isn't so, the
+names (`in_c`); the parameters, where elements are bytes; and each clause `ensures`, after the test that it was not
+refused. What the method requires is tested, and where that isn't so, the
 clause `refused` says what is returned, and that nothing changes. What would cost a look at each run isn't tested: that
 is the export's own `requires`, where the tests hold. `TESTS` says how each is tested, `RESULTS` how a result of the
 method is returned.
@@ -25,8 +25,6 @@ TERM = r"(\([^()]*\)|\S+)"
 TESTS = [
     (rf"IsSound(?:Place)? {TERM} {TERM}", "{all}", "!{c1}.is_sound({c0})",
      "`{c1}` isn't that of a ring of `{c0}` elements", True),
-    (rf"AreCounts {TERM} {TERM}", "{all}", "!{c1}.is_sound({c0})",
-     "the counts of `{c1}` aren't those of a ring of `{c0}` elements", True),
     (rf"IsSoundHead {TERM} {TERM} {TERM}", "{all}", "!{c2}.is_sound({c0}, {c1})",
      "the numbers of `{c2}` aren't those of rings of `{c0}` slots and of `{c1}` bytes", True),
     (rf"IsSoundFiniteSender {TERM} {TERM}", "{all}", "!{c1}.is_sound({c0})",
@@ -34,20 +32,12 @@ TESTS = [
     (rf"next_of {TERM} < no_end", "{all}", "!has_number({c0})", "the number after `next` doesn't fit 64 bits", True),
     (r"(\w+) < no_end", "{all}", "{c0} == u64::MAX", "`{c0}` is `u64::MAX`", True),
     (rf"next_of {TERM} < 2 \^ 64", "{all}", "!has_next(&{c0}.receiver)", "`next` doesn't fit 64 bits", True),
-    (rf"IsSoundBoard {TERM} {TERM}", "{all}", "!{c0}.is_sound({c1})", "`{c0}` isn't sound with `{c1}`", True),
     (rf"RangeFits {TERM} {TERM}", "{all}", "!AssemblerHead::fits({c0}, {c1})", "`{c0} + {c1}` doesn't fit a `size_t`",
      True),
-    (r"(sender\S*\.first_unacknowledged) \+ (\S+\.finished) < 2 \^ 64", "{all}", "{c1} > u64::MAX - {c0}",
-     "the number doesn't fit 64 bits", True),
-    (r"(sender\S*\.first_unacknowledged) \+ (\S+) \+ (\S+\.closed) < 2 \^ 64", "{all}",
-     "{c1} as u64 > u64::MAX - {c0} || {c2} > u64::MAX - {c0} - {c1} as u64", "the number doesn't fit 64 bits", True),
-    (r"(receiver\.\w+)\.first \+ \S+ \+ \S+ < 2 \^ 64", "{all}", "!has_next({c0})", "`next` doesn't fit 64 bits", True),
     (rf"count ≤ {TERM} - {TERM}", "{all}", "count > {c0} - {c1}", "fewer than `count` elements are free", True),
     (rf"count ≤ {TERM}", "{all}", "count > {c0}", "fewer than `count` elements are queued", True),
-    (rf"{TERM} ≤ capacity", "{all}", "{c0} > capacity", "more than `capacity` elements are queued", True),
     (rf"HasSoundRuns {TERM} {TERM}", "{0}.used ≤ length {1}", "{c0}.used > {c1}.len()",
-     "`{f0}used` is above `{c1}.len()`",
-     False),
+     "`{f0}used` is above `{c1}.len()`", False),
     (rf"HasSoundParts (fragments\S+) {TERM} {TERM}", "IsPlausible (length {1}) (length {2}) {0}",
      "!is_plausible({c0}, {c1}.len(), {c2}.len())",
      "`present.used` is above `{c2}.len()`, or a known size above `{c1}.len()`", False),
@@ -55,16 +45,12 @@ TESTS = [
      "!is_plausible(&{c0}.receiver, {c1}, {c2}.len())",
      "`place` isn't that of a ring of `{c1}` bytes, `next` doesn't fit 64 bits, or `held.used` is above `{c2}.len()`",
      False),
-    (rf"HasSoundHeld (receiver\.\w+) {TERM}", "HasRuns (length {1}) {0}", "!has_runs({c0}, {c1}.len())",
-     "`next` doesn't fit 64 bits, or `held.used` is above `{c1}.len()`", False),
     (rf"HasSoundHeld (receiver\.\w+\.receiver) {TERM}", "HasRuns (length {1}) {0}", "!has_runs(&{c0}, {c1}.len())",
      "`next` doesn't fit 64 bits, or `held.used` is above `{c1}.len()`", False),
 ]
 # Clauses of what a call leaves, which hold too where nothing changes.
-STAY = {"canonical", "exact", "others", "sends"}
+STAY = {"canonical", "exact", "others"}
 NONE = "NET_BASE_NONE"
-# Heads that are passed by value: numbers that a program has just loaded.
-BY_VALUE = {"SplitCounts"}
 # In place of a head's type: functions of a crate, whose name is in place of the parameter.
 FREE = "-"
 
@@ -91,25 +77,17 @@ RESULTS = {
     "usize": Result("usize", "{call}", "no_number()", "result ≡ no_number", f"`{NONE}`"),
     "Span": Result("Span", "{call}", "refused_span()", "result ≡ nowhere",
                    f"`from` is `{NONE}`, `count` and `contiguous` are 0"),
-    "(Span, bool)": Result(
-        "SegmentSpan", "segment_span({call})", "refused_segment_span()",
-        "(result.from ≡ no_number) × (result.count ≡ 0) × (result.contiguous ≡ 0) × IsFalse result.is_last",
-        f"`from` is `{NONE}`, `count` and `contiguous` are 0, `is_last` is false", ["", "is_last"]),
     "Result<(), TooManyHolesError>": Result(
         "RoomStatus", "status_of({call})", *STATUS, "(done_or_many result)", (("status", "result < 2"),)),
     "Result<(), FragmentError>": Result(
         "FragmentStatus", "status_of_fragment({call})", *STATUS, "(done_or_error result)",
         (("status", "IsStatus result"),)),
-    "Result<(), ReportError>": Result(
-        "RoomStatus", "status_of_report({call})", *STATUS, "(done_or_report_error result)",
-        (("status", "result < 3"),)),
     "Result<usize, TooManyHolesError>": Result(
         "FrontLength", "front_length({call})", "refused_front_length()",
         "(result.status ≡ NET_BASE_REFUSED) × (result.length ≡ 0)",
         "the status is `NET_BASE_REFUSED`, and the length 0",
         "(length_or_many result.status result.length)",
         (("status", "result.status < 2"), ("none", "result.status ≡ 1 → result.length ≡ 0"))),
-    "Arrival": Result("ArrivalStatus", "number_of({call})", "", "", ""),
     "Option<(usize, usize)>": Result(
         "Run", "run_of({call})", "refused_run()", "result ≡ (no_number, no_number)", f"both are `{NONE}`",
         "unwrap_or"),
@@ -180,19 +158,15 @@ class Export:
         self.head, self.name, self.method = head, words[1], words[2] or words[1]
         of = head.methods[self.method]
         self.doc = of.doc[: of.doc.index("# Requires")] if "# Requires" in of.doc else list(of.doc)
-        self.parameters, self.copied, given = [], [], of.parameters
+        self.parameters, given = [], of.parameters
         self.is_new = of.result == "Self"
         if head.type != FREE:
-            lent = f"&{'mut ' * (self.is_new or given[0] == '&mut self')}" if head.type not in BY_VALUE else ""
-            self.parameters = [(head.name, f"{lent}{head.type}")]
+            lent = "mut " * (self.is_new or given[0] == "&mut self")
+            self.parameters = [(head.name, f"&{lent}{head.type}")]
             given = given[0 if self.is_new else 1 :]
         for it in given:
             name, kind = it.split(": ", 1)
-            name, kind = head.names.get(name, name), kind.replace("[T]", "[u8]")
-            if kind[0] not in "&[" and kind not in ffi.C_TYPES:
-                self.copied.append(name)
-                kind = f"&{kind}"
-            self.parameters.append((name, kind))
+            self.parameters.append((head.names.get(name, name), kind.replace("[T]", "[u8]")))
         self.requires = [self.named(clause) for _, clause in of.requires]
         self.ensures = [(name, self.named(clause)) for name, clause in of.ensures]
         self.tests, self.duties = [], []
@@ -206,14 +180,10 @@ class Export:
         """A clause of the method with the export's names."""
         if self.head.name in self.head.uses:
             clause = re.sub(rf"(?<![\w.]){self.head.name}(?=[ )])", f"{self.head.name}_of", clause)
-        clause = re.sub(r"\bArrival\.(\w+)",
-                        lambda it: f"NET_BASE_{re.sub('(?<=[a-z])(?=[A-Z])', '_', it[1]).upper()}", clause)
         for old, new in self.head.names.items():
             clause = re.sub(rf"(?<![\w.]){old}\b", new, clause)
-        for name in self.copied:
-            clause = re.sub(rf"(?<![\w.]){name}\b", f"{name}.now", clause)
         clause = re.sub(r"\bself(?=\.(?:old|new|now)\b)", self.head.name, clause)
-        return re.sub(r"\bself\b", f"{self.head.name}{'.now' * (self.head.type not in BY_VALUE)}", clause)
+        return re.sub(r"\bself\b", f"{self.head.name}.now", clause)
 
     def take(self, clause):
         """The test of a clause that the method requires."""
@@ -247,19 +217,12 @@ class Export:
             self.parameters.append((name, f"&mut {kind}"))
             self.result = Result("bool", f"*{name} = {{call}};\n    true", "false", "IsFalse result", "false",
                                  f"{name}.new")
-        elif word and word.startswith("stays "):
-            field = f"{self.head.name}.{word[6:]}"
-            self.result = Result(kind, "{call}", f"refused_{ffi.snake(kind)}({field})",
-                                 f"(result.span ≡ nowhere) × (result.next ≡ {field})",
-                                 f"`from` is `{NONE}`, `count` and `contiguous` are 0, and `next` is `{field}`, which may be stored")
         elif word:
-            struct, *fields = re.findall(r"\w+", word)
-            made = ", ".join(["status: NET_BASE_DONE", *fields])
-            given = fields[0] if len(fields) == 1 else f"({', '.join(fields)})"
-            zeros = " × ".join(["(result.status ≡ NET_BASE_REFUSED)", *[f"(result.{it} ≡ 0)" for it in fields]])
-            self.result = Result(struct, f"let {given} = {{call}};\n    {struct} {{ {made} }}",
+            struct, field = re.findall(r"\w+", word)
+            self.result = Result(struct, f"let {field} = {{call}};\n    {struct} {{ status: NET_BASE_DONE, {field} }}",
                                  f"refused_{ffi.snake(struct)}()",
-                                 zeros, f"the status is `NET_BASE_REFUSED`, and {' and '.join(fields)} 0", fields,
+                                 f"(result.status ≡ NET_BASE_REFUSED) × (result.{field} ≡ 0)",
+                                 f"the status is `NET_BASE_REFUSED`, and {field} 0", f"result.{field}",
                                  (("status", "result.status ≡ NET_BASE_DONE"),))
         elif kind:
             plain = Result(kind, "{call}", "", "", "") if kind in ffi.C_TYPES and not self.tests else None
@@ -289,9 +252,6 @@ class Export:
                 if not match:
                     continue
                 clause = f"result ≡ unwrap_or ({match[1]}) (0, 0)"
-            elif isinstance(value, list):
-                if (name, clause) not in self.result.more:
-                    clause = with_fields(clause, value)
             elif (name, clause) not in self.result.more:
                 clause = re.sub(r"\bresult\b", value, clause)
             found.append(("ensures", name, self.guarded(name, clause, guard, is_done)))
@@ -344,14 +304,14 @@ class Export:
                       "    }"]
         owner = f"{self.head.type}::" if self.is_new else f"{self.head.name}::" if self.head.type == FREE \
             else f"{self.head.name}."
-        call = f"{owner}{self.method}({', '.join('*' * (name in self.copied) + name for name, _ in self.given())})"
+        call = f"{owner}{self.method}({', '.join(name for name, _ in self.given())})"
         lines += [f"    {it}" for it in self.result.body.replace("{call}", call).split("\n    ")]
         return lines + ["}"]
 
     def given(self):
         """The parameters that the method gets."""
         return [it for it in self.parameters[self.head.type != FREE :]
-                if not (isinstance(self.result.value, str) and f"{it[0]}.new" == self.result.value)]
+                if f"{it[0]}.new" != self.result.value]
 
     def in_c(self, text):
         """The method's comment with C's names: those of parameters, exports and statuses. What is returned is written
@@ -359,7 +319,7 @@ class Export:
         text = ffi.plain_text([text])
         if self.is_new:
             text = re.sub(r"^Returns ", f"Makes `{self.head.name}` ", text)
-        elif isinstance(self.result.value, str) and self.result.value.endswith(".new"):
+        elif self.result.value.endswith(".new"):
             text = re.sub(r"^Returns ", f"Writes to `{self.result.value[:-4]}` ", text)
         names = {name for name, _ in self.parameters}
 
@@ -406,21 +366,11 @@ def code_of(term):
     return re.sub(r"[«»]|\.(?:old|now|new)\b", "", term)
 
 
-def with_fields(clause, fields):
-    """A clause of a number or of a pair, about the fields of a struct; one without a name is the struct."""
-    if len(fields) == 1:
-        return re.sub(r"\bresult\b", f"result.{fields[0]}", clause)
-    return re.sub(r"\bresult\.([01])\b", lambda it: f"result.{fields[int(it[1])]}".rstrip("."), clause)
-
-
 # The exports by the type and the name of the method, and a crate and the name of a function.
 EXPORTED = {}
 # Variants that comments name, as C's statuses.
 VARIANTS = {"TooManyHolesError": "TOO_MANY_RUNS", "TooManyHoles": "TOO_MANY_RUNS", "TooLong": "TOO_LONG",
-            "OtherSize": "OTHER_SIZE",
-            "OtherEnd": "OTHER_END", "NoBlock": "REFUSED", "Take": "TAKE",
-            "AcknowledgementOnly": "ACKNOWLEDGEMENT_ONLY", "Answer": "ANSWER",
-            "Ignore": "IGNORE", "Reset": "RESET"}
+            "OtherSize": "OTHER_SIZE"}
 
 
 def tasks_of(text):
@@ -470,9 +420,9 @@ def comment_after(lines, at):
 
 # Names of clauses that no head's file cites.
 OWN = {
-    "Rattle.std.specs.Prelude": "◌≡◌ ◌≢◌ ◌↔◌ ◌≤◌ ◌<◌ ◌-◌ ◌+◌ ◌^◌ ◌++◌ ◌⊎◌ IsTrue IsFalse length unwrap_or if◌then◌else◌",
+    "Rattle.std.specs.Prelude": "◌≡◌ ◌≢◌ ◌↔◌ ◌≤◌ ◌<◌ ◌-◌ ◌+◌ ◌^◌ ◌++◌ IsTrue IsFalse length unwrap_or if◌then◌else◌",
     "Rattle.net_ffi.specs.Refusals": "no_number nowhere",
-    "Rattle.net_ffi.specs.Results": "done_or_many length_or_many done_or_error done_or_report_error IsStatus",
+    "Rattle.net_ffi.specs.Results": "done_or_many length_or_many done_or_error IsStatus",
 }
 
 
@@ -505,8 +455,7 @@ def file_of(head, exports):
     if head.name in head.uses:
         own[head.name] = (head.uses[head.name][0], f"{head.name} as {head.name}_of")
     plausible = {"FragmentsHead": "Rattle.net_base.specs.Fragments",
-                 "ReceiverHead": "Rattle.net_ffi.specs.ReceiverParts"}
-    plausible["FiniteReceiverHead"] = plausible["ReceiverHead"]
+                 "FiniteReceiverHead": "Rattle.net_ffi.specs.ReceiverParts"}
     if head.type in plausible:
         own |= {it: (plausible[head.type], it) for it in ("IsPlausible", "HasRuns")}
     for module, name in (head.uses | own).values():
@@ -527,15 +476,15 @@ def file_of(head, exports):
 
 
 CODE = {name: module for module, names in {
-    "crate::refusals": "NET_BASE_ACKNOWLEDGEMENT_ONLY NET_BASE_ANSWER NET_BASE_IGNORE NET_BASE_RESET NET_BASE_TAKE NET_BASE_DONE NET_BASE_REFUSED ArrivalStatus FragmentStatus RoomStatus SizeStatus no_number refused_front_length refused_hole refused_run refused_segment_span refused_span refused_split_span",
-    "crate::results": "FrontLength Hole SegmentSpan front_length number_of run_of segment_span status_of status_of_fragment status_of_report",
+    "crate::refusals": "NET_BASE_DONE NET_BASE_REFUSED FragmentStatus RoomStatus SizeStatus "
+                       "no_number refused_front_length refused_run refused_span",
+    "crate::results": "FrontLength front_length run_of status_of status_of_fragment",
     "crate::receiver": "has_next has_runs", "crate::finite_receiver": "has_number",
-    "net_assembler": "AssemblerHead Run", "net_ring": "RingHead Span SplitCounts SplitSpan",
+    "net_assembler": "AssemblerHead Run", "net_ring": "RingHead Span",
     "net_base::storage": "FragmentsHead",
     "net_packets": "PacketSlot PacketsHead",
-    "net_receiver":
-        "FiniteReceiverHead FiniteSenderHead HeldRun ReceiverHead ReportError ScoreboardHead SentNumbers",
-    "net_tcp": "AdvertisedWindow Announcement PartsSum PeerWindow Segment",
+    "net_receiver": "FiniteReceiverHead FiniteSenderHead",
+    "net_tcp": "PartsSum",
 }.items() for name in names.split()}
 
 

@@ -1,6 +1,6 @@
 """Writes for C one long sequence of calls of all exports, the same on every processor.
 
-Each call gets sensible arguments mostly, and now and then nonsense; a head that is passed by value is drawn.
+Each call gets sensible arguments mostly, and now and then nonsense.
 `sequence.c` prints a digest of all that the calls returned and left in memory. With -DSTACK it prints instead how many
 bytes of stack each export takes, as painted: what a call leaves changed below its caller's frame, more than an empty
 function with the same parameters does (`empty.c`).
@@ -20,20 +20,13 @@ USUAL = {"storage": 40, "capacity": 40, "slot_count": 5, "slots": 5, "runs": 6}
 OTHER_SLICE, ROOM = 7, 8
 # About which number a position is mostly drawn.
 NEXT = "now.{0}.receiver.first + now.{0}.receiver.count_read + now.{0}.receiver.place.length"
-RECEIVED = NEXT.format("finite_receiver_receiver")
-SENT = "now.finite_sender_sender.sender.first_unacknowledged"
-NEAR = {("receiver", "position"): RECEIVED, ("finite_receiver", "position"): RECEIVED,
+NEAR = {("finite_receiver", "position"): NEXT.format("finite_receiver_receiver"),
         ("receiving_end", "position"): NEXT.format("receiving_end_end.receiver"),
-        ("finite_sender", "position"): SENT, ("finite_sender", "next"): SENT, ("tcp", "next"): "now.tcp_segment.seq",
-        ("advertised_window", "next"): "now.advertised_window_segment.seq",
-        ("tcp", "window"): "4", ("fragments", "offset"): "0", ("fragments", "size"): "7"}
+        ("fragments", "offset"): "0", ("fragments", "size"): "7"}
 NEAR |= {("sending_end", name): "now.sending_end_end.sender.sender.first_unacknowledged"
          for name in ("position", "limit")}
 NEAR |= {("sending_end", "it.ack"): "(below(2) ? now.sending_end_end.sender.sent : now.sending_end_end.sender.sender.first_unacknowledged)",
          ("sending_end", "now"): "(uint64_t)now.sending_end_end.head.timer.ends_at"}
-NEAR |= {("scoreboard", name): "now.scoreboard_scoreboard.base"
-         for name in ("start", "end", "next", "position", "limit")}
-NEAR |= {("scoreboard", "sent"): "now.scoreboard_scoreboard.base + 40"}
 # What a head is made now and then, since calls seldom do: a timer whose probe is due before the timeout passes; and an end
 # whose stream is acknowledged, its end too.
 MADE = {"sending_end": ["now.sending_end_end.head.timer.reports = 1;", "now.sending_end_end.head.timer.probe_at = "
@@ -236,7 +229,7 @@ class Call:
         self.memory, self.index, self.item = memory, index, item
         self.subject = max((it for it in memory.subjects if item.name.startswith(f"net_base_{it}_")), key=len)
         self.before, self.arguments, self.statics, self.given, self.runs = [], [], [], {}, []
-        self.pointers, self.values = {}, []
+        self.pointers = {}
         for member in item.members:
             count = len(self.arguments)
             self.add(member)
@@ -259,9 +252,6 @@ class Call:
             self.arguments.append(self.pointer(member, inner[1], f"&now.{variable}"))
         elif kind in ffi.C_TYPES:
             self.arguments.append(self.drawn(ffi.C_TYPES[kind], member.name, self.number(member.name, kind)))
-        elif kind in self.memory.library.structs:
-            self.values.append(self.memory.name(self.subject, member.name, kind))
-            self.arguments.append(f"now.{self.values[-1]}")
         else:
             raise SystemExit(f"sequence: {self.item.name}: no argument of type {kind}")
 
@@ -392,7 +382,6 @@ class Call:
         drawn = [line for _, own, _ in self.pointers.values()
                  if (name := re.sub(r"^&?now\.", "", own)) not in self.memory.written
                  for line in self.memory.each(name, self.redrawn)]
-        drawn += [line for name in self.values for line in self.memory.each(name, spoiled)]
         prepare = [*["if (below(4) == 0) {" if drawn else "", *["    " + line for line in drawn], "}" if drawn else ""],
                    *choose, *self.before,
                    *([f"if (!({sound})) {{", *["    " + it for it in own], "}"] if sound != "true" and own else [])]

@@ -1,4 +1,3 @@
-pub mod Counted
 pub mod ReceivingEnds
 pub mod SendingSteps
 pub mod SendingEnds

@@ -1,16 +1,15 @@
 -- What a receiving end stores, by the numbers of its head.
-use Rattle.std.proofs.Common.{◌≡◌, ◌↔◌, ℕ, zero, suc, ◌<◌, ◌≤◌, List, [], ◌∷◌, length, take, drop, refl, sym, ap, ◌∙◌}
-use Rattle.std.proofs.Common.{arith, false, ◌+◌, ◌-◌, ◌^◌, min, subst}
+use Rattle.std.proofs.Common.{◌≡◌, ℕ, zero, suc, ◌<◌, ◌≤◌, List, [], ◌∷◌, length, take, drop, refl, sym, ap, ◌∙◌}
+use Rattle.std.proofs.Common.{arith, ◌+◌, ◌-◌, ◌^◌, min, subst}
 use Rattle.std.specs.Option.{option_or}
 use Rattle.std.proofs.lemmas.Bool.Decides.{nat_tests}
 use Rattle.std.proofs.lemmas.Grind.{common_steps}
-use Rattle.std.specs.Prelude.{Result, Ok, Err, OnErr, Bool, Option, IsTrue, nat_le, not, ◌&&◌}
-use Rattle.net_tcp.specs.Windows.{worth, gain, shift_count}
+use Rattle.std.specs.Prelude.{Result, Ok, Err, OnErr, Bool, Option}
 use Rattle.net_ring.specs.Ring.{queue, spare}
 use Rattle.net_ring.specs.RingHead.{ring_at}
 use Rattle.net_assembler.specs.RunLists.{set_of}
 use Rattle.net_assembler.proofs.SoundHeads.{runs-set_of}
-use Rattle.net_receiver.specs.Finite.{no_end, acknowledged, is_complete, fresh_finite}
+use Rattle.net_receiver.specs.Finite.{no_end, acknowledged, fresh_finite}
 use Rattle.net_assembler.specs.Positions.{runs}
 use Rattle.net_receiver.specs.ReceiverState.{domain}
 use Rattle.net_receiver.specs.FiniteHead.{finite_of, HasSoundFinite}
@@ -20,7 +19,7 @@ use Rattle.net_receiver.specs.Head.{receiver_of, next_at, held_at, HasSoundParts
 use Rattle.net_receiver.specs.Duplicates.{came, TellsPart}
 use Rattle.net_receiver.proofs.Places.{both_lengths, held_count}
 use Rattle.net_receiver.proofs.Heads.{next_is, held_is}
-use Rattle.net_ends.specs.Receiving.{Receiving, free_end, is_worth, has_come, WaitsAfter}
+use Rattle.net_ends.specs.Receiving.{has_come, WaitsAfter}
 use Rattle.net_ffi.specs.ReceivingEnds.{receiving_of, waits_of, HasSoundEnd, fields_of}
 use Rattle.net_ffi.specs.declared.receiving_end.ReceivingEnd.{ReceivingEnd}
 
@@ -32,19 +31,6 @@ room_is h xs rs = sym (both_lengths (ring_at xs h.receiver.place))
 -- where nothing has arrived, the first position is acknowledged
 pub begins : (first n : ℕ) → first < no_end → acknowledged (fresh_finite first n) ≡ first
 begins first n h = grind (arith, nat_tests, common_steps, h)
-
-decides : (d : Bool) (a b next end : ℕ) → next ≤ end → (IsTrue d ↔ ((next ≤ end) × (a ≤ b))) → d ≡ nat_le a b
-decides d a b next end le due = grind (arith, nat_tests, le, due)
-
--- an update of the window is worth a segment
-pub due_is : (e : Receiving) (d : Bool) (next end capacity : ℕ) → next ≡ acknowledged e.receiver →
-    end ≡ free_end e.receiver → capacity ≡ e.receiver.receiver.capacity → next ≤ end → is_complete e.receiver ≡ false →
-    (IsTrue d ↔ ((next ≤ end) × (worth capacity e.size ≤ gain e.edge (shift_count e.scale) next end))) →
-    d ≡ (not (is_complete e.receiver) && is_worth e)
-due_is e d next end capacity from to room le lasts due =
-    decides d (worth capacity e.size) (gain e.edge (shift_count e.scale) next end) next end le due
-    ∙ (λ i. nat_le (worth (room i) e.size) (gain e.edge (shift_count e.scale) (from i) (to i)))
-    ∙ sym (ap (λ b. not b && is_worth e) lasts)
 
 -- as many runs are held as are used
 pub held_is_used : {h : FiniteReceiverHead} (xs : List ℕ) {rs : List (ℕ × ℕ)} → HasSoundFinite h (length xs) rs →

@@ -1,13 +1,13 @@
 -- What the head of a sending end says, of an end of C: its bounds, moment and blocks are those that C passes.
-use Rattle.std.proofs.Common.{◌≡◌, ℕ, ℤ, ◌≤◌, List, length, refl, sym, ap, subst, ◌∙◌, true, false}
-use Rattle.std.specs.Prelude.{Bool, IsTrue, IsFalse, Option, Some, None, ◌&&◌, ◌||◌, not, if◌then◌else◌}
+use Rattle.std.proofs.Common.{◌≡◌, ℕ, ℤ, List, refl, sym, ap, subst, ◌∙◌, true, false}
+use Rattle.std.specs.Prelude.{Bool, Option, Some, None, ◌&&◌, ◌||◌, not, if◌then◌else◌}
 use Rattle.net_receiver.specs.FiniteSender.{FiniteSenderState, sender_after_command, Acknowledges}
 use Rattle.net_tcp.specs.Retransmission.{Timer, expiry, after_expiry, has_expired, has_ended}
 use Rattle.net_tcp.specs.declared.retransmission.TimeoutBounds.{TimeoutBounds as Bounds}
 use Rattle.net_tcp.specs.declared.retransmission_timer.Expiry.{Expiry}
 use Rattle.net_tcp.specs.declared.retransmission_timer.Expiry.TheVariants.{Probe, Timeout}
 use Rattle.net_ends.specs.Calls.{Hears, Looks, Chooses, Takes}
-use Rattle.net_ends.specs.Ends.{End, is_overdue}
+use Rattle.net_ends.specs.Ends.{End}
 use Rattle.net_ends.specs.Parts.{end_of, marked}
 use Rattle.net_ends.specs.declared.sending_end.SendingHead.{SendingHead}
 use Rattle.net_ends.specs.declared.sending_end.Acknowledged.{Acknowledged}

@@ -1,5 +1,5 @@
 -- Four blocks as pairs, and the bytes of a segment that a sending end of C lends.
-use Rattle.std.proofs.Common.{◌≡◌, ℕ, ap, sym, ◌∙◌, refl, subst, List, take, drop, length, ◌∷◌, [], ◌++◌, ◌+◌, ◌≤◌, arith}
+use Rattle.std.proofs.Common.{◌≡◌, ℕ, sym, ◌∙◌, refl, subst, List, take, drop, length, ◌∷◌, [], ◌++◌, ◌+◌, ◌≤◌, arith}
 use Rattle.std.proofs.Common.{length-take, length-drop, replicate}
 use Rattle.std.proofs.lemmas.List.{length-replicate}
 use Rattle.std.specs.Prelude.{Bool, max, slice_get, unwrap_or}

@@ -4,7 +4,7 @@
 --     IsPlausibleEnd c e      what the exports test, where the storage has c bytes
 --     HasSoundEnd c e      the head is that of an end whose storage has c bytes
 --     fields_of list      the blocks of an acknowledgement, which are zeros where there is none
-use Rattle.std.specs.Prelude.{ℕ, Option, Some, None, List, map, nat_eq, if◌then◌else◌, unwrap_or}
+use Rattle.std.specs.Prelude.{ℕ, Option, List, map, unwrap_or}
 use Rattle.net_receiver.specs.FiniteHead.{finite_of, HasSoundFinite}
 use Rattle.net_ends.specs.Receiving.{Receiving, blocks_of}
 use Rattle.net_ffi.specs.ReceiverParts.{IsPlausible}

@@ -1,7 +1,6 @@
 -- Results of methods, as the numbers that exports return for them.
 --     done_or_many n, length_or_many n l      whether the runs have room, by a status and a length
 --     done_or_error n, IsStatus n      why a fragment or a size is refused, by a status
---     done_or_report_error n      why a block is refused, by a status
 --     status_of_finite e      the status of why a segment of a stream that ends is
 use Rattle.std.specs.Prelude.{ℕ, zero, suc, ◌≡◌, ◌⊎◌, nat_eq, Result, Ok, Err, if◌then◌else◌}
 use Rattle.net_assembler.specs.declared.assembler.error.TooManyHolesError.{TooManyHolesError}
@@ -9,8 +8,6 @@ use Rattle.net_base.specs.declared.storage.fragments.FragmentError.{FragmentErro
 use Rattle.net_base.specs.declared.storage.fragments.FragmentError.TheVariants.{TooLong, TooManyHoles, OtherSize}
 use Rattle.net_receiver.specs.declared.kept.FiniteError.{FiniteError}
 use Rattle.net_receiver.specs.declared.kept.FiniteError.TheVariants.{TooManyHoles as NoRoom, OtherEnd}
-use Rattle.net_receiver.specs.declared.scoreboard_head.ReportError.{ReportError}
-use Rattle.net_receiver.specs.declared.scoreboard_head.ReportError.TheVariants.{TooManyHoles as NoRun, NoBlock}
 
 -- 0 is done; another status is that there is no room
 abbrev pub done_or_many : ℕ → Result (Unit {0}) TooManyHolesError
@@ -33,12 +30,6 @@ done_or_error n =
 -- the statuses of fragments and sizes that aren't refused as nonsense
 abbrev pub IsStatus : ℕ → Type 0
 IsStatus n = (n ≡ 0) ⊎ (n ≡ 1) ⊎ (n ≡ 3) ⊎ (n ≡ 4)
-
--- 0 is done, 1 that there is no room; another status is that there is no such block
-abbrev pub done_or_report_error : ℕ → Result (Unit {0}) ReportError
-done_or_report_error zero = Ok tt
-done_or_report_error (suc zero) = Err NoRun
-done_or_report_error (suc (suc _)) = Err NoBlock
 
 abbrev pub status_of_finite : FiniteError → ℕ
 status_of_finite NoRoom = 1

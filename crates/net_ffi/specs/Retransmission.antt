@@ -1,11 +1,8 @@
 -- The times of C, where a number of 0 is one that isn't given.
 --     given_or n d      n, or d in place of 0
 --     bounds_of b      what those of C represent
---     due_of e      the number of what is due
-use Rattle.std.specs.Prelude.{ℕ, Option, Some, None, if◌then◌else◌, nat_eq}
+use Rattle.std.specs.Prelude.{ℕ, if◌then◌else◌, nat_eq}
 use Rattle.net_tcp.specs.declared.retransmission.TimeoutBounds.{TimeoutBounds as Bounds}
-use Rattle.net_tcp.specs.declared.retransmission_timer.Expiry.{Expiry}
-use Rattle.net_tcp.specs.declared.retransmission_timer.Expiry.TheVariants.{Probe, Timeout as Passed}
 use Rattle.net_ffi.specs.declared.retransmission.TimeoutBounds.{TimeoutBounds}
 
 abbrev pub given_or : ℕ → ℕ → ℕ
@@ -19,9 +16,3 @@ bounds_of b = record {
   tick = b.tick;
   ack_delay = b.ack_delay;
 }
-
--- 0 if nothing is, 11 and 12 for a probe and for the timeout
-abbrev pub due_of : Option Expiry → ℕ
-due_of None = 0
-due_of (Some Probe) = 11
-due_of (Some Passed) = 12

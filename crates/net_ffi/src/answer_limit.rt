@@ -24,8 +24,8 @@ pub extern "C" fn net_base_answer_limit_init(limit: &mut AnswerLimit)
     *limit = AnswerLimit { until: i64::MIN };
 }
 
-/// Returns whether to answer a segment of which nothing is taken, `NET_BASE_ANSWER` of `net_base_tcp_classify` or of
-/// `net_base_sending_end_acknowledged`, and takes notice that it is answered.
+/// Returns whether to answer a segment of which nothing is taken, `NET_BASE_ANSWER` of
+/// `net_base_receiving_end_classify` or of `net_base_sending_end_acknowledged`, and takes notice that it is answered.
 ///
 /// A segment without positions, which may be an answer itself, and a SYN are answered at most twice a second: otherwise
 /// two ends that take nothing of one another, after a forged segment, answer each other's answers without end (RFC 5961,

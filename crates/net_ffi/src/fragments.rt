@@ -1,5 +1,5 @@
 //! What is tested of a buffer of fragments, and whether a packet is complete.
-ghost use Rattle.std.specs.Prelude.{◌≡◌, ◌↔◌, ◌≤◌, ℕ, List, length, IsTrue, IsFalse};
+ghost use Rattle.std.specs.Prelude.{◌≡◌, ◌↔◌, ℕ, List, length, IsTrue, IsFalse};
 ghost use Rattle.net_assembler.specs.RunLists.{HasSoundRuns};
 ghost use Rattle.net_base.specs.Fragments.{IsComplete, IsPlausible, fragments_of};
 

@@ -12,7 +12,7 @@
 //!
 //! Fields of a head may be read: `length` is how many elements are queued, `used` how many runs are stored. `start`
 //! and `end` of a stored run are offsets from `first_start` of the head, so the first one starts at 0. A run that a
-//! call returns is counted from position 0 of the assembler, or has positions of the receiver's stream.
+//! call returns is counted from position 0 of the assembler, and a block has positions of the stream.
 //!
 //! # Duties
 //!
@@ -27,9 +27,7 @@
 //! 2. What a call may write overlaps nothing else that it is passed.
 //! 3. Two calls that share memory aren't made at once, in threads or in an interrupt and what it interrupts, unless
 //!    both take it by `const`. So mask the interrupt around each call, with what copies its elements, and around what
-//!    reads fields. Calls of a ring of two counts, `net_base_split_ring_..`, share none. There each end alone stores
-//!    its own count, with release, once it has written or read elements; before that it loads the other's, with
-//!    acquire.
+//!    reads fields.
 //! 4. There is stack enough for a call.
 //! 5. A storage, its runs and its slots have the same lengths in each call on a head.
 //! 6. A head, its runs and its slots are written by calls of its own kind alone, those of a finite
@@ -57,11 +55,10 @@
 //! There is no export for these:
 //!
 //! - moments and lengths of time: `+`, `-`, `*`, `<` on `int64_t` and `uint64_t`. A moment plus or minus a length is
-//!   cast to `int64_t`. Where it may not fit, write `__builtin_add_overflow` and the like, or call
-//!   `net_base_instant_..`
+//!   cast to `int64_t`. Where it may not fit, write `__builtin_add_overflow` and the like. A moment is later than an
+//!   earlier one by `(uint64_t)later - (uint64_t)earlier`
 //! - sequence numbers: they are added and subtracted as `uint32_t`, and one is later if `(int32_t)(later - number) > 0`
 //! - the payload of each fragment but the last: `(mtu - header) & ~7`
-//! - the sample of a segment that was sent once: the moment of its acknowledgement less that of its sending, at least 0
 //! - a word of a pseudo-header in a sum: its high byte and its low byte, to `net_base_parts_sum_add`
 //! - whether two assemblers have the same positions: both numbers of the heads, and the runs in use, are equal
 //!
@@ -88,4 +85,3 @@ pub mod retransmission;
 pub mod ring;
 pub mod sending_end;
 pub mod sequence_number;
-pub mod time;

@@ -2,7 +2,7 @@
 //! cryptography. The generator is smoltcp's, sPCG32: a step multiplies the state by 0xbb2efcec3c39611d and adds
 //! 0x7590ef39, and the word of a state is the low 32 bits of `state >> (29 - (state >> 61))`.
 ghost use Rattle.std.specs.Prelude.{◌≡◌, ◌-◌, ◌*◌, ◌/◌, ◌^◌, ◌<◌};
-ghost use Rattle.net_base.specs.Generator.{successor, random_word, draw, IsPort};
+ghost use Rattle.net_base.specs.Generator.{successor, random_word, IsPort};
 
 use net_base::rand::Rand;
 

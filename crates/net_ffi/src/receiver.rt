@@ -1,12 +1,8 @@
-//! What is tested of a receiver, and its held runs.
-ghost use Rattle.std.specs.Prelude.{◌≡◌, ◌↔◌, ◌+◌, ◌-◌, ◌<◌, ◌^◌, length, slice_get, unwrap_or, IsTrue};
-ghost use Rattle.net_assembler.specs.Positions.{maximal_runs};
-ghost use Rattle.net_receiver.specs.Head.{held_at, HasSoundHeld};
+//! What is tested of a receiver.
+ghost use Rattle.std.specs.Prelude.{◌↔◌, ◌+◌, ◌<◌, ◌^◌, IsTrue};
 ghost use Rattle.net_ffi.specs.ReceiverParts.{IsReadable, IsPlausible, HasRuns};
 
-use crate::refusals::refused_held_run;
-use net_assembler::Run;
-use net_receiver::{HeldRun, ReceiverHead};
+use net_receiver::ReceiverHead;
 
 /// The most runs that an end of a stream stores: they are in its head.
 pub(crate) const RUNS: usize = 16;
@@ -56,34 +52,4 @@ pub(crate) fn has_runs(receiver: &ReceiverHead, run_count: usize) -> bool
     ensures { IsTrue result ↔ HasRuns run_count receiver.now }
 {
     has_next(receiver) && receiver.held.used <= run_count
-}
-
-/// Returns the held run with number `index`, counted from 0 in rising order. If there are no more than `index`, start
-/// and end are 0.
-///
-/// If `next` doesn't fit 64 bits, or `held.used` is above `runs.len()`, it is refused: start and end are `u64::MAX`.
-///
-/// # Requires
-///
-/// Head and runs are sound, as `net_base_receiver_is_sound` tests.
-#[unsafe(no_mangle)]
-pub extern "C" fn net_base_receiver_run_at(
-    receiver: &ReceiverHead,
-    runs: &[Run],
-    index: usize,
-) -> HeldRun
-    requires sound { HasRuns (length runs.now) receiver.now → HasSoundHeld receiver.now runs.now }
-    ensures run { HasRuns (length runs.now) receiver.now → result ≡ unwrap_or (slice_get
-        (maximal_runs (held_at receiver.now runs.now)) index) (0, 0) }
-    ensures refused { (HasRuns (length runs.now) receiver.now → ⊥) → result ≡ (
-      2 ^ 64 - 1,
-      2
-          ^ 64 - 1,
-    ) }
-{
-    if !has_runs(receiver, runs.len()) {
-        return refused_held_run();
-    }
-    let (start, end) = receiver.held(runs).nth(index).unwrap_or((0, 0));
-    HeldRun { start, end }
 }

@@ -13,8 +13,8 @@
 // the calls of the receiver, and the list of blocks, are here once more, with the definitions of `net_ends` as
 // contracts. The rules, which are of numbers, are those of its `ReceivingHead`.
 
-ghost use Rattle.std.specs.Prelude.{◌≡◌, ◌↔◌, ◌+◌, ◌-◌, ◌<◌, ◌≤◌, ◌++◌, ◌&&◌, ◌||◌, ℕ, List, length, max, min};
-ghost use Rattle.std.specs.Prelude.{take, drop, nat_lt, nat_le, nat_eq, not, IsTrue, IsFalse, MatchResult, OnErr};
+ghost use Rattle.std.specs.Prelude.{◌≡◌, ◌↔◌, ◌-◌, ◌<◌, ◌≤◌, ◌++◌, ◌&&◌, ◌||◌, ℕ, List, length, min};
+ghost use Rattle.std.specs.Prelude.{take, drop, nat_lt, nat_le, not, IsTrue, IsFalse, MatchResult, OnErr};
 ghost use Rattle.std.specs.Prelude.{if◌then◌else◌};
 ghost use Rattle.std.specs.Option.{option_to_list};
 ghost use Rattle.net_assembler.specs.RunLists.{IsCanonical};
@@ -25,9 +25,9 @@ ghost use Rattle.net_receiver.specs.NewestRuns.{with_starts};
 ghost use Rattle.net_receiver.specs.Finite.{no_end, acknowledged, is_complete, finite_result};
 ghost use Rattle.net_receiver.specs.FiniteHead.{finite_storage_after, next_of};
 ghost use Rattle.net_tcp.specs.Windows.{IsArrival};
-ghost use Rattle.net_ends.specs.Receiving.{new_receiving, opened, opening_field, free_end, is_worth, field_of, promise};
+ghost use Rattle.net_ends.specs.Receiving.{new_receiving, opened, opening_field, free_end, is_worth, field_of};
 ghost use Rattle.net_ends.specs.Receiving.{listed, reported, arrival_result, after_event, Arrived};
-ghost use Rattle.net_ends.specs.Receiving.{Answered, Announced, Acknowledged, Took, WaitsAfter, adds, is_empty};
+ghost use Rattle.net_ends.specs.Receiving.{Answered, Announced, Acknowledged, Took, WaitsAfter, is_empty};
 ghost use Rattle.net_ends.specs.Receiving.{after_arrival};
 ghost use Rattle.net_ffi.specs.ReceiverParts.{IsReadable};
 ghost use Rattle.net_ffi.specs.Refusals.{no_number};
@@ -340,9 +340,19 @@ pub extern "C" fn net_base_receiving_end_open(
     true
 }
 
-/// Returns what to do with a segment, as `net_base_tcp_classify` says, in the window that was announced, where the storage
-/// has `capacity` bytes. Its acknowledgement is taken if it is of a peer that hears of what is announced here, whatever
-/// the path does.
+/// Returns what to do with a segment, in the window that was announced, whatever is free now. `capacity` is how many
+/// bytes the storage has. It is as RFC 9293, section 3.10.7.4, has it, but for what follows. Resets and SYNs are
+/// answered as RFC 5961 has it: a reset counts only at `next`, the first number that is missing.
+///
+/// No position is in a window that is shut. Of a segment with positions that begins at `next` then, as a probe does, the
+/// acknowledgement is taken all the same: otherwise two ends that both fill the other's window never hear of one
+/// another. So it is of a segment without positions whose number is below `next`, by `capacity` at most, and by one if
+/// that is 0. No honest peer's number is below that: it is not below what was acknowledged to the peer, which has no more
+/// than such a window on the way, or a probe. If all of the window is on the way, and some of it is missing, its number
+/// is the one after the window: that is taken too. By law `acknowledgements` no other number is needed. Otherwise two
+/// ends whose acknowledgements were lost, or came in another order, may refuse one another's for ever, and answer each.
+///
+/// Whether a segment may acknowledge what it does is tested afterwards, by `net_base_sending_end_acknowledged`.
 ///
 /// If the number after `next` doesn't fit 64 bits, as in no sound head: `NET_BASE_IGNORE`.
 #[unsafe(no_mangle)]

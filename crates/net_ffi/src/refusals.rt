@@ -1,12 +1,11 @@
 //! What calls answer: a status, or a number in place of one.
-ghost use Rattle.std.specs.Prelude.{◌≡◌, ◌-◌, ◌^◌, IsFalse};
+ghost use Rattle.std.specs.Prelude.{◌≡◌};
 ghost use Rattle.net_ffi.specs.Refusals.{no_number, nowhere};
 
-use crate::results::{FrontLength, Hole, SegmentSpan};
+use crate::results::FrontLength;
 use net_assembler::Run;
-use net_receiver::HeldRun;
+use net_ring::Span;
 use net_ring::width::most;
-use net_ring::{Span, SplitSpan};
 
 /// What a call answers that can be done, refused, or more: each kind of call one of some of these numbers.
 pub type Status = u32;
@@ -26,17 +25,9 @@ pub type SizeStatus = u32;
 /// - `OTHER_END`: the stream can't end there. Nothing of it is kept.
 pub type SegmentStatus = u32;
 
-/// Whether a hole was looked for: `DONE` or `REFUSED`.
-pub type HoleStatus = u32;
-
 /// What to do with a segment that arrives: `TAKE`, `ACKNOWLEDGEMENT_ONLY`, `ANSWER`, `IGNORE`, `RESET`; `REFUSED` for
 /// null alone.
 pub type ArrivalStatus = u32;
-
-/// What is due: `DONE`, `PROBE` or `TIMEOUT`; `REFUSED` for null alone.
-///
-/// - `DONE`: nothing is due, and nothing changes.
-pub type ExpiryStatus = u32;
 
 /// What became of an acknowledgement: `DONE`, `OLD`, `ANSWER` or `REFUSED`.
 ///
@@ -93,9 +84,6 @@ pub const NET_BASE_RESET: Status = 10;
 /// No answer has come in time: find what is overdue, and send a probe if nothing of it may be sent.
 pub const NET_BASE_PROBE: Status = 11;
 
-/// The timeout has passed: all that was sent and isn't acknowledged is lost.
-pub const NET_BASE_TIMEOUT: Status = 12;
-
 /// No answer has come in time: what is overdue is lost, and if nothing of it may be sent, the next segment is a probe
 /// for an answer.
 pub const NET_BASE_OVERDUE: Status = 13;
@@ -123,7 +111,6 @@ pub fn numbers()
     ensures ignore { NET_BASE_IGNORE ≡ 9 }
     ensures reset { NET_BASE_RESET ≡ 10 }
     ensures probe { NET_BASE_PROBE ≡ 11 }
-    ensures timeout { NET_BASE_TIMEOUT ≡ 12 }
     ensures overdue { NET_BASE_OVERDUE ≡ 13 }
     ensures lost { NET_BASE_LOST ≡ 14 }
     ensures old { NET_BASE_OLD ≡ 15 }
@@ -150,19 +137,6 @@ pub fn refused_span() -> Span
     }
 }
 
-/// The span of a refused call of a ring of two counts: the end's count stays. It isn't inlined, so that a call which
-/// isn't refused has no jump.
-#[inline(never)]
-pub fn refused_split_span(next: usize) -> SplitSpan
-    ensures span { result.span ≡ nowhere }
-    ensures next { result.next ≡ next }
-{
-    SplitSpan {
-        span: refused_span(),
-        next,
-    }
-}
-
 /// The run of a refused call.
 #[inline(always)]
 pub fn refused_run() -> Run
@@ -171,17 +145,6 @@ pub fn refused_run() -> Run
     Run {
         start: no_number(),
         end: no_number(),
-    }
-}
-
-/// The held run of a refused call.
-#[inline(always)]
-pub fn refused_held_run() -> HeldRun
-    ensures { result ≡ (2 ^ 64 - 1, 2 ^ 64 - 1) }
-{
-    HeldRun {
-        start: u64::MAX,
-        end: u64::MAX,
     }
 }
 
@@ -194,32 +157,5 @@ pub fn refused_front_length() -> FrontLength
     FrontLength {
         status: NET_BASE_REFUSED,
         length: 0,
-    }
-}
-
-/// The hole of a refused call.
-#[inline(always)]
-pub fn refused_hole() -> Hole
-    ensures status { result.status ≡ NET_BASE_REFUSED }
-    ensures none { (result.start ≡ 0) × (result.end ≡ 0) }
-{
-    Hole {
-        status: NET_BASE_REFUSED,
-        start: 0,
-        end: 0,
-    }
-}
-
-/// The segment of a refused call.
-#[inline(always)]
-pub fn refused_segment_span() -> SegmentSpan
-    ensures span { (result.from ≡ no_number) × (result.count ≡ 0) × (result.contiguous ≡ 0) }
-    ensures end { IsFalse result.is_last }
-{
-    SegmentSpan {
-        from: no_number(),
-        count: 0,
-        contiguous: 0,
-        is_last: false,
     }
 }

@@ -8,19 +8,17 @@
 //! begins with it. Each segment that is taken is acknowledged by `net_base_sending_end_acknowledged`. What is to be
 //! sent, `net_base_sending_end_next_segment` says, until it says that nothing is, and `net_base_sending_end_bytes`
 //! where it is. At the moment of `net_base_sending_end_expires_at` the timer is asked by
-//! `net_base_sending_end_expired`. Calls that look at a sender, a window or a timer may look at `sender`, `peer_window`
-//! and `timer`.
+//! `net_base_sending_end_expired`. How much more can be written, `net_base_finite_sender_room` says of `sender`.
 
 // Why: The rules are those of `SendingHead`, over runs that are lent. An end of C lends the 16 in its struct, so that
 // all of it but the bytes is one struct.
 
 ghost use Rattle.std.specs.Prelude.{◌≡◌, ◌↔◌, ◌+◌, ◌-◌, ◌<◌, ◌≤◌, ◌^◌, ◌==◌, ◌++◌, ◌||◌, ℕ, List, length, min};
-ghost use Rattle.std.specs.Prelude.{take, drop, nat_eq, slice_get, IsTrue, IsFalse, is_some, is_none, unwrap_or};
+ghost use Rattle.std.specs.Prelude.{take, drop, slice_get, IsTrue, IsFalse, is_some, is_none, unwrap_or};
 ghost use Rattle.std.specs.Prelude.{Option, Some, None};
-ghost use Rattle.std.specs.Prelude.{if◌then◌else◌, true, false};
+ghost use Rattle.std.specs.Prelude.{true, false};
 ghost use Rattle.net_receiver.specs.Finite.{no_end};
 ghost use Rattle.net_receiver.specs.FiniteSender.{IsSoundFiniteSender, finite_room};
-ghost use Rattle.net_receiver.specs.Scoreboards.{IsSoundBoard};
 ghost use Rattle.net_recovery.specs.LossRecovery.{is_active, is_wrong, taken_back};
 ghost use Rattle.net_tcp.specs.Retransmission.{expires_at, has_expired};
 ghost use Rattle.net_tcp.specs.Windows.{acknowledgement_number};

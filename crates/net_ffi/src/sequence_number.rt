@@ -5,7 +5,7 @@
 //! before that of the first byte arrive too, as old duplicates. If the first byte has position 0, no position near 0
 //! has such a number. If it has the position 2^32 + its number, each has one: then `initial` is 0, and the low 32 bits
 //! of a position are its number.
-ghost use Rattle.std.specs.Prelude.{◌≡◌, ◌+◌, ◌<◌, ◌^◌, ℕ, IsTrue, IsFalse};
+ghost use Rattle.std.specs.Prelude.{◌≡◌, ◌<◌, ◌^◌, ℕ, IsTrue, IsFalse};
 ghost use Rattle.net_receiver.specs.SequenceNumbers.{number_at, IsNear};
 
 use net_receiver::SequenceNumber;

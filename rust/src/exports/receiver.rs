@@ -1,7 +1,5 @@
 // Written by tools/erase.py from crates/net_ffi/src/receiver.rt: a change here would be lost.
-use crate::exports::refusals::refused_held_run;
-use crate::storage::Run;
-use crate::stream::{HeldRun, ReceiverHead};
+use crate::stream::ReceiverHead;
 
 pub(crate) const RUNS: usize = 16;
 
@@ -33,17 +31,4 @@ pub(crate) fn is_plausible(receiver: &ReceiverHead, capacity: usize, run_count: 
 #[inline(always)]
 pub(crate) fn has_runs(receiver: &ReceiverHead, run_count: usize) -> bool {
     has_next(receiver) && receiver.held.used <= run_count
-}
-
-#[inline(always)]
-pub fn net_base_receiver_run_at(
-    receiver: &ReceiverHead,
-    runs: &[Run],
-    index: usize,
-) -> HeldRun {
-    if !has_runs(receiver, runs.len()) {
-        return refused_held_run();
-    }
-    let (start, end) = receiver.held(runs).nth(index).unwrap_or((0, 0));
-    HeldRun { start, end }
 }

@@ -1,9 +1,8 @@
 // Written by tools/erase.py from crates/net_ffi/src/refusals.rt: a change here would be lost.
-use crate::exports::results::{FrontLength, Hole, SegmentSpan};
+use crate::exports::results::FrontLength;
 use crate::storage::Run;
-use crate::stream::HeldRun;
+use crate::storage::Span;
 use crate::storage::width::most;
-use crate::storage::{Span, SplitSpan};
 
 pub type Status = u32;
 
@@ -15,11 +14,7 @@ pub type SizeStatus = u32;
 
 pub type SegmentStatus = u32;
 
-pub type HoleStatus = u32;
-
 pub type ArrivalStatus = u32;
-
-pub type ExpiryStatus = u32;
 
 pub type AcknowledgedStatus = u32;
 
@@ -51,8 +46,6 @@ pub const NET_BASE_RESET: Status = 10;
 
 pub const NET_BASE_PROBE: Status = 11;
 
-pub const NET_BASE_TIMEOUT: Status = 12;
-
 pub const NET_BASE_OVERDUE: Status = 13;
 
 pub const NET_BASE_LOST: Status = 14;
@@ -77,14 +70,6 @@ pub fn refused_span() -> Span {
     }
 }
 
-#[inline(never)]
-pub fn refused_split_span(next: usize) -> SplitSpan {
-    SplitSpan {
-        span: refused_span(),
-        next,
-    }
-}
-
 #[inline(always)]
 pub fn refused_run() -> Run {
     Run {
@@ -94,36 +79,9 @@ pub fn refused_run() -> Run {
 }
 
 #[inline(always)]
-pub fn refused_held_run() -> HeldRun {
-    HeldRun {
-        start: u64::MAX,
-        end: u64::MAX,
-    }
-}
-
-#[inline(always)]
 pub fn refused_front_length() -> FrontLength {
     FrontLength {
         status: NET_BASE_REFUSED,
         length: 0,
-    }
-}
-
-#[inline(always)]
-pub fn refused_hole() -> Hole {
-    Hole {
-        status: NET_BASE_REFUSED,
-        start: 0,
-        end: 0,
-    }
-}
-
-#[inline(always)]
-pub fn refused_segment_span() -> SegmentSpan {
-    SegmentSpan {
-        from: no_number(),
-        count: 0,
-        contiguous: 0,
-        is_last: false,
     }
 }

@@ -1,13 +1,11 @@
 // Written by tools/erase.py from crates/net_ffi/src/results.rt: a change here would be lost.
 use crate::exports::refusals::{
-    HoleStatus, NET_BASE_ACKNOWLEDGEMENT_ONLY, NET_BASE_ANSWER, NET_BASE_DONE, NET_BASE_IGNORE,
-    NET_BASE_OTHER_SIZE, NET_BASE_REFUSED, NET_BASE_RESET, NET_BASE_TAKE, NET_BASE_TOO_LONG,
-    NET_BASE_TOO_MANY_RUNS, RoomStatus, Status,
+    NET_BASE_ACKNOWLEDGEMENT_ONLY, NET_BASE_ANSWER, NET_BASE_DONE, NET_BASE_IGNORE,
+    NET_BASE_OTHER_SIZE, NET_BASE_RESET, NET_BASE_TAKE, NET_BASE_TOO_LONG, NET_BASE_TOO_MANY_RUNS,
+    RoomStatus, Status,
 };
 use crate::storage::{Run, TooManyHolesError};
 use crate::storage::FragmentError;
-use crate::stream::ReportError;
-use crate::storage::Span;
 use crate::tcp::Arrival;
 
 #[repr(C)]
@@ -15,23 +13,6 @@ use crate::tcp::Arrival;
 pub struct FrontLength {
     pub status: RoomStatus,
     pub length: usize,
-}
-
-#[repr(C)]
-#[derive(Debug, Clone, Copy)]
-pub struct Hole {
-    pub status: HoleStatus,
-    pub start: u64,
-    pub end: u64,
-}
-
-#[repr(C)]
-#[derive(Debug, Clone, Copy)]
-pub struct SegmentSpan {
-    pub from: usize,
-    pub count: usize,
-    pub contiguous: usize,
-    pub is_last: bool,
 }
 
 #[inline(always)]
@@ -67,15 +48,6 @@ pub(crate) fn status_of_fragment(done: Result<(), FragmentError>) -> Status {
 }
 
 #[inline(always)]
-pub(crate) fn status_of_report(done: Result<(), ReportError>) -> Status {
-    match done {
-        Ok(()) => NET_BASE_DONE,
-        Err(ReportError::TooManyHoles) => NET_BASE_TOO_MANY_RUNS,
-        Err(ReportError::NoBlock) => NET_BASE_REFUSED,
-    }
-}
-
-#[inline(always)]
 pub(crate) fn number_of(arrival: Arrival) -> Status {
     match arrival {
         Arrival::Take => NET_BASE_TAKE,
@@ -83,17 +55,6 @@ pub(crate) fn number_of(arrival: Arrival) -> Status {
         Arrival::Answer => NET_BASE_ANSWER,
         Arrival::Ignore => NET_BASE_IGNORE,
         Arrival::Reset => NET_BASE_RESET,
-    }
-}
-
-#[inline(always)]
-pub(crate) fn segment_span(segment: (Span, bool)) -> SegmentSpan {
-    let (span, is_last) = segment;
-    SegmentSpan {
-        from: span.from,
-        count: span.count,
-        contiguous: span.contiguous,
-        is_last,
     }
 }
 

@@ -2,8 +2,11 @@
 //! It has a number, as TCP's FIN has, and needs no room. It is known once a segment has said so; a
 //! stream whose segments never say so doesn't end.
 //!
-//! A head of zeros is new, of a stream that begins at position 0. The calls of a receiver look at
-//! `receiver`.
+//! A head of zeros is new, of a stream that begins at position 0. The queue is the ring of
+//! `receiver.place`, at which `net_base_ring_read_allocated` and `net_base_ring_allocated` look;
+//! the rest of the storage is free. The first missing position is `receiver.first`, plus the bytes
+//! read, plus those queued. The held runs are those of the assembler `receiver.held`, whose
+//! position 0 is that position: `net_base_assembler_run_at` counts from there.
 // Written by tools/ffi.py.
 ghost use Rattle.net_assembler.specs.RunLists.{IsCanonical};
 ghost use Rattle.net_ffi.specs.ReceiverParts.{HasRuns, IsPlausible};

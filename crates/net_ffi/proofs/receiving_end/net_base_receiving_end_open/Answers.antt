@@ -1,4 +1,4 @@
-use Rattle.std.proofs.Common.{◌-◌, length, max, ap, sym, ◌∙◌, arith}
+use Rattle.std.proofs.Common.{◌-◌, length, max, ap, ◌∙◌, arith}
 use Rattle.net_tcp.specs.Windows.{announced, field_for}
 use Rattle.net_receiver.specs.Finite.{acknowledged, fresh_finite}
 use Rattle.net_receiver.specs.FiniteHead.{finite_of}

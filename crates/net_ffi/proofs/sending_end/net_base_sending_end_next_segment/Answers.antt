@@ -1,4 +1,4 @@
-use Rattle.std.proofs.Common.{ap, refl, sym, ◌∙◌, rules, arith, length, ℤ, Some, None}
+use Rattle.std.proofs.Common.{refl, sym, ◌∙◌, rules, Some, None}
 use Rattle.net_receiver.specs.FiniteSender.{finite_sender_of}
 use Rattle.net_ffi.specs.Retransmission.{given_or, bounds_of}
 use Rattle.net_ffi.proofs.SendingEnds.{chooses_c}

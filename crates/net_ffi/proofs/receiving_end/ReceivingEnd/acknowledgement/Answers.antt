@@ -2,7 +2,7 @@ use Rattle.std.proofs.Common.{◌++◌, None, length, min, max, ap, sym, ◌∙�
 use Rattle.net_receiver.specs.NewestRuns.{with_starts}
 use Rattle.net_receiver.specs.FiniteHead.{finite_of}
 use Rattle.net_ends.specs.Receiving.{listed, part_reported}
-use Rattle.net_ends.specs.ReceivingRules.{receiving_of as end_of, room_of, waiting, field_at, promise_at}
+use Rattle.net_ends.specs.ReceivingRules.{receiving_of as end_of, waiting, field_at, promise_at}
 use Rattle.net_ends.specs.declared.receiving_end.ReceivingHead.{ReceivingHead}
 use Rattle.net_ends.specs.declared.receiving_end.Room.{Room}
 use Rattle.net_ffi.specs.ReceivingEnds.{HasSoundEnd, fields_of}

@@ -1,4 +1,4 @@
-use Rattle.std.proofs.Common.{◌+◌, length, min, ap, sym, ◌∙◌, arith}
+use Rattle.std.proofs.Common.{◌+◌, length, min, ap, ◌∙◌, arith}
 use Rattle.std.specs.Prelude.{◌&&◌, nat_eq, not, if◌then◌else◌}
 use Rattle.net_receiver.specs.Finite.{finite_result, finite_after}
 use Rattle.net_receiver.specs.FiniteHead.{finite_of}
