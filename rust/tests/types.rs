@@ -8,7 +8,9 @@ use std::hash::{Hash, Hasher};
 use std::sync::Mutex;
 
 use net_base::ends::{ReceivingEndOver, SendingEndOver};
-use net_base::finite::{FiniteError, FiniteReceiver, FiniteReceiverOver, FiniteSenderOver};
+use net_base::finite::{
+    FiniteError, FiniteReceiver, FiniteReceiverOver, FiniteSender, FiniteSenderOver,
+};
 use net_base::managed::ManagedSlice;
 use net_base::phy::{
     Checksum, ChecksumCapabilities, DeviceCapabilities, Medium, PacketLoopback, PacketMeta,
@@ -109,11 +111,29 @@ fn texts_of_what_stores() {
         debug(&queue),
         "PacketBuffer { packet_capacity: 3, slots_used: 1, payload_capacity: 16, payload_bytes_count: 5 }"
     );
-    let mut receiver = FiniteReceiver::<2>::empty_at(&mut bytes[..], 100);
-    assert!(receiver.keep(103, b"d", true).is_ok());
+    let mut receiver = Receiver::<2>::empty_at(&mut bytes[..], 100);
+    assert!(receiver.keep(103, b"d").is_ok() && receiver.keep(106, b"g").is_ok());
     assert_eq!(
         debug(&receiver),
-        "FiniteReceiver { next: 100, len: 0, window: 16, held: [(103, 104)], end: Some(104) }"
+        "Receiver { next: 100, len: 0, window: 16, held: [(103, 104), (106, 107)] }"
+    );
+    let mut receiver = FiniteReceiver::<2>::empty_at(&mut bytes[..], 100);
+    assert!(receiver.keep(100, b"abc", false).is_ok() && receiver.keep(105, b"f", true).is_ok());
+    assert_eq!(receiver.read(&mut [0]), 1);
+    assert_eq!(
+        debug(&receiver),
+        "FiniteReceiver { next: 103, len: 2, window: 14, held: [(105, 106)], end: Some(106) }"
+    );
+    let mut sender = FiniteSender::new_at(&mut bytes[..], 100);
+    assert_eq!(sender.write(b"abc"), 3);
+    assert_eq!(
+        debug(&sender),
+        "FiniteSender { first_number: 100, numbers_end: 103, is_closed: false }"
+    );
+    sender.close();
+    assert_eq!(
+        debug(&sender),
+        "FiniteSender { first_number: 100, numbers_end: 104, is_closed: true }"
     );
     assert_eq!(
         debug(ReceivingEndOver::<_, 2>::over_at([0; 4], 7, 2)),
@@ -122,12 +142,16 @@ fn texts_of_what_stores() {
     let mut scoreboard = Scoreboard::<2>::empty();
     scoreboard.acknowledge(10);
     assert_eq!(scoreboard.report(12, 14, 20), Ok(()));
-    assert_eq!(debug(&scoreboard), "Scoreboard { first_unreported: 10, reported: [(12, 14)] }");
+    assert_eq!(scoreboard.report(16, 18, 20), Ok(()));
+    assert_eq!(
+        debug(&scoreboard),
+        "Scoreboard { first_unreported: 10, reported: [(12, 14), (16, 18)] }"
+    );
     assert_eq!(debug(ManagedSlice::from(&mut [1u8, 2])), "Borrowed([1, 2])");
 }
 
-/// Each error, with its two texts; options of a text change nothing, and none has a source. A variant without a row doesn't
-/// compile.
+/// Each error, with its two texts; options of a text change nothing, and none has a source. A variant without a row
+/// doesn't compile.
 macro_rules! errors {
     ($($type:ident { $($variant:ident: $text:literal),* })*) => {
         #[test]

@@ -50,13 +50,9 @@ impl<S: Storage<u8>> Subject for Closing<S> {
         }
     }
 
-    fn debug(&self) -> String {
-        format!("{:?}", self.sender)
-    }
-
     /// The first number that isn't acknowledged, the one after the last, and the one after the last that was sent,
-    /// counted from the first; how many bytes are queued; 0, 1 once it is closed, and 2 once the end is acknowledged; the
-    /// digest of the queue.
+    /// counted from the first; how many bytes are queued; 0, 1 once it is closed, and 2 once the end is acknowledged;
+    /// the digest of the queue.
     fn show(&mut self) -> String {
         let sender = &self.sender;
         let begin = sender.first_number();

@@ -50,10 +50,6 @@ impl<S: Storage<u8>, const N: usize> Subject for Ending<S, N> {
         }
     }
 
-    fn debug(&self) -> String {
-        format!("{:?}", self.receiver)
-    }
-
     fn show(&mut self) -> String {
         shown(&self.receiver, self.first)
     }

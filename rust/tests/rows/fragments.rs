@@ -57,12 +57,8 @@ impl<S: Storage<u8>, const N: usize> Subject for Buffer<S, N> {
         }
     }
 
-    fn debug(&self) -> String {
-        format!("{:?}", self.0)
-    }
-
-    /// How many runs there are, and where the first one starts, or 0; whether there is none; the size, or 0, and whether
-    /// it is known; the deadline.
+    /// How many runs there are, and where the first one starts, or 0; whether there is none; the size, or 0, and
+    /// whether it is known; the deadline.
     fn show(&mut self) -> String {
         let buffer = &self.0;
         let came: Vec<bool> = (0..buffer.capacity()).map(|pos| buffer.overlaps(pos, 1)).collect();

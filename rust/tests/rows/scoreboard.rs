@@ -54,10 +54,6 @@ impl<const N: usize> Subject for Board<N> {
         }
     }
 
-    fn debug(&self) -> String {
-        format!("{:?}", self.board)
-    }
-
     /// The first position that wasn't reported, and the highest one that was, both counted from the stream's first; how
     /// many runs and positions are between these; the digest of the runs.
     fn show(&mut self) -> String {

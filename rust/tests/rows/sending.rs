@@ -107,8 +107,8 @@ impl<S: Storage<u8>, const N: usize> Subject for Sending<S, N> {
     }
 
     /// The first number that isn't acknowledged and the one after the last that was sent, counted from the first; the
-    /// window; when the timer ends, how often the timeout has passed, the time of a round trip; whether a recovery lasts,
-    /// and all is done; the number of an acknowledgement, counted so; the queue.
+    /// window; when the timer ends, how often the timeout has passed, the time of a round trip; whether a recovery
+    /// lasts, and all is done; the number of an acknowledgement, counted so; the queue.
     fn show(&mut self) -> String {
         let (end, first) = (&self.end, self.first);
         let numbers = end.numbers();

@@ -28,8 +28,8 @@ pub fn array<const N: usize>(bytes: &[u8]) -> [u8; N] {
     bytes.try_into().expect("as many bytes")
 }
 
-/// Calls `$f` with a subject, `$new` over storage that is converted, or `$over` over what is a storage itself. Each call of
-/// `$make` makes one.
+/// Calls `$f` with a subject, `$new` over storage that is converted, or `$over` over what is a storage itself. Each
+/// call of `$make` makes one.
 macro_rules! with_storage {
     ($stored:expr, $bytes:expr, |$make:ident| $new:expr, $over:expr, $f:expr) => {{
         use crate::storages::{array, lent};

@@ -2,8 +2,8 @@
 use crate::show::{pattern, truth};
 use crate::{Call, Subject};
 use net_base::tcp::{
-    checksum, classify, is_acceptable, is_acknowledgement, is_valid, scale_for, scaled,
-    updated_checksum, AdvertisedWindow, Announcement, AnswerLimit, Arrival, PartsSum, PeerWindow,
+    checksum, classify, is_acceptable, is_acknowledgement, scale_for, scaled, updated_checksum,
+    AdvertisedWindow, Announcement, AnswerLimit, Arrival, PartsSum, PeerWindow,
     RetransmissionTimeout, RttEstimate, Segment, SentNumbers, TimeoutBounds,
 };
 use net_base::time::{Duration, Instant};
@@ -38,7 +38,6 @@ impl Subject for Tcp {
             "scaled" => scaled(one as u16, two as u8).to_string(),
             "checksum" => checksum(&pattern(call.size(0), two)).to_string(),
             "checksum_parts" => parts(&pattern(call.size(0), two), call.size(2), call.size(3)),
-            "is_valid" => valid(&mut pattern(call.size(0), two), call.size(2)),
             "updated_checksum" => {
                 updated_checksum(one as u16, two as u16, three as u16).to_string()
             }
@@ -123,15 +122,6 @@ fn parts(bytes: &[u8], one: usize, other: usize) -> String {
     sum.add(&bytes[..one]);
     let after = PartsSum::new().with(&bytes[one..other]).with(&bytes[other..]);
     sum.joined(after).checksum().to_string()
-}
-
-fn valid(bytes: &mut [u8], at: usize) -> String {
-    bytes[at..at + 2].fill(0);
-    let sum = checksum(bytes);
-    bytes[at..at + 2].copy_from_slice(&sum.to_be_bytes());
-    let right = is_valid(bytes);
-    bytes[at] ^= 1;
-    format!("{} {}", truth(right), truth(is_valid(bytes)))
 }
 
 fn estimate(estimate: RttEstimate) -> String {
