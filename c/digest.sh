@@ -1,6 +1,6 @@
 #!/bin/sh
-# Compares the digest of a million calls of all exports, over the library that the kit builds of the same text, with that
-# of c/sequence.txt, which cargo's library has: sh c/digest.sh [FOLDER], where what is checked stays in FOLDER
+# Compares the digest of a million calls of all exports, over the library that the kit builds of the same text, with
+# that of c/sequence.txt, which cargo's library has: sh c/digest.sh [FOLDER], where what is checked stays in FOLDER
 set -eu
 here=$(cd "$(dirname "$0")" && pwd)
 out=$(mktemp -d)

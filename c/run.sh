@@ -1,11 +1,11 @@
 #!/bin/sh
 # Builds the library by cargo, and runs the programs of this folder over it: sh c/run.sh [--record]
 #
-# It compares the library's symbols with the header, and the structs' layouts; tries the headers in four languages by each
-# compiler that is here, and by doxygen; a program of another version, which must not link or load; pkg-config and CMake; and
-# runs bare (no C library), hosted, edges, duties, those of programs, each export at the values of tools/exports.txt and with
-# each pointer null, and a sequence of 1,000,000 calls, whose digest is in c/sequence.txt. CC and CXX name the compilers of C
-# and C++. It wants cargo, Python and nothing else. --record writes the digest.
+# It compares the library's symbols with the header, and the structs' layouts; tries the headers in four languages by
+# each compiler that is here, and by doxygen; a program of another version, which must not link or load; pkg-config and
+# CMake; and runs bare (no C library), hosted, edges, duties, those of programs, each export at the values of
+# tools/exports.txt and with each pointer null, and a sequence of 1,000,000 calls, whose digest is in c/sequence.txt. CC
+# and CXX name the compilers of C and C++. It wants cargo, Python and nothing else. --record writes the digest.
 set -eu
 
 here=$(cd "$(dirname "$0")" && pwd)
@@ -27,7 +27,8 @@ lacks() {
 }
 
 for program in "$compiler" nm ar; do
-    command -v "$program" > /dev/null || { at="not run: there is no $program: apt-get install -y gcc libc6-dev"; exit 2; }
+    command -v "$program" > /dev/null ||
+        { at="not run: there is no $program: apt-get install -y gcc libc6-dev"; exit 2; }
 done
 
 # Some compilers come without the sanitizers' library.
@@ -50,12 +51,13 @@ if grep -vxE 'memcpy|memmove|memset|memcmp|bcmp|_GLOBAL_OFFSET_TABLE_' "$out/wan
 fi
 echo "library: wants only $(tr '\n' ' ' < "$out/wanted")"
 
-# The header declares what the library has, and nothing else can be linked with. Each export has a row in exports.txt, or
-# none is written.
+# The header declares what the library has, and nothing else can be linked with. Each export has a row in exports.txt,
+# or none is written.
 python3 "$here/../tools/ffi.py" --tests "$out/exports.c" --layouts "$out/layouts.c" --sequence "$out/sequence.c"
 nm -g --defined-only "$out/library.o" | awk '$2 == "T" { print $3 }' | sort -u > "$out/defined"
 number=$(sed -n 's/^#define NET_BASE_INTERFACE //p' "$here/net_base.h")
-grep -v '^#' "$here/net_base.h" | sed -n "s/.* NET_BASE_LINK(\([a-z0-9_]*\));/net_base_${number}_\1/p" | sort -u > "$out/declared"
+grep -v '^#' "$here/net_base.h" | sed -n "s/.* NET_BASE_LINK(\([a-z0-9_]*\));/net_base_${number}_\1/p" |
+    sort -u > "$out/declared"
 diff "$out/defined" "$out/declared" || fail "library (<) and header (>) differ"
 echo "header: $(wc -l < "$out/declared") exports"
 
@@ -66,7 +68,8 @@ crate=$(ls -t "$target"/release/deps/libnet_base-*.rlib | head -n 1)
 rustc --edition 2024 --crate-type rlib --emit metadata -C panic=abort --extern "proved=$crate" \
     "$out/layouts.rs" -o "$out/layouts.rmeta"
 echo "layouts: $(grep -c 'offset_of!(' "$out/layouts.rs") fields of $(grep -c 'size_of::' "$out/layouts.rs") structs"
-[ "$(grep -c 'size_of::' "$out/layouts.rs")" = "$(grep -c '^struct net_base_.* {$' "$here/net_base.h")" ] || fail "not each struct"
+[ "$(grep -c 'size_of::' "$out/layouts.rs")" = "$(grep -c '^struct net_base_.* {$' "$here/net_base.h")" ] ||
+    fail "not each struct"
 
 at="a warning of the header"
 for each in "$compiler" gcc clang; do
@@ -110,16 +113,20 @@ else
     lacks "clang with its thread sanitizer" "programs/byte_ring.c isn't by it"
 fi
 if command -v "${CXX:-c++}" > /dev/null; then
-    "${CXX:-c++}" -std=c++17 -O2 $warnings -Wold-style-cast $sanitizers -I "$here" "$here/programs/receiver.cpp" "$library" \
-        -o "$out/receiver"
+    "${CXX:-c++}" -std=c++17 -O2 $warnings -Wold-style-cast $sanitizers -I "$here" "$here/programs/receiver.cpp" \
+        "$library" -o "$out/receiver"
     "$out/receiver"
 else
     lacks "C++ compiler" "C++ isn't"
 fi
 
 at="pkg-config"
-# What pkg-config says is enough, where cargo built the library. Its words come after what uses them, as in build systems.
-printf '#include <net_base.h>\nint main(void) { struct net_base_ring it; net_base_ring_init(&it); return it.length != 0; }\n' > "$out/plain.c"
+# What pkg-config says is enough, where cargo built the library. Its words come after what uses them, as in build
+# systems.
+cat > "$out/plain.c" <<'EOF'
+#include <net_base.h>
+int main(void) { struct net_base_ring it; net_base_ring_init(&it); return it.length != 0; }
+EOF
 if command -v pkg-config > /dev/null; then
     mkdir "$out/place"
     cp "$here/net_base.h" "$here/net_base.pc" "$out/place"
@@ -167,12 +174,15 @@ if command -v cmake > /dev/null; then
     mkdir "$out/user" "$out/found"
     cp "$out/plain.c" "$out/user/my.c"
     ln -s "$here/.." "$out/user/net-base"
-    { printf 'cmake_minimum_required(VERSION 3.16)\nproject(user C)\n'; grep -E '^    (add_|target_)' "$here/../docs/C.md"; } > "$out/user/CMakeLists.txt"
-    sed 's/add_subdirectory.*/find_package(net_base REQUIRED)/; s|my\.c|../user/my.c|' "$out/user/CMakeLists.txt" > "$out/found/CMakeLists.txt"
+    printf 'cmake_minimum_required(VERSION 3.16)\nproject(user C)\n' > "$out/user/CMakeLists.txt"
+    grep -E '^    (add_|target_)' "$here/../docs/C.md" >> "$out/user/CMakeLists.txt"
+    sed 's/add_subdirectory.*/find_package(net_base REQUIRED)/; s|my\.c|../user/my.c|' "$out/user/CMakeLists.txt" \
+        > "$out/found/CMakeLists.txt"
     for each in user found; do
-        { cmake -S "$out/$each" -B "$out/$each/built" "-DCMAKE_INSTALL_PREFIX=$out/installed" "-DCMAKE_PREFIX_PATH=$out/installed" &&
-            cmake --build "$out/$each/built" && "$out/$each/built/my" &&
-            { [ $each = found ] || cmake --install "$out/user/built"; }; } > "$out/said" 2>&1 || { cat "$out/said"; exit 1; }
+        { cmake -S "$out/$each" -B "$out/$each/built" "-DCMAKE_INSTALL_PREFIX=$out/installed" \
+            "-DCMAKE_PREFIX_PATH=$out/installed" && cmake --build "$out/$each/built" && "$out/$each/built/my" &&
+            { [ $each = found ] || cmake --install "$out/user/built"; }; } > "$out/said" 2>&1 ||
+            { cat "$out/said"; exit 1; }
     done
 else
     lacks CMake "CMakeLists.txt isn't"
@@ -211,5 +221,7 @@ at="the sequence"
 "$compiler" $flags -O1 $sanitizers -I "$here" "$out/sequence.c" "$library" -o "$out/sequence"
 "$out/sequence" > "$out/printed" || { cat "$out/printed"; exit 1; }
 cat "$out/printed"
-[ "${1:-}" != --record ] || sed -i "s/^$(getconf LONG_BIT) bits .*/$(getconf LONG_BIT) bits $(sed 's/.* //' "$out/printed")/" "$here/sequence.txt"
-grep -qE "bits $(sed 's/.* //' "$out/printed")$" "$here/sequence.txt" || fail "c/sequence.txt has another digest: run with --record if exports or structs are meant to differ"
+bits="$(getconf LONG_BIT) bits" digest=$(sed 's/.* //' "$out/printed")
+[ "${1:-}" != --record ] || sed -i "s/^$bits .*/$bits $digest/" "$here/sequence.txt"
+grep -qE "bits $digest$" "$here/sequence.txt" ||
+    fail "c/sequence.txt has another digest: run with --record if exports or structs are meant to differ"

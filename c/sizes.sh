@@ -1,6 +1,7 @@
 #!/bin/sh
-# Prints how many bytes each struct of the header has that a program keeps: sh c/sizes.sh. Of 64 bits they are those of this
-# machine, of 32 bits those of a Cortex-M4, by clang; where there is none, a dash. c/run.sh compares docs/C.md with it.
+# Prints how many bytes each struct of the header has that a program keeps: sh c/sizes.sh. Of 64 bits they are those of
+# this machine, of 32 bits those of a Cortex-M4, by clang; where there is none, a dash. c/run.sh compares docs/C.md
+# with it.
 set -eu
 here=$(cd "$(dirname "$0")" && pwd)
 kept="ring packets packet_slot assembler run fragments finite_receiver answer_limit parts_sum receiving_end
@@ -21,8 +22,8 @@ trap 'rm -rf "$folder"' EXIT
     printf '    return 0;\n}\n'
 } > "$folder/main.c"
 "${CC:-cc}" -I "$here" "$folder/main.c" -o "$folder/main"
-clang --target=thumbv7em-none-eabi -ffreestanding -I "$here" -S -o "$folder/sizes.s" "$folder/sizes.c" 2> "$folder/said" ||
-    : > "$folder/sizes.s"
+clang --target=thumbv7em-none-eabi -ffreestanding -I "$here" -S -o "$folder/sizes.s" "$folder/sizes.c" \
+    2> "$folder/said" || : > "$folder/sizes.s"
 "$folder/main" | while read -r name size; do
     small=$(awk -v label="$name:" '$1 == label { getline; print $2 }' "$folder/sizes.s")
     echo "| \`$name\` | $size | ${small:--} |"

@@ -9,9 +9,10 @@
 # temporary one (rust/kit.sh). It prints a line for each way to run a target: the checks of exports.c that passed,
 # whether hosted.c prints what it should, the programs of c/programs, the lines that docs/C.md has for the target,
 # and the digest of one long sequence of N calls (1000000) of all exports, which has to be that of sequence.txt, or
-# with --record is written there; and a line for the example with an interrupt. Quick are ARMv7, a Cortex-M4 and a RISC-V.
-# --table prints sizes, stacks, wanted functions and instructions, --packages what isn't installed; --install installs it.
+# with --record is written there; and a line for the example with an interrupt. Quick are ARMv7, a Cortex-M4 and a
+# RISC-V. --table prints sizes, stacks, wanted functions and instructions, --packages what isn't installed; --install
+# installs it.
 #
-# The status is 1 if something is wrong, and 2 if all is right but a compiler, a C library or an emulator is missing, which
-# a line names with the way to install it.
+# The status is 1 if something is wrong, and 2 if all is right but a compiler, a C library or an emulator is missing,
+# which a line names with the way to install it.
 exec python3 "$(dirname "$0")/targets/run.py" "$@"

@@ -2,8 +2,8 @@
 """plot.py [--check]
 
 Draws the tables of compare/results as pictures: docs/times.svg, of times.md, the time of each row beside smoltcp's, and
-docs/growth.svg, of growth.md, instructions of a call by the most runs of an assembler. With --check it writes nothing, and
-ends with status 1 if a picture is not that of its table.
+docs/growth.svg, of growth.md, instructions of a call by the most runs of an assembler. With --check it writes nothing,
+and ends with status 1 if a picture is not that of its table.
 """
 import math
 import re

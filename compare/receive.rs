@@ -145,7 +145,8 @@ pub extern "C" fn _start() -> ! {
     loop {}
 }
 
-/// Prints the ticks of a timer, of 40 instructions each, that 1,000 rounds take, and the bytes of stack that were written.
+/// Prints the ticks of a timer, of 40 instructions each, that 1,000 rounds take, and the bytes of stack that were
+/// written.
 #[cfg(emulated)]
 mod emulated {
     use core::arch::asm;

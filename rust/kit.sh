@@ -22,7 +22,8 @@ without() {
 unpack() {
     set -- -q -o "Dir::State::lists=$kit/lists" -o APT::Architectures=amd64,armhf,arm64
     apt-get "$@" update > "$kit/log" 2>&1 || true
-    full=$(apt-cache "$@" madison libstd-rust-web-dev:armhf | awk -v v="$version" 'index($3, v) == 1 { print $3; exit }')
+    full=$(apt-cache "$@" madison libstd-rust-web-dev:armhf |
+        awk -v v="$version" 'index($3, v) == 1 { print $3; exit }')
     [ -n "$full" ] || without "Debian has no Rust $version here: $(tail -n 1 "$kit/log")"
     (cd "$kit/debs" && apt-get "$@" download "rustc-web=$full" "rust-web-src=$full" "libstd-rust-web-dev:amd64=$full" \
         "libstd-rust-web-dev:armhf=$full" "libstd-rust-web-dev:arm64=$full" \

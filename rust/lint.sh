@@ -1,6 +1,6 @@
 #!/bin/sh
-# No difference by rustfmt and no warning of rustc or clippy, with each set of features; of clippy's pedantic lints those
-# about `must_use`. So nothing of the erased text is dead where the exports for C are there: what `UNCALLED` of
+# No difference by rustfmt and no warning of rustc or clippy, with each set of features; of clippy's pedantic lints
+# those about `must_use`. So nothing of the erased text is dead where the exports for C are there: what `UNCALLED` of
 # tools/parts/erase_list.py lacks is named here. Of the program the example is looked at, and its test.
 set -eu
 cd "$(dirname "$0")"

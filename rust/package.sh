@@ -19,17 +19,20 @@ for file in $names $links; do
     ls -d $file > /dev/null 2>&1 || { echo "package: README names $file, which isn't in the archive" >&2; exit 1; }
 done
 export CARGO_TARGET_DIR="${CARGO_TARGET_DIR:-$out/target}/package"
-# Without Rust's own tests of overflow, and without assertions of debug builds: what must panic does by a test of the crate's.
+# Without Rust's own tests of overflow, and without assertions of debug builds: what must panic does by a test of the
+# crate's.
 export CARGO_PROFILE_DEV_OVERFLOW_CHECKS=false CARGO_PROFILE_DEV_DEBUG_ASSERTIONS=false
 cargo test --offline --quiet --lib
 # Codes of what must not compile are compared where rustdoc's unstable features are on.
 RUSTC_BOOTSTRAP=1 cargo test --offline --doc > "$out/said" 2>&1 || { cat "$out/said"; exit 1; }
 refused=$(grep -c 'Refused.* - compile fail ... ok' "$out/said")
 wanted=$(grep -c '^```compile_fail' src/refused.txt)
-[ "$refused" = "$wanted" ] || { echo "package: of $wanted texts that must not compile $refused are refused" >&2; exit 1; }
+[ "$refused" = "$wanted" ] ||
+    { echo "package: of $wanted texts that must not compile $refused are refused" >&2; exit 1; }
 cargo build --offline --quiet --examples
 for example in stream transfer reassembly bridge interrupt split_ring; do
-    "$CARGO_TARGET_DIR/debug/examples/$example" > "$out/said" || { echo "package: the example $example failed" >&2; exit 1; }
+    "$CARGO_TARGET_DIR/debug/examples/$example" > "$out/said" ||
+        { echo "package: the example $example failed" >&2; exit 1; }
 done
 sh "$here/examples/net_bench/run.sh" "$CARGO_TARGET_DIR/debug/examples/net_bench"
 cp -r "$here/tests" .

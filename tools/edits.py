@@ -3,8 +3,8 @@
 
     python3 tools/edits.py [CRATE ..]             all edits, or those of some crates, by `rt must-fail`
     python3 tools/edits.py --log FILE             all edits, by what `rt ci` printed into a file
-    python3 tools/edits.py --table                the table of crates/must-fail.md alone: edits and tests that it names are
-                                                  there
+    python3 tools/edits.py --table                the table of crates/must-fail.md alone: edits and tests that it
+                                                  names are there
     python3 tools/edits.py --rows [CRATE ..]      the rows of all edits, or of those of some crates
 
 crates/must-fail.md has a table of wrong bodies. A row names the edit, and the function, as `rt check --only`

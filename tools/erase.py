@@ -15,22 +15,22 @@ The rules:
    items and members; attributes `tactic` and `error`; `Drop` and `Error` in lists of derives. The text of `error` becomes
    that of the error's `Display`; `{0}` in it is the only field.
 2. Modules of `UNERASED` of `erase_list.py`, and imports from them, go: Rust has them by hand, or not at all. So do the
-   crates' roots, whose constants have to stand in Rust's. Before the paths `crate`, `std` and those of crates there is the module where
-   Rust has them, as `FOLDERS` and `MOVED` of `erase_list.py` say.
+   crates' roots, whose constants have to stand in Rust's. Before the paths `crate`, `std` and those of crates there is
+   the module where Rust has them, as `FOLDERS` and `MOVED` of `erase_list.py` say.
 3. An impl of `Drop` goes, since rustc drops fields by itself: the comparison finds a `drop` that does more. An impl of
    `Model`, which has ghost members alone, goes too. An impl of `Clone` is one of the trait of this name in `rattle.rs`,
    which Rust's `Clone` calls. A bound by `Drop` is one by `Sized`.
 4. A public function whose signature names a head or `Turns` becomes `pub(crate)`. An export loses `extern "C"` and its
    documentation, and becomes `inline(always)`.
 5. `erase_list.py` has what else differs, with its files and how often: lifetimes, attributes, and types.
-6. A law goes that no text but laws names, and so does a function of `UNCALLED`: free functions, and methods whose names no
-   trait has. From an import goes what only contracts name, unless it is a trait or std's, and so do a `pub use` of another
-   crate, and names of `UNNAMED`. Rustc refuses a text that uses what this rule took out.
+6. A law goes that no text but laws names, and so does a function of `UNCALLED`: free functions, and methods whose names
+   no trait has. From an import goes what only contracts name, unless it is a trait or std's, and so do a `pub use` of
+   another crate, and names of `UNNAMED`. Rustc refuses a text that uses what this rule took out.
 7. Refused are imports of all names, attributes that aren't listed, the rest of a struct from an element, the order of
    bytes of a machine (`to_ne_bytes`, `to_be` and their like), and a bound of any `usize` that does more than compare.
 8. All other tokens stay, in their order, as `tools/erased_tokens.py` finds by a reader of its own. A file that uses it
-   imports `rattle::prelude`, where `prove!` is `assert!`. It is tested when a program is compiled if it is about `N`, and
-   in debug builds alone if it is of a `usize` of any width.
+   imports `rattle::prelude`, where `prove!` is `assert!`. It is tested when a program is compiled if it is about `N`,
+   and in debug builds alone if it is of a `usize` of any width.
 9. In documentation what a public function requires and tests is under "Panics".
 """
 import re
@@ -57,6 +57,8 @@ GONE, NO_CLAUSE = '\0', '\1'                      # where a form, and where a cl
 OF_TRAIT = re.compile(r'\bfor\b|\btrait\b')
 # The type that an impl is of, or a trait's name.
 OWNER = re.compile(r'(?:.*?\b(?:for|trait) |impl(?:<(?:[^<>]|<(?:[^<>]|<[^<>]*>)*>)*>)? )(\w+)', re.S)
+# The name of what has an attribute, behind that.
+ITEM = re.compile(r'(?:\s*(?:#\[[^\]]*\]|///[^\n]*|pub|struct)(?=\s))*\s*(\w+)')
 # A bound of a `usize` that does something: it assigns, lends to be changed, or calls more than `most` and `len`.
 WIDE = re.compile(r'prove!\(.*(?:\{|\bmut\b|[^=<>!]=[^=]|(?!\b(?:len|most)\()\b[a-z_]\w*\(|\w!\().*"in any `usize`"',
                   re.S)
@@ -207,7 +209,8 @@ class Eraser(Text):
         used |= {word for j, text in self.new.items() if j not in spans for word in words(text)}
         for head, k, end, is_public in self.imports:
             named = [j for j in range(k + 1, end) if self.tokens[j][0] == 'word']
-            kept = lambda name: name not in given.UNNAMED.get(self.key, ()) if is_public else name in used or name in self.traits
+            unnamed = given.UNNAMED.get(self.key, ())
+            kept = lambda name: name not in unnamed if is_public else name in used or name in self.traits
             leaves = [j for j in named if self.tokens[self.next(j + 1)][1] in (',', ';', '}')]
             by_name = {j: self.tokens[named[at - 2]][1] for at, j in enumerate(named) if at > 1
                        and self.tokens[named[at - 1]][1] == 'as'}
@@ -236,13 +239,14 @@ class Eraser(Text):
         if name == 'unsafe' and self.crate == given.EXPORTS:
             return self.put(k, end, '#[inline(always)]')
         if name == 'error':
-            item = re.compile(r'(?:\s*(?:#\[[^\]]*\]|///[^\n]*|pub|struct)(?=\s))*\s*(\w+)').match(self.text, self.tokens[end][2])[1]
+            item = ITEM.match(self.text, self.tokens[end][2])[1]
             owner = re.findall(r'^pub (?:struct|enum) (\w+)', self.text[:self.tokens[end][2]],
                                re.M) if self.margin(k) else [item]
             text = re.fullmatch(r'#\[error\(("(?:[^"{}\\]|\{0\})*")\)\]',
                                 self.source(k, end)) or self.refuse(self.tokens[k][2], 'not a text')
             taken, shown = ('(field)', ' (field)') if '{0}' in text[1] else ('', '')
-            self.errors.setdefault(owner[-1], []).append(f'{owner[-1]}{f"::{item}" * bool(self.margin(k))}{taken} => {text[1]}{shown}')
+            variant = f'::{item}' if self.margin(k) else ''
+            self.errors.setdefault(owner[-1], []).append(f'{owner[-1]}{variant}{taken} => {text[1]}{shown}')
         if name in ('tactic', 'error'):
             return self.put(k, end, GONE)
         if name not in PLAIN_ATTRIBUTES:

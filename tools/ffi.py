@@ -587,8 +587,9 @@ def abi(text):
     digest = hashlib.sha256(bare.encode()).hexdigest()[:16]
     known = {line.split()[0]: line.split()[-1] for line in ABI.read_text().splitlines()}
     if known[number] not in (number, digest):
-        sys.exit(f"ffi: structs or functions aren't those of interface {number}: add a line with the next number alone to "
-                 f"{ABI.relative_to(ROOT)}, or make {number} its last line's only word if no release has this number")
+        sys.exit(f"ffi: structs or functions aren't those of interface {number}: add a line with the next number alone "
+                 f"to {ABI.relative_to(ROOT)}, or make {number} its last line's only word if no release has this "
+                 "number")
     return "".join(f"{it} {said}\n" for it, said in (known | {number: digest}).items())
 
 

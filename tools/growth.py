@@ -2,9 +2,9 @@
 """growth.py [--write]
 
 How the instructions of each call that a packet reaches grow with the runs that are held, or with the packets of a
-table: counts them by callgrind at 32 and at 1,024, and prints a table. That of compare/results/growth.md has of each type
-and class the most that a call takes: `--write` writes it there. Each case of growth/src/main.rs has a class, that of
-the worst case: a call looks at some runs, searches them, or passes them once. One that passed them for each of them
+table: counts them by callgrind at 32 and at 1,024, and prints a table. That of compare/results/growth.md has of each
+type and class the most that a call takes: `--write` writes it there. Each case of growth/src/main.rs has a class, that
+of the worst case: a call looks at some runs, searches them, or passes them once. One that passed them for each of them
 would grow 1,024 times. Status 1 if a call grows more than its class allows, or no more than a call of a better one, if
 a public call of the types that have runs, and of the others of `TYPES`, has no case, and no reason in `LEFT_OUT`, if a
 case or a reason has no call, or if a number of the page is off by more than a tenth.
@@ -41,23 +41,26 @@ LEFT_OUT = {
         finite_receiver: empty_at over over_at into_storage reset_at
         sender: new new_at over over_at into_storage reset_at / finite_sender: new_at over over_at into_storage reset_at
         fragments: new empty over into_storage / slot: over
-        send_buffer: new_at over_at reset_at / sending_end: forget new_at over_at reset_at / receiving_end: empty_at over_at""",
+        send_buffer: new_at over_at reset_at / sending_end: forget new_at over_at reset_at
+        receiving_end: empty_at over_at""",
     "it reads numbers of the head, or of what it is given": """
         assembler: fits is_empty peek_front run_count / scoreboard: first_unreported
-        recovery: duplicates is_active is_blind parts / receiver: capacity first_unread fits held_count is_empty next queued window
-        receiver: window_end
+        recovery: duplicates is_active is_blind parts
+        receiver: capacity first_unread fits held_count is_empty next queued window window_end
         finite_receiver: acknowledged end has_read_all is_complete receiver window_end
         sender: capacity end first_unacknowledged is_empty len window
         finite_sender: capacity first_number is_closed is_closed_and_acknowledged is_empty len numbers_end sent
-        finite_sender: sent_numbers window / fragments: capacity expires_at is_empty is_expired total_size / slot: is_for
+        finite_sender: sent_numbers window
+        fragments: capacity expires_at is_empty is_expired total_size / slot: is_for
         send_buffer: is_blind is_closed is_done is_recovering numbers numbers_end window
-        sending_end: acknowledgement_number expires_at flight_size is_done is_recovering nagle_enabled numbers round_trip
-        sending_end: segment_size timeouts window / receiving_end: answer is_due receiver""",
+        sending_end: acknowledgement_number expires_at flight_size is_done is_recovering nagle_enabled numbers
+        sending_end: round_trip segment_size timeouts window / receiving_end: answer is_due receiver""",
     "only a program makes it, and it takes queued bytes": """
         receiver: as_slices peek peek_slice peek_slices read_with / finite_receiver: read_with
         receiving_end: read_with""",
     "only a program makes it, and it gives bytes, or ends the stream": """
-        sender: write / finite_sender: close write / send_buffer: close write / sending_end: close set_nagle_enabled write""",
+        sender: write / finite_sender: close write / send_buffer: close write
+        sending_end: close set_nagle_enabled write""",
     "only a program makes it: it compares two values": "receiver: same_state / finite_receiver: same_state",
     "it copies the runs, of which callgrind counts each byte where they are many": "receiver: plan",
 }

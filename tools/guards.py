@@ -88,7 +88,7 @@ def guarded():
         eraser = erase.Eraser(text, crate)
         eraser.run()
         for owner, header, k, head, begin, body, pub in eraser.functions:
-            signature, name = eraser.source(k, begin), f'{owner}::{eraser.tokens[eraser.next(k + 1)][1]}'.removeprefix('::')
+            signature, name = eraser.source(k, begin), f'{owner}::{eraser.name(k)}'.removeprefix('::')
             is_operator = 'ghost can_' in text[text.rfind(header, 0, eraser.tokens[k][2]):eraser.tokens[body][2]] \
                 if owner else False
             is_called = pub is not None or is_operator or header.startswith(('trait', 'pub trait'))

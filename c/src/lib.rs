@@ -9,8 +9,8 @@ use core::slice::{from_raw_parts, from_raw_parts_mut};
 #[rustfmt::skip]
 mod shim;
 
-/// The slice that C passes as a pointer and a length: an empty one if the length is 0, whatever the pointer is; otherwise
-/// none if the pointer is null.
+/// The slice that C passes as a pointer and a length: an empty one if the length is 0, whatever the pointer is;
+/// otherwise none if the pointer is null.
 ///
 /// # Safety
 ///
@@ -44,8 +44,8 @@ unsafe fn slice_mut<'a, T>(pointer: *mut T, length: usize) -> Option<&'a mut [T]
     Some(unsafe { from_raw_parts_mut(pointer, length) })
 }
 
-// Rust's core library comes compiled for panics that unwind, and names this where it is linked without an optimization of
-// all, or by Debian's compiler-builtins for ARMv7. Here none unwinds.
+// Rust's core library comes compiled for panics that unwind, and names this where it is linked without an optimization
+// of all, or by Debian's compiler-builtins for ARMv7. Here none unwinds.
 #[cfg(all(
     any(target_os = "linux", target_os = "none"),
     any(

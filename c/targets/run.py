@@ -434,7 +434,8 @@ def instructions(programs):
     if way.bare:
         said = programs.run("instructions", source, (), flags, ["-icount", "shift=0"])
     elif way.target == TARGETS[0] and not way.emulator and shutil.which("valgrind"):
-        program, said = programs.built("instructions", source, (), flags), programs.run("instructions", source, (), flags)
+        program = programs.built("instructions", source, (), flags)
+        said = programs.run("instructions", source, (), flags)
         counted = ["valgrind", "--tool=callgrind", "--callgrind-out-file=/dev/null", program]
 
         def count(kind, rounds):

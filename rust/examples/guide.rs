@@ -1,5 +1,5 @@
-//! The tasks of docs/GUIDE.md of the repository, whose page quotes them: `cargo run --example guide -- TASK`, where TASK is
-//! ring, packets, receiver, quic or fragments.
+//! The tasks of docs/GUIDE.md of the repository, whose page quotes them: `cargo run --example guide -- TASK`, where
+//! TASK is ring, packets, receiver, quic or fragments.
 use net_base::ends::{SendBuffer, Sending};
 use net_base::finite::FiniteReceiver;
 use net_base::receiver::Receiver;

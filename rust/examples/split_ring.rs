@@ -1,8 +1,8 @@
 //! A ring in a `static`, which one thread fills and another empties, without a lock and without `unsafe`.
 //!
-//! Each end stores its own count and loads the other's. The bytes are atomics, since safe Rust shares no other memory that
-//! is written: an interrupt and a program on one processor take the same type. Two ends of a kind at once would mix bytes
-//! up or panic, and no more.
+//! Each end stores its own count and loads the other's. The bytes are atomics, since safe Rust shares no other memory
+//! that is written: an interrupt and a program on one processor take the same type. Two ends of a kind at once would
+//! mix bytes up or panic, and no more.
 use std::sync::atomic::{AtomicU8, AtomicUsize, Ordering};
 use std::thread;
 

@@ -1,4 +1,5 @@
-//! A file over datagrams that are lost, doubled and late, with both ends and a clock of its own: what is lost is sent again.
+//! A file over datagrams that are lost, doubled and late, with both ends and a clock of its own: what is lost is sent
+//! again.
 use std::collections::VecDeque;
 
 use net_base::ends::{Acknowledged, Acknowledgement, Expired, ReceivingEnd, SendingEnd};

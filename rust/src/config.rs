@@ -1,7 +1,7 @@
 //! What features set, by smoltcp's name.
 
-/// How many runs an assembler, a receiver or a buffer of fragments has whose `N` isn't named: the greatest number of the
-/// features `assembler-max-segment-count-..`, or 4.
+/// How many runs an assembler, a receiver or a buffer of fragments has whose `N` isn't named: the greatest number of
+/// the features `assembler-max-segment-count-..`, or 4.
 ///
 /// ```
 /// # use net_base::config::ASSEMBLER_MAX_SEGMENT_COUNT;

@@ -1,5 +1,5 @@
-//! Heads, called with numbers about 0, the middle and the greatest `usize`, beside models in numbers of 128 bits; and what
-//! `prove!` tests.
+//! Heads, called with numbers about 0, the middle and the greatest `usize`, beside models in numbers of 128 bits; and
+//! what `prove!` tests.
 use crate::rattle::prelude::prove;
 use crate::storage::packets_head::PacketsHead;
 use crate::storage::{AssemblerHead, RingHead, Run};

@@ -87,7 +87,8 @@ impl<S: Storage<u8>, const N: usize> fmt::Debug for FiniteReceiverOver<S, N> {
     }
 }
 
-/// The first number that isn't acknowledged, that after the last one, and whether the stream has its end: not the storage.
+/// The first number that isn't acknowledged, that after the last one, and whether the stream has its end: not the
+/// storage.
 impl<S: Storage<u8>> fmt::Debug for FiniteSenderOver<S> {
     fn fmt(&self, f: &mut fmt::Formatter) -> fmt::Result {
         f.debug_struct("FiniteSender")

@@ -1,14 +1,14 @@
-//! Rings, packet queues, the assembler and times with smoltcp's names, and both ends of a TCP stream: machine-checked Rust
-//! without a heap, `unsafe` or dependencies.
+//! Rings, packet queues, the assembler and times with smoltcp's names, and both ends of a TCP stream: machine-checked
+//! Rust without a heap, `unsafe` or dependencies.
 //!
 //! Of smoltcp there are `storage`, `time`, `rand`, and of `phy` capabilities, checksums and metadata. Names, signatures
-//! and behaviour are those of [smoltcp](https://github.com/smoltcp-rs/smoltcp) 0.14.0, except where an item says otherwise.
-//! Beyond smoltcp there are [`receiver::Receiver`], which joins segments that come in any order to a stream,
+//! and behaviour are those of [smoltcp](https://github.com/smoltcp-rs/smoltcp) 0.14.0, except where an item says
+//! otherwise. Beyond smoltcp there are [`receiver::Receiver`], which joins segments that come in any order to a stream,
 //! [`sender::Sender`], which stores bytes until they are acknowledged, the same for streams that end ([`finite`]),
-//! [`scoreboard::Scoreboard`], which says what to send again, [`sequence_number::SequenceNumber`], TCP's numbers that wrap,
-//! the small machines of [`tcp`], and [`storage::Assembler`]s of any number of runs. [`ends`] has all of these as the two
-//! ends of a connection. For a stream of QUIC there are [`finite::FiniteReceiver`] and [`ends::SendBuffer`]. `docs/GUIDE.md`
-//! of the repository has each as code, and the order of their calls.
+//! [`scoreboard::Scoreboard`], which says what to send again, [`sequence_number::SequenceNumber`], TCP's numbers that
+//! wrap, the small machines of [`tcp`], and [`storage::Assembler`]s of any number of runs. [`ends`] has all of these as
+//! the two ends of a connection. For a stream of QUIC there are [`finite::FiniteReceiver`] and [`ends::SendBuffer`].
+//! `docs/GUIDE.md` of the repository has each as code, and the order of their calls.
 //!
 //! ```
 //! use net_base::receiver::Receiver;
@@ -25,15 +25,17 @@
 //!
 //! # What is proved
 //!
-//! All but what is by hand is written in Rattle, Rust in which functions have contracts: a prover shows for all arguments
-//! that a body meets its contract. Then the contracts are taken out. The first line of a proved source, which a "Source"
-//! link opens, names the file of the repository that has them. What a contract requires of a caller is tested: a call that
-//! breaks it panics, and says where. In Rattle such a test is shown never to fail if the contract is kept.
+//! All but what is by hand is written in Rattle, Rust in which functions have contracts: a prover shows for all
+//! arguments that a body meets its contract. Then the contracts are taken out. The first line of a proved source, which
+//! a "Source" link opens, names the file of the repository that has them. What a contract requires of a caller is
+//! tested: a call that breaks it panics, and says where. In Rattle such a test is shown never to fail if the contract
+//! is kept.
 //!
 //! # Guarantees
 //!
-//! Some clauses are on a function's page, in Rust's words. `old(x)` is x before the call, `x` what it is afterwards, and
-//! numbers in them have no bound: sums don't wrap. `docs/CONTRACTS.md` of the repository explains what isn't a call here.
+//! Some clauses are on a function's page, in Rust's words. `old(x)` is x before the call, `x` what it is afterwards,
+//! and numbers in them have no bound: sums don't wrap. `docs/CONTRACTS.md` of the repository explains what isn't a call
+//! here.
 //!
 //! # What isn't
 //!
@@ -43,8 +45,8 @@
 //! # Features and targets
 //!
 //! `alloc`: storage may own a vector. `std`, which is on unless it is turned off: conversions from std's clocks, and
-//! `alloc`. `segmentation-offload`: a field of `PacketMeta`. `assembler-max-segment-count-..`: how many runs there are where
-//! `N` isn't named ([`config`]). smoltcp's that a program of these modules can't leave out are accepted.
+//! `alloc`. `segmentation-offload`: a field of `PacketMeta`. `assembler-max-segment-count-..`: how many runs there are
+//! where `N` isn't named ([`config`]). smoltcp's that a program of these modules can't leave out are accepted.
 //! Targets have 32 or 64 bits.
 //!
 //! Overflow panics here in every build, unless an item says otherwise.
@@ -61,9 +63,9 @@ extern crate std;
 #[cfg(not(any(target_pointer_width = "32", target_pointer_width = "64")))]
 compile_error!("a `usize` has 32 or 64 bits");
 
-/// Declares modules that `tools/erase.py` writes, the proved text, which rustfmt leaves as it is. Which item is public in a
-/// crate of Rattle isn't which one is in this crate; a parameter may be for contracts alone; the other lints are of what
-/// Rattle has no other form for. Some calls and names are for two features alone.
+/// Declares modules that `tools/erase.py` writes, the proved text, which rustfmt leaves as it is. Which item is public
+/// in a crate of Rattle isn't which one is in this crate; a parameter may be for contracts alone; the other lints are
+/// of what Rattle has no other form for. Some calls and names are for two features alone.
 macro_rules! erased {
     ($($visibility:vis mod $name:ident;)*) => {$(
         #[allow(unreachable_pub, unused_variables)]

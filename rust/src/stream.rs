@@ -1,5 +1,6 @@
 //! A stream of bytes: what receives it, what sends it, and what is lost on the way. Public are [`crate::receiver`],
-//! [`crate::sender`], [`crate::finite`], [`crate::scoreboard`] and [`crate::sequence_number`], and loss recovery in [`crate::tcp`].
+//! [`crate::sender`], [`crate::finite`], [`crate::scoreboard`] and [`crate::sequence_number`], and loss recovery in
+//! [`crate::tcp`].
 erased! {
     pub(crate) mod duplicate_block;
     pub(crate) mod equal_acknowledgement;

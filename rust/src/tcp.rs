@@ -37,8 +37,9 @@
 //! assert_eq!(timer.timeout(), Duration::from_millis(300));
 //! timer.expired(bounds);
 //! assert_eq!(timer.timeout(), Duration::from_millis(600));
-//! // Three segments are sent at 0 to a peer that reports blocks, one is acknowledged after 100 ms, and the others aren't in
-//! // time: a probe is due after two more round trips, and the timeout passes when it would have passed without it.
+//! // Three segments are sent at 0 to a peer that reports blocks, one is acknowledged after 100 ms, and the others
+//! // aren't in time: a probe is due after two more round trips, and the timeout passes when it would have passed
+//! // without it.
 //! let mut timer = RetransmissionTimer::new(Duration::from_secs(1), true);
 //! for (from, to) in [(0, 10), (10, 20), (20, 30)] {
 //!     timer.sent(bounds, from..to, SentNumbers { first_unacknowledged: 0, sent: from }, Instant::ZERO);
@@ -111,15 +112,16 @@ impl Default for RetransmissionTimeout {
     }
 }
 
-/// One that doesn't run, with a timeout of one second (RFC 6298, 2.1), and a peer that reports no blocks: no probe is due.
+/// One that doesn't run, with a timeout of one second (RFC 6298, 2.1), and a peer that reports no blocks: no probe is
+/// due.
 impl Default for RetransmissionTimer {
     fn default() -> Self {
         RetransmissionTimer::new(Duration::from_secs(1), false)
     }
 }
 
-/// At least one second and at most 60, by a clock of milliseconds (RFC 6298, 2.4 and 2.5), and an acknowledgement is delayed
-/// by 200 ms at most (RFC 8985, 7.2).
+/// At least one second and at most 60, by a clock of milliseconds (RFC 6298, 2.4 and 2.5), and an acknowledgement is
+/// delayed by 200 ms at most (RFC 8985, 7.2).
 impl Default for TimeoutBounds {
     fn default() -> Self {
         TimeoutBounds {

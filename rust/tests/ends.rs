@@ -1,5 +1,5 @@
-//! The two ends of a connection: whatever arrives, forged acknowledgements too, what is sent is what was written, nothing is
-//! sent beyond the peer's edge but a probe, and a timer runs while anything waits.
+//! The two ends of a connection: whatever arrives, forged acknowledgements too, what is sent is what was written,
+//! nothing is sent beyond the peer's edge but a probe, and a timer runs while anything waits.
 #![cfg(feature = "alloc")]
 use net_base::ends::{
     AckKind, Acknowledged, Expired, ReceivingEnd, SendBuffer, SendBufferOver, Sending, SendingEnd,
@@ -137,8 +137,8 @@ fn a_forged_acknowledgement_stops_no_timer() {
     assert!(at.is_some() && end.expires_at() == at);
 }
 
-/// What is sent after a pause is probed after two round trips, and not only found by the timeout; one segment alone after
-/// 200 ms more, by which its acknowledgement may be delayed.
+/// What is sent after a pause is probed after two round trips, and not only found by the timeout; one segment alone
+/// after 200 ms more, by which its acknowledgement may be delayed.
 #[test]
 fn what_is_sent_after_a_pause_is_probed() {
     let mut end = SendingEnd::<4>::new_at(vec![0; 20], 0, SECOND, TimeoutBounds::default());
@@ -217,8 +217,8 @@ fn hear(end: &mut SendingEnd<'_, 4>, ack: u64, blocks: &[(u64, u64)]) -> Acknowl
     end.acknowledged(Announcement { seq: 1, ack, window: 100 }, blocks, true, Instant::ZERO)
 }
 
-/// A peer that reports nothing says the same three times: the first segment is lost. In the recovery an acknowledgement of
-/// something new loses the next one.
+/// A peer that reports nothing says the same three times: the first segment is lost. In the recovery an acknowledgement
+/// of something new loses the next one.
 #[test]
 fn the_third_equal_acknowledgement_and_a_partial_one() {
     let mut end = six_segments(false);
@@ -338,8 +338,8 @@ fn what_is_held_back_waits_for_the_timer() {
     assert_eq!(ranges(&mut end, now), [(60, 61)]);
 }
 
-/// By Nagle's rule less than a whole segment waits while something is in flight, but for the timer and for the last of a
-/// stream that is closed. Without it all that is left is sent.
+/// By Nagle's rule less than a whole segment waits while something is in flight, but for the timer and for the last of
+/// a stream that is closed. Without it all that is left is sent.
 #[test]
 fn nagles_rule() {
     let mut end = after_three_segments(0);
@@ -394,7 +394,8 @@ fn a_timer_runs_for_what_is_in_flight() {
     assert_eq!(end.expires_at(), None);
 }
 
-/// A peer fills the window and sends its end: what is announced is 0, and nothing panics. After the end no update is sent.
+/// A peer fills the window and sends its end: what is announced is 0, and nothing panics. After the end no update is
+/// sent.
 #[test]
 fn a_full_window_and_an_end() {
     let mut end = ReceivingEnd::<4>::empty_at(vec![0; 3], 0, 1_000);
@@ -472,8 +473,8 @@ fn what_is_read_is_what_was_written() {
     }
 }
 
-/// What came twice is the first block of the next acknowledgement, and of no other: below what is acknowledged, or within the
-/// second block.
+/// What came twice is the first block of the next acknowledgement, and of no other: below what is acknowledged, or
+/// within the second block.
 #[test]
 fn what_came_twice_is_reported_once() {
     let mut end = ReceivingEnd::<4>::empty_at(vec![0; 40], 100, 8);
@@ -557,8 +558,8 @@ fn a_send_buffer_takes_a_recovery_back() {
     );
 }
 
-/// A stream as QUIC has it: whatever the limit is, all that was written is sent in as many ranges, and ranges that arrive
-/// in any order acknowledge it.
+/// A stream as QUIC has it: whatever the limit is, all that was written is sent in as many ranges, and ranges that
+/// arrive in any order acknowledge it.
 #[test]
 fn a_stream_of_ranges() {
     for limit in [20, 21, 33, u64::MAX] {

@@ -1,6 +1,7 @@
-//! Both ends over a path whose datagrams are lost, doubled, late and cut, beside forged acknowledgements. Whatever happens,
-//! the stream arrives; nothing that was reported is sent again; nothing is sent beyond each edge that the peer ever gave but
-//! a probe of a shut window; and while something waits there is a moment to wait for. `SCHEDULES` is how many are drawn.
+//! Both ends over a path whose datagrams are lost, doubled, late and cut, beside forged acknowledgements. Whatever
+//! happens, the stream arrives; nothing that was reported is sent again; nothing is sent beyond each edge that the peer
+//! ever gave but a probe of a shut window; and while something waits there is a moment to wait for. `SCHEDULES` is how
+//! many are drawn.
 #![cfg(feature = "alloc")]
 use std::collections::BTreeMap;
 

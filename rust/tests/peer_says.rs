@@ -1,5 +1,5 @@
-//! What a peer says, which is no fault of the caller's: the later of two segments that differ, bytes beyond an end, a full
-//! window at the end, and an acknowledgement of what wasn't sent.
+//! What a peer says, which is no fault of the caller's: the later of two segments that differ, bytes beyond an end, a
+//! full window at the end, and an acknowledgement of what wasn't sent.
 use net_base::finite::{FiniteError, FiniteReceiver};
 use net_base::tcp::{
     AdvertisedWindow, Announcement, PeerWindow, RetransmissionTimer, SentNumbers, TimeoutBounds,

@@ -24,8 +24,8 @@ fn indices(lent: SplitSpan) -> impl Iterator<Item = usize> {
         .map(move |i| if i < span.contiguous { span.from + i } else { i - span.contiguous })
 }
 
-/// Makes `rounds` steps of both ends over a ring. The queue has what was counted as written and wasn't taken. Of each count
-/// the other end loads any value that it has had since the last one: an old one is so many elements ago.
+/// Makes `rounds` steps of both ends over a ring. The queue has what was counted as written and wasn't taken. Of each
+/// count the other end loads any value that it has had since the last one: an old one is so many elements ago.
 fn play(capacity: usize, seed: u64, rounds: usize) {
     let mut numbers = Numbers(seed);
     let (mut storage, mut queue, mut next_element) = (vec![0; capacity], VecDeque::new(), 1);

@@ -1,5 +1,5 @@
-//! Traits of std that are by hand: hashes, sums, comparisons, conversions, counts of iterators, readers and writers. Values
-//! are worked by hand.
+//! Traits of std that are by hand: hashes, sums, comparisons, conversions, counts of iterators, readers and writers.
+//! Values are worked by hand.
 #![allow(clippy::op_ref)]
 use std::collections::HashSet;
 use std::fmt::Write as _;

@@ -56,7 +56,8 @@ UNNAMED = {'net_base/time': ['earlier']}
 # documentation.
 EXPORTS = 'net_ffi'
 
-RING, PACKETS, ASSEMBLER, PHY = 'net_ring/ring_buffer', 'net_packets/packet_buffer', 'net_assembler/assembler', 'net_base/phy'
+RING, PACKETS = 'net_ring/ring_buffer', 'net_packets/packet_buffer'
+ASSEMBLER, PHY = 'net_assembler/assembler', 'net_base/phy'
 RECEIVER, FINITE, FRAGMENTS = 'net_receiver/receiver', 'net_receiver/finite_receiver', 'net_base/storage/fragments'
 
 # What is replaced: the old text, the new one, and how often it is in each of these files. These differ in lifetimes

@@ -27,8 +27,8 @@ NEAR |= {("sending_end", name): "now.sending_end_end.sender.sender.first_unackno
          for name in ("position", "limit")}
 NEAR |= {("sending_end", "it.ack"): "(below(2) ? now.sending_end_end.sender.sent : now.sending_end_end.sender.sender.first_unacknowledged)",
          ("sending_end", "now"): "(uint64_t)now.sending_end_end.head.timer.ends_at"}
-# What a head is made now and then, since calls seldom do: a timer whose probe is due before the timeout passes; and an end
-# whose stream is acknowledged, its end too.
+# What a head is made now and then, since calls seldom do: a timer whose probe is due before the timeout passes; and an
+# end whose stream is acknowledged, its end too.
 MADE = {"sending_end": ["now.sending_end_end.head.timer.reports = 1;", "now.sending_end_end.head.timer.probe_at = "
                         "(int64_t)((uint64_t)now.sending_end_end.head.timer.ends_at - below(48));",
                         "if (now.sending_end_end.sender.sender.place.length == 0 && below(4) == 0) {",

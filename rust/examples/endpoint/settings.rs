@@ -67,8 +67,9 @@ impl Settings {
             let number = value.parse().ok().filter(|number| *number <= NUMBERS[at].2);
             numbers[at] = number.ok_or(format!("{word}: not a number up to {}", NUMBERS[at].2))?;
         }
-        let [lost, doubled, delayed, longest_delay, latency, seed, runs, capacity, rest, seconds, rate, queue, gives_up, keep_alive, nagle] =
+        let [lost, doubled, delayed, longest_delay, latency, seed, runs, capacity, others @ ..] =
             numbers;
+        let [rest, seconds, rate, queue, gives_up, keep_alive, nagle] = others;
         if !RUNS.contains(&runs) {
             return Err(format!("runs={runs}: not one of {RUNS:?}"));
         }

@@ -2,8 +2,8 @@
 //! crates the few functions that it calls.
 
 /// Declares modules of erased text. Which item is public in a crate of Rattle isn't which one is in this program. A
-/// parameter and a label may be for contracts alone. A line feed is in a text, as in what is read. The rest is what Rattle
-/// has no other form for.
+/// parameter and a label may be for contracts alone. A line feed is in a text, as in what is read. The rest is what
+/// Rattle has no other form for.
 macro_rules! erased {
     ($($(#[$attribute:meta])* $visibility:vis mod $name:ident;)*) => {$(
         #[allow(unreachable_pub, unused_labels, unused_variables)]

@@ -1,5 +1,5 @@
-//! By hand, of rings, packet queues, assemblers and buffers of fragments: storage that is converted; what has no `N`; what is
-//! printed, since Rattle would print the storage; traits that Rattle hasn't.
+//! By hand, of rings, packet queues, assemblers and buffers of fragments: storage that is converted; what has no `N`;
+//! what is printed, since Rattle would print the storage; traits that Rattle hasn't.
 use core::{fmt, iter};
 
 use super::fragment_table::FragmentSlot;

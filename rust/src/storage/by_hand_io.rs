@@ -1,7 +1,7 @@
 //! By hand: rings, receivers and senders as std's readers and writers.
 //!
-//! To std `Ok(0)` of a reader is the end, and of a writer that nothing will be taken any more. Where nothing is there yet,
-//! or no room is left for now, a call here is therefore refused as [`WouldBlock`](ErrorKind::WouldBlock).
+//! To std `Ok(0)` of a reader is the end, and of a writer that nothing will be taken any more. Where nothing is there
+//! yet, or no room is left for now, a call here is therefore refused as [`WouldBlock`](ErrorKind::WouldBlock).
 use std::io::{BufRead, Error, ErrorKind, Read, Result, Write};
 
 use super::{RingOver, Storage};
@@ -22,8 +22,8 @@ fn lent(bytes: &[u8], is_for_now: bool) -> Result<&[u8]> {
     moved(bytes.len(), 1, is_for_now).map(|_count| bytes)
 }
 
-/// Reads what is queued. An empty ring is refused as [`ErrorKind::WouldBlock`]: a queue has no end, and more may be enqueued.
-/// So `read_to_end` appends all that is queued, and then is refused; `dequeue_slice` isn't.
+/// Reads what is queued. An empty ring is refused as [`ErrorKind::WouldBlock`]: a queue has no end, and more may be
+/// enqueued. So `read_to_end` appends all that is queued, and then is refused; `dequeue_slice` isn't.
 impl<S: Storage<u8>> Read for RingOver<u8, S> {
     fn read(&mut self, into: &mut [u8]) -> Result<usize> {
         moved(self.dequeue_slice(into), into.len(), true)
@@ -44,8 +44,8 @@ impl<S: Storage<u8>> BufRead for RingOver<u8, S> {
     }
 }
 
-/// Reads what is queued. Where nothing is it is refused as [`ErrorKind::WouldBlock`]: this stream doesn't end. One that does is a
-/// [`FiniteReceiver`](crate::finite::FiniteReceiver).
+/// Reads what is queued. Where nothing is it is refused as [`ErrorKind::WouldBlock`]: this stream doesn't end. One that
+/// does is a [`FiniteReceiver`](crate::finite::FiniteReceiver).
 impl<S: Storage<u8>, const N: usize> Read for ReceiverOver<S, N> {
     fn read(&mut self, into: &mut [u8]) -> Result<usize> {
         moved(ReceiverOver::read(self, into), into.len(), true)
@@ -89,8 +89,8 @@ impl<S: Storage<u8>, const N: usize> Read for FiniteReceiverOver<S, N> {
     }
 }
 
-/// Lends the contiguous part of what is queued. Where nothing is, that is the end, an empty slice, if all bytes were read;
-/// otherwise it is refused as [`ErrorKind::WouldBlock`].
+/// Lends the contiguous part of what is queued. Where nothing is, that is the end, an empty slice, if all bytes were
+/// read; otherwise it is refused as [`ErrorKind::WouldBlock`].
 impl<S: Storage<u8>, const N: usize> BufRead for FiniteReceiverOver<S, N> {
     fn fill_buf(&mut self) -> Result<&[u8]> {
         lent(self.receiver().peek(0, usize::MAX), !self.has_read_all())
@@ -104,8 +104,8 @@ impl<S: Storage<u8>, const N: usize> BufRead for FiniteReceiverOver<S, N> {
     }
 }
 
-/// Enqueues as many bytes as there is room for. A full ring is refused as [`ErrorKind::WouldBlock`]; one without storage takes
-/// nothing ever, which is `Ok(0)`.
+/// Enqueues as many bytes as there is room for. A full ring is refused as [`ErrorKind::WouldBlock`]; one without
+/// storage takes nothing ever, which is `Ok(0)`.
 impl<S: Storage<u8>> Write for RingOver<u8, S> {
     fn write(&mut self, bytes: &[u8]) -> Result<usize> {
         moved(self.enqueue_slice(bytes), bytes.len(), self.capacity() != 0)
@@ -116,8 +116,9 @@ impl<S: Storage<u8>> Write for RingOver<u8, S> {
     }
 }
 
-/// Takes as many bytes as there is room for. A full sender is refused as [`ErrorKind::WouldBlock`]; one without storage, or of
-/// whose positions none is left, takes nothing ever, which is `Ok(0)`. `flush` doesn't wait for acknowledgements.
+/// Takes as many bytes as there is room for. A full sender is refused as [`ErrorKind::WouldBlock`]; one without
+/// storage, or of whose positions none is left, takes nothing ever, which is `Ok(0)`. `flush` doesn't wait for
+/// acknowledgements.
 impl<S: Storage<u8>> Write for SenderOver<S> {
     fn write(&mut self, bytes: &[u8]) -> Result<usize> {
         let is_full = !self.is_empty() && self.len() == self.capacity();
@@ -130,8 +131,8 @@ impl<S: Storage<u8>> Write for SenderOver<S> {
 }
 
 /// Takes as many bytes as there is room for. A closed sender is refused as [`ErrorKind::BrokenPipe`], and a full one as
-/// [`ErrorKind::WouldBlock`]; one without storage, or of whose positions none is left, takes nothing ever, which is `Ok(0)`.
-/// `flush` doesn't wait for acknowledgements.
+/// [`ErrorKind::WouldBlock`]; one without storage, or of whose positions none is left, takes nothing ever, which is
+/// `Ok(0)`. `flush` doesn't wait for acknowledgements.
 impl<S: Storage<u8>> Write for FiniteSenderOver<S> {
     fn write(&mut self, bytes: &[u8]) -> Result<usize> {
         if self.is_closed() && !bytes.is_empty() {

@@ -150,7 +150,8 @@ fn both_open_at_once() {
     }
 }
 
-/// Both ends fill the other's window, and read late: one once it has written all, the other one or both from a moment on.
+/// Both ends fill the other's window, and read late: one once it has written all, the other one or both from a moment
+/// on.
 #[test]
 fn late_readers() {
     let at = |millis| Some(BEGUN + Duration::from_millis(millis));

@@ -1,4 +1,5 @@
-//! A ring, an assembler and a packet queue without std: `python3 compare/sizes.py` builds it over this crate and over smoltcp.
+//! A ring, an assembler and a packet queue without std: `python3 compare/sizes.py` builds it over this crate and over
+//! smoltcp.
 #![no_std]
 #![no_main]
 
