@@ -24,11 +24,11 @@ ghost use Rattle.net_assembler.specs.Positions.{contains};
 ghost use Rattle.std.specs.Prelude.{None, nat_eq};
 ghost use Rattle.net_recovery.specs.LossRecovery.{recovery_of, new_recovery, no_loss, forgotten, begun};
 ghost use Rattle.net_recovery.specs.LossRecovery.{is_active, is_answered};
-ghost use Rattle.net_recovery.specs.LossRecovery.{with_pass, with_mark, later, overtaken, after_pass, after_losses};
+ghost use Rattle.net_recovery.specs.LossRecovery.{with_pass, with_mark, later, after_pass, after_losses};
 ghost use Rattle.net_recovery.specs.LossRecovery.{after_report, found, after_silence};
 ghost use Rattle.net_recovery.specs.LossRecovery.{after_sending, after_duplicate, was_sent_again, in_flight};
-ghost use Rattle.net_recovery.specs.LossRecovery.{unsent_lost, after_hearing, withdrawn, after_arrival, blind_lost};
-ghost use Rattle.net_recovery.specs.LossRecovery.{most_later, heard_of, after_copy, after_answer, ordered};
+ghost use Rattle.net_recovery.specs.LossRecovery.{unsent_lost, after_hearing, blind_lost};
+ghost use Rattle.net_recovery.specs.LossRecovery.{most_later, heard_of, after_answer};
 ghost use Rattle.net_recovery.specs.LossRecovery.{unsent, next_range, next_segment, resumed, gone_on, begins_at};
 ghost use Rattle.net_recovery.specs.LossRecovery.{next_probe, after_copies, with_copies, is_wrong, taken_back};
 ghost use Rattle.net_recovery.specs.LossRecovery.{after_probe};
@@ -337,12 +337,12 @@ impl LossRecovery {
             (max lost (blind_lost segment_size answer.first numbers.first_unacknowledged
             numbers.sent r)) highest r)) }
     {
-        self.take(numbers, scoreboard, segment_size, answer);
+        self.note_answer(numbers, scoreboard, segment_size, answer);
         self.find(numbers, scoreboard, segment_size, answer.first)
     }
 
-    /// Takes what an acknowledgement answers.
-    fn take<B: Reported>(
+    /// Takes notice of what an acknowledgement answers.
+    fn note_answer<B: Reported>(
         &mut self,
         numbers: SentNumbers,
         scoreboard: &B,
@@ -353,24 +353,24 @@ impl LossRecovery {
             numbers.first_unacknowledged numbers.sent
             answer.reports answer.is_equal answer.unsent (B.set scoreboard.now) (recovery_of self.old) }
     {
-        self.take_copy(numbers, answer);
-        self.hear(numbers, segment_size, answer);
-        self.take_arrival(numbers, scoreboard, answer.unsent);
-    }
-
-    /// Takes an equal acknowledgement of all that was sent before a recovery as a report of what came twice: it answers
-    /// a copy.
-    fn take_copy(&mut self, numbers: SentNumbers, answer: Answer)
-        ensures { recovery_of self.new ≡ after_copy numbers.first_unacknowledged numbers.sent answer.reports
-            answer.is_equal (recovery_of self.old) }
-    {
+        // An equal acknowledgement of all that was sent before a recovery answers a copy.
         if answer.is_equal && !answer.reports && numbers.first_unacknowledged == self.until {
+            self.duplicated(numbers);
+        }
+        self.count_unreported(numbers, segment_size, answer);
+        // Nothing that wasn't sent again is lost, if such a thing has arrived.
+        if answer.unsent > 0
+            && !self.is_blind()
+            && self.unsent_lost(numbers, scoreboard) < answer.unsent
+        {
+            self.turn = self.again;
+            self.lost = self.lost.min(self.again.max(self.resume));
             self.duplicated(numbers);
         }
     }
 
     /// Takes notice whether the peer reports, and of what has arrived that it doesn't.
-    fn hear(&mut self, numbers: SentNumbers, segment_size: usize, answer: Answer)
+    fn count_unreported(&mut self, numbers: SentNumbers, segment_size: usize, answer: Answer)
         ensures { recovery_of self.new ≡ after_hearing segment_size answer.first
             numbers.first_unacknowledged numbers.sent
             answer.reports answer.is_equal (recovery_of self.old) }
@@ -384,13 +384,18 @@ impl LossRecovery {
         };
         let known = first.saturating_sub(answer.first).saturating_sub(size);
         let most = end.saturating_sub(first).saturating_sub(size);
-        let unknown = self.heard_of(size, answer.reports, answer.is_equal && first != self.until);
+        let unknown = self.unreported_after(
+            size,
+            answer.reports,
+            answer.is_equal && first != self.until,
+        );
         self.unknown = unknown.saturating_sub(known).min(most);
         let is_blind = self.is_blind();
         self.set_blind(!answer.reports && (answer.is_equal || is_blind));
     }
 
-    fn heard_of(&self, size: u64, reports: bool, is_equal: bool) -> u64
+    /// Returns how many positions have arrived that the peer doesn't report, after an acknowledgement that answers them.
+    fn unreported_after(&self, size: u64, reports: bool, is_equal: bool) -> u64
         ensures { result ≡ heard_of size reports is_equal (recovery_of self.now) }
     {
         if reports {
@@ -402,26 +407,8 @@ impl LossRecovery {
         }
     }
 
-    /// Loses nothing that wasn't sent again, if such a thing has arrived.
-    fn take_arrival<B: Reported>(&mut self, numbers: SentNumbers, scoreboard: &B, unsent: u64)
-        ensures { recovery_of self.new ≡ after_arrival unsent numbers.first_unacknowledged numbers.sent
-            (B.set scoreboard.now) (recovery_of self.old) }
-    {
-        if !self.is_blind() && self.unsent_lost(numbers, scoreboard) < unsent {
-            self.withdraw();
-            self.duplicated(numbers);
-        }
-    }
-
-    /// What is lost and wasn't sent again isn't lost.
-    fn withdraw(&mut self)
-        ensures { recovery_of self.new ≡ withdrawn (recovery_of self.old) }
-    {
-        self.turn = self.again;
-        self.lost = self.lost.min(self.again.max(self.resume));
-    }
-
-    /// Finds what is lost by what was reported, or heard of.
+    /// Finds what is lost by what was reported, or has arrived unreported. A function of its own, since its proof is over
+    /// the recovery that `note_answer` leaves.
     fn find<B: Reported>(
         &mut self,
         numbers: SentNumbers,
@@ -446,7 +433,7 @@ impl LossRecovery {
         let highest = scoreboard.highest_reported();
         let lost = scoreboard.lost_below(self.duplicates(), segment_size);
         let blind = self.blind_lost(numbers, segment_size, before);
-        self.take_losses(numbers, scoreboard, segment_size, lost.max(blind), highest)
+        self.lose_found(numbers, scoreboard, segment_size, lost.max(blind), highest)
     }
 
     /// Returns below which position all is lost, if the peer reports nothing.
@@ -474,8 +461,8 @@ impl LossRecovery {
         (self.duplicates().saturating_sub(1) as u64).saturating_mul(segment_size as u64)
     }
 
-    /// Finds what is lost, by the scoreboard's two limits.
-    fn take_losses<B: Reported>(
+    /// Loses what is found lost, by the scoreboard's two limits.
+    fn lose_found<B: Reported>(
         &mut self,
         numbers: SentNumbers,
         scoreboard: &B,
@@ -488,8 +475,9 @@ impl LossRecovery {
         ensures begins { result ≡ (not (is_active (recovery_of self.old) numbers.first_unacknowledged)
             && nat_lt numbers.first_unacknowledged (found (B.set scoreboard.now) lost highest (recovery_of self.old))) }
     {
-        if self.is_answered(scoreboard) {
-            self.forget_probe();
+        if self.has_probe != 0 && scoreboard.contains(self.probe) {
+            self.probe = 0;
+            self.has_probe = 0;
             let asked = if self.is_blind() { 0 } else { self.asked };
             return self.lose(
                 numbers,
@@ -543,46 +531,13 @@ impl LossRecovery {
             self.pass(numbers, self.again.max(self.resume));
         } else if scoreboard.missing_between(numbers.first_unacknowledged, self.resume) == 0 {
             self.mark(numbers);
-        } else if self.is_overtaken(numbers, scoreboard, segment_size) {
-            self.lose_earlier();
+        } else if self.most_later(segment_size) < self.reported_later(numbers, scoreboard) {
+            // What was sent before the pass is lost, if the peer would have reported it.
+            if !self.is_blind() {
+                self.lost = self.lost.max(self.sent);
+            }
             self.pass(numbers, self.resume);
         }
-    }
-
-    /// Loses what was sent before the pass, if the peer would have reported it.
-    fn lose_earlier(&mut self)
-        ensures { recovery_of self.new ≡ ordered (recovery_of self.old) }
-    {
-        if !self.is_blind() {
-            self.lost = self.lost.max(self.sent);
-        }
-    }
-
-    /// Returns whether enough is reported of what was sent after a pass.
-    fn is_overtaken<B: Reported>(
-        &self,
-        numbers: SentNumbers,
-        scoreboard: &B,
-        segment_size: usize,
-    ) -> bool
-        ensures { result ≡ overtaken segment_size (B.set scoreboard.now) numbers.sent (recovery_of self.now) }
-    {
-        self.most_later(segment_size) < self.reported_later(numbers, scoreboard)
-    }
-
-    /// Returns whether the probe was reported.
-    fn is_answered<B: Reported>(&self, scoreboard: &B) -> bool
-        ensures { result ≡ is_answered (B.set scoreboard.now) (recovery_of self.now).probe }
-    {
-        self.has_probe != 0 && scoreboard.contains(self.probe)
-    }
-
-    /// Waits for no probe.
-    fn forget_probe(&mut self)
-        ensures { recovery_of self.new ≡ record (recovery_of self.old) { probe = None } }
-    {
-        self.probe = 0;
-        self.has_probe = 0;
     }
 
     /// Returns how many positions are reported of what was sent after a pass.
@@ -726,30 +681,20 @@ impl LossRecovery {
     fn begin(&mut self, numbers: SentNumbers, lost: u64)
         ensures { recovery_of self.new ≡ begun numbers.first_unacknowledged numbers.sent lost (recovery_of self.old) }
     {
-        let (since, copies) = if self.is_active(numbers) {
-            (self.since, self.copies)
-        } else {
-            (numbers.first_unacknowledged, 0)
-        };
-        *self = LossRecovery {
-            until: numbers.sent,
-            lost,
-            again: numbers.first_unacknowledged,
-            turn: numbers.first_unacknowledged,
-            resume: numbers.first_unacknowledged,
-            sent: numbers.sent,
-            later: 0,
-            probe: 0,
-            has_probe: 0,
-            asked: 0,
-            is_blind: self.is_blind,
-            unknown: self.unknown,
-            round: self.round,
-            since,
-            copies,
-            duplicates: self.duplicates,
-            has_duplicates: self.has_duplicates,
-        };
+        if !self.is_active(numbers) {
+            self.since = numbers.first_unacknowledged;
+            self.copies = 0;
+        }
+        self.until = numbers.sent;
+        self.lost = lost;
+        self.again = numbers.first_unacknowledged;
+        self.turn = numbers.first_unacknowledged;
+        self.resume = numbers.first_unacknowledged;
+        self.sent = numbers.sent;
+        self.later = 0;
+        self.probe = 0;
+        self.has_probe = 0;
+        self.asked = 0;
     }
 
     /// Returns how many positions may be in flight: of those which were sent and aren't reported, the ones that

@@ -1,5 +1,6 @@
 -- What isn't a flag, nor under one, may have any number.
-use Rattle.std.proofs.Common.{ℕ, ℤ, ◌≤◌}
+use Rattle.std.proofs.Common.{◌≡◌, ℕ, ℤ, ◌≤◌, inl, inr, refl, false}
+use Rattle.std.specs.Prelude.{nat_eq}
 use Rattle.net_tcp.specs.Retransmission.{IsCanonicalTimer}
 use Rattle.net_tcp.specs.declared.retransmission_timer.RetransmissionTimer.{RetransmissionTimer}
 
@@ -46,4 +47,41 @@ with_wait t at wait alone flag is = record {
   alone = flag;
   timing = is.timing;
   reports = is.reports;
+}
+
+-- its timeout counts
+abbrev pub IsSet : RetransmissionTimer → Type 0
+IsSet t = (t.has_timeout ≡ 1) × IsCanonicalTimer t
+
+pub given : (t : RetransmissionTimer) (n : ℕ) → IsCanonicalTimer t →
+    IsSet (record t { timeout = n; has_timeout = 1 })
+given t n is = (
+  refl,
+  record {
+    estimate = is.estimate;
+    small = is.small;
+    timeout = inl refl;
+    running = is.running;
+    alone = is.alone;
+    timing = is.timing;
+    reports = is.reports;
+  },
+)
+
+pub is_set : (t : RetransmissionTimer) → nat_eq t.has_timeout 0 ≡ false → IsCanonicalTimer t → IsSet t
+is_set t some is = elim is.timeout [
+  | inl one ↦ (one, is)
+  | inr none ↦ cc (some, none.0)
+]
+
+pub with_timeout : (t : RetransmissionTimer) (n m : ℕ) → IsSet t →
+    IsCanonicalTimer (record t { timeout = n; timeouts = m })
+with_timeout t n m set = record {
+  estimate = set.1.estimate;
+  small = set.1.small;
+  timeout = inl set.0;
+  running = set.1.running;
+  alone = set.1.alone;
+  timing = set.1.timing;
+  reports = set.1.reports;
 }

@@ -1,7 +1,7 @@
 //! The time until a retransmission.
 ghost use Rattle.std.specs.Prelude.{◌≡◌, ◌≤◌, ◌/◌, min, max};
 ghost use Rattle.net_tcp.specs.Retransmission.{sample, first_estimate, next_estimate, within, timeout_of, doubled};
-ghost use Rattle.net_tcp.specs.Retransmission.{after_acknowledgement, after_sample, estimate_after, before_samples};
+ghost use Rattle.net_tcp.specs.Retransmission.{after_acknowledgement, after_sample, before_samples};
 
 use net_base::time::{Duration, Instant};
 use std::marker::Model;
@@ -181,7 +181,10 @@ impl RetransmissionTimeout {
     pub fn take_sample(&mut self, bounds: TimeoutBounds, time: Duration)
         ensures { self.new ≡ after_sample bounds time self.old }
     {
-        let estimate = updated(self.estimate, time);
+        let estimate = match self.estimate {
+            Some(estimate) => estimate.with_sample(time),
+            None => RttEstimate::first(time),
+        };
         self.estimate = Some(estimate);
         self.timeout = estimate.timeout(bounds);
     }
@@ -192,16 +195,6 @@ impl RetransmissionTimeout {
         ensures estimate { self.new.estimate ≡ self.old.estimate }
     {
         self.timeout = bounded(bounds, self.timeout.total_micros().saturating_mul(2));
-    }
-}
-
-/// Returns the estimate after a sample.
-fn updated(estimate: Option<RttEstimate>, time: Duration) -> RttEstimate
-    ensures { result ≡ estimate_after estimate (sample time) }
-{
-    match estimate {
-        Some(estimate) => estimate.with_sample(time),
-        None => RttEstimate::first(time),
     }
 }
 

@@ -5,13 +5,13 @@
 // or two were on a busy machine. With all of it always, the timeout comes before the probe.
 
 ghost use Rattle.std.specs.Prelude.{◌≡◌};
-ghost use Rattle.net_tcp.specs.Retransmission.{new_timer, restarted, started, stopped, times, timed_after, hastened};
-ghost use Rattle.net_tcp.specs.Retransmission.{after_sending, with_sample, after_acknowledged, has_expired, has_ended};
+ghost use Rattle.net_tcp.specs.Retransmission.{new_timer, restarted, started, stopped, times, timed_after};
+ghost use Rattle.net_tcp.specs.Retransmission.{after_sending, with_sample, after_acknowledged, has_expired};
 ghost use Rattle.net_tcp.specs.Retransmission.{after_report, after_expiry, expiry, expires_at, first_wait, allowance};
 ghost use Rattle.std.specs.Prelude.{IsFalse, not, nat_eq, Some, if◌then◌else◌};
 ghost use Rattle.net_base.specs.Time.{moment_after};
-ghost use Rattle.net_tcp.specs.Retransmission.{IsCanonicalTimer, new_fields, timer_of, untimed, after_sample, running, probed, timed_out, waiting, after_news, sampled_below};
-ghost use Rattle.net_tcp.specs.Retransmission.{prompt_after, prompt_wait};
+ghost use Rattle.net_tcp.specs.Retransmission.{IsCanonicalTimer, new_fields, timer_of, untimed, running, probed, timed_out, waiting, after_news};
+ghost use Rattle.net_tcp.specs.Retransmission.{prompt_after};
 
 use crate::retransmission::{RetransmissionTimeout, RttEstimate, TimeoutBounds};
 use net_base::time::{Duration, Instant};
@@ -256,19 +256,12 @@ impl RetransmissionTimer {
         if self.is_running == 0 || is_alone {
             self.restart(ack_delay, is_alone, now);
         } else if self.is_alone != 0 && is_new {
-            self.hasten(now);
+            // Two round trips from now on.
+            let wait = first_wait(self.rtt());
+            self.wait = wait.total_micros();
+            self.probe_at = now.saturating_add(wait).total_micros();
+            self.is_alone = 0;
         }
-    }
-
-    /// Has a probe due two round trips from now on.
-    fn hasten(&mut self, now: Instant)
-        ensures state { timer_of self.new ≡ hastened now (timer_of self.old) }
-        ensures canonical { IsCanonicalTimer self.old → IsCanonicalTimer self.new }
-    {
-        let wait = first_wait(self.rtt());
-        self.wait = wait.total_micros();
-        self.probe_at = now.saturating_add(wait).total_micros();
-        self.is_alone = 0;
     }
 
     /// Times a range that is sent now, or no longer times one that is in it.
@@ -304,19 +297,11 @@ impl RetransmissionTimer {
         if let Some(segment) = self.timed() {
             let time = now.saturating_duration_since(segment.since);
             self.prompt = self.prompt_after(bounds.ack_delay, time);
-            self.take_time(bounds, time);
+            let mut timeout = RetransmissionTimeout::from_parts(self.rtt(), self.timeout());
+            timeout.take_sample(bounds, time);
+            self.set_timeout(timeout);
             self.untime();
         }
-    }
-
-    /// Takes the time of a round trip.
-    fn take_time(&mut self, bounds: TimeoutBounds, time: Duration)
-        ensures state { timer_of self.new ≡ record (timer_of self.old) { timeout = after_sample bounds time (timer_of self.old).timeout } }
-        ensures canonical { IsCanonicalTimer self.old → IsCanonicalTimer self.new }
-    {
-        let mut timeout = RetransmissionTimeout::from_parts(self.rtt(), self.timeout());
-        timeout.take_sample(bounds, time);
-        self.set_timeout(timeout);
     }
 
     /// Sets the timeout, and the estimate.
@@ -346,23 +331,17 @@ impl RetransmissionTimer {
         ensures { result ≡ prompt_after ack_delay time (timer_of self.now) }
     {
         if self.is_alone == 0 {
-            self.prompt
-        } else if time <= self.prompt_wait(ack_delay) {
+            return self.prompt;
+        }
+        // How long the first probe waits if the acknowledgement isn't expected to be late.
+        let wait = first_wait(self.rtt())
+            .total_micros()
+            .saturating_add(allowance(ack_delay, true, PROMPT));
+        if time.total_micros() <= wait {
             self.prompt.saturating_add(1).min(PROMPT)
         } else {
             0
         }
-    }
-
-    /// Returns how long the first probe of a segment alone waits whose acknowledgement isn't expected to be late.
-    fn prompt_wait(&self, ack_delay: Duration) -> Duration
-        ensures { result ≡ prompt_wait ack_delay (timer_of self.now).timeout.estimate }
-    {
-        Duration::from_micros(
-            first_wait(self.rtt())
-                .total_micros()
-                .saturating_add(allowance(ack_delay, true, PROMPT)),
-        )
     }
 
     /// Takes an acknowledgement of all positions below `next`: the sample of the timed segment, if that
@@ -387,21 +366,13 @@ impl RetransmissionTimer {
             return;
         }
         let ack_delay = bounds.ack_delay;
-        self.sample_below(bounds, next, now);
+        if self.times(0, next) {
+            self.take_sample(bounds, now);
+        }
         if next <= numbers.first_unacknowledged {
             return;
         }
         self.take_news(ack_delay, numbers.sent, next, now);
-    }
-
-    /// Takes the sample of the timed segment, if that is below `next`.
-    fn sample_below(&mut self, bounds: TimeoutBounds, next: u64, now: Instant)
-        ensures state { timer_of self.new ≡ sampled_below bounds next now (timer_of self.old) }
-        ensures canonical { IsCanonicalTimer self.old → IsCanonicalTimer self.new }
-    {
-        if self.times(0, next) {
-            self.take_sample(bounds, now);
-        }
     }
 
     /// Takes an acknowledgement of something new, below `next`.
@@ -441,15 +412,18 @@ impl RetransmissionTimer {
         ensures unchanged { IsFalse (has_expired (timer_of self.old) now) → self.new ≡ self.old }
         ensures canonical { IsCanonicalTimer self.old → IsCanonicalTimer self.new }
     {
-        if !self.has_expired(now) {
+        if self.is_running == 0 {
             return None;
         }
-        if self.has_ended(now) {
+        if self.ends_at <= now.total_micros() {
             self.time_out(bounds, now);
             return Some(Expiry::Timeout);
         }
-        self.probe(now);
-        Some(Expiry::Probe)
+        if self.reports != 0 && self.probe_at <= now.total_micros() {
+            self.probe(now);
+            return Some(Expiry::Probe);
+        }
+        None
     }
 
     /// Doubles the timeout, and starts the timer again.
@@ -457,15 +431,20 @@ impl RetransmissionTimer {
         ensures state { timer_of self.new ≡ timed_out bounds now (timer_of self.old) }
         ensures canonical { IsCanonicalTimer self.old → IsCanonicalTimer self.new }
     {
-        let mut timeout = RetransmissionTimeout::from_parts(self.rtt(), self.timeout());
+        if self.has_timeout == 0 {
+            self.timeout = FIRST_TIMEOUT;
+            self.has_timeout = 1;
+        }
+        let mut timeout = RetransmissionTimeout::new(Duration::from_micros(self.timeout));
         timeout.expired(bounds);
-        self.set_timeout(timeout);
-        self.untime();
+        self.timeout = timeout.timeout().total_micros();
         self.timeouts = self.timeouts.saturating_add(1);
         self.wait_for_timeout(now);
+        self.untime();
     }
 
-    /// Has the next probe wait twice as long, and one more sample be wanted that isn't late.
+    /// Has the next probe wait twice as long, and one more sample be wanted that isn't late. A function of its own, since
+    /// the search doesn't find what `expire` leaves with this in it.
     fn probe(&mut self, now: Instant)
         ensures state { timer_of self.new ≡ probed now (timer_of self.old) }
         ensures canonical { IsCanonicalTimer self.old → IsCanonicalTimer self.new }
@@ -474,23 +453,6 @@ impl RetransmissionTimer {
         self.wait = self.wait.saturating_mul(2);
         let wait = Duration::from_micros(self.wait);
         self.probe_at = now.saturating_add(wait).total_micros();
-    }
-
-    /// Returns whether it runs, and it is time.
-    fn has_expired(&self, now: Instant) -> bool
-        ensures { result ≡ has_expired (timer_of self.now) now }
-    {
-        match self.expires_at() {
-            Some(at) => at <= now,
-            None => false,
-        }
-    }
-
-    /// Returns whether it runs, and the timeout has passed.
-    fn has_ended(&self, now: Instant) -> bool
-        ensures { result ≡ has_ended (timer_of self.now) now }
-    {
-        self.is_running != 0 && self.ends_at <= now.total_micros()
     }
 
     /// Starts the timer, whether it runs or not. At most one segment is on the way if one `is_alone`.

@@ -274,33 +274,36 @@ impl LossRecovery {
         segment_size: usize,
         answer: Answer,
     ) -> bool {
-        self.take(numbers, scoreboard, segment_size, answer);
+        self.note_answer(numbers, scoreboard, segment_size, answer);
         self.find(numbers, scoreboard, segment_size, answer.first)
     }
 
-    /// Takes what an acknowledgement answers.
-    fn take<B: Reported>(
+    /// Takes notice of what an acknowledgement answers.
+    fn note_answer<B: Reported>(
         &mut self,
         numbers: SentNumbers,
         scoreboard: &B,
         segment_size: usize,
         answer: Answer,
     ) {
-        self.take_copy(numbers, answer);
-        self.hear(numbers, segment_size, answer);
-        self.take_arrival(numbers, scoreboard, answer.unsent);
-    }
-
-    /// Takes an equal acknowledgement of all that was sent before a recovery as a report of what came twice: it answers
-    /// a copy.
-    fn take_copy(&mut self, numbers: SentNumbers, answer: Answer) {
+        // An equal acknowledgement of all that was sent before a recovery answers a copy.
         if answer.is_equal && !answer.reports && numbers.first_unacknowledged == self.until {
+            self.duplicated(numbers);
+        }
+        self.count_unreported(numbers, segment_size, answer);
+        // Nothing that wasn't sent again is lost, if such a thing has arrived.
+        if answer.unsent > 0
+            && !self.is_blind()
+            && self.unsent_lost(numbers, scoreboard) < answer.unsent
+        {
+            self.turn = self.again;
+            self.lost = self.lost.min(self.again.max(self.resume));
             self.duplicated(numbers);
         }
     }
 
     /// Takes notice whether the peer reports, and of what has arrived that it doesn't.
-    fn hear(&mut self, numbers: SentNumbers, segment_size: usize, answer: Answer) {
+    fn count_unreported(&mut self, numbers: SentNumbers, segment_size: usize, answer: Answer) {
         let size = segment_size as u64;
         let first = numbers.first_unacknowledged;
         let end = if self.is_active(numbers) {
@@ -310,13 +313,18 @@ impl LossRecovery {
         };
         let known = first.saturating_sub(answer.first).saturating_sub(size);
         let most = end.saturating_sub(first).saturating_sub(size);
-        let unknown = self.heard_of(size, answer.reports, answer.is_equal && first != self.until);
+        let unknown = self.unreported_after(
+            size,
+            answer.reports,
+            answer.is_equal && first != self.until,
+        );
         self.unknown = unknown.saturating_sub(known).min(most);
         let is_blind = self.is_blind();
         self.set_blind(!answer.reports && (answer.is_equal || is_blind));
     }
 
-    fn heard_of(&self, size: u64, reports: bool, is_equal: bool) -> u64 {
+    /// Returns how many positions have arrived that the peer doesn't report, after an acknowledgement that answers them.
+    fn unreported_after(&self, size: u64, reports: bool, is_equal: bool) -> u64 {
         if reports {
             0
         } else if is_equal {
@@ -326,21 +334,8 @@ impl LossRecovery {
         }
     }
 
-    /// Loses nothing that wasn't sent again, if such a thing has arrived.
-    fn take_arrival<B: Reported>(&mut self, numbers: SentNumbers, scoreboard: &B, unsent: u64) {
-        if !self.is_blind() && self.unsent_lost(numbers, scoreboard) < unsent {
-            self.withdraw();
-            self.duplicated(numbers);
-        }
-    }
-
-    /// What is lost and wasn't sent again isn't lost.
-    fn withdraw(&mut self) {
-        self.turn = self.again;
-        self.lost = self.lost.min(self.again.max(self.resume));
-    }
-
-    /// Finds what is lost by what was reported, or heard of.
+    /// Finds what is lost by what was reported, or has arrived unreported. A function of its own, since its proof is over
+    /// the recovery that `note_answer` leaves.
     fn find<B: Reported>(
         &mut self,
         numbers: SentNumbers,
@@ -351,7 +346,7 @@ impl LossRecovery {
         let highest = scoreboard.highest_reported();
         let lost = scoreboard.lost_below(self.duplicates(), segment_size);
         let blind = self.blind_lost(numbers, segment_size, before);
-        self.take_losses(numbers, scoreboard, segment_size, lost.max(blind), highest)
+        self.lose_found(numbers, scoreboard, segment_size, lost.max(blind), highest)
     }
 
     /// Returns below which position all is lost, if the peer reports nothing.
@@ -374,8 +369,8 @@ impl LossRecovery {
         (self.duplicates().saturating_sub(1) as u64).saturating_mul(segment_size as u64)
     }
 
-    /// Finds what is lost, by the scoreboard's two limits.
-    fn take_losses<B: Reported>(
+    /// Loses what is found lost, by the scoreboard's two limits.
+    fn lose_found<B: Reported>(
         &mut self,
         numbers: SentNumbers,
         scoreboard: &B,
@@ -383,8 +378,9 @@ impl LossRecovery {
         lost: u64,
         highest: u64,
     ) -> bool {
-        if self.is_answered(scoreboard) {
-            self.forget_probe();
+        if self.has_probe != 0 && scoreboard.contains(self.probe) {
+            self.probe = 0;
+            self.has_probe = 0;
             let asked = if self.is_blind() { 0 } else { self.asked };
             return self.lose(
                 numbers,
@@ -430,38 +426,13 @@ impl LossRecovery {
             self.pass(numbers, self.again.max(self.resume));
         } else if scoreboard.missing_between(numbers.first_unacknowledged, self.resume) == 0 {
             self.mark(numbers);
-        } else if self.is_overtaken(numbers, scoreboard, segment_size) {
-            self.lose_earlier();
+        } else if self.most_later(segment_size) < self.reported_later(numbers, scoreboard) {
+            // What was sent before the pass is lost, if the peer would have reported it.
+            if !self.is_blind() {
+                self.lost = self.lost.max(self.sent);
+            }
             self.pass(numbers, self.resume);
         }
-    }
-
-    /// Loses what was sent before the pass, if the peer would have reported it.
-    fn lose_earlier(&mut self) {
-        if !self.is_blind() {
-            self.lost = self.lost.max(self.sent);
-        }
-    }
-
-    /// Returns whether enough is reported of what was sent after a pass.
-    fn is_overtaken<B: Reported>(
-        &self,
-        numbers: SentNumbers,
-        scoreboard: &B,
-        segment_size: usize,
-    ) -> bool {
-        self.most_later(segment_size) < self.reported_later(numbers, scoreboard)
-    }
-
-    /// Returns whether the probe was reported.
-    fn is_answered<B: Reported>(&self, scoreboard: &B) -> bool {
-        self.has_probe != 0 && scoreboard.contains(self.probe)
-    }
-
-    /// Waits for no probe.
-    fn forget_probe(&mut self) {
-        self.probe = 0;
-        self.has_probe = 0;
     }
 
     /// Returns how many positions are reported of what was sent after a pass.
@@ -565,30 +536,20 @@ impl LossRecovery {
     }
 
     fn begin(&mut self, numbers: SentNumbers, lost: u64) {
-        let (since, copies) = if self.is_active(numbers) {
-            (self.since, self.copies)
-        } else {
-            (numbers.first_unacknowledged, 0)
-        };
-        *self = LossRecovery {
-            until: numbers.sent,
-            lost,
-            again: numbers.first_unacknowledged,
-            turn: numbers.first_unacknowledged,
-            resume: numbers.first_unacknowledged,
-            sent: numbers.sent,
-            later: 0,
-            probe: 0,
-            has_probe: 0,
-            asked: 0,
-            is_blind: self.is_blind,
-            unknown: self.unknown,
-            round: self.round,
-            since,
-            copies,
-            duplicates: self.duplicates,
-            has_duplicates: self.has_duplicates,
-        };
+        if !self.is_active(numbers) {
+            self.since = numbers.first_unacknowledged;
+            self.copies = 0;
+        }
+        self.until = numbers.sent;
+        self.lost = lost;
+        self.again = numbers.first_unacknowledged;
+        self.turn = numbers.first_unacknowledged;
+        self.resume = numbers.first_unacknowledged;
+        self.sent = numbers.sent;
+        self.later = 0;
+        self.probe = 0;
+        self.has_probe = 0;
+        self.asked = 0;
     }
 
     /// Returns how many positions may be in flight: of those which were sent and aren't reported, the ones that

@@ -138,7 +138,10 @@ impl RetransmissionTimeout {
     /// segment was sent once: of one that was sent again it is not known which of the copies was
     /// acknowledged.
     pub fn take_sample(&mut self, bounds: TimeoutBounds, time: Duration) {
-        let estimate = updated(self.estimate, time);
+        let estimate = match self.estimate {
+            Some(estimate) => estimate.with_sample(time),
+            None => RttEstimate::first(time),
+        };
         self.estimate = Some(estimate);
         self.timeout = estimate.timeout(bounds);
     }
@@ -146,14 +149,6 @@ impl RetransmissionTimeout {
     /// Doubles the timeout within the bounds, after it passed.
     pub fn expired(&mut self, bounds: TimeoutBounds) {
         self.timeout = bounded(bounds, self.timeout.total_micros().saturating_mul(2));
-    }
-}
-
-/// Returns the estimate after a sample.
-fn updated(estimate: Option<RttEstimate>, time: Duration) -> RttEstimate {
-    match estimate {
-        Some(estimate) => estimate.with_sample(time),
-        None => RttEstimate::first(time),
     }
 }
 

@@ -221,16 +221,12 @@ impl RetransmissionTimer {
         if self.is_running == 0 || is_alone {
             self.restart(ack_delay, is_alone, now);
         } else if self.is_alone != 0 && is_new {
-            self.hasten(now);
+            // Two round trips from now on.
+            let wait = first_wait(self.rtt());
+            self.wait = wait.total_micros();
+            self.probe_at = now.saturating_add(wait).total_micros();
+            self.is_alone = 0;
         }
-    }
-
-    /// Has a probe due two round trips from now on.
-    fn hasten(&mut self, now: Instant) {
-        let wait = first_wait(self.rtt());
-        self.wait = wait.total_micros();
-        self.probe_at = now.saturating_add(wait).total_micros();
-        self.is_alone = 0;
     }
 
     /// Times a range that is sent now, or no longer times one that is in it.
@@ -257,16 +253,11 @@ impl RetransmissionTimer {
         if let Some(segment) = self.timed() {
             let time = now.saturating_duration_since(segment.since);
             self.prompt = self.prompt_after(bounds.ack_delay, time);
-            self.take_time(bounds, time);
+            let mut timeout = RetransmissionTimeout::from_parts(self.rtt(), self.timeout());
+            timeout.take_sample(bounds, time);
+            self.set_timeout(timeout);
             self.untime();
         }
-    }
-
-    /// Takes the time of a round trip.
-    fn take_time(&mut self, bounds: TimeoutBounds, time: Duration) {
-        let mut timeout = RetransmissionTimeout::from_parts(self.rtt(), self.timeout());
-        timeout.take_sample(bounds, time);
-        self.set_timeout(timeout);
     }
 
     /// Sets the timeout, and the estimate.
@@ -291,21 +282,17 @@ impl RetransmissionTimer {
     /// Returns how many segments alone in a row weren't acknowledged late, after one more sample.
     fn prompt_after(&self, ack_delay: Duration, time: Duration) -> u64 {
         if self.is_alone == 0 {
-            self.prompt
-        } else if time <= self.prompt_wait(ack_delay) {
+            return self.prompt;
+        }
+        // How long the first probe waits if the acknowledgement isn't expected to be late.
+        let wait = first_wait(self.rtt())
+            .total_micros()
+            .saturating_add(allowance(ack_delay, true, PROMPT));
+        if time.total_micros() <= wait {
             self.prompt.saturating_add(1).min(PROMPT)
         } else {
             0
         }
-    }
-
-    /// Returns how long the first probe of a segment alone waits whose acknowledgement isn't expected to be late.
-    fn prompt_wait(&self, ack_delay: Duration) -> Duration {
-        Duration::from_micros(
-            first_wait(self.rtt())
-                .total_micros()
-                .saturating_add(allowance(ack_delay, true, PROMPT)),
-        )
     }
 
     /// Takes an acknowledgement of all positions below `next`: the sample of the timed segment, if that
@@ -326,18 +313,13 @@ impl RetransmissionTimer {
             return;
         }
         let ack_delay = bounds.ack_delay;
-        self.sample_below(bounds, next, now);
+        if self.times(0, next) {
+            self.take_sample(bounds, now);
+        }
         if next <= numbers.first_unacknowledged {
             return;
         }
         self.take_news(ack_delay, numbers.sent, next, now);
-    }
-
-    /// Takes the sample of the timed segment, if that is below `next`.
-    fn sample_below(&mut self, bounds: TimeoutBounds, next: u64, now: Instant) {
-        if self.times(0, next) {
-            self.take_sample(bounds, now);
-        }
     }
 
     /// Takes an acknowledgement of something new, below `next`.
@@ -366,46 +348,41 @@ impl RetransmissionTimer {
     /// that is doubled within the bounds, and the timer starts again; no segment is timed any longer, and no probe is due
     /// until something new is acknowledged or reported.
     pub fn expire(&mut self, bounds: TimeoutBounds, now: Instant) -> Option<Expiry> {
-        if !self.has_expired(now) {
+        if self.is_running == 0 {
             return None;
         }
-        if self.has_ended(now) {
+        if self.ends_at <= now.total_micros() {
             self.time_out(bounds, now);
             return Some(Expiry::Timeout);
         }
-        self.probe(now);
-        Some(Expiry::Probe)
+        if self.reports != 0 && self.probe_at <= now.total_micros() {
+            self.probe(now);
+            return Some(Expiry::Probe);
+        }
+        None
     }
 
     /// Doubles the timeout, and starts the timer again.
     fn time_out(&mut self, bounds: TimeoutBounds, now: Instant) {
-        let mut timeout = RetransmissionTimeout::from_parts(self.rtt(), self.timeout());
+        if self.has_timeout == 0 {
+            self.timeout = FIRST_TIMEOUT;
+            self.has_timeout = 1;
+        }
+        let mut timeout = RetransmissionTimeout::new(Duration::from_micros(self.timeout));
         timeout.expired(bounds);
-        self.set_timeout(timeout);
-        self.untime();
+        self.timeout = timeout.timeout().total_micros();
         self.timeouts = self.timeouts.saturating_add(1);
         self.wait_for_timeout(now);
+        self.untime();
     }
 
-    /// Has the next probe wait twice as long, and one more sample be wanted that isn't late.
+    /// Has the next probe wait twice as long, and one more sample be wanted that isn't late. A function of its own, since
+    /// the search doesn't find what `expire` leaves with this in it.
     fn probe(&mut self, now: Instant) {
         self.prompt = self.prompt.min(PROMPT - 1);
         self.wait = self.wait.saturating_mul(2);
         let wait = Duration::from_micros(self.wait);
         self.probe_at = now.saturating_add(wait).total_micros();
-    }
-
-    /// Returns whether it runs, and it is time.
-    fn has_expired(&self, now: Instant) -> bool {
-        match self.expires_at() {
-            Some(at) => at <= now,
-            None => false,
-        }
-    }
-
-    /// Returns whether it runs, and the timeout has passed.
-    fn has_ended(&self, now: Instant) -> bool {
-        self.is_running != 0 && self.ends_at <= now.total_micros()
     }
 
     /// Starts the timer, whether it runs or not. At most one segment is on the way if one `is_alone`.

@@ -17,7 +17,7 @@ returns-clause-state g c = λ lost highest bound end.
     c.lost_below-lost.ensures in
     let same = one_bound r.duplicates c.args.segment_size s c.lost_below-lost.result lost low bound in
     let top = one_end s c.highest_reported-highest.result highest c.highest_reported-highest.ensures end in
-    c.take_losses.ensures.state
+    c.lose_found.ensures.state
     ∙ ap (λ l. after_report c.args.segment_size first sent s l c.highest_reported-highest.result r) c.max.ensures
     ∙ ap (λ b. after_report c.args.segment_size first sent s (max c.lost_below-lost.result b)
     c.highest_reported-highest.result r) c.blind_lost-blind.ensures
@@ -35,7 +35,7 @@ returns-clause-begins g c = λ lost highest bound end.
     c.lost_below-lost.ensures in
     let same = one_bound r.duplicates c.args.segment_size s c.lost_below-lost.result lost low bound in
     let top = one_end s c.highest_reported-highest.result highest c.highest_reported-highest.ensures end in
-    c.take_losses.ensures.begins
+    c.lose_found.ensures.begins
     ∙ ap (λ l. not (is_active r first) && nat_lt first (found s l c.highest_reported-highest.result r)) c.max.ensures
     ∙ ap (λ b. not (is_active r first)
     && nat_lt first (found s (max c.lost_below-lost.result b) c.highest_reported-highest.result r))
