@@ -16,8 +16,9 @@ use net_base::storage::{
     RingOver, Storage, TooManyHolesError,
 };
 use net_base::tcp::{
-    AdvertisedWindow, Announcement, LossRecovery, PartsSum, PeerWindow, RetransmissionTimeout,
-    RetransmissionTimer, RttEstimate, TimeoutBounds, Transmission,
+    AdvertisedWindow, Announcement, Answer, LossRecovery, PartsSum, PeerWindow, Reported,
+    RetransmissionTimeout, RetransmissionTimer, RttEstimate, SentNumbers, TimeoutBounds,
+    Transmission,
 };
 use net_base::time::{Duration, Instant};
 
@@ -168,6 +169,52 @@ fn machines() {
         RetransmissionTimer::default(),
         RetransmissionTimer::new(Duration::from_secs(1), false)
     );
+}
+
+/// A caller's own record of what was reported.
+struct Record(Scoreboard<2>);
+
+impl Reported for Record {
+    fn contains(&self, pos: u64) -> bool {
+        Reported::contains(&self.0, pos)
+    }
+
+    fn highest_reported(&self) -> u64 {
+        Reported::highest_reported(&self.0)
+    }
+
+    fn missing_between(&self, start: u64, end: u64) -> u64 {
+        Reported::missing_between(&self.0, start, end)
+    }
+
+    fn next_hole(&self, pos: u64, limit: u64) -> Option<(u64, u64)> {
+        Reported::next_hole(&self.0, pos, limit)
+    }
+
+    fn lost_below(&self, duplicates: usize, segment_size: usize) -> u64 {
+        Reported::lost_below(&self.0, duplicates, segment_size)
+    }
+}
+
+/// A recovery reads a record of the caller's as it reads a scoreboard. Of 60 positions in segments of 10 the last 40 are
+/// reported, more than two segments, so what is below them is lost (RFC 6675, IsLost).
+#[test]
+fn recovery_over_a_record_of_the_callers() {
+    let mut record = Record(Scoreboard::empty());
+    assert_eq!(record.0.report(20, 60, 60), Ok(()));
+    assert_eq!(
+        (record.contains(19), record.contains(20), record.highest_reported()),
+        (false, true, 60)
+    );
+    assert_eq!((record.missing_between(10, 30), record.next_hole(0, 60)), (10, Some((0, 20))));
+    assert_eq!(record.lost_below(3, 10), 20);
+    let numbers = SentNumbers { first_unacknowledged: 0, sent: 60 };
+    let answer = Answer { first: 0, unsent: 0, reports: true, is_equal: true };
+    let mut recovery = LossRecovery::new();
+    assert!(recovery.find_losses(numbers, &record, 10, answer));
+    assert_eq!(recovery.next_segment(numbers, &record, 60, 100, 10), Some((0, 10)));
+    recovery.sent(numbers, 0..10);
+    assert_eq!(recovery.next_segment(numbers, &record, 60, 100, 10), Some((10, 20)));
 }
 
 /// None is after the last one; and what a timer or a recovery is made of makes the same.
