@@ -8,6 +8,9 @@ of the worst case: a call looks at some runs, searches them, or passes them once
 would grow 1,024 times. Status 1 if a call grows more than its class allows, or no more than a call of a better one, if
 a public call of the types that have runs, and of the others of `TYPES`, has no case, and no reason in `LEFT_OUT`, if a
 case or a reason has no call, or if a number of the page is off by more than a tenth.
+
+A second table has the calls of both ends in Rust and in C, over 16 runs. An export tests first that the end is sound,
+and passes numbers on. Status 1 if it takes more than its call in Rust, that test, and `OVER` instructions.
 """
 import argparse
 import itertools
@@ -25,6 +28,8 @@ MOST = {"looks": 1.1, "searches": 2.2, "passes": 36}
 # How many times more it has to take, since its class would else be a better one; and calls whose case isn't their
 # worst.
 LEAST, BETTER = {"looks": 0, "searches": 1, "passes": 2.2}, {"sending_end_next_segment"}
+# How many instructions an export may take besides; one of an acknowledgement, that makes its runs pairs.
+OVER, OVER_OF_RUNS = 30, 50
 # What the calls of a type, or of a module, begin with in growth/src/main.rs: then comes the method's name, and the
 # case.
 TYPES = {
@@ -36,7 +41,7 @@ TYPES = {
 # Calls without a class, by reason.
 LEFT_OUT = {
     "it makes a value, takes one apart, or begins anew: a program does that": """
-        assembler: new empty clear / scoreboard: empty empty_at reset_at / recovery: from_parts new
+        assembler: new empty clear / scoreboard: empty empty_at reset_at / recovery: new
         receiver: new new_at empty empty_at over over_at into_storage reset_at
         finite_receiver: empty_at over over_at into_storage reset_at
         sender: new new_at over over_at into_storage reset_at / finite_sender: new_at over over_at into_storage reset_at
@@ -45,7 +50,7 @@ LEFT_OUT = {
         receiving_end: empty_at over_at""",
     "it reads numbers of the head, or of what it is given": """
         assembler: fits is_empty peek_front run_count / scoreboard: first_unreported
-        recovery: duplicates is_active is_blind parts
+        recovery: duplicates is_active is_blind
         receiver: capacity first_unread fits held_count is_empty next queued window window_end
         finite_receiver: acknowledged end has_read_all is_complete receiver window_end
         sender: capacity end first_unacknowledged is_empty len window
@@ -136,8 +141,8 @@ def counts(program, runs, folder):
     found, name, calls = {}, None, 0
     for line in out.read_text().splitlines():
         if line.startswith("cfn="):
-            said = re.search(r"growth::calls::(\w+)", line)
-            name = said and said[1]
+            said = re.search(r"growth::(?:calls|(in_rust|in_c))::(\w+)", line)
+            name = said and (f"{said[1]} {said[2]}" if said[1] else said[2])
         elif line.startswith("calls="):
             calls = int(line.split("=")[1].split()[0])
         elif calls:
@@ -163,6 +168,22 @@ def counted():
         return [counts(target / "release/growth", runs, folder) for runs in (FEW, MANY)]
 
 
+def compared(pairs, counted):
+    """Prints the table of both ends' calls in Rust and in C; returns a line for each that takes too much in C. The test
+    takes what it does over as many runs, where a case of it counts that."""
+    tests = {(end, scene): counted[f"in_c {end}_{call}"] for scene, end, call in pairs if call.startswith("is_sound")}
+    print("\n| Call of an end | Rust | C | At most |\n|---|---:|---:|---:|")
+    wrong = []
+    for scene, end, call in pairs:
+        rust, c = counted[f"in_rust {end}_{call}"], counted[f"in_c {end}_{call}"]
+        test = tests.get((end, scene), counted[f"in_c {end}_is_sound"])
+        most = rust + test + (OVER_OF_RUNS if call.startswith("acknowledged") else OVER)
+        print(f"| {end}_{call} | {rust:,.0f} | {c:,.0f} | {most:,.0f} |")
+        if c > most:
+            wrong.append(f"{end}_{call}: takes {c:,.0f} instructions in C")
+    return wrong
+
+
 def main():
     parser = argparse.ArgumentParser(description=__doc__)
     parser.add_argument("--write", action="store_true")
@@ -181,6 +202,7 @@ def main():
         print(f"| {call} | {kind} | {few[call]:,.0f} | {many[call]:,.0f} | {ratio:.2f} | {MOST[kind]} |")
         if ratio > MOST[kind] or ratio <= LEAST[kind] and call not in BETTER:
             bad.append(f"{call}: grows {ratio:.2f} times")
+    bad += compared(re.findall(r"^    (\w+) (sending_end|receiving_end)_(\w+)$", source, re.M), few)
     bad += differing(page_table(few, many, classes), arguments.write)
     for line in bad:
         print(line, file=sys.stderr)
