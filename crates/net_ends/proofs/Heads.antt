@@ -109,7 +109,7 @@ if_not : (b : Bool) (s t : FiniteSenderState) → b ≡ false → (if b then t e
 if_not false s t none = refl
 if_not true s t none = cc
 
--- the clauses of `hear`
+-- the clauses of `take_accepted`
 abbrev pub Heeds : SendingHead → SendingHead → List (ℕ × ℕ) → List (ℕ × ℕ) → TimeoutBounds → ℕ → ℕ → ℕ → List (ℕ × ℕ) → Bool →
     ℤ → TakenAck → SentNumbers → Type 0
 Heeds h left runs kept_runs bounds seq ack window bs empty now said at = record {

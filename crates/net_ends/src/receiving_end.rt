@@ -144,16 +144,7 @@ impl ReceivingHead {
             self.has_duplicate = 1;
         }
         self.newest = pos;
-        self.wait(is_next(held, is_last, kept));
-    }
-
-    /// Counts a segment that waits for an acknowledgement, if it `is_next`, or else has one sent at once.
-    fn wait(&mut self, is_next: bool)
-        ensures { self.new ≡ record self.old {
-          unanswered = if is_next then min (self.old.unanswered + 1) 2 else 2;
-        } }
-    {
-        self.unanswered = if is_next {
+        self.unanswered = if is_next(held, is_last, kept) {
             self.unanswered.saturating_add(1).min(2)
         } else {
             2
@@ -210,19 +201,11 @@ impl ReceivingHead {
           unanswered = if nat_lt self.old.unanswered 2 then 0 else self.old.unanswered;
         } }
     {
-        self.answer_one();
-        self.promise(room)
-    }
-
-    /// Takes notice that what waits for an acknowledgement has it, unless one is due.
-    fn answer_one(&mut self)
-        ensures { self.new ≡ record self.old {
-          unanswered = if nat_lt self.old.unanswered 2 then 0 else self.old.unanswered;
-        } }
-    {
+        // What waits for an acknowledgement has it, unless one is due.
         if self.unanswered < 2 {
             self.unanswered = 0;
         }
+        self.promise(room)
     }
 
     /// Returns the number and the window of a segment without bytes, and takes notice that it tells them.

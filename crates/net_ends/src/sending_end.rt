@@ -39,7 +39,7 @@ ghost use Rattle.net_ends.specs.Acknowledgements.{expiry_of};
 ghost use Rattle.net_receiver.specs.Scoreboards.{IsEnd, IsHole};
 ghost use Rattle.net_recovery.specs.LossRecovery.{next_probe};
 ghost use Rattle.net_ends.specs.Parts.{end_of, marked};
-ghost use Rattle.net_ends.specs.Calls.{Hears, Takes, Chooses};
+ghost use Rattle.net_ends.specs.Calls.{Hears, Chooses};
 ghost use Rattle.net_ends.specs.Rules.{queued_of, known_of, known_by, low, high, window_shut, asks_window, room_to, most_to};
 ghost use Rattle.net_ends.specs.Rules.{in_hurry, nagle_waits, enough, worth_sending, due, HolesOf, next_of, due_part};
 ghost use Rattle.net_ends.specs.Rules.{ProbedOf, probe_part, is_probing, seeks, nothing_lost, renewed_by};
@@ -52,7 +52,6 @@ ghost use Rattle.net_tcp.specs.Retransmission.{new_timer, new_fields, started};
 ghost use Rattle.net_receiver.specs.NewHeads.{scoreboard_head};
 ghost use Rattle.net_tcp.specs.Windows.{no_window, window_from};
 ghost use Rattle.std.specs.Prelude.{List, max, nat_eq};
-ghost use Rattle.net_tcp.specs.declared.retransmission.TimeoutBounds.{TimeoutBounds as Bounds};
 ghost use Rattle.net_tcp.specs.Retransmission.{timer_of};
 ghost use Rattle.net_ends.specs.Buffers.{is_repeat, is_window_probe, is_tail_probe};
 ghost use Rattle.net_tcp.specs.Retransmission.{has_ended, expiry, has_expired, after_expiry, after_sending};
@@ -443,7 +442,7 @@ impl SendingHead {
             self.buffer.doubt(numbers, it.ack, blocks);
             return Acknowledged::Old;
         }
-        let taken = self.hear(runs, numbers, bounds, it, blocks, is_empty, now);
+        let taken = self.take_accepted(runs, numbers, bounds, it, blocks, is_empty, now);
         Acknowledged::Taken {
             new: taken.new,
             reports: taken.reports,
@@ -452,7 +451,7 @@ impl SendingHead {
     }
 
     /// Takes an acknowledgement that the sender takes, and returns what it said.
-    fn hear(
+    fn take_accepted(
         &mut self,
         runs: &mut [Run],
         numbers: SentNumbers,
@@ -494,7 +493,11 @@ impl SendingHead {
             (is_empty && (it.window == self.old.last_window)) result.reports
             (recovery_of self.new.buffer.recovery) result.begins }
     {
-        let kind = kind_of(is_empty && it.window == self.last_window);
+        let kind = if is_empty && it.window == self.last_window {
+            AckKind::Repeat
+        } else {
+            AckKind::Other
+        };
         let size = self.segment_size();
         let taken = self
             .buffer
@@ -530,19 +533,7 @@ impl SendingHead {
             (timer_of self.old.timer)))) }
     {
         self.take_window(numbers, it);
-        self.time(runs, numbers, bounds, it.ack, reports, now);
-    }
-
-    /// Stops the timer of the SYN, if this is the first acknowledgement and nothing is in flight.
-    fn synchronize(&mut self, numbers: SentNumbers)
-        ensures rest { self.new ≡ record self.old { timer = self.new.timer; is_open = 1 } }
-        ensures timer { timer_of self.new.timer ≡ synchronized (not (nat_eq self.old.is_open 0))
-            numbers.first_unacknowledged numbers.sent (timer_of self.old.timer) }
-    {
-        if self.is_open == 0 && numbers.sent <= numbers.first_unacknowledged {
-            self.timer.stop();
-        }
-        self.is_open = 1;
+        self.update_timer(runs, numbers, bounds, it.ack, reports, now);
     }
 
     /// Takes the window that is announced, and that a peer answers.
@@ -559,7 +550,11 @@ impl SendingHead {
         ensures timer { timer_of self.new.timer ≡ synchronized (not (nat_eq self.old.is_open 0))
             numbers.first_unacknowledged numbers.sent (timer_of self.old.timer) }
     {
-        self.synchronize(numbers);
+        // The timer of the SYN stops, if this is the first acknowledgement and nothing is in flight.
+        if self.is_open == 0 && numbers.sent <= numbers.first_unacknowledged {
+            self.timer.stop();
+        }
+        self.is_open = 1;
         self.greatest_window = greatest_after_update(
             &mut self.peer_window,
             self.greatest_window,
@@ -571,7 +566,7 @@ impl SendingHead {
 
     /// Takes the sample of a timed segment that is reported, and tells the timer what was acknowledged, and whether a
     /// block reported what wasn't known.
-    fn time(
+    fn update_timer(
         &mut self,
         runs: &[Run],
         numbers: SentNumbers,
@@ -593,41 +588,21 @@ impl SendingHead {
             tick: bounds.tick,
             ack_delay: bounds.ack_delay,
         };
-        self.sample(runs, sampling, now);
-        tell(&mut self.timer, bounds, numbers, ack, reports, now);
-    }
-
-    /// Takes the sample of a timed segment that is reported.
-    fn sample(&mut self, runs: &[Run], bounds: TimeoutBounds, now: Instant)
-        requires { IsSoundBoard self.old.buffer.scoreboard runs.now }
-        ensures rest { self.new ≡ record self.old { timer = self.new.timer } }
-        ensures timer { timer_of self.new.timer
-            ≡ sampled (board_of self.old.buffer runs.now) bounds now (timer_of self.old.timer) }
-    {
         if let Some(segment) = self.timer.timed() {
             if self.buffer.contains(runs, segment.pos) {
-                self.timer.take_sample(bounds, now);
+                self.timer.take_sample(sampling, now);
             }
         }
-    }
-
-    /// Takes what the timer said when it ended and started again, and returns what that means. `next_segment` returns
-    /// what is then to be sent.
-    pub fn take_expiry(&mut self, runs: &[Run], queued: Queued, expiry: Expiry) -> Expired
-        requires { IsSoundBoard self.old.buffer.scoreboard runs.now }
-        ensures sound { IsSoundBoard self.new.buffer.scoreboard runs.now }
-        ensures takes { (s : FiniteSenderState) (timeout : ℕ) (bounds : Bounds) → queued_of s ≡ queued →
-            Takes expiry (end_of s self.old runs.now timeout bounds) result
-            (end_of s self.new runs.now timeout bounds) }
-    {
-        match expiry {
-            Expiry::Probe => self.take_silence(runs, queued),
-            Expiry::Timeout => self.take_timeout(queued),
+        self.timer.acknowledged(bounds, numbers, ack, now);
+        if reports {
+            self.timer.reported(now);
         }
     }
 
-    /// Finds what is overdue, unless the peer's window is shut, or it reports nothing: then it is sent no probe.
-    fn take_silence(&mut self, runs: &[Run], queued: Queued) -> Expired
+    /// Takes notice that the timer's probe is due, and returns what that means. Finds what is overdue, unless the peer's
+    /// window is shut, or it reports nothing: then it is sent no probe.
+    #[inline]
+    pub fn take_silence(&mut self, runs: &[Run], queued: Queued) -> Expired
         requires { IsSoundBoard self.old.buffer.scoreboard runs.now }
         ensures rest { self.new ≡ record self.old {
           buffer = self.new.buffer;
@@ -663,8 +638,9 @@ impl SendingHead {
         !self.buffer.recovery.is_blind() && !self.is_shut(queued)
     }
 
-    /// Loses all that was sent and isn't reported.
-    fn take_timeout(&mut self, queued: Queued) -> Expired
+    /// Takes notice that the timeout has passed, and returns what that means. Loses all that was sent and isn't reported.
+    #[inline]
+    pub fn take_timeout(&mut self, queued: Queued) -> Expired
         ensures rest { self.new ≡ record self.old {
           buffer = self.new.buffer;
           is_window_probe_due = 1;
@@ -693,13 +669,6 @@ impl SendingHead {
     {
         self.peer_window
             .is_probe_allowed(queued.numbers.first_unacknowledged, queued.end)
-    }
-
-    /// Returns whether the next segment is a probe of a window that is shut.
-    fn asks(&self, queued: Queued) -> bool
-        ensures { result ≡ asks_window (known_by self.now queued) }
-    {
-        self.is_window_probe_due != 0 && self.is_shut(queued)
     }
 
     /// Returns the range that is to be sent next, and why: of a window that is shut a probe, once the timeout has
@@ -739,7 +708,7 @@ impl SendingHead {
             low k < k.queued.end → IsTrue (is_some result.0) }
     {
         let first = queued.numbers.first_unacknowledged;
-        if self.asks(queued) {
+        if self.is_window_probe_due != 0 && self.is_shut(queued) {
             return (Some((first, first + 1)), Sending::WindowProbe);
         }
         let limit = self.peer_window.send_limit(queued.end);
@@ -812,15 +781,8 @@ impl SendingHead {
     fn is_due(&self, queued: Queued, from: u64, to: u64) -> bool
         ensures { result ≡ due (known_by self.now queued) from to }
     {
-        self.hurries() || from < queued.numbers.sent || self.is_worth(queued, from, to)
-    }
-
-    /// Returns whether the timer asks for a segment.
-    fn hurries(&self) -> bool
-        ensures { result ≡ (not (nat_eq self.now.is_window_probe_due 0)
-            || not (nat_eq self.now.is_overdue 0)) }
-    {
-        self.is_window_probe_due != 0 || self.is_overdue != 0
+        let hurries = self.is_window_probe_due != 0 || self.is_overdue != 0;
+        hurries || from < queued.numbers.sent || self.is_worth(queued, from, to)
     }
 
     /// Returns whether a range is worth a segment (RFC 9293, 3.8.6.2.1): a whole one; or, unless Nagle's rule has it
@@ -1091,11 +1053,17 @@ impl<S: Storage<u8>, const N: usize> SendingEndOver<S, N> {
             highest self.old.recovery }
         ensures state { IsTrue (has_timed_out self.old now) → self.new ≡ timed_out self.old now }
     {
-        let Some(expiry) = self.head.timer.expire(self.bounds, now) else {
-            return Expired::No;
-        };
-        let queued = self.queued();
-        self.head.take_expiry(&self.runs, queued, expiry)
+        match self.head.timer.expire(self.bounds, now) {
+            Some(Expiry::Probe) => {
+                let queued = self.queued();
+                self.head.take_silence(&self.runs, queued)
+            }
+            Some(Expiry::Timeout) => {
+                let queued = self.queued();
+                self.head.take_timeout(queued)
+            }
+            None => Expired::No,
+        }
     }
 
     /// Returns the segment that is to be sent now, and takes notice that it is: if the peer's window and the congestion
@@ -1247,25 +1215,6 @@ impl<S: Storage<u8>, const N: usize> SendingEndOver<S, N> {
     }
 }
 
-/// Tells the timer what was acknowledged, and whether a block reported what wasn't known.
-fn tell(
-    timer: &mut RetransmissionTimer,
-    bounds: TimeoutBounds,
-    numbers: SentNumbers,
-    ack: u64,
-    reports: bool,
-    now: Instant,
-)
-    ensures { timer_of timer.new ≡ told reports now
-        (after_acknowledged bounds numbers.first_unacknowledged numbers.sent ack now
-        (timer_of timer.old)) }
-{
-    timer.acknowledged(bounds, numbers, ack, now);
-    if reports {
-        timer.reported(now);
-    }
-}
-
 /// Finds what is overdue, if it is sought, and returns whether a recovery begins.
 fn seek(buffer: &mut BufferHead, runs: &[Run], numbers: SentNumbers, is_sought: bool) -> bool
     requires { IsSoundBoard buffer.old.scoreboard runs.now }
@@ -1295,16 +1244,5 @@ fn greatest_after_update(
         greatest.max(it.window)
     } else {
         greatest
-    }
-}
-
-/// Returns the kind of an acknowledgement that only repeats the last, or that doesn't.
-fn kind_of(repeats: bool) -> AckKind
-    ensures { is_repeat result ≡ repeats }
-{
-    if repeats {
-        AckKind::Repeat
-    } else {
-        AckKind::Other
     }
 }

@@ -45,7 +45,7 @@ use net_assembler::Run;
 use net_base::time::{Duration, Instant};
 use net_ends::{Acknowledged, Expired, Outgoing, Queued, SendingHead};
 use net_receiver::{FiniteSenderHead, HeldRun, SentNumbers};
-use net_tcp::Announcement;
+use net_tcp::{Announcement, Expiry};
 
 /// How many blocks an acknowledgement has room for: TCP's options have room for four.
 const BLOCKS: usize = 4;
@@ -611,12 +611,17 @@ pub extern "C" fn net_base_sending_end_expired(
     if !is_sound(end, storage.len()) {
         return refused_ended_timer();
     }
-    let Some(expiry) = end.head.timer.expire(bounds_from(&end.bounds), moment(now)) else {
-        return ended(NET_BASE_DONE, false);
-    };
-    let queued = queued_from(&end.sender, storage.len());
-    let said = end.head.take_expiry(&end.runs, queued, expiry);
-    fields_of_expired(said)
+    match end.head.timer.expire(bounds_from(&end.bounds), moment(now)) {
+        Some(Expiry::Probe) => {
+            let queued = queued_from(&end.sender, storage.len());
+            fields_of_expired(end.head.take_silence(&end.runs, queued))
+        }
+        Some(Expiry::Timeout) => {
+            let queued = queued_from(&end.sender, storage.len());
+            fields_of_expired(end.head.take_timeout(queued))
+        }
+        None => ended(NET_BASE_DONE, false),
+    }
 }
 
 /// Returns whether the last recovery was for nothing, and ends it then: nothing that was found lost is missing but what

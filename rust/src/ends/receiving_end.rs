@@ -95,12 +95,7 @@ impl ReceivingHead {
             self.has_duplicate = 1;
         }
         self.newest = pos;
-        self.wait(is_next(held, is_last, kept));
-    }
-
-    /// Counts a segment that waits for an acknowledgement, if it `is_next`, or else has one sent at once.
-    fn wait(&mut self, is_next: bool) {
-        self.unanswered = if is_next {
+        self.unanswered = if is_next(held, is_last, kept) {
             self.unanswered.saturating_add(1).min(2)
         } else {
             2
@@ -140,15 +135,11 @@ impl ReceivingHead {
 
     /// Returns what a segment with bytes of its own tells, as `ReceivingEndOver::announce` says.
     pub fn announce(&mut self, room: Room) -> (u64, u16) {
-        self.answer_one();
-        self.promise(room)
-    }
-
-    /// Takes notice that what waits for an acknowledgement has it, unless one is due.
-    fn answer_one(&mut self) {
+        // What waits for an acknowledgement has it, unless one is due.
         if self.unanswered < 2 {
             self.unanswered = 0;
         }
+        self.promise(room)
     }
 
     /// Returns the number and the window of a segment without bytes, and takes notice that it tells them.

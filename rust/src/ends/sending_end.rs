@@ -309,7 +309,7 @@ impl SendingHead {
             self.buffer.doubt(numbers, it.ack, blocks);
             return Acknowledged::Old;
         }
-        let taken = self.hear(runs, numbers, bounds, it, blocks, is_empty, now);
+        let taken = self.take_accepted(runs, numbers, bounds, it, blocks, is_empty, now);
         Acknowledged::Taken {
             new: taken.new,
             reports: taken.reports,
@@ -318,7 +318,7 @@ impl SendingHead {
     }
 
     /// Takes an acknowledgement that the sender takes, and returns what it said.
-    fn hear(
+    fn take_accepted(
         &mut self,
         runs: &mut [Run],
         numbers: SentNumbers,
@@ -328,7 +328,11 @@ impl SendingHead {
         is_empty: bool,
         now: Instant,
     ) -> TakenAck {
-        let kind = kind_of(is_empty && it.window == self.last_window);
+        let kind = if is_empty && it.window == self.last_window {
+            AckKind::Repeat
+        } else {
+            AckKind::Other
+        };
         let size = self.segment_size();
         let taken = self
             .buffer
@@ -348,20 +352,16 @@ impl SendingHead {
         now: Instant,
     ) {
         self.take_window(numbers, it);
-        self.time(runs, numbers, bounds, it.ack, reports, now);
-    }
-
-    /// Stops the timer of the SYN, if this is the first acknowledgement and nothing is in flight.
-    fn synchronize(&mut self, numbers: SentNumbers) {
-        if self.is_open == 0 && numbers.sent <= numbers.first_unacknowledged {
-            self.timer.stop();
-        }
-        self.is_open = 1;
+        self.update_timer(runs, numbers, bounds, it.ack, reports, now);
     }
 
     /// Takes the window that is announced, and that a peer answers.
     fn take_window(&mut self, numbers: SentNumbers, it: Announcement) {
-        self.synchronize(numbers);
+        // The timer of the SYN stops, if this is the first acknowledgement and nothing is in flight.
+        if self.is_open == 0 && numbers.sent <= numbers.first_unacknowledged {
+            self.timer.stop();
+        }
+        self.is_open = 1;
         self.greatest_window = greatest_after_update(
             &mut self.peer_window,
             self.greatest_window,
@@ -373,7 +373,7 @@ impl SendingHead {
 
     /// Takes the sample of a timed segment that is reported, and tells the timer what was acknowledged, and whether a
     /// block reported what wasn't known.
-    fn time(
+    fn update_timer(
         &mut self,
         runs: &[Run],
         numbers: SentNumbers,
@@ -389,30 +389,21 @@ impl SendingHead {
             tick: bounds.tick,
             ack_delay: bounds.ack_delay,
         };
-        self.sample(runs, sampling, now);
-        tell(&mut self.timer, bounds, numbers, ack, reports, now);
-    }
-
-    /// Takes the sample of a timed segment that is reported.
-    fn sample(&mut self, runs: &[Run], bounds: TimeoutBounds, now: Instant) {
         if let Some(segment) = self.timer.timed() {
             if self.buffer.contains(runs, segment.pos) {
-                self.timer.take_sample(bounds, now);
+                self.timer.take_sample(sampling, now);
             }
         }
-    }
-
-    /// Takes what the timer said when it ended and started again, and returns what that means. `next_segment` returns
-    /// what is then to be sent.
-    pub fn take_expiry(&mut self, runs: &[Run], queued: Queued, expiry: Expiry) -> Expired {
-        match expiry {
-            Expiry::Probe => self.take_silence(runs, queued),
-            Expiry::Timeout => self.take_timeout(queued),
+        self.timer.acknowledged(bounds, numbers, ack, now);
+        if reports {
+            self.timer.reported(now);
         }
     }
 
-    /// Finds what is overdue, unless the peer's window is shut, or it reports nothing: then it is sent no probe.
-    fn take_silence(&mut self, runs: &[Run], queued: Queued) -> Expired {
+    /// Takes notice that the timer's probe is due, and returns what that means. Finds what is overdue, unless the peer's
+    /// window is shut, or it reports nothing: then it is sent no probe.
+    #[inline]
+    pub fn take_silence(&mut self, runs: &[Run], queued: Queued) -> Expired {
         let is_sought = self.is_sought(queued);
         self.is_window_probe_due = 0;
         self.is_overdue = flag_of(is_sought);
@@ -428,8 +419,9 @@ impl SendingHead {
         !self.buffer.recovery.is_blind() && !self.is_shut(queued)
     }
 
-    /// Loses all that was sent and isn't reported.
-    fn take_timeout(&mut self, queued: Queued) -> Expired {
+    /// Takes notice that the timeout has passed, and returns what that means. Loses all that was sent and isn't reported.
+    #[inline]
+    pub fn take_timeout(&mut self, queued: Queued) -> Expired {
         self.buffer.recovery.lose_all(queued.numbers);
         self.is_window_probe_due = 1;
         self.is_overdue = 0;
@@ -446,11 +438,6 @@ impl SendingHead {
             .is_probe_allowed(queued.numbers.first_unacknowledged, queued.end)
     }
 
-    /// Returns whether the next segment is a probe of a window that is shut.
-    fn asks(&self, queued: Queued) -> bool {
-        self.is_window_probe_due != 0 && self.is_shut(queued)
-    }
-
     /// Returns the range that is to be sent next, and why: of a window that is shut a probe, once the timeout has
     /// passed; else what `next_range` returns; and else, where no answer came, a probe for one.
     fn choose(
@@ -460,7 +447,7 @@ impl SendingHead {
         congestion_window: u64,
     ) -> (Option<(u64, u64)>, Sending) {
         let first = queued.numbers.first_unacknowledged;
-        if self.asks(queued) {
+        if self.is_window_probe_due != 0 && self.is_shut(queued) {
             return (Some((first, first + 1)), Sending::WindowProbe);
         }
         let limit = self.peer_window.send_limit(queued.end);
@@ -507,12 +494,8 @@ impl SendingHead {
 
     /// Returns whether a range isn't held back: the timer asks for it, it was sent before, or it is worth a segment.
     fn is_due(&self, queued: Queued, from: u64, to: u64) -> bool {
-        self.hurries() || from < queued.numbers.sent || self.is_worth(queued, from, to)
-    }
-
-    /// Returns whether the timer asks for a segment.
-    fn hurries(&self) -> bool {
-        self.is_window_probe_due != 0 || self.is_overdue != 0
+        let hurries = self.is_window_probe_due != 0 || self.is_overdue != 0;
+        hurries || from < queued.numbers.sent || self.is_worth(queued, from, to)
     }
 
     /// Returns whether a range is worth a segment (RFC 9293, 3.8.6.2.1): a whole one; or, unless Nagle's rule has it
@@ -683,11 +666,17 @@ impl<S: Storage<u8>, const N: usize> SendingEndOver<S, N> {
     /// Returns whether the timer has ended, and what that means. If it has, it starts again, and `next_segment` returns
     /// what is then to be sent.
     pub fn expired(&mut self, now: Instant) -> Expired {
-        let Some(expiry) = self.head.timer.expire(self.bounds, now) else {
-            return Expired::No;
-        };
-        let queued = self.queued();
-        self.head.take_expiry(&self.runs, queued, expiry)
+        match self.head.timer.expire(self.bounds, now) {
+            Some(Expiry::Probe) => {
+                let queued = self.queued();
+                self.head.take_silence(&self.runs, queued)
+            }
+            Some(Expiry::Timeout) => {
+                let queued = self.queued();
+                self.head.take_timeout(queued)
+            }
+            None => Expired::No,
+        }
     }
 
     /// Returns the segment that is to be sent now, and takes notice that it is: if the peer's window and the congestion
@@ -776,21 +765,6 @@ impl<S: Storage<u8>, const N: usize> SendingEndOver<S, N> {
     }
 }
 
-/// Tells the timer what was acknowledged, and whether a block reported what wasn't known.
-fn tell(
-    timer: &mut RetransmissionTimer,
-    bounds: TimeoutBounds,
-    numbers: SentNumbers,
-    ack: u64,
-    reports: bool,
-    now: Instant,
-) {
-    timer.acknowledged(bounds, numbers, ack, now);
-    if reports {
-        timer.reported(now);
-    }
-}
-
 /// Finds what is overdue, if it is sought, and returns whether a recovery begins.
 fn seek(buffer: &mut BufferHead, runs: &[Run], numbers: SentNumbers, is_sought: bool) -> bool {
     is_sought && buffer.find_overdue(runs, numbers)
@@ -807,14 +781,5 @@ fn greatest_after_update(
         greatest.max(it.window)
     } else {
         greatest
-    }
-}
-
-/// Returns the kind of an acknowledgement that only repeats the last, or that doesn't.
-fn kind_of(repeats: bool) -> AckKind {
-    if repeats {
-        AckKind::Repeat
-    } else {
-        AckKind::Other
     }
 }

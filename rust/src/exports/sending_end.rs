@@ -14,7 +14,7 @@ use crate::storage::Run;
 use crate::time::{Duration, Instant};
 use crate::ends::{Acknowledged, Expired, Outgoing, Queued, SendingHead};
 use crate::stream::{FiniteSenderHead, HeldRun, SentNumbers};
-use crate::tcp::Announcement;
+use crate::tcp::{Announcement, Expiry};
 
 const BLOCKS: usize = 4;
 
@@ -355,12 +355,17 @@ pub fn net_base_sending_end_expired(
     if !is_sound(end, storage.len()) {
         return refused_ended_timer();
     }
-    let Some(expiry) = end.head.timer.expire(bounds_from(&end.bounds), moment(now)) else {
-        return ended(NET_BASE_DONE, false);
-    };
-    let queued = queued_from(&end.sender, storage.len());
-    let said = end.head.take_expiry(&end.runs, queued, expiry);
-    fields_of_expired(said)
+    match end.head.timer.expire(bounds_from(&end.bounds), moment(now)) {
+        Some(Expiry::Probe) => {
+            let queued = queued_from(&end.sender, storage.len());
+            fields_of_expired(end.head.take_silence(&end.runs, queued))
+        }
+        Some(Expiry::Timeout) => {
+            let queued = queued_from(&end.sender, storage.len());
+            fields_of_expired(end.head.take_timeout(queued))
+        }
+        None => ended(NET_BASE_DONE, false),
+    }
 }
 
 #[inline(always)]

@@ -1,14 +1,16 @@
-use Rattle.std.proofs.Common.{ap, refl, sym, ◌∙◌, rules, ℤ}
+use Rattle.std.proofs.Common.{ap, refl, sym, ◌∙◌, rules, ℤ, Some}
 use Rattle.net_receiver.specs.FiniteSender.{finite_sender_of}
 use Rattle.net_ffi.specs.Retransmission.{given_or, bounds_of}
 use Rattle.net_tcp.specs.Retransmission.{Timer, timer_of, expiry}
+use Rattle.net_tcp.specs.declared.retransmission_timer.Expiry.TheVariants.{Probe, Timeout}
 use Rattle.net_ends.specs.declared.sending_end.Expired.TheVariants.{No}
+use Rattle.net_ends.proofs.Heads.{silent_is, late_takes}
 use Rattle.net_ffi.specs.SendingEnds.{sending_of}
 use Rattle.net_ffi.proofs.SendingEnds.{looks_none, looks_some, restarted_c}
 use Rattle.net_ffi.proofs.sending_end.net_base_sending_end_expired.Goals as goal
 
-pub returns-in_default-clause-value : goal.returns-in_default-clause-value
-returns-in_default-clause-value c = λ sound.
+pub returns-in-None-clause-value : goal.returns-in-None-clause-value
+returns-in-None-clause-value c = λ sound.
     let it = c.args.end.now in
     let xs = c.args.storage.now in
     let s = finite_sender_of it.sender xs in
@@ -18,10 +20,10 @@ returns-in_default-clause-value c = λ sound.
     (restarted_c s it.head it.runs timeout c.bounds_from.result (bounds_of it.bounds) c.moment.result c.args.now
     (timer_of it.head.timer) (timer_of c.expire.new.self) c.bounds_from.ensures moment c.expire.ensures.state) in
     let says = ap (λ (x : ℤ). expiry (timer_of it.head.timer) x) (sym moment) ∙ sym c.expire.ensures.result in
-    (No, c.ended.ensures, looks_none (sending_of it xs) _ c.args.now (says ∙ c.in_default.is) same)
+    (No, c.ended.ensures, looks_none (sending_of it xs) _ c.args.now (says ∙ c.in-None.is) same)
 
-pub returns-clause-value : goal.returns-clause-value
-returns-clause-value c = λ sound.
+pub returns-in-Some-Probe-clause-value : goal.returns-in-Some-Probe-clause-value
+returns-in-Some-Probe-clause-value c = λ sound.
     let it = c.args.end.now in
     let xs = c.args.storage.now in
     let s = finite_sender_of it.sender xs in
@@ -31,9 +33,31 @@ returns-clause-value c = λ sound.
     (restarted_c s it.head it.runs timeout c.bounds_from.result (bounds_of it.bounds) c.moment.result c.args.now
     (timer_of it.head.timer) (timer_of c.expire.new.self) c.bounds_from.ensures moment c.expire.ensures.state) in
     let says = ap (λ (x : ℤ). expiry (timer_of it.head.timer) x) (sym moment) ∙ sym c.expire.ensures.result in (
-      c.take_expiry-said.result,
+      c.take_silence.result,
       c.fields_of_expired.ensures,
-      looks_some c.in-Some.expiry (sending_of it xs) _ _ c.args.now c.take_expiry-said.result (says ∙ c.in-Some.is) same
-          (c.take_expiry-said.ensures.takes s timeout (bounds_of it.bounds)
-          (sym (c.queued_from-queued.ensures.value xs refl))),
+      looks_some Probe (sending_of it xs) _ _ c.args.now c.take_silence.result
+          (says ∙ c.in-Some-Probe.is ∙ ap Some c.in-Some-Probe.field-0-is) same
+          (silent_is s (record it.head { timer = c.expire.new.self }) c.take_silence.new.self it.runs timeout
+          (bounds_of it.bounds) c.take_silence.result _ (sym (c.queued_from-queued.ensures.value xs refl))
+          c.take_silence.ensures),
+    )
+
+pub returns-in-Some-Timeout-clause-value : goal.returns-in-Some-Timeout-clause-value
+returns-in-Some-Timeout-clause-value c = λ sound.
+    let it = c.args.end.now in
+    let xs = c.args.storage.now in
+    let s = finite_sender_of it.sender xs in
+    let timeout = given_or it.first_timeout 1000000 in
+    let moment = c.moment.ensures ∙ search rules in
+    let same = ap (λ (u : Timer). record (sending_of it xs) { timer = u })
+    (restarted_c s it.head it.runs timeout c.bounds_from.result (bounds_of it.bounds) c.moment.result c.args.now
+    (timer_of it.head.timer) (timer_of c.expire.new.self) c.bounds_from.ensures moment c.expire.ensures.state) in
+    let says = ap (λ (x : ℤ). expiry (timer_of it.head.timer) x) (sym moment) ∙ sym c.expire.ensures.result in (
+      c.take_timeout.result,
+      c.fields_of_expired-in-Some-Timeout.ensures,
+      looks_some Timeout (sending_of it xs) _ _ c.args.now c.take_timeout.result
+          (says ∙ c.in-Some-Timeout.is ∙ ap Some c.in-Some-Timeout.field-0-is) same
+          (late_takes s (record it.head { timer = c.expire.new.self }) c.take_timeout.new.self it.runs timeout
+          (bounds_of it.bounds) c.take_timeout.result _
+          (sym (c.queued_from-queued-in-Some-Timeout.ensures.value xs refl)) c.take_timeout.ensures),
     )

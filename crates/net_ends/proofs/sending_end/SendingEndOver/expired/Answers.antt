@@ -1,33 +1,48 @@
-use Rattle.std.proofs.Common.{sym, ap, ◌∙◌}
+use Rattle.std.proofs.Common.{sym, ap, ◌∙◌, Some}
 use Rattle.net_tcp.specs.Retransmission.{Timer, expiry}
+use Rattle.net_tcp.specs.declared.retransmission_timer.Expiry.TheVariants.{Probe, Timeout}
 use Rattle.net_ends.specs.Ends.{End}
 use Rattle.net_ends.specs.Parts.{end_of}
 use Rattle.net_ends.proofs.Expiries.{restarted, none_left, none_means, none_step, expiry_is}
+use Rattle.net_ends.proofs.Heads.{silent_is, late_takes}
 use Rattle.net_ends.proofs.sending_end.SendingEndOver.expired.Goals as goal
 
-pub returns-in_default-clause-step : goal.returns-in_default-clause-step
-returns-in_default-clause-step g c =
+pub returns-in-Some-Probe : goal.returns-in-Some-Probe
+returns-in-Some-Probe g c =
     let e = c.args.self.now in
     let same = ap (λ (u : Timer). record (end_of c.self.inside.sender c.self.inside.head c.self.inside.runs c.self.inside.first_timeout
     c.self.inside.bounds) { timer = u })
     c.expire.ensures.state ∙ ap (λ (x : End). restarted x c.args.now) c.self.view_is in
-    none_step e _ c.args.now (ap (λ (x : End). expiry x.timer c.args.now) (sym c.self.view_is) ∙ sym c.expire.ensures.result ∙ c.in_default.is) same
+    expiry_is Probe e _ _ c.args.now c.take_silence.result
+    (ap (λ (x : End). expiry x.timer c.args.now) (sym c.self.view_is) ∙ sym c.expire.ensures.result ∙ c.in-Some-Probe.is
+    ∙ ap Some c.in-Some-Probe.field-0-is) same
+    (silent_is c.self.inside.sender (record c.self.inside.head { timer = c.expire.new.self }) c.take_silence.new.self c.self.inside.runs c.self.inside.first_timeout
+    c.self.inside.bounds c.take_silence.result _ (sym c.queued-queued.ensures.value) c.take_silence.ensures)
 
-pub returns-in_default-clause-value : goal.returns-in_default-clause-value
-returns-in_default-clause-value g c =
-    none_means c.args.self.now c.args.now (ap (λ (x : End). expiry x.timer c.args.now) (sym c.self.view_is) ∙ sym c.expire.ensures.result ∙ c.in_default.is)
-
-pub returns-in_default-clause-state : goal.returns-in_default-clause-state
-returns-in_default-clause-state g c = λ ended.
-    none_left c.args.self.now _ c.args.now (ap (λ (x : End). expiry x.timer c.args.now) (sym c.self.view_is) ∙ sym c.expire.ensures.result ∙ c.in_default.is) ended
-
-pub returns : goal.returns
-returns g c =
+pub returns-in-Some-Timeout : goal.returns-in-Some-Timeout
+returns-in-Some-Timeout g c =
     let e = c.args.self.now in
     let same = ap (λ (u : Timer). record (end_of c.self.inside.sender c.self.inside.head c.self.inside.runs c.self.inside.first_timeout
     c.self.inside.bounds) { timer = u })
     c.expire.ensures.state ∙ ap (λ (x : End). restarted x c.args.now) c.self.view_is in
-    expiry_is c.in-Some.expiry e _ _ c.args.now c.take_expiry.result
-    (ap (λ (x : End). expiry x.timer c.args.now) (sym c.self.view_is) ∙ sym c.expire.ensures.result ∙ c.in-Some.is) same
-    (c.take_expiry.ensures.takes c.self.inside.sender c.self.inside.first_timeout c.self.inside.bounds
-    (sym c.queued-queued.ensures.value))
+    expiry_is Timeout e _ _ c.args.now c.take_timeout.result
+    (ap (λ (x : End). expiry x.timer c.args.now) (sym c.self.view_is) ∙ sym c.expire.ensures.result ∙ c.in-Some-Timeout.is
+    ∙ ap Some c.in-Some-Timeout.field-0-is) same
+    (late_takes c.self.inside.sender (record c.self.inside.head { timer = c.expire.new.self }) c.take_timeout.new.self c.self.inside.runs c.self.inside.first_timeout
+    c.self.inside.bounds c.take_timeout.result _ (sym c.queued-queued-in-Some-Timeout.ensures.value) c.take_timeout.ensures)
+
+pub returns-in-None-clause-step : goal.returns-in-None-clause-step
+returns-in-None-clause-step g c =
+    let e = c.args.self.now in
+    let same = ap (λ (u : Timer). record (end_of c.self.inside.sender c.self.inside.head c.self.inside.runs c.self.inside.first_timeout
+    c.self.inside.bounds) { timer = u })
+    c.expire.ensures.state ∙ ap (λ (x : End). restarted x c.args.now) c.self.view_is in
+    none_step e _ c.args.now (ap (λ (x : End). expiry x.timer c.args.now) (sym c.self.view_is) ∙ sym c.expire.ensures.result ∙ c.in-None.is) same
+
+pub returns-in-None-clause-value : goal.returns-in-None-clause-value
+returns-in-None-clause-value g c =
+    none_means c.args.self.now c.args.now (ap (λ (x : End). expiry x.timer c.args.now) (sym c.self.view_is) ∙ sym c.expire.ensures.result ∙ c.in-None.is)
+
+pub returns-in-None-clause-state : goal.returns-in-None-clause-state
+returns-in-None-clause-state g c = λ ended.
+    none_left c.args.self.now _ c.args.now (ap (λ (x : End). expiry x.timer c.args.now) (sym c.self.view_is) ∙ sym c.expire.ensures.result ∙ c.in-None.is) ended

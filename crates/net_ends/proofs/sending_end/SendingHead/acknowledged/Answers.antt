@@ -6,11 +6,11 @@ use Rattle.net_ends.proofs.sending_end.SendingHead.acknowledged.Goals as goal
 
 pub returns-clause-hears : goal.returns-clause-hears
 returns-clause-hears c = λ s timeout is.
-    heeded s c.args.self.now c.hear-taken.new.self c.args.runs.now c.hear-taken.new.runs timeout c.args.bounds
-    c.args.it.seq c.args.it.ack c.args.it.window c.args.blocks.now c.args.is_empty c.args.now c.hear-taken.result
+    heeded s c.args.self.now c.take_accepted-taken.new.self c.args.runs.now c.take_accepted-taken.new.runs timeout c.args.bounds
+    c.args.it.seq c.args.it.ack c.args.it.window c.args.blocks.now c.args.is_empty c.args.now c.take_accepted-taken.result
     c.args.numbers is
     (both_within c.args.numbers.first_unacknowledged c.args.numbers.sent c.args.it.ack c.if-it-numbers.false
-    c.if-numbers-it.false) c.hear-taken.ensures
+    c.if-numbers-it.false) c.take_accepted-taken.ensures
 
 within_by : (first sent ack greatest : ℕ) → IsTrue (nat_le first (ack + greatest) && nat_le ack sent) →
     (first ≤ ack + greatest) × (ack ≤ sent)

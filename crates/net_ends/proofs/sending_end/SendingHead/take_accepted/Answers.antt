@@ -5,7 +5,7 @@ use Rattle.net_ends.specs.Buffers.{board_of}
 use Rattle.net_ends.specs.Ends.{told, sampled, synchronized}
 use Rattle.net_ends.specs.declared.send_buffer.BufferHead.{BufferHead}
 use Rattle.net_ends.specs.declared.sending_end.SendingHead.{SendingHead}
-use Rattle.net_ends.proofs.sending_end.SendingHead.hear.Goals as goal
+use Rattle.net_ends.proofs.sending_end.SendingHead.take_accepted.Goals as goal
 
 pub returns-clause-timer : goal.returns-clause-timer
 returns-clause-timer c = c.take.ensures.timer
