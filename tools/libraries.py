@@ -24,8 +24,8 @@ def rlib(crate):
 
 
 def kit():
-    """The kit's folder; ends the script if it is another kit than docs/CONTRACTS.md names: what that one keeps of a proof
-    is read here."""
+    """The kit's folder; ends the script if it is another kit than docs/CONTRACTS.md names: what that one keeps of a
+    proof is read here."""
     named = re.search(r'`rt version` prints\s+`(.*?)`', (REPOSITORY / 'docs/CONTRACTS.md').read_text())[1]
     this, page = (subprocess.run(['rt', word], check=True, capture_output=True, text=True).stdout.strip()
                   for word in ('version', 'doc'))

@@ -21,71 +21,42 @@ sys.dont_write_bytecode = True
 import erase
 import same_program
 import widths
-from parts import same_terms as terms
+from parts import same_pair
 from parts.mir_text import tables
-from parts.same_compiled import Compiled, CompiledSide
-from parts.same_proved import ProvedSide
+from parts.same_body import CompiledSide
+from parts.same_compiled import Compiled
+from parts.same_proved import ProvedSide, tree_of
+from parts.same_terms import cast, integer, negated, operation, put, sliced, take, term
 
-X, Y = ('par', 1), ('par', 2)
+X, Y, LAST = term('par', 1), term('par', 2), term('f', 1)
 # Terms that are one, and terms that aren't.
 EQUAL = [
-    (terms.operation('>', X, Y), terms.operation('<', Y, X)),
-    (terms.operation('!=', X, Y), terms.negated(terms.operation('==', X, Y))),
-    (terms.take(terms.put(X, [('f', 1)], Y), ('f', 1)), Y),
-    (terms.take(terms.put(X, [('f', 1)], Y), ('f', 0)), terms.take(X, ('f', 0))),
-    (terms.put(terms.put(X, [('f', 1)], Y), [('f', 0)], X), terms.put(terms.put(X, [('f', 0)], X), [('f', 1)], Y)),
-    (terms.sliced(('sp', X), ('len', X)), X), (terms.operation('+', ('int', 3), ('int', 4)), ('int', 7)),
-    (terms.cast(64, 8, ('int', 255)), ('int', 255)),
+    (operation('>', X, Y), operation('<', Y, X)), (operation('!=', X, Y), negated(operation('==', X, Y))),
+    (take(put(X, [LAST], Y), LAST), Y), (take(put(X, [LAST], Y), term('f', 0)), take(X, term('f', 0))),
+    (put(put(X, [LAST], Y), [term('f', 0)], X), put(put(X, [term('f', 0)], X), [LAST], Y)),
+    (sliced(term('sp', X), term('len', X)), X), (operation('+', integer(3), integer(4)), integer(7)),
+    (cast(64, 8, integer(255)), integer(255)),
 ]
 UNEQUAL = [
-    (terms.negated(X), X),
-    (terms.operation('-', X, Y), terms.operation('-', Y, X)), (terms.operation('<', X, Y), terms.operation('<=', X, Y)),
-    (terms.operation('<', X, Y, 64), terms.operation('<', X, Y, -64)),
-    (terms.operation('>>', X, Y, 8), terms.operation('>>', X, Y, -8)),
-    (terms.operation('wrapping_add', X, Y, 8), terms.operation('wrapping_add', X, Y, 64)),
-    (terms.operation('<<', X, Y, 8), terms.operation('<<', X, Y, 64)),
-    (terms.operation('-', ('int', 3), ('int', 4)), ('int', 1)), (terms.cast(8, 64, X), terms.cast(16, 64, X)),
-    (terms.cast(64, 32, X), terms.cast(64, 32, X, True)),
-    (terms.cast(8, 64, ('int', 256)), ('int', 0)), (terms.put(X, [('i', Y)], X), terms.put(X, [('i', X)], X)),
-    (terms.sliced(('sp', X), ('len', Y)), X),
-    (terms.take(X, ('v', (0, 0))), terms.take(X, ('v', (1, 0)))), (terms.take(('agg', 1, X), ('v', (0, 0))), X),
+    (negated(X), X), (operation('-', X, Y), operation('-', Y, X)), (operation('<', X, Y), operation('<=', X, Y)),
+    (operation('<', X, Y, 64), operation('<', X, Y, -64)), (operation('>>', X, Y, 8), operation('>>', X, Y, -8)),
+    (operation('wrapping_add', X, Y, 8), operation('wrapping_add', X, Y, 64)),
+    (operation('<<', X, Y, 8), operation('<<', X, Y, 64)), (operation('-', integer(3), integer(4)), integer(1)),
+    (cast(8, 64, X), cast(16, 64, X)), (cast(64, 32, X), cast(64, 32, X, True)),
+    (cast(8, 64, integer(256)), integer(0)),
+    (put(X, [term('i', Y)], X), put(X, [term('i', X)], X)), (sliced(term('sp', X), term('len', Y)), X),
+    (take(X, term('v', (0, 0))), take(X, term('v', (1, 0)))),
+    (take(term('agg', 1, X), term('v', (0, 0))), X),
 ]
-HEAD = """#![allow(warnings)]
-pub struct Held;
-impl Drop for Held { fn drop(&mut self) {} }
-pub fn held(a: u64) -> Held { Held }
-pub fn keep(h: Held) {}
-pub struct S { pub m: u64, pub n: u64, pub h: Held }
-impl S { pub fn keep(&self) -> u64 { 1 } }
-pub trait Keeps { fn keep(&self) -> u64; }
-impl Keeps for S { fn keep(&self) -> u64 { 2 } }
-pub trait Holds { fn keep(&self) -> u64; }
-impl Holds for S { fn keep(&self) -> u64 { 3 } }
-pub struct T;
-pub struct Two { pub a: T, pub b: T }
-impl Drop for T { fn drop(&mut self) {} }
-pub fn two(a: u64) -> Two { Two { a: T, b: T } }
-pub fn text(s: &str) {}
-pub fn apply<F: Fn(u64) -> u64>(f: F, a: u64) -> u64 { f(a) }
-pub fn go(a: u64) -> u64 { a }
-pub fn went(a: u64) -> u64 { a }
-pub fn change(s: &mut S) {}
-pub fn change_one(x: &mut u8) {}
-pub fn grow(a: &mut u64) {}
-pub fn pick(a: u64) -> Result<u64, u64> { Ok(a) }
-"""
-# Pairs of bodies that mean the same, and that don't or aren't understood. In the erased text: a file, a part of it,
-# what is there in its place, and the function that is then another.
-MEAN_ONE, MEAN_TWO, PLANTS = ([row.split(' ~~ ') for row in rows] for rows in tables('same_bodies.txt').values())
+# What bodies call; pairs of bodies that mean the same, and that don't or aren't understood. In the erased text: a file,
+# a part of it, what is there in its place, and the function that is then another.
+HEAD, *PAIRS, PLANTS = tables('same_bodies.txt').values()
+MEAN_ONE, MEAN_TWO, PLANTS = ([row.split(' ~~ ') for row in rows] for rows in (*PAIRS, PLANTS))
 
 
 class AsProved(CompiledSide):
     """Rustc's function in the place of the prover's."""
-    word = 'A'
-
-    def __init__(self, *of):
-        super().__init__(*of)
-        self.function, self.locals = {'params': self.parameters}, ['']
+    word, gives_unit = 'A', False
 
 
 def bodies(folder, compiler):
@@ -93,7 +64,7 @@ def bodies(folder, compiler):
     pairs = [(one, two, is_one) for found, is_one in ((MEAN_ONE, True), (MEAN_TWO, False)) for one, two in found]
     source = folder / 'src/pairs.rs'
     source.parent.mkdir(parents=True)
-    source.write_text(erase.HEADER.format('crates/pairs/src/lib.rt') + HEAD +
+    source.write_text(erase.HEADER.format('crates/pairs/src/lib.rt') + '\n'.join(HEAD) + '\n' +
                       ''.join(f'pub fn f{k}{word}(a: u64, b: u64, xs: &mut [u8], s: &mut S) -> u64 {{\n    {body}\n}}\n'
                                      for k, pair in enumerate(pairs) for word, body in zip('ab', pair)))
     (folder / 'src/lib.rs').write_text('#![no_std]\npub mod pairs;\n')
@@ -105,8 +76,18 @@ def bodies(folder, compiler):
         names = [f'pairs::f{k}{word}' for word in 'ab']
         for a, b in (names, names[::-1], names[:1] * 2):
             how = same_program.why(None, rust, a, b, lambda _, name: AsProved(rust, rust.functions[name], name))
-            assert (how[0] == 'same') == (is_one or a == b), (one, two, how)
+            assert how[0] in (('same',) if is_one or a == b else ('differ', 'unknown')), (one, two, how)
+    check_faults(rust, names[0])
     return len(pairs)
+
+
+def check_faults(rust, name):
+    """An exception of these scripts says of which function it is, and is wrong whatever the function."""
+    how, reason = same_program.why(None, rust, name, name, lambda *_: {}['here'])
+    assert how == 'broken' and re.match(rf'{name}: same_program_tests.py:\d+ fails: KeyError', reason), reason
+    one = next(iter(same_program.LEFT))
+    found = {'same': [(one, 1)], 'differ': [], 'unknown': [], 'broken': [(one, 'it fails')]}
+    assert [pair[0] for pair in same_program.wrong(None, rust, found)] == [one, one]
 
 
 def changed(proved, function, draw):
@@ -120,17 +101,11 @@ def changed(proved, function, draw):
         return None
     values = re.findall(r'"value": \d+', json.dumps(rest)) if tag in ('Assign', 'Call', 'If', 'Switch') else []
     if tag == 'If':
-        ends = [k + 1]
-        for _ in range(2):                         # the two arms, each a tree from its root
-            open_, at = 1, ends[-1]
-            while open_:
-                inner = body[at]
-                of = next(iter(inner.items())) if isinstance(inner, dict) else (inner, None)
-                open_ += {'Seq': 2, 'If': 2, 'Loop': 1, 'Block': 1}.get(of[0], 0) - 1 if of[0] != 'Switch' \
-                    else len(of[1][1]) + bool(of[1][2]) - 1
-                at += 1
-            ends.append(at)
-        body[k + 1:ends[2]] = body[ends[1]:ends[2]] + body[ends[0]:ends[1]]
+        one, two = arms = [[], []]
+        steps = iter(body[k + 1:])
+        for arm in arms:                           # the steps that its tree takes
+            tree_of(step for step in steps if not arm.append(step))
+        body[k + 1:] = [*two, *one, *steps]
         return new
     if values and draw.random() < 0.5:
         one = draw.choice(values)
@@ -161,14 +136,15 @@ def programs(programs, sides):
     draw, seen = random.Random(7), 0
     for within, rust in sides:
         proved = programs[within.split('::')[0]]
-        for name, _ in same_program.compared(proved, rust, within)[0]:
+        for name, _ in same_program.compared(proved, rust, within)['same']:
             old = proved.all[proved.functions[name]]
             for new in (*(changed(proved, old, draw) for _ in range(2)), *drops(proved, name)):
                 if new in (None, old) or '::turns::' in name:                       # of proofs alone
                     continue
                 other = copy.copy(proved)
                 other.all = {**proved.all, proved.functions[name]: new}
-                assert same_program.why(other, rust, name, same_program.place(proved, rust, name))[0] != 'same', (name, new['body'])
+                how = same_program.why(other, rust, name, same_program.place(proved, rust, name))
+                assert how[0] in ('differ', 'unknown'), (name, how, new['body'])
                 seen += 1
     return seen
 
@@ -190,9 +166,8 @@ def planted(kit, temporary, proved):
     found = []
     for name in sorted({file.split('/')[0] for file, *_ in PLANTS}):
         rust = example if name in same_program.given.PROGRAM else library
-        _, differ, unknown = same_program.compared(proved[name], rust, name)
-        found += [one if reason != 'not proved' else f'{one}: {reason}' for one, reason in differ + unknown
-                  if not same_program.is_left(proved[name], rust, one, reason)]
+        found += [one if reason != 'not proved' else f'{one}: {reason}' for one, reason in
+                  same_program.wrong(proved[name], rust, same_program.compared(proved[name], rust, name))]
     for name in (name for *_, name in PLANTS):
         assert any(one.endswith(f'::{name}') for one in found), f'not found: {name}: {found}'
     others = [one for one in found if not any(one.endswith(f'::{name}') for *_, name in PLANTS)]
@@ -203,13 +178,13 @@ def planted(kit, temporary, proved):
 def lists(proved, sides):
     """Without one of its entries a list lets less through."""
     of = lambda: {(name, how) for within, rust in sides
-                  for how, found in enumerate(same_program.compared(proved[within.split('::')[0]], rust, within))
+                  for how, found in same_program.compared(proved[within.split('::')[0]], rust, within).items()
                   for name, _ in found}
-    whole, unused, kept = of(), [], same_program.SAME
+    whole, unused, kept = of(), [], same_pair.SAME
     for k, (pattern, _) in enumerate(kept):
-        same_program.SAME = kept[:k] + kept[k + 1:]
+        same_pair.SAME = kept[:k] + kept[k + 1:]
         unused += [] if of() != whole else [pattern.pattern]
-    same_program.SAME = kept
+    same_pair.SAME = kept
     assert not unused, f'without use: {unused}'
     return len(kept)
 
@@ -229,8 +204,8 @@ def main(arguments):
         entries = lists(proved, sides)
         seen = programs(proved, sides)
         plants = planted(kit, temporary, proved)
-    print(f'{len(EQUAL)} terms are one, {len(UNEQUAL)} are two; {count} pairs of bodies; {seen} changes of programs and {plants} plants are found; '
-          f'each of {entries} entries is used')
+    print(f'{len(EQUAL)} terms are one, {len(UNEQUAL)} are two; {count} pairs of bodies; {seen} changes of programs '
+          f'and {plants} plants are found; each of {entries} entries is used')
     return 0
 
 

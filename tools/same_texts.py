@@ -18,6 +18,7 @@ from pathlib import Path
 
 sys.dont_write_bytecode = True
 import erase
+import libraries
 import same_program
 import widths
 from parts import erase_list as given
@@ -44,6 +45,7 @@ FILES = {name: HEAD + text for name, *_, text in TEXTS} | OTHERS
 
 def proved(folder):
     """The prover's program of all texts."""
+    libraries.kit()
     source = folder / 'crates/planted/src'
     source.mkdir(parents=True, exist_ok=True)
     for name, text in FILES.items():
@@ -113,11 +115,11 @@ def main(arguments):
         out = erased(crate, found)
         mir = compiled(crate, kit, temporary / 'target', out, found)
         rust = Compiled(crate, mir)
-        _, differ, unknown = same_program.compared(program, rust, 'planted')
-        for name, reason in differ + unknown:
-            of = name.split('::')[1]
-            if of not in found:
-                found[of] = f'same: {name}: {reason}'
+        how = same_program.compared(program, rust, 'planted')
+        for name, reason in how['differ'] + how['unknown']:
+            found.setdefault(name.split('::')[1], f'same: {name}: {reason}')
+        for name, reason in how['broken']:
+            found[name.split('::')[1]] = f'a fault of the script: {reason}'
         reader = widths.Reader(crate, mir)
         for at, kind in [*((at, kind) for at, kind in reader.operations if not reader.cover(at, kind)), *reader.large]:
             if '/planted/' in at[0]:

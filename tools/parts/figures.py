@@ -66,7 +66,7 @@ def measured():
 
 def counted():
     cargo, rows, rattle = "rust/Cargo.toml", "rust/tests/rows/rows.txt", "crates/*/src/**/*.rt"
-    script, calls = "tools/same_program.py", "overlay/calls.rs"
+    left, calls = "tools/parts/same_names.txt", "overlay/calls.rs"
     first = lambda form, path: (re.search(form, (ROOT / path).read_text(), re.M | re.S) or "00")[1]
     yield "Rust {} or later", cargo, [first(r'^rust-version = "(.*?)"', cargo)]
     yield "Version {};", cargo, [first(r'^version = "(.*?)"', cargo)]
@@ -78,8 +78,8 @@ def counted():
     seeds, kinds = first(r"SEEDS: u64 = (\d+)", calls), first(r"KINDS: [^=]*; (\d+)\]", calls)
     for text in ("{} sequences |", "{} sequences of [random calls]"):
         yield text, calls, [f"{int(seeds) * int(kinds):,}"]
-    for text in ("each function but [{}]", "{} functions that `LEFT`"):
-        yield text, script, [WORDS[first(r"^LEFT = \{\n(.*?)^\}", script).count("\n")]]
+    for text in ("each function but [{}]", "{} functions, each with its reason"):
+        yield text, left, [WORDS[first(r"^== left\n(.*)", left).count(" ~~ ") // 2]]
     yield "declares {}.", rattle, [WORDS[count(r'^\s*(?:unsafe )?extern(?: "\w+")? \{', rattle)]]
     yield "{} `unsafe impl`", rattle, [WORDS[count(r"^\s*unsafe impl\b", rattle)]]
     yield "by hand of [{} functions]", "crates/*/proofs", [WORDS[len([*ROOT.glob("crates/*/proofs/**/Proof.antt")])]]

@@ -2,17 +2,26 @@
 name, and one as a graph of steps."""
 import json
 import re
+from collections import namedtuple
 
 from parts import erase_list as given
-from parts.same_terms import FALSE, SIGNS, TRUE, UNIT, Side, Unknown, cast, discriminant, negated, operation, pointer, sliced, take
+from parts.same_side import Branch, Call, End, Held, Never, Panic, Return, Side
+from parts.same_terms import (FALSE, SIGNS, TRUE, UNIT, Unknown, aggregate, cast, discriminant, integer, negated,
+                              operation, pointer, reading, sliced, take, term)
 
 # The name of an impl of std's: a type's, and a trait's.
-IMPL = re.compile(r'(?:RefMut|Ref)?([A-Z]\w*?)(TryFrom|Try|FromResidual|PartialEq|PartialOrd|Ord|Hash|IndexMut|Index|From|Clone|Default|'
-                  r'Iterator|IntoIterator)(?:[A-Z]\w*)?')
+IMPL = re.compile(r'(?:RefMut|Ref)?([A-Z]\w*?)(TryFrom|Try|FromResidual|PartialEq|PartialOrd|Ord|Hash|IndexMut|Index|'
+                  r'From|Clone|Default|Iterator|IntoIterator)(?:[A-Z]\w*)?')
 WRAPPING = re.compile(r'([iu])(8|16|32|64|128|size)\.(wrapping_(?:add|sub|mul))(?:_unsigned)?')
+# What is there beside functions of the source: declarations, how closures are called, and how types are dropped.
+MADE = re.compile(r'.*(?:\+decl|\+(?:Fn|FnMut|FnOnce|Destruct)::\w+|::Destruct\+\+none::drop)')
+# A step with its parts, of which an `If` has two; and as one of a graph, with the node after it, or those of its arms.
+Tree, Node = namedtuple('Tree', 'tag rest parts'), namedtuple('Node', 'tag rest after', defaults=[None, None])
+PANICS = ('assertions.unreachable', 'assertions.panic', 'panicking.panic')
 
 
 def tail(path):
+    """The last word of a path: of `a::B<C>` it is B."""
     return path.split('<')[0].split('::')[-1]
 
 
@@ -22,8 +31,8 @@ def is_own(name):
 
 
 def numbers_of(words):
-    """The numbers that a callee is given between angles, as an argument."""
-    return [('agg', None, *(('int', number) for number in sorted({int(word) for word in words})))] if words else []
+    """The numbers that a callee is given between angles, as one more argument."""
+    return [aggregate(*(integer(number) for number in sorted({int(word) for word in words})))] if words else []
 
 
 def plain(name):
@@ -35,54 +44,81 @@ def bits(number):
     return 64 if number == 'size' else int(number)
 
 
+def tagged(step):
+    """The word of a step, a type or a value, and what is with it: of {'Int': 8} it is Int, 8."""
+    return next(iter(step.items())) if isinstance(step, dict) else (step, None)
+
+
+def given_to(kind, word):
+    """What is with this word of a type, if it is one of that word: of {'Int': 8} and Int it is 8."""
+    return kind.get(word) if isinstance(kind, dict) else None
+
+
+def tree_of(steps):
+    """The tree of steps, which are written from its root."""
+    tag, rest = tagged(next(steps))
+    count = len(rest[1]) + bool(rest[2]) if tag == 'Switch' else {'Seq': 2, 'If': 2, 'Loop': 1, 'Block': 1}.get(tag, 0)
+    return Tree(tag, rest, [tree_of(steps) for _ in range(count)])
+
+
 class Proved:
     """The prover's program of a crate."""
 
     def __init__(self, mir):
         self.all, self.impls, self.order = dict(mir), {}, {}
-        for function in self.all.values():
-            for impl in function['generics']['impls']:
-                self.order.setdefault(impl['of']['of'], [tail(method) for method in impl['methods']])
-                for method in impl['methods']:
-                    self.impls[f'{impl["name"]}::{tail(method)}'] = f'{self.kind(impl["of"]["types"][:1])}:{tail(impl["of"]["of"])}.{tail(method)}'
+        for name, function in self.all.items():
+            with reading(name):
+                for impl in function['generics']['impls']:
+                    self.note_impl(impl['name'], impl['of'], impl['methods'])
         for name in self.all:                      # a trait's methods, as it declares them
             if name.endswith('+decl'):
                 self.order.setdefault(name.rpartition('::')[0], []).append(tail(name).removesuffix('+decl'))
-        kept = [name for name in self.all if '+' not in plain(name).removesuffix('+H::new')]
+        kept = [name for name in self.all if not MADE.fullmatch(name)]
         self.functions = {plain(name): name for name in kept}
-        assert len(kept) == len(self.functions), 'two functions of a name'
+        if len(kept) != len(self.functions):
+            raise Unknown('two functions of a name')
         self.trivial, before = {'mem.drop', 'Vec.drop'}, None
         while before != len(self.trivial):         # drops that only drop
             before = len(self.trivial)
-            self.trivial |= {name for name in self.functions if name.endswith('::drop')
-                             and self.only_drops(self.all[self.functions[name]])}
+            self.trivial |= {name for name in self.functions if name.endswith('::drop') and self.only_drops(name)}
 
-    def only_drops(self, function):
-        """Whether it does no more than take apart and drop."""
-        steps = [next(iter(step.items())) for step in function['body'] if isinstance(step, dict)]
-        return all(self.is_trivial(self.callee(rest[0], function)) if tag == 'Call' else tag != 'Assign'
-                   or 'Op2' not in rest[1] and not rest[0]['steps']
-                   for tag, rest in steps)
+    def note_impl(self, name, of, methods):
+        """Notes the methods of an impl: `a::SHash::hash` is S:Hash.hash."""
+        self.order.setdefault(of['of'], [tail(method) for method in methods])
+        for method in map(tail, methods):
+            self.impls[f'{name}::{method}'] = f'{self.kind(of["types"][:1])}:{tail(of["of"])}.{method}'
+
+    def only_drops(self, name):
+        """Whether a function does no more than take apart and drop."""
+        with reading(name):
+            function = self.all[self.functions[name]]
+            steps = [tagged(step) for step in function['body'] if isinstance(step, dict)]
+            return all(self.is_trivial(self.callee(rest[0], function)) if tag == 'Call' else tag != 'Assign'
+                       or 'Op2' not in rest[1] and not rest[0]['steps']
+                       for tag, rest in steps)
 
     def is_trivial(self, name):
         return name.startswith('Snapshot.') or name.endswith(':Destruct.drop') or name in self.trivial
 
     def kind(self, types):
-        """The name of a type, without what it is made of."""
+        """The name of a type, without what it is made of: Vec, u64, slice, or ? of a parameter."""
         if not types or not isinstance(types[0], dict):
             return str(types[0] if types else None).lower()
-        (tag, rest), = types[0].items()
+        tag, rest = tagged(types[0])
         if tag == 'Ref':
             return self.kind(rest[2:3])
         return {'Named': lambda: tail(rest[0]['name']), 'Int': lambda: f'u{rest}', 'Param': lambda: '?',
                 'Struct': lambda: 'slice'}.get(tag, lambda: tag)()
 
     def callee(self, head, function):
+        """A callee in the words of the comparison: `Option.map`, `u64:Ord.cmp`, `?:Fn.call`, or an own path."""
         if 'Method' in head:
             place, number, _ = head['Method']
             bound = function['generics']['bounds'][place['Given']] if 'Given' in place else {'of': '?'}
             order = self.order.get(bound['of'], [])
             return f'?:{tail(bound["of"])}.{order[number] if number < len(order) else number}'
+        if 'Fn' not in head:
+            raise Unknown(f'callee {str(head)[:60]}')
         name = plain(head['Fn'][0])
         if tail(name) == 'clone' and not is_own(name):
             return f'{name}, which can be refused'
@@ -97,59 +133,58 @@ class Proved:
 
 
 class ProvedSide(Side):
+    """A function of the prover's program."""
     word = 'A'
 
     def __init__(self, program, name):
         self.program, self.function = program, program.all[program.functions[name]]
+        self.parameters, self.gives_unit = self.function['params'], self.function['locals'][0]['ty'] == 'Unit'
         self.types = {one['name']: one for one in self.function['types']}
-        self.locals = [local['ty'] for local in self.function['locals']]
-        self.nodes, self.steps, self.at = {}, self.function['body'], 0
-        tree = self.tree()
-        assert self.at == len(self.steps)
-        self.start = self.link(tree, self.node('return'), ())
-
-    # The steps are a tree, written from its root; as a graph each has what comes next.
-    def tree(self):
-        step = self.steps[self.at]
-        self.at += 1
-        tag, rest = next(iter(step.items())) if isinstance(step, dict) else (step, None)
-        count = {'Seq': 2, 'If': 2, 'Loop': 1, 'Block': 1}.get(tag, 0) if tag != 'Switch' \
-            else len(rest[1]) + bool(rest[2])
-        return tag, rest, [self.tree() for _ in range(count)]
+        self.locals, self.nodes = [local['ty'] for local in self.function['locals']], []
+        steps = iter(self.function['body'])
+        self.start = self.link(tree_of(steps), self.node('Return'), ())
+        if next(steps, None) is not None:
+            raise Unknown('steps that are in no tree')
 
     def node(self, *parts):
-        self.nodes[len(self.nodes)] = parts
+        self.nodes.append(Node(*parts))
         return len(self.nodes) - 1
 
     def link(self, tree, after, exits):
+        """The node where a tree begins; `after` is the one that comes next, and `exits` have those of loops and blocks
+        around."""
         tag, rest, parts = tree
         if tag == 'Seq':
             return self.link(parts[0], self.link(parts[1], after, exits), exits)
         if tag in ('If', 'Switch'):
-            kept, of = [self.drops(arm) for arm in parts], rest[0].get('Copy') \
-                if tag == 'Switch' and isinstance(rest[0], dict) else None
-            # drops of each part that may be there
-            if None not in kept and of and any('of a part' in arm for arm in kept):
-                whole, words = {**of, 'steps': of['steps'][:-2]}, [word for arm in kept for word in arm]
-                parts_dropped = [word for word in words if isinstance(word, tuple)]
-                variants = self.shape(self.place(whole)[1]).get('Variants', ()) \
-                    if self.place(of)[0][-1:] == ['discr'] else ()
-                if len(parts_dropped) == len({*parts_dropped}) == sum(self.needs_drop(part) for variant in variants
-                                                                      for part in variant):
-                    return self.node('forget', [word for word in words if isinstance(word, int)], whole, after)
-            return self.node(tag, rest, [self.link(arm, after, exits) for arm in parts])
+            forgets = self.forgets(tree) if tag == 'Switch' else None
+            return self.node('forget', forgets, after) if forgets else \
+                self.node(tag, rest, [self.link(arm, after, exits) for arm in parts])
         if tag == 'Block':
             return self.link(parts[0], after, (after, *exits))
         if tag == 'Loop':
-            head = self.node('goto', None)
-            self.nodes[head] = ('goto', self.link(parts[0], head, (head, *exits)))
+            head = self.node('goto')
+            self.nodes[head] = Node('goto', None, self.link(parts[0], head, (head, *exits)))
             return head
         if tag in ('Skip', 'Exit'):
             return after if tag == 'Skip' else exits[rest]
-        return self.node('return') if tag == 'Return' else self.node(tag, rest, after)
+        return self.node(tag, rest, after)
+
+    def forgets(self, tree):
+        """Of a switch that drops each part of a value that may be there: the locals that are assigned for that, and the
+        value's place."""
+        of, arms = given_to(tree.rest[0], 'Copy'), [self.drops(arm) for arm in tree.parts]
+        if not of or None in arms or not any('of a part' in arm for arm in arms):
+            return None
+        whole, words = {**of, 'steps': of['steps'][:-2]}, [word for arm in arms for word in arm]
+        dropped = [word for word in words if isinstance(word, tuple)]
+        variants = self.shape(self.place(whole)[1]).get('Variants', ()) if self.place(of)[0][-1:] == ['discr'] else ()
+        count = sum(self.needs_drop(part) for variant in variants for part in variant)
+        return ([word for word in words if isinstance(word, int)], whole) \
+            if len(dropped) == len({*dropped}) == count else None
 
     def drops(self, tree):
-        """What is assigned by a part that only drops; None if it does more."""
+        """What is assigned by a part that only drops, and what is dropped; None if it does more."""
         tag, rest, parts = tree
         if tag == 'Seq':
             both = [self.drops(one) for one in parts]
@@ -163,27 +198,27 @@ class ProvedSide(Side):
     def place(self, place):
         """The steps of a place in common words, and its type."""
         kind, out, variant = self.locals[place['local']], [], None
-        for step in place['steps']:
-            (tag, rest), = step.items()
+        for tag, rest in map(tagged, place['steps']):
             if tag == 'Deref':
                 out.append('deref')
                 kind = rest
             elif tag == 'Variant':
                 variant = rest
             elif tag == 'Field' and variant is not None:
-                out.append(('v', (variant, rest - 1)) if rest else 'discr')
+                out.append(term('v', (variant, rest - 1)) if rest else 'discr')
                 kind = self.shape(kind).get('Variants', [])[variant][rest - 1] if rest else {'Int': 8}
                 variant = None
             elif tag == 'Field':
-                is_struct = isinstance(kind, dict) and 'Struct' in kind
-                out.append(('slice' if is_struct and kind['Struct'][0] == '&[]' else 'f', rest))
-                kind = kind['Struct'][1][rest] if is_struct else self.shape(kind)['Fields'][rest]
+                struct = given_to(kind, 'Struct')
+                out.append(('slice', rest) if struct and struct[0] == '&[]' else term('f', rest))
+                kind = struct[1][rest] if struct else self.shape(kind)['Fields'][rest]
             else:
                 raise Unknown(f'place {tag}')
         return out, kind
 
     def shape(self, kind):
-        if not isinstance(kind, dict) or 'Named' not in kind:
+        """What a type is made of: {'Fields': types}, or {'Variants': types of each}."""
+        if not given_to(kind, 'Named'):
             raise Unknown(f'shape of {str(kind)[:40]}')
         name, inner = kind['Named']
 
@@ -196,51 +231,29 @@ class ProvedSide(Side):
         return filled(self.types[name['name']]['shape'])
 
     def at_place(self, state, place):
+        """Where a place of the program is."""
         steps, _ = self.place(place)
-        if 'discr' in steps:
-            return ('value',
-                    discriminant(self.read(state, self.find(state, place['local'], steps[:steps.index('discr')]))))
-        return self.find(state, place['local'], steps)
-
-    def value(self, state, operand):
-        if operand in ('True', 'False', 'Unit'):
-            return {'True': TRUE, 'False': FALSE, 'Unit': UNIT}[operand]
-        (tag, rest), = operand.items() if isinstance(operand, dict) else ((operand, None),)
-        if tag == 'Copy':
-            return self.read(state, self.at_place(state, rest))
-        if tag == 'Int' and isinstance(rest, dict):
-            return ('int', rest['value'])
-        if tag == 'SizeOf':
-            return ('size',)
-        if tag == 'NumOf':
-            return self.number(rest[1])
-        raise Unknown(f'operand {str(operand)[:60]}')
-
-    @staticmethod
-    def number(one):
-        (word, what), = one.items()
-        return ('int' if word == 'Lit' else 'N', what)
+        if 'discr' not in steps:
+            return self.find(state, place['local'], steps)
+        return Held(discriminant(self.read(state, self.find(state, place['local'], steps[:steps.index('discr')]))))
 
     def kind_of(self, operand):
-        return self.place(operand['Copy'])[1] if isinstance(operand, dict) and 'Copy' in operand else None
-
-    @staticmethod
-    def of(kind, word):
-        return kind.get(word) if isinstance(kind, dict) else None
+        """The type of an operand that is a place."""
+        return self.place(operand['Copy'])[1] if given_to(operand, 'Copy') else None
 
     def size(self, kind):
-        """The bytes of a type, and its alignment."""
+        """The bytes of a type, and its alignment: of {'Int': 16} it is 2, 2."""
         if kind in ('Bool', 'Unit'):
             return int(kind == 'Bool'), 1
-        if self.of(kind, 'Int'):
+        if given_to(kind, 'Int'):
             return kind['Int'] // 8, kind['Int'] // 8
-        shape = self.shape(kind) if self.of(kind, 'Named') else {}
-        of_each = [shape['Fields']] if 'Fields' in shape else [[{'Int': 8}, *fields]
-                                                               for fields in shape.get('Variants', ())]
-        if not of_each:
+        shape = self.shape(kind) if given_to(kind, 'Named') else {}
+        ways = [shape['Fields']] if 'Fields' in shape else \
+            [[{'Int': 8}, *fields] for fields in shape.get('Variants', ())]
+        if not ways:
             raise Unknown(f'size of {str(kind)[:40]}')
         most, longest = 1, 0
-        for fields in of_each:
+        for fields in ways:
             total = 0
             for size, align in map(self.size, fields):
                 total, most = -(-total // align) * align + size, max(most, align)
@@ -256,123 +269,157 @@ class ProvedSide(Side):
         if 'Named' not in kind:
             return True
         shape = self.shape(kind)
-        return any(map(self.needs_drop,
-                       [*shape.get('Fields', ()), *(part for parts in shape.get('Variants', ()) for part in parts)]))
+        return any(map(self.needs_drop, [*shape.get('Fields', ()), *sum(shape.get('Variants', ()), [])]))
 
     def drop(self, state, place):
         """Notes a drop of what is in a place, by its fields."""
         self.drop_parts(state, self.read(state, self.at_place(state, place)), self.place(place)[1])
 
     def drop_parts(self, state, value, kind):
-        shape = self.shape(kind) if self.of(kind, 'Named') else {}
+        """Notes a drop: of an own struct those of its fields, and of an enum with the variants that have something."""
+        shape = self.shape(kind) if given_to(kind, 'Named') else {}
         if 'Fields' in shape and (is_own(kind['Named'][0]['name']) or kind['Named'][0]['name'] == '(,)'):
             for k, field in enumerate(shape['Fields']):
-                self.drop_parts(state, take(value, ('f', k)), field)
+                self.drop_parts(state, take(value, term('f', k)), field)
         elif self.needs_drop(kind):
-            kept = tuple(k for k, parts in enumerate(shape.get('Variants', ())) if any(map(self.needs_drop, parts)))
-            self.dropped(state, value, ('kept', *kept))
+            kept = [k for k, parts in enumerate(shape.get('Variants', ())) if any(map(self.needs_drop, parts))]
+            self.dropped(state, value, kept)
+
+    def value(self, state, operand):
+        """An operand's: of {'Copy': place} what is there, of {'Int': {'value': 3, ..}} int(3)."""
+        if operand in ('True', 'False', 'Unit'):
+            return {'True': TRUE, 'False': FALSE, 'Unit': UNIT}[operand]
+        tag, rest = tagged(operand)
+        if tag == 'Copy':
+            return self.read(state, self.at_place(state, rest))
+        if tag == 'Int' and isinstance(rest, dict):
+            return integer(rest['value'])
+        if tag == 'SizeOf':
+            return term('size')
+        if tag == 'NumOf':
+            return self.number(rest[1])
+        raise Unknown(f'operand {str(operand)[:60]}')
+
+    @staticmethod
+    def number(one):
+        """A number of a type: of {'Lit': 9} it is int(9), and of {'Param': 0} N(0)."""
+        word, what = tagged(one)
+        return term('int' if word == 'Lit' else 'N', what)
 
     def compute(self, state, place, value):
-        (tag, rest), = value.items()
-        kind = self.place(place)[1]
+        """The value that is assigned to a place."""
+        (tag, rest), kind = tagged(value), self.place(place)[1]
         if tag == 'Opd':
             return self.value(state, rest)
         if tag == 'AddrOf':
-            return self.address(self.at_place(state, rest), (self.of(kind, 'Ref') or ['', ''])[1] == 'Mut')
-        if tag == 'Op1':
-            one, of = self.value(state, rest[1]), self.kind_of(rest[1])
-            if rest[0] == 'Not':
-                return negated(one) if kind == 'Bool' else ('op', f'! {self.of(kind, "Int")}', one, UNIT)
-            if self.of(rest[0], 'Cast'):
-                return cast(rest[0]['Cast'][2], 1 if of == 'Bool' else self.of(of, 'Int') or 0, one,
-                            rest[0]['Cast'][0] == 'Signed')
-        if tag == 'Op2' and rest[0] == 'Offset':
-            made = self.offset(self.value(state, rest[1]), self.value(state, rest[2]),
-                               (self.of(self.kind_of(rest[1]), 'Ref') or [None])[-1])
-            self.partial(state, ('at', made[1], made[2][:-1], made[2][-1][1]) if made[0] == 'addr'
-                         else ('at', None, made[3][-1][1]))
-            return made
-        if tag == 'Op2':
-            sign, way = next(iter(rest[0].items())) if isinstance(rest[0], dict) else (rest[0], '')
-            width = (self.of(kind, 'Int') or 64) * (-1 if way == 'Signed' else 1)
-            if sign in SIGNS:
-                made = operation(SIGNS[sign], self.value(state, rest[1]), self.value(state, rest[2]), width)
-                self.partial(state, made)
-                return made
-        if tag == 'Aggregate':
-            parts = [self.value(state, one) for one in rest]
-            if self.of(kind, 'Struct') and kind['Struct'][0] == '&[]':
-                made = sliced(*parts)
-                self.partial(state, made)
-                return made
-            name = kind['Named'][0]['name'] if self.of(kind, 'Named') else ''
-            if name.endswith('+Self'):
-                return ('agg', None, *(one for one in parts if one != UNIT),
-                        ('closure', name.removesuffix('+Self').replace('fn::', '')))
-            return ('agg', parts[0][1], *parts[1:]) if name and 'Variants' in self.shape(kind) \
-                    else ('agg', None, *parts)
+            return self.address(self.at_place(state, rest), (given_to(kind, 'Ref') or ['', ''])[1] == 'Mut')
         if tag == 'Repeat':
-            return ('repeat', self.value(state, rest[0]), self.number(rest[1]))
-        raise Unknown(f'value {str(value)[:60]}')
+            return term('repeat', self.value(state, rest[0]), self.number(rest[1]))
+        made = {'Op1': self.unary, 'Op2': self.binary, 'Aggregate': self.composed}.get(tag, lambda *_: None)
+        made = made(state, kind, rest)
+        if made is None:
+            raise Unknown(f'value {str(value)[:60]}')
+        return made
+
+    def unary(self, state, kind, of):
+        """`!a`, or a cast: of [{'Cast': ['Unsigned', 64, 8]}, a] it is cast(8, 64, par(1))."""
+        one, old, to = self.value(state, of[1]), self.kind_of(of[1]), given_to(of[0], 'Cast')
+        if of[0] == 'Not':
+            return negated(one) if kind == 'Bool' else term('op', f'! {given_to(kind, "Int")}', one, UNIT)
+        return to and cast(to[2], 1 if old == 'Bool' else given_to(old, 'Int') or 0, one, to[0] == 'Signed')
+
+    def binary(self, state, kind, of):
+        """An operator: of ['Add', a, b] op('+', par(1), par(2)); of ['Offset', ..] a pointer to an element."""
+        (sign, way), one, two = tagged(of[0]), self.value(state, of[1]), self.value(state, of[2])
+        if sign == 'Offset':
+            made = self.offset(one, two, (given_to(self.kind_of(of[1]), 'Ref') or [None])[-1])
+            before = (made.pointer, made.path[:-1]) if made[0] == 'addr' else (None, ())
+            self.partial(state, term('at', *before, made.path[-1].which))
+            return made
+        if sign not in SIGNS:
+            return None
+        made = operation(SIGNS[sign], one, two, (given_to(kind, 'Int') or 64) * (-1 if way == 'Signed' else 1))
+        self.partial(state, made)
+        return made
+
+    def composed(self, state, kind, of):
+        """What has parts: a slice of a pointer and a length, a closure, a variant behind its number, or a struct."""
+        parts, name = [self.value(state, one) for one in of], (given_to(kind, 'Named') or [{'name': ''}])[0]['name']
+        if (given_to(kind, 'Struct') or [''])[0] == '&[]':
+            made = sliced(*parts)
+            self.partial(state, made)
+            return made
+        if name.endswith('+Self'):
+            held = [one for one in parts if one != UNIT]
+            return aggregate(*held, term('closure', name.removesuffix('+Self').replace('fn::', '')))
+        is_variant = name and 'Variants' in self.shape(kind)
+        return term('agg', parts[0].number, *parts[1:]) if is_variant else aggregate(*parts)
 
     def offset(self, base, by, of):
-        """A pointer to an element: of bytes, to an index."""
-        if base[0] == 'ref' and not base[3]:       # of an array that is a local
-            of = of or (self.of(self.locals[base[2]], 'Array') or [None])[0]
-        if by[:2] in (('op', '*'),):
-            index = by[2] if by[3][0] in ('int', 'size') else by[3] if by[2][0] in ('int', 'size') else None
-        elif by == ('size',) or by == ('int', 0):
-            index = ('int', int(by == ('size',)))
+        """A pointer to an element: of xs, a * size and a type it is addr(par(3), (i(par(1)),))."""
+        if base[0] == 'ref' and not base.path:     # of an array that is a local
+            of = of or (given_to(self.locals[base.local], 'Array') or [None])[0]
+        index = None
+        if by[0] == 'op' and by.sign == '*':
+            index = by.one if by.two[0] in ('int', 'size') else by.two if by.one[0] in ('int', 'size') else None
+        elif by in (term('size'), integer(0)):
+            index = integer(int(by[0] == 'size'))
         elif by[0] == 'int':
-            index = ('int', by[1] // self.size(of)[0]) if by[1] % self.size(of)[0] == 0 else None
-        else:
-            index = by if of == {'Int': 8} else None
+            index = integer(by.number // self.size(of)[0]) if by.number % self.size(of)[0] == 0 else None
+        elif of == {'Int': 8}:
+            index = by
         if index is None:
             raise Unknown('offset')
         if base[0] == 'ref':
-            return (*base[:3], base[3] + (('i', index),), base[4])
-        return pointer(base[1] if base[0] == 'sp' else base, (('i', index),))
+            return term('ref', base.side, base.local, (*base.path, term('i', index)), base.is_mut)
+        return pointer(base.slice if base[0] == 'sp' else base, (term('i', index),))
 
     def run(self, node, state):
         """Runs to the next event."""
         for _ in range(2000):
-            kind, *parts = self.nodes[node]
-            rest, node = parts[0] if parts else None, parts[-1] if parts else None
-            if kind == 'forget':
-                state.update({(self.word, local): ('forgotten',) for local in rest})
-                self.drop(state, parts[1])
-            elif kind == 'return':
-                return ('return', state.get((self.word, 0), UNIT))
-            elif kind == 'Unreachable':
-                return ('never',)
-            elif kind == 'If':
-                return ('branch', self.value(state, rest), {0: node[1], 1: node[0]}, None)
-            elif kind == 'Switch':
-                value, cases, other = rest
-                ends = {number: arm for case, arm in zip(cases, node)
-                        for number in (case if isinstance(case, list) else [case])}
-                return ('branch', self.value(state, value), ends, node[-1] if other else None)
-            elif kind == 'LendStatic':
-                made = ('static', json.dumps(rest[2], sort_keys=True))
-                is_empty = rest[2] == {'Parts': []}     # `&[]`, which rustc has as a constant
-                state[self.word, rest[0]['local']] = ('constant', ('agg', None)) if is_empty else made
-            elif kind == 'Assign':
-                store = self.write(state, self.at_place(state, rest[0]), self.compute(state, *rest))
-                if store:
-                    return (*store, node)
-            elif kind == 'Call':
-                event = self.call(state, *rest, node)
-                if event:
-                    return event
-            elif kind != 'goto':
-                raise Unknown(f'step {kind}')
+            tag, rest, node = self.nodes[node]
+            if tag == 'Return':
+                return Return(state.get((self.word, 0), UNIT))
+            if tag == 'Unreachable':
+                return Never()
+            if tag in ('If', 'Switch'):
+                return self.branch(state, tag, rest, node)
+            event = self.step(state, tag, rest, node)
+            if event is not None:
+                return event
         raise Unknown('runs without an event')
+
+    def branch(self, state, tag, rest, arms):
+        """A choice: an `If` of a truth value has the arms of 1 and of 0."""
+        if tag == 'If':
+            return Branch(self.value(state, rest), {0: End(arms[1]), 1: End(arms[0])}, None)
+        value, cases, has_other = rest
+        ends = {number: End(arm) for case, arm in zip(cases, arms)
+                for number in (case if isinstance(case, list) else [case])}
+        return Branch(self.value(state, value), ends, End(arms[-1]) if has_other else None)
+
+    def step(self, state, tag, rest, after):
+        """Does a step that is no branch. Returns its event, if it is one."""
+        if tag == 'Assign':
+            return self.write(state, self.at_place(state, rest[0]), self.compute(state, *rest), after)
+        if tag == 'Call':
+            return self.call(state, *rest, after)
+        if tag == 'forget':
+            state.update({(self.word, local): term('forgotten') for local in rest[0]})
+            self.drop(state, rest[1])
+        elif tag == 'LendStatic':
+            is_empty = rest[2] == {'Parts': []}    # `&[]`, which rustc has as a constant
+            state[self.word, rest[0]['local']] = term('constant', UNIT) if is_empty else \
+                term('static', json.dumps(rest[2], sort_keys=True))
+        elif tag != 'goto':
+            raise Unknown(f'step {tag}')
+        return None
 
     def call(self, state, head, operands, place, after):
         """The event of a call, or what it is without one, written."""
-        name = self.program.callee(head, self.function)
-        if name in ('assertions.unreachable', 'assertions.panic', 'panicking.panic'):
-            return ('panic',)
+        name, function = self.program.callee(head, self.function), (head.get('Fn') or [''])[0]
+        if name in PANICS:
+            return Panic()
         if name == 'literal.laid_out':
             raise Unknown('a width')
         if self.program.is_trivial(name):
@@ -381,20 +428,29 @@ class ProvedSide(Side):
             if not place['steps']:
                 state[self.word, place['local']] = UNIT
             return None
-        arguments, wraps, made = [self.value(state, one) for one in operands], WRAPPING.fullmatch(name), None
-        if head.get('Fn', [''])[0].endswith('::AnyIntoIterator::into_iter'):
-            made = arguments[0]
-        elif wraps:
-            made = operation(wraps[3], *arguments, bits(wraps[2]))
-        elif name in ('slice.iter', 'slice.iter_mut'):
-            made = ('agg', None, ('iter', arguments[0]), FALSE)
+        arguments = [self.value(state, one) for one in operands]
+        made = self.pure(name, function, arguments)
         if made:
-            store = self.write(state, self.at_place(state, place), made)
-            return (*store, after) if store else None
-        if is_own(plain(head.get('Fn', [''])[0])):
+            return self.write(state, self.at_place(state, place), made, after)
+        if is_own(plain(function)):
             arguments += numbers_of(re.findall(r'"Const": (\d+)', json.dumps(head['Fn'][1]['types'])))
-        lent = {one['Impl'][0].partition('::')[2].rpartition('+Fn')[0].replace('++', '::')
-                for one in (head.get('Fn') or ['', {}])[1].get('dicts', ()) if '+Fn' in one.get('Impl', [''])[0]}
+        lent = self.functions_lent(head)
         if len(lent) == 1 and operands.count('Unit') == 1:                          # a function as a value
-            arguments[operands.index('Unit')] = ('fn', *lent)
-        return ('call', name, arguments, self.at_place(state, place), after)
+            arguments[operands.index('Unit')] = term('fn', *lent)
+        return Call(name, arguments, self.at_place(state, place), after)
+
+    @staticmethod
+    def pure(name, function, arguments):
+        """What a call is without an event: a.wrapping_add(b) is op('wrapping_add 64', par(1), par(2))."""
+        wraps = WRAPPING.fullmatch(name)
+        if function.endswith('::AnyIntoIterator::into_iter'):
+            return arguments[0]
+        if wraps:
+            return operation(wraps[3], *arguments, bits(wraps[2]))
+        return aggregate(term('iter', arguments[0]), FALSE) if name in ('slice.iter', 'slice.iter_mut') else None
+
+    @staticmethod
+    def functions_lent(head):
+        """The functions that a callee is given as values: go of apply(go, a)."""
+        impls = [one.get('Impl', [''])[0] for one in (head.get('Fn') or ['', {}])[1].get('dicts', ())]
+        return {impl.partition('::')[2].rpartition('+Fn')[0].replace('++', '::') for impl in impls if '+Fn' in impl}

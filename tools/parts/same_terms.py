@@ -1,19 +1,21 @@
-"""The terms of tools/same_program.py: tuples of a word and parts. Two programs compute the same where the terms are
-equal."""
-import re
+"""The terms of tools/same_program.py: what a program computes, each a word and its parts. Two programs compute the same
+where their terms are equal. same_names.txt has an example of each."""
+import contextlib
+import traceback
+from collections import namedtuple
+from pathlib import Path
 
-TRUE, FALSE, UNIT, NOTHING = ('int', 1), ('int', 0), ('agg', None), ('nothing',)
-SIGNS = {'Add': '+', 'Sub': '-', 'Mul': '*', 'Div': '/', 'Rem': '%', 'BitAnd': '&', 'BitOr': '|', 'BitXor': '^',
-         'Shl': '<<',
-         'Shr': '>>', 'Lt': '<', 'Gt': '>', 'Le': '<=', 'Ge': '>=', 'Eq': '==', 'Ne': '!=', 'And': '&', 'Or': '|',
-         'Xor': '^',
-         'WrapAdd': 'wrapping_add', 'WrapSub': 'wrapping_sub', 'WrapMul': 'wrapping_mul'}
-FOLDED = {'+': int.__add__, '-': int.__sub__, '*': int.__mul__, '<<': lambda a, b: a << min(b, 64), '==': lambda a,
-          b: int(a == b),
-          '<': lambda a, b: int(a < b), '<=': lambda a, b: int(a <= b), '/': lambda a, b: a // b if b else -1}
+from parts.mir_text import tables
+
+# The words of terms, and where their parts are, as same_names.txt lists and shows them.
+WORDS = [row.split('  ')[0].split() for row in tables('same_names.txt')['forms']]
+PLACES = {(word, name.lstrip('*')): slice(k, None) if name[0] == '*' else k
+          for word, *names in WORDS for k, name in enumerate(names, 1)}
 # What has parts that are met one by one where ways meet; of some a part is a number, or a way to a part of a value.
-MET = {**dict.fromkeys('agg op not slice next iter sp len discr repeat'.split(), ()), 'load': (2,), 'part': (2,),
-       'addr': (2,), 'upd': (2,), 'cast': (1, 2)}
+MET = {**dict.fromkeys('agg op not slice next iter sp len discr repeat'.split(), ()), 'load': ('path',),
+       'part': ('step',), 'addr': ('path',), 'upd': ('step',), 'cast': ('width', 'old')}
+# What is known of a number on a way: which it is, or which ones it isn't.
+Known = namedtuple('Known', 'number others', defaults=[None, frozenset()])
 
 
 class Unknown(Exception):
@@ -24,92 +26,153 @@ class Differ(Exception):
     """The two programs differ."""
 
 
-def sliced(pointer, count):
-    """The slice that begins at a pointer."""
-    if pointer[0] == 'sp' and pointer[1][0] == 'slice':
-        pointer = pointer[1][1]
-    return pointer[1] if pointer[0] == 'sp' and count == ('len', pointer[1]) else ('slice', pointer, count)
+class Broken(Exception):
+    """These scripts failed."""
 
 
-def length(slice_):
-    return slice_[2] if slice_[0] == 'slice' else ('len', slice_)
+@contextlib.contextmanager
+def reading(name):
+    """While a function is read other exceptions are faults of these scripts: it says of which function, and where."""
+    try:
+        yield
+    except (Unknown, Differ, Broken):
+        raise
+    except Exception as error:
+        at = traceback.extract_tb(error.__traceback__)[-1]
+        raise Broken(f'{name}: {Path(at.filename).name}:{at.lineno} fails: {type(error).__name__}: {error}') from error
+
+
+class Term(tuple):
+    """A word and its parts, which same_names.txt names: of term('op', '+', a, b) the part `sign` is '+'."""
+    __slots__ = ()
+
+    def __getattr__(self, name):
+        if (self[0], name) not in PLACES:
+            raise AttributeError(f'{self[0]} has no {name}')
+        return self[PLACES[self[0], name]]
+
+    def __repr__(self):
+        return f's{self.number}' if self[0] == 'sym' else f'{self[0]}({", ".join(map(repr, self[1:]))})'
+
+
+def term(*parts):
+    """A term of its word and parts: term('par', 1)."""
+    return Term(parts)
+
+
+def integer(number):
+    return term('int', number)
+
+
+def aggregate(*parts):
+    """A value of parts that is no variant: (a, b), [a, b] or S { m: a, n: b }."""
+    return term('agg', None, *parts)
+
+
+TRUE, FALSE, UNIT, NOTHING = integer(1), integer(0), aggregate(), term('nothing')
 
 
 def take(value, step):
-    """A part of a value: a field ('f', k), a variant's ('v', (variant, k)), or an element ('i', index)."""
-    kind, number = step
-    if value[0] == 'agg' and value[1] is None:
-        k = number if kind == 'f' else number[1] if kind == 'i' and number[0] == 'int' else len(value)
-        if k < len(value) - 2:
-            return value[2 + k]
-    if value[0] == 'agg' and kind == 'v' and value[1] == number[0]:
-        return value[2 + number[1]]
+    """A part of a value: of agg(None, par(1), par(2)) and f(1) it is par(2)."""
+    kind, which = step
+    if value[0] == 'agg' and value.variant is None:
+        k = which if kind == 'f' else which.number if kind == 'i' and which[0] == 'int' else len(value)
+        if k < len(value.parts):
+            return value.parts[k]
+    if value[0] == 'agg' and kind == 'v' and value.variant == which[0]:
+        return value.parts[which[1]]
     if value[0] == 'load':
-        return ('load', value[1], value[2] + (step,), value[3])
-    if value[0] == 'upd' and value[2] == step:
-        return value[3]
-    if value[0] == 'upd' and kind == value[2][0] == 'f':
-        return take(value[1], step)
-    return ('part', value, step)
+        return term('load', value.pointer, value.path + (step,), value.ver)
+    if value[0] == 'upd' and value.step == step:
+        return value.new
+    if value[0] == 'upd' and kind == value.step[0] == 'f':
+        return take(value.value, step)
+    return term('part', value, step)
 
 
 def put(value, path, new):
-    """A value with a part replaced."""
+    """A value with a part replaced: of agg(None, par(1), par(2)), [f(1)] and int(3) it is agg(None, par(1), int(3))."""
     if not path:
         return new
     step, *rest = path
     inner = put(take(value, step), rest, new)
-    if value[0] == 'agg' and step[0] == 'f' and value[1] is None and step[1] < len(value) - 2:
-        return value[:2 + step[1]] + (inner,) + value[3 + step[1]:]
-    if value[0] == 'upd' and value[2] == step:
-        return ('upd', value[1], step, inner)
-    if value[0] == 'upd' and value[2][0] == step[0] == 'f' and step[1] < value[2][1]:
-        return ('upd', put(value[1], [step], inner), value[2], value[3])
-    return ('upd', value, step, inner)
+    is_field = step[0] == 'f'
+    if is_field and value[0] == 'agg' and value.variant is None and step.which < len(value.parts):
+        return aggregate(*value.parts[:step.which], inner, *value.parts[step.which + 1:])
+    if value[0] == 'upd' and value.step == step:
+        return term('upd', value.value, step, inner)
+    if is_field and value[0] == 'upd' and value.step[0] == 'f' and step.which < value.step.which:
+        return term('upd', put(value.value, [step], inner), value.step, value.new)
+    return term('upd', value, step, inner)
 
 
 def discriminant(value):
-    return ('int', value[1]) if value[0] == 'agg' and value[1] is not None else ('discr', value)
+    """The number of a value's variant: of Some(a) it is int(1)."""
+    return integer(value.variant) if value[0] == 'agg' and value.variant is not None else term('discr', value)
+
+
+def pointer(base, path):
+    """What points to a part of what is pointed to: `&s.m` of `s`."""
+    if not path:
+        return base
+    return term('addr', base.pointer, base.path + tuple(path)) if base[0] == 'addr' else term('addr', base, tuple(path))
+
+
+def sliced(start, count):
+    """The slice that begins at a pointer: of sp(par(3)) and len(par(3)) it is par(3)."""
+    if start[0] == 'sp' and start.slice[0] == 'slice':
+        start = start.slice.pointer
+    return start.slice if start[0] == 'sp' and count == term('len', start.slice) else term('slice', start, count)
+
+
+def length(of):
+    """How many elements a slice has."""
+    return of.size if of[0] == 'slice' else term('len', of)
+
+
+SIGNS = dict(Add='+', Sub='-', Mul='*', Div='/', Rem='%', BitAnd='&', BitOr='|', BitXor='^', And='&', Or='|', Xor='^',
+             Shl='<<', Shr='>>', Lt='<', Gt='>', Le='<=', Ge='>=', Eq='==', Ne='!=',
+             WrapAdd='wrapping_add', WrapSub='wrapping_sub', WrapMul='wrapping_mul')
+FOLDED = {'+': int.__add__, '-': int.__sub__, '*': int.__mul__, '<<': lambda a, b: a << min(b, 64),
+          '==': int.__eq__, '<': int.__lt__, '<=': int.__le__, '/': lambda a, b: a // b if b else -1}
 
 
 def negated(value):
     """The other of two truth values."""
-    return FALSE if value == TRUE else TRUE if value == FALSE else value[1] if value[0] == 'not' else ('not', value)
+    if value in (TRUE, FALSE):
+        return FALSE if value == TRUE else TRUE
+    return value.value if value[0] == 'not' else term('not', value)
 
 
 def is_test(value):
-    return value[0] == 'op' and value[1] in ('<', '<=', '==', 's<', 's<=')
+    return value[0] == 'op' and value.sign in ('<', '<=', '==', 's<', 's<=')
 
 
-def operation(sign, one, two, kind=None):
-    """An operator's value; `kind` is the type of a sum that wraps or a shift: a number of bits, or one with a sign."""
-    if isinstance(kind, int) and kind < 0 and sign in ('<', '<=', '>', '>=', '/', '%', '>>'):
+def operation(sign, one, two, width=64):
+    """An operator's value: a > b is op('<', par(2), par(1)), and 3 + 4 is int(7). The width is how many bits the
+    numbers have, below 0 if they have a sign."""
+    if width < 0 and sign in ('<', '<=', '>', '>=', '/', '%', '>>'):
         sign = f's{sign}'
     if sign[-2:].lstrip('s') in ('>', '>='):
         sign, one, two = sign.replace('>', '<'), two, one
     if sign == '!=':
         return negated(operation('==', one, two))
-    if sign in ('<<', '>>') and two[0] == 'cast' and two[1] > two[2] > 0:
-        two = two[3]
+    if sign in ('<<', '>>') and two[0] == 'cast' and two.width > two.old > 0:
+        two = two.value
     if sign == '==' and one[0] == 'int' and two[0] != 'int':
         one, two = two, one
     if one[0] == two[0] == 'int' and sign in FOLDED:
-        value = FOLDED[sign](one[1], two[1])
-        if 0 <= value < 2 ** abs(kind or 64):
-            return ('int', value)
-    return ('op', f'{sign} {abs(kind)}' if sign[:4] == 'wrap' or sign == '<<' else sign, one, two)
+        number = int(FOLDED[sign](one.number, two.number))
+        if 0 <= number < 2 ** abs(width):
+            return integer(number)
+    return term('op', f'{sign} {abs(width)}' if sign[:4] == 'wrap' or sign == '<<' else sign, one, two)
 
 
 def cast(width, old, value, has_sign=False):
-    if width == old or value[0] == 'int' and 0 <= value[1] < 2 ** width:
+    """A number in another width: a as u8 is cast(8, 64, par(1)), and 7 as u8 int(7)."""
+    if width == old or value[0] == 'int' and 0 <= value.number < 2 ** width:
         return value
-    return ('cast', width, -old if has_sign else old, value)
-
-
-def pointer(base, path):
-    if not path:
-        return base
-    return ('addr', base[1], base[2] + tuple(path)) if base[0] == 'addr' else ('addr', base, tuple(path))
+    return term('cast', width, -old if has_sign else old, value)
 
 
 def any_part(value, test):
@@ -123,100 +186,60 @@ def holds_ref(value):
 
 
 def mentions(value, key):
-    return any_part(value, lambda one: one[:1] == ('sym',) and one[1] == key)
+    """Whether a term has a symbol of this key."""
+    return any_part(value, lambda one: one[:1] == ('sym',) and one.key == key)
+
+
+def settled(value, facts, memo):
+    """A term under what is known on a way: if a < b is known to be 1, not(a < b) is int(0). `memo` has what was settled
+    by the same facts."""
+    if not isinstance(value, tuple) or not value:
+        return value
+    if value not in memo:
+        out = value
+        if value[0] != 'ref' and facts.get(value, Known()).number is None:
+            out = type(value)(settled(part, facts, memo) for part in value)
+            if out[0] == 'op' and out != value:
+                sign, _, width = out.sign.partition(' ')
+                out = operation(sign, out.one, out.two, int(width or 64))
+            elif out[0] == 'not':
+                out = negated(out.value)
+        if out[0] == 'op' and out.sign == '==' and out.two[0] == 'int' and \
+                out.two.number in facts.get(out.one, Known()).others:
+            out = FALSE
+        known = facts.get(out, Known()).number
+        memo[value] = out if known is None else integer(known)
+    return memo[value]
 
 
 def met(one, two, key, pairs):
-    """What two terms have in common: where they differ is a symbol of this key, and `pairs` has which two it is for."""
+    """What two terms have in common: of (a, b) and (a, 3) it is (a, s0). Where they differ is a symbol of this key, and
+    `pairs` has which two it is for."""
     if one == two and not mentions(one, key):
         return one
-    fixed = MET.get(one[0]) \
-        if isinstance(one, tuple) and isinstance(two, tuple) and one and one[:1] == two[:1] and len(one) == len(two) \
-                else None
+    is_alike = isinstance(one, tuple) and isinstance(two, tuple) and one and one[:1] == two[:1] and len(one) == len(two)
+    fixed = [PLACES[one[0], name] for name in MET[one[0]]] if is_alike and one[0] in MET else None
     if fixed is None or one[0] in ('agg', 'op') and one[1] != two[1] or \
             any(shape(one[k]) != shape(two[k]) for k in fixed):
-        return pairs.setdefault((one, two), ('sym', key, len(pairs)))
+        return pairs.setdefault((one, two), term('sym', key, len(pairs)))
+    return Term(met_way(a, b, key, pairs) if k in fixed else met(a, b, key, pairs) if isinstance(a, tuple) else a
+                for k, (a, b) in enumerate(zip(one, two)))
 
-    def way(a, b):
-        return ('i', met(a[1], b[1], key, pairs)) if a[:1] == ('i',) else tuple(way(*ab) if isinstance(ab[0], tuple)
-                                                                                else ab[0] for ab in zip(a, b))
-    return tuple(a if not isinstance(a, tuple) else way(a, b) if k in fixed else met(a, b, key, pairs)
-                 for k, (a, b) in enumerate(zip(one, two)))
+
+def met_way(one, two, key, pairs):
+    """What two ways to a part have in common, of one shape: their indices are met."""
+    if not isinstance(one, tuple):
+        return one
+    return term('i', met(one.which, two.which, key, pairs)) if one[:1] == ('i',) else \
+        type(one)(met_way(a, b, key, pairs) for a, b in zip(one, two))
 
 
 def shape(path):
     """A way to a part, but for the indices."""
-    return tuple(map(shape, path)) if isinstance(path, tuple) and path[:1] != ('i',) \
-            else path[0] if isinstance(path, tuple) else path
+    if not isinstance(path, tuple):
+        return path
+    return 'i' if path[:1] == ('i',) else tuple(map(shape, path))
 
 
 def shown(value):
-    return re.sub(r"\('sym', .*?, (\d+)\)", r's\1', str(value))[:160]
-
-
-class Side:
-    """One of the two programs of a function: its nodes, and how its places and values are read. The word of a side is
-    in each name of a local of a state; `ver` in a state is what memory is, after the last event that may change it."""
-    word = '?'
-
-    def find(self, state, local, steps):
-        """Where a place is: ('local', number, path), ('mem', pointer, path), or ('value', value)."""
-        at = ('local', local, ())
-        for step in steps:
-            if step == 'deref':
-                value = self.read(state, at)
-                at = {'ref': lambda: ('local', *value[2:4]), 'constant': lambda: ('value', value[1]),
-                      'addr': lambda: ('mem', *value[1:])}.get(value[0], lambda: ('mem', value, ()))()
-            elif step[0] == 'slice':               # the two words of a reference to a slice
-                value = self.read(state, at)
-                at = ('value', length(value) if step[1] else value[1] if value[0] == 'slice' else ('sp', value))
-            elif step[0] == 'i':
-                index = step[1] if isinstance(step[1], tuple) else self.read(state, ('local', step[1], ()))
-                self.partial(state, ('at', *(at[1:] if at[0] == 'mem' else (None,)), index))
-                at = (*at[:2], at[2] + (('i', index),))
-            else:
-                at = ('value', take(at[1], step)) if at[0] == 'value' else (*at[:2], at[2] + (step,))
-        return at
-
-    def read(self, state, at):
-        if at[0] != 'local':
-            return at[1] if at[0] == 'value' else ('load', at[1], at[2], state['ver'])
-        value = state.get((self.word, at[1]), NOTHING)
-        for step in at[2]:
-            value = take(value, step)
-        return value
-
-    def target(self, state, value):
-        """What a reference refers to."""
-        if value[0] == 'ref':
-            return self.read(state, ('local', *value[2:4]))
-        return value[1] if value[0] == 'constant' else ('load', *(value[1:] if value[0] == 'addr' else (value, ())),
-                                                        state['ver'])
-
-    def address(self, at, is_mut):
-        if at[0] == 'local':
-            return ('ref', self.word, at[1], at[2], is_mut)
-        if at[0] == 'mem':
-            return pointer(at[1], at[2])
-        if at[1][0] == 'agg':
-            return ('constant', at[1])
-        raise Unknown('the address of a value')
-
-    def partial(self, state, term):
-        """Notes what may panic in Rust: a sum, a quotient, a shift, an element, a part."""
-        name = 'done' if self.word == 'A' else 'due'
-        if term[0] != 'int':
-            state[name] = state.get(name, frozenset()) | {term}
-
-    def dropped(self, state, *values):
-        """Notes that a value is dropped, and what else is said of it."""
-        state[self.word, 'drops'] = (*state.get((self.word, 'drops'), UNIT), ('agg', None, *values))
-
-    def write(self, state, at, value):
-        """Writes, and gives the store if it is one to memory."""
-        if at[0] == 'local':
-            state[self.word, at[1]] = put(state.get((self.word, at[1]), NOTHING), list(at[2]), value)
-            return None
-        if at[0] == 'mem':
-            return ('store', pointer(at[1], at[2]), value)
-        raise Unknown('a store to a value')
+    return str(value)[:160]
