@@ -58,9 +58,12 @@ fn quic() {
     let mut receiving = FiniteReceiver::<8>::empty_at(&mut into[..], 0);
     assert_eq!(sending.write(b"the quick brown fox"), 19);
     sending.close(); // the end has a number too, 19
-    let (limit, mut packet) = (32 + 1, 0); // MAX_STREAM_DATA is 32, and the end has one number more
+    let (max_stream_data, mut packet) = (32, 0);
     while !sending.is_done() {
         let mut acknowledged = vec![];
+        // The end's number is no data, so it may be one beyond what the peer allows.
+        let is_last = sending.is_closed() && sending.numbers_end() == max_stream_data + 1;
+        let limit = max_stream_data + u64::from(is_last);
         while let Some((start, end)) = sending.next(limit, u64::MAX, 8) {
             let (front, back, fin) = sending.bytes(start, end);
             let data = [front, back].concat();
@@ -69,7 +72,12 @@ fn quic() {
             println!("packet {packet}: {start}..{end} {:?} fin {fin}", text(&data));
             // Packet 2 is lost. Of each other one the receiver's ACK frame names the packet, and so the range.
             if packet != 2 {
-                receiving.keep(start, &data, fin).expect("one end, and few holes");
+                let data_end = start + data.len() as u64;
+                let is_beyond = receiving.end().is_some_and(|last| last < data_end);
+                if is_beyond || fin && !receiving.can_end(data_end) {
+                    return println!("FINAL_SIZE_ERROR");
+                }
+                receiving.keep(start, &data, fin).expect("few holes");
                 acknowledged.push(start..end);
             }
         }
