@@ -54,7 +54,6 @@ ELSEWHERE = {
     "rt version": "it proves nothing",
     "rustup target add": TARGET,
     "sh rust/kit.sh FOLDER TARGET": TARGET,
-    "sh rust/targets.sh FOLDER": TARGET,
     "(cd c && cargo build --release --target ..": TARGET,
     "(cd c && cargo build --profile small --target ..": TARGET,
     "arm-none-eabi-gcc ..": TARGET,
