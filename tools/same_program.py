@@ -133,8 +133,8 @@ def wrong(proved, rust, found):
     for how in ('differ', 'unknown'):
         for name, reason in found[how]:
             if not is_left(proved, rust, name):
-                now = digest(proved, rust, name, place(proved, rust, name))
-                again = f'; read it again, and then its digest is {now}' * (name in LEFT)
+                now = digest(proved, rust, name, place(proved, rust, name)) if name in LEFT else ''
+                again = f'; read it again, and then its digest is {now}' if now else ''
                 yield name, f'{"not understood: " if how == "unknown" else ""}{reason}{again}'
 
 
