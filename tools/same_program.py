@@ -62,16 +62,18 @@ LEFT = {name: read for name, _, read in (row.split(' ~~ ') for row in tables('sa
 DERIVED = r'::(?:default|cmp|partial_cmp)$'
 
 
-def digest(proved, rust, name, there):
-    """Of both texts of a function, without its places."""
+def digest(proved, rust, name):
+    """Of both texts of a function, as far as they are there, without their places."""
+    is_proved = name in proved.functions
+    there = place(proved, rust, name) if is_proved else name
     item = re.sub(r'//[^\n]*|<impl at [^>]*>|@[^}]*\}', '', rust.functions.get(there) or rust.constants.get(there, ''))
-    body = json.dumps(proved.all[proved.functions[name]]['body'], sort_keys=True)
+    body = json.dumps(proved.all[proved.functions[name]]['body'], sort_keys=True) if is_proved else ''
     return hashlib.sha256((body + item).encode()).hexdigest()[:12]
 
 
 def is_left(proved, rust, name):
     """Whether a function is one that was read, and still has the texts that were read."""
-    return name in LEFT and digest(proved, rust, name, place(proved, rust, name)) == LEFT[name]
+    return name in LEFT and digest(proved, rust, name) == LEFT[name]
 
 
 def why(proved, rust, name, there, side=ProvedSide):
@@ -133,8 +135,7 @@ def wrong(proved, rust, found):
     for how in ('differ', 'unknown'):
         for name, reason in found[how]:
             if not is_left(proved, rust, name):
-                now = digest(proved, rust, name, place(proved, rust, name)) if name in LEFT else ''
-                again = f'; read it again, and then its digest is {now}' if now else ''
+                again = f'; read it again: {digest(proved, rust, name)} is its digest' if name in LEFT else ''
                 yield name, f'{"not understood: " if how == "unknown" else ""}{reason}{again}'
 
 

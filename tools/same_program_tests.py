@@ -86,8 +86,8 @@ def check_faults(rust, name):
     how, reason = same_program.why(None, rust, name, name, lambda *_: {}['here'])
     assert how == 'broken' and re.match(rf'{name}: same_program_tests.py:\d+ fails: KeyError', reason), reason
     one = next(iter(same_program.LEFT))
-    found = {'same': [(one, 1)], 'differ': [], 'unknown': [], 'broken': [(one, 'it fails')]}
-    assert [pair[0] for pair in same_program.wrong(None, rust, found)] == [one, one]
+    found = {'same': [(one, 1)], 'differ': [(name, 'not proved')], 'unknown': [], 'broken': [(one, 'it fails')]}
+    assert [pair[0] for pair in same_program.wrong(None, rust, found)] == [one, one, name]
 
 
 def changed(proved, function, draw):
