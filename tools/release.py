@@ -22,8 +22,6 @@ ROOT = pathlib.Path(__file__).resolve().parent.parent
 sys.path.insert(0, str(ROOT / "c/targets"))
 import run  # noqa: E402
 
-TARGETS = ["x86_64-unknown-linux-gnu", "aarch64-unknown-linux-gnu", "armv7-unknown-linux-gnueabihf",
-           "thumbv6m-none-eabi", "thumbv7em-none-eabi", "thumbv8m.main-none-eabi", "riscv32imac-unknown-none-elf"]
 ASSETS = ROOT / "c/assets"
 BUILD = ASSETS / "build"                                     # symbols depend on its path
 
@@ -49,7 +47,7 @@ def main():
     try:
         subprocess.run(["git", "worktree", "add", "--quiet", "--detach", source, options.tag], cwd=ROOT, check=True)
         moment = int(subprocess.check_output(["git", "log", "-1", "--format=%ct"], cwd=source))
-        chosen = options.targets or TARGETS
+        chosen = options.targets or run.RELEASED
         rustc = run.compilers(chosen, (options.kit or BUILD / "kit").resolve())
         for target in rustc:
             profile = run.profile_of(target)

@@ -157,8 +157,9 @@ macro_rules! errors {
         #[test]
         fn errors() {
             fn all(error: impl Error, text: &str, name: &str) {
-                assert_eq!((error.to_string(), debug(&error)), (text.to_string(), name.to_string()));
-                assert_eq!(format!("{error:>99}|{error:.2}"), format!("{text}|{text}"));
+                assert_eq!(debug(&error), name, "what {name} is to print by Debug");
+                assert_eq!(error.to_string(), text, "what {name} is to print by Display");
+                assert_eq!(format!("{error:>99}|{error:.2}"), format!("{text}|{text}"), "{name}, with options");
                 assert!(error.source().is_none());
             }
             all(Full, "buffer full", "Full");
