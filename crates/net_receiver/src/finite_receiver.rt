@@ -4,6 +4,9 @@
 // window and beyond the true end would keep a stream from ending. Bytes in order up to an end that came early
 // complete the stream there: whoever forges an end within the window could forge the bytes too.
 //
+// It is a type of its own, with a receiver in it that is given segments cut at the end. So the bytes are that
+// receiver's, whose promises hold unchanged.
+//
 // The rule of `keep` is a function of the receiver's numbers and the end: a type and a head lend it theirs. A
 // `FiniteSender` lends no `Sender`: thirteen rules would be written twice.
 

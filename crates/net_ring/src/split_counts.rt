@@ -2,6 +2,9 @@
 
 // Why: Each count is below twice the capacity, so any capacity will do, where free-running counts want a power of
 // two. A refused call gives the end's own count to store, since any other breaks the ring.
+//
+// No storage crosses a call. A call that took it would have a slice of all of it while the other end writes, which
+// Rust forbids. The order of memory is the caller's, since no contract can say what an atomic gives.
 
 #![tactic(auto, using(crate::proofs::SplitNumbers::counts))]
 

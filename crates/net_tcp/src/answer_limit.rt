@@ -1,4 +1,7 @@
 //! How often a segment is answered of which nothing is taken.
+
+// Why: It is a type of its own, since it needs a clock, which a receiving end has not.
+
 ghost use Rattle.std.specs.Prelude.{◌≡◌, ◌≤◌, ◌^◌, pos, negsuc, ◌-◌, IsTrue, IsFalse};
 ghost use Rattle.net_tcp.specs.AnswerLimit.{allows, after_question, is_limited};
 

@@ -6,6 +6,9 @@ use crate::rattle::prelude::*;
 // 136 bytes. Runs that are lent would cost 7 instructions more of 120 of a segment in order. But some 40 places
 // would lend them, some 65 clauses that name `N` would name a count, and one run at least would be a precondition.
 // Many runs can be `static` or boxed.
+//
+// A segment is taken by two calls. `segment` lists the first three held runs, as a selective acknowledgement needs
+// them. `keep` lists none, for callers that list others, by `newest_runs`, or none.
 
 use crate::stream::finite_receiver_head::keep_ending;
 use crate::stream::held_runs::{HeldRun, HeldRuns, MissingRunIter, NewestRunIter};

@@ -1,6 +1,8 @@
 // Written by tools/erase.py from crates/net_tcp/src/answer_limit.rt: a change here would be lost.
 //! How often a segment is answered of which nothing is taken.
 
+// Why: It is a type of its own, since it needs a clock, which a receiving end has not.
+
 use crate::tcp::arriving::Segment;
 use crate::time::{Duration, Instant};
 

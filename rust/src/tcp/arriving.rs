@@ -1,6 +1,14 @@
 // Written by tools/erase.py from crates/net_tcp/src/arriving.rt: a change here would be lost.
 //! What to do with an arriving segment.
 
+// Why: What a segment without bytes acknowledges counts a whole window below the first missing position, and at the
+// window's edge, where RFC 9293's table has neither. A sender's number is its window's end, if it sent beyond that, and
+// what it knows of the window may be older than what it sent: by a probe, by rounding, by an answer that was overtaken.
+// It has no more on the way than the greatest window, so by law `acknowledgements` that bound is exact. A unit of the
+// scale isn't enough where the order changes. A forger off the path has at most a window more of numbers for such a
+// segment, and the check of what it acknowledges (RFC 5961, section 5) stays. The sender's number stays at the window's
+// end, as Linux has it, since other receivers take none beyond.
+
 use crate::stream::SentNumbers;
 
 /// The positions and the flags of an arriving segment.
