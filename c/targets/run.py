@@ -399,7 +399,8 @@ def tests(programs, generated, options):
     digest = re.search(r"digest ([0-9a-f]{16})$", said)
     if not digest:
         raise Failed(f"sequence: {said}")
-    bits = "64 bits" if "64" in way.target else "32 bits"
+    _, about = shell(["rustc", "--print", "cfg", "--target", way.target])
+    bits = re.sub(r'.*target_pointer_width="(\d+)".*', r"\1 bits", about, flags=re.S)
     if options.record:
         DIGESTS.write_text(re.sub(f"^{bits} .*", f"{bits} {digest[1]}", DIGESTS.read_text(), flags=re.M))
     if options.calls == CALLS and f"{bits} {digest[1]}\n" not in DIGESTS.read_text():
