@@ -1,0 +1,146 @@
+//! A stream of QUIC over packets that are lost, doubled and late: ranges acknowledged by packets, a final size, and flow
+//! control of a window that is smaller than the stream.
+//!
+//! Frames here are Rust values. A QUIC of your own has packets, keys and a congestion window besides.
+use std::collections::{BTreeMap, VecDeque};
+use std::ops::Range;
+
+use net_base::ends::{SendBuffer, Sending};
+use net_base::finite::FiniteReceiver;
+use net_base::rand::Rand;
+
+/// The most bytes of a STREAM frame.
+const SIZE: usize = 500;
+/// How many bytes may wait on either side.
+const CAPACITY: usize = 8_000;
+/// How many ticks without an acknowledgement tell that all that is in flight is lost.
+const TIMEOUT: u64 = 100;
+
+/// What a packet has: it is STREAM, or ACK and MAX_STREAM_DATA.
+#[derive(Clone)]
+enum Packet {
+    Stream { number: u64, offset: u64, data: Vec<u8>, fin: bool },
+    Ack { packets: Vec<u64>, max_stream_data: u64 },
+}
+
+/// What is on the way, each with the tick at which it arrives.
+struct Path {
+    random: Rand,
+    packets: VecDeque<(u64, Packet)>,
+}
+
+impl Path {
+    /// Sends a packet. One of ten is lost, one is doubled, and each takes 10 to 12 ticks.
+    fn send(&mut self, now: u64, packet: &Packet) {
+        for _copy in 0..[0, 2, 1][self.random.below(10).min(2) as usize] {
+            let at = now + 10 + u64::from(self.random.below(3));
+            let place = self.packets.partition_point(|other| other.0 <= at);
+            self.packets.insert(place, (at, packet.clone()));
+        }
+    }
+}
+
+/// The side that sends: the stream, and the range of each packet that isn't acknowledged.
+struct Sender {
+    stream: SendBuffer<'static, 16>,
+    ranges: BTreeMap<u64, Range<u64>>,
+    next_number: u64,
+    max_stream_data: u64,
+    heard: u64,
+}
+
+impl Sender {
+    /// Sends all that the peer's flow control and 16 frames in flight allow.
+    fn send(&mut self, path: &mut Path, now: u64) {
+        let is_last =
+            self.stream.is_closed() && self.stream.numbers_end() == self.max_stream_data + 1;
+        // The end's number is no data, so it may be one beyond what the peer allows.
+        let limit = self.max_stream_data + u64::from(is_last);
+        while let Some((start, end)) = self.stream.next(limit, 16 * SIZE as u64, SIZE) {
+            let (front, back, fin) = self.stream.bytes(start, end);
+            let (number, data) = (self.next_number, [front, back].concat());
+            path.send(now, &Packet::Stream { number, offset: start, data, fin });
+            self.stream.mark(start, end, Sending::Segment);
+            self.ranges.insert(number, start..end);
+            self.next_number += 1;
+        }
+    }
+
+    /// Takes an ACK frame. Three frames that are acknowledged above a range tell that it is lost, and so that
+    /// `SendBuffer::next` returns it again.
+    fn acknowledged(&mut self, packets: &[u64], now: u64) {
+        for range in packets.iter().filter_map(|number| self.ranges.remove(number)) {
+            self.stream.acknowledge_range(range, SIZE).expect("it was sent");
+            self.heard = now;
+        }
+    }
+}
+
+/// The side that receives. It returns whether the frame's packet may be acknowledged, or that the peer broke the rules.
+fn receive(
+    stream: &mut FiniteReceiver<'static, 16>,
+    offset: u64,
+    data: &[u8],
+    fin: bool,
+) -> Result<bool, &'static str> {
+    let end = offset + data.len() as u64;
+    if stream.end().is_some_and(|last| last < end) || fin && !stream.can_end(end) {
+        return Err("FINAL_SIZE_ERROR");
+    }
+    if stream.window_end().is_some_and(|most| most < end) {
+        return Err("FLOW_CONTROL_ERROR");
+    }
+    // A frame that is refused, since too many ranges wait, isn't acknowledged, and so it is sent again.
+    Ok(stream.keep(offset, data, fin).is_ok())
+}
+
+fn main() {
+    let mut random = Rand::new(1);
+    let file: Vec<u8> = (0..50_000).map(|_| random.rand_u32() as u8).collect();
+    let mut path = Path { random, packets: VecDeque::new() };
+    let mut receiving = FiniteReceiver::<16>::empty_at(vec![0; CAPACITY], 0);
+    let mut sender = Sender {
+        stream: SendBuffer::new_at(vec![0; CAPACITY], 0),
+        ranges: BTreeMap::new(),
+        next_number: 0,
+        max_stream_data: CAPACITY as u64,
+        heard: 0,
+    };
+    let (mut rest, mut read, mut now) = (&file[..], Vec::<u8>::new(), 0);
+    while !sender.stream.is_done() {
+        rest = &rest[sender.stream.write(rest)..];
+        if rest.is_empty() {
+            sender.stream.close();
+        }
+        sender.send(&mut path, now);
+        now = path.packets.front().map_or(now + TIMEOUT, |it| it.0);
+        match path.packets.pop_front().map(|it| it.1) {
+            Some(Packet::Stream { number, offset, data, fin }) => {
+                let is_kept =
+                    receive(&mut receiving, offset, &data, fin).expect("the peer keeps the rules");
+                let mut into = [0; CAPACITY];
+                let count = receiving.read(&mut into);
+                read.extend(&into[..count]);
+                let packets = if is_kept { vec![number] } else { vec![] };
+                path.send(
+                    now,
+                    &Packet::Ack {
+                        packets,
+                        max_stream_data: receiving.window_end().unwrap_or(u64::MAX),
+                    },
+                );
+            }
+            Some(Packet::Ack { packets, max_stream_data }) => {
+                sender.max_stream_data = sender.max_stream_data.max(max_stream_data);
+                sender.acknowledged(&packets, now);
+            }
+            None => {}
+        }
+        if now >= sender.heard + TIMEOUT {
+            sender.stream.lose_all();
+            sender.heard = now;
+        }
+    }
+    assert!(receiving.has_read_all() && read == file);
+    println!("{} bytes by {} packets, in {now} ticks", read.len(), sender.next_number);
+}
