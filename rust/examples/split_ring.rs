@@ -1,58 +1,8 @@
-//! A ring in a `static`, which one thread fills and another empties, without a lock and without `unsafe`.
-//!
-//! Each end stores its own count and loads the other's. The bytes are atomics, since safe Rust shares no other memory
-//! that is written: an interrupt and a program on one processor take the same type. Two ends of a kind at once would
-//! mix bytes up or panic, and no more.
-use std::sync::atomic::{AtomicU8, AtomicUsize, Ordering};
+//! A ring in a `static`, which one thread fills and another empties, without a lock and without `unsafe`. An interrupt and
+//! a program on one processor take it in the same way.
 use std::thread;
 
-use net_base::storage::{Span, SplitCounts, SplitSpan};
-
-struct SplitRing<const N: usize> {
-    storage: [AtomicU8; N],
-    written: AtomicUsize,
-    taken: AtomicUsize,
-}
-
-impl<const N: usize> SplitRing<N> {
-    const fn new() -> Self {
-        SplitRing {
-            storage: [const { AtomicU8::new(0) }; N],
-            written: AtomicUsize::new(0),
-            taken: AtomicUsize::new(0),
-        }
-    }
-
-    /// The bytes of a span, in order.
-    fn bytes(&self, span: Span) -> impl Iterator<Item = &AtomicU8> {
-        let first = &self.storage[span.from..span.from + span.contiguous];
-        first.iter().chain(&self.storage[..span.count - span.contiguous])
-    }
-
-    /// Writes as many bytes as there is room for, and returns how many: a call of the end that writes.
-    fn write(&self, data: &[u8]) -> usize {
-        let written = self.written.load(Ordering::Relaxed);
-        let taken = self.taken.load(Ordering::Acquire);
-        let SplitSpan { span, next } = SplitCounts { written, taken }.free(N, data.len());
-        for (place, byte) in self.bytes(span).zip(data) {
-            place.store(*byte, Ordering::Relaxed);
-        }
-        self.written.store(next, Ordering::Release);
-        span.count
-    }
-
-    /// Takes as many bytes as there are and `into` has room for, and returns how many: a call of the end that reads.
-    fn read(&self, into: &mut [u8]) -> usize {
-        let taken = self.taken.load(Ordering::Relaxed);
-        let written = self.written.load(Ordering::Acquire);
-        let SplitSpan { span, next } = SplitCounts { written, taken }.queued(N, into.len());
-        for (place, byte) in self.bytes(span).zip(into) {
-            *byte = place.load(Ordering::Relaxed);
-        }
-        self.taken.store(next, Ordering::Release);
-        span.count
-    }
-}
+use net_base::storage::SplitRing;
 
 static RING: SplitRing<1000> = SplitRing::new();
 

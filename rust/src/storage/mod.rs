@@ -4,6 +4,7 @@
 mod by_hand;
 #[cfg(feature = "std")]
 mod by_hand_io;
+mod by_hand_split_ring;
 
 erased! {
     pub(crate) mod assembler;
@@ -22,7 +23,10 @@ erased! {
     pub(crate) mod width;
 }
 
+use core::sync::atomic;
+
 pub use assembler::{Assembler, HoleIter, IterData, RunIter, TooManyHolesError};
+pub use by_hand_split_ring::{SplitReader, SplitRing, SplitWriter};
 pub use error::{Empty, Full};
 pub use fragments::table as fragment_table;
 pub use fragments::{FragmentBuffer, FragmentError, FragmentsOver};

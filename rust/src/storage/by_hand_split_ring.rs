@@ -1,0 +1,132 @@
+//! By hand: a ring of bytes that two sides use at once, as atomics in the order that `SplitCounts` proves.
+use super::atomic::{AtomicU8, AtomicUsize, Ordering};
+use super::{SplitCounts, SplitSpan};
+
+/// A ring of `N` bytes that one side fills while another empties it, without a lock: an interrupt and a program, or two
+/// threads.
+///
+/// [`split`](Self::split) gives each side its end. Of a ring in a `static`, which nothing borrows for writing, one side
+/// calls [`write`](Self::write) and the other one [`read`](Self::read). If two sides write at once, or two read, bytes
+/// are lost or mixed up, and from then on both calls may return 0. Nothing panics, and no other memory is touched.
+///
+/// Where the bytes are is proved, by [`SplitCounts`]. The order of the atomics is by hand, and tested in each order of
+/// the steps of small programs. smoltcp has no such ring.
+///
+/// ```
+/// use net_base::storage::SplitRing;
+///
+/// static RECEIVED: SplitRing<64> = SplitRing::new();
+///
+/// // Called by the interrupt of a UART. A byte for which there is no room is lost.
+/// fn on_byte(byte: u8) -> bool {
+///     RECEIVED.write(&[byte]) == 1
+/// }
+///
+/// assert!(on_byte(b'a') && on_byte(b'b'));
+/// let mut into = [0; 8];
+/// assert_eq!((RECEIVED.read(&mut into), &into[..2]), (2, &b"ab"[..]));
+/// ```
+#[derive(Debug)]
+pub struct SplitRing<const N: usize> {
+    storage: [AtomicU8; N],
+    written: AtomicUsize,
+    taken: AtomicUsize,
+}
+
+/// The end of a [`SplitRing`] that writes.
+#[derive(Debug)]
+pub struct SplitWriter<'a, const N: usize>(&'a SplitRing<N>);
+
+/// The end of a [`SplitRing`] that reads.
+#[derive(Debug)]
+pub struct SplitReader<'a, const N: usize>(&'a SplitRing<N>);
+
+impl<const N: usize> SplitRing<N> {
+    /// Returns an empty ring.
+    #[must_use]
+    pub const fn new() -> Self {
+        SplitRing {
+            storage: [const { AtomicU8::new(0) }; N],
+            written: AtomicUsize::new(0),
+            taken: AtomicUsize::new(0),
+        }
+    }
+
+    /// Lends both ends, each for one side. What is queued stays so.
+    ///
+    /// ```
+    /// use net_base::storage::SplitRing;
+    ///
+    /// let mut ring = SplitRing::<3>::new();
+    /// let (mut writer, mut reader) = ring.split();
+    /// std::thread::scope(|threads| {
+    ///     threads.spawn(move || assert_eq!(writer.write(b"abcd"), 3));
+    /// });
+    /// let mut into = [0; 8];
+    /// assert_eq!((reader.read(&mut into), &into[..3]), (3, &b"abc"[..]));
+    /// ```
+    pub fn split(&mut self) -> (SplitWriter<'_, N>, SplitReader<'_, N>) {
+        (SplitWriter(self), SplitReader(self))
+    }
+
+    /// Writes the first of these bytes, as many as there is room for, and returns how many: a call of one side alone.
+    pub fn write(&self, data: &[u8]) -> usize {
+        let written = self.written.load(Ordering::Relaxed);
+        let taken = self.taken.load(Ordering::Acquire);
+        let counts = SplitCounts { written, taken };
+        if !counts.is_sound(N) {
+            return 0;
+        }
+        let lent = counts.free(N, data.len());
+        for (place, byte) in self.places(lent).zip(data) {
+            place.store(*byte, Ordering::Relaxed);
+        }
+        self.written.store(lent.next, Ordering::Release);
+        lent.span.count
+    }
+
+    /// Takes as many bytes as there are and `into` has room for, and returns how many: a call of the other side alone.
+    /// The rest of `into` stays as it is.
+    pub fn read(&self, into: &mut [u8]) -> usize {
+        let taken = self.taken.load(Ordering::Relaxed);
+        let written = self.written.load(Ordering::Acquire);
+        let counts = SplitCounts { written, taken };
+        if !counts.is_sound(N) {
+            return 0;
+        }
+        let lent = counts.queued(N, into.len());
+        for (place, byte) in self.places(lent).zip(into) {
+            *byte = place.load(Ordering::Relaxed);
+        }
+        self.taken.store(lent.next, Ordering::Release);
+        lent.span.count
+    }
+
+    /// The places of the bytes that are lent, in order. No index is tested, so no call can panic.
+    fn places(&self, lent: SplitSpan) -> impl Iterator<Item = &AtomicU8> {
+        let span = lent.span;
+        let first = self.storage.iter().skip(span.from).take(span.contiguous);
+        first.chain(self.storage.iter().take(span.count.saturating_sub(span.contiguous)))
+    }
+}
+
+impl<const N: usize> Default for SplitRing<N> {
+    fn default() -> Self {
+        Self::new()
+    }
+}
+
+impl<const N: usize> SplitWriter<'_, N> {
+    /// Writes the first of these bytes, as many as there is room for, and returns how many.
+    pub fn write(&mut self, data: &[u8]) -> usize {
+        self.0.write(data)
+    }
+}
+
+impl<const N: usize> SplitReader<'_, N> {
+    /// Takes as many bytes as there are and `into` has room for, and returns how many. The rest of `into` stays as it
+    /// is.
+    pub fn read(&mut self, into: &mut [u8]) -> usize {
+        self.0.read(into)
+    }
+}
