@@ -39,6 +39,11 @@ int main(void) {
     TOLD(net_base_finite_receiver_segment(&receiver, storage, 16, runs, 4, 0, bytes, 4, false, &counts),
          "(duty 5, 6 or 7)");
     TOLD(net_base_assembler_add(&assembler, runs, 4, SIZE_MAX, 1), "refused");
+    /* What a refused call returned, passed on: as a slice's length it is told, and nothing else of it is. */
+    told = NULL;
+    size_t none = net_base_ring_dequeue_one(&(struct net_base_ring){16, 1}, 16);
+    if (none != NET_BASE_NONE || net_base_ring_dequeue(&ring, none, 1) || told) failed = 1;
+    TOLD(net_base_ring_enqueue_slice(&ring, storage, none, bytes, 4), "storage_length is above PTRDIFF_MAX (duty 1)");
     told = NULL;
     if (net_base_ring_enqueue_slice(&ring, storage, 16, bytes, 4) != 4 || told) failed = 1;
     if (!failed) printf("duties: as it should\n");

@@ -1303,8 +1303,8 @@ struct net_base_receiving_end {
 struct net_base_acknowledgement {
     /** The first number that is missing. */
     uint64_t next;
-    /** What came twice since the last one, if anything did (RFC 2883), and then the newest runs
-     * that are held, the newest first.
+    /** What came twice since the last one (RFC 2883), unless an end in order let go of it; and then
+     * the newest runs that are held, the newest first.
      */
     struct net_base_held_run blocks[4];
     /** How many blocks there are. The others are zeros. */
@@ -1423,7 +1423,8 @@ NET_BASE_MUST_USE bool net_base_receiving_end_announce(
     NET_BASE_LINK(receiving_end_announce);
 
 /** Writes what a segment without bytes tells, takes notice that it does, and returns true. What
- * came twice is told once. `capacity` is how many bytes the storage has.
+ * came twice is told once, and not at all if it was held beyond an end in order, which let go of
+ * it. `capacity` is how many bytes the storage has.
  *
  * It is refused if `receiver` isn't that of a storage of `capacity` bytes, if `next` doesn't fit
  * 64 bits, or if more than 16 runs are used: false, and nothing changes.

@@ -4,7 +4,9 @@
  *
  * A duty that is found broken ends the program by `NET_BASE_FAIL(text)`, which may be defined before. With
  * -DNET_BASE_CHECK=2 so does a status that says that a call was refused. Not tested are that memory is as long as is said
- * (the compiler's sanitizers do), duties 3 and 4, and a length that differs but leaves head and runs sound.
+ * (the compiler's sanitizers do), duties 3 and 4, and a length that differs but leaves head and runs sound. A result
+ * that isn't a status isn't looked at: `false`, `NET_BASE_NONE` and `UINT64_MAX` may be answers. Passed on as a slice's
+ * length, `NET_BASE_NONE` breaks duty 1. As another length, a position or a limit these are numbers like others.
  */
 #ifndef NET_BASE_CHECK_H
 #define NET_BASE_CHECK_H
