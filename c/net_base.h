@@ -1633,6 +1633,10 @@ struct net_base_timeout_bounds {
  * `net_base_sending_end_bytes` where it is. At the moment of `net_base_sending_end_expires_at` the
  * timer is asked by `net_base_sending_end_expired`. How much more can be written,
  * `net_base_finite_sender_room` says of `sender`.
+ *
+ * A flag of `head` holds if it isn't 0. A call that sets it writes 1, and each other call leaves
+ * what a program wrote. A number whose flag is 0 doesn't count, whatever it is. A timeout of 0
+ * that counts passes at once, and then becomes the least one; no call writes such a timeout.
  */
 struct net_base_sending_end {
     /** The sender. */
@@ -1725,9 +1729,9 @@ NET_BASE_MUST_USE bool net_base_sending_end_init(
     struct net_base_sending_end *NET_BASE_RESTRICT end, uint64_t first, uint64_t first_timeout,
     const struct net_base_timeout_bounds *NET_BASE_RESTRICT bounds) NET_BASE_LINK(sending_end_init);
 
-/** Returns whether the end is sound over a storage of `capacity` bytes, for any numbers: `sender`
- * is that of a sender over as many, and `scoreboard` is sound with `runs`. It looks at each used
- * run.
+/** Returns whether the end is sound over a storage of `capacity` bytes: `sender` is that of a
+ * sender over as many, and `head.buffer.scoreboard` is sound with `runs`. All other numbers may be
+ * any. It looks at each used run.
  */
 NET_BASE_MUST_USE bool net_base_sending_end_is_sound(
     const struct net_base_sending_end *end, size_t capacity) NET_BASE_LINK(sending_end_is_sound);

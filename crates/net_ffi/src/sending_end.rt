@@ -9,6 +9,10 @@
 //! sent, `net_base_sending_end_next_segment` says, until it says that nothing is, and `net_base_sending_end_bytes`
 //! where it is. At the moment of `net_base_sending_end_expires_at` the timer is asked by
 //! `net_base_sending_end_expired`. How much more can be written, `net_base_finite_sender_room` says of `sender`.
+//!
+//! A flag of `head` holds if it isn't 0. A call that sets it writes 1, and each other call leaves what a program wrote.
+//! A number whose flag is 0 doesn't count, whatever it is. A timeout of 0 that counts passes at once, and then becomes
+//! the least one; no call writes such a timeout.
 
 // Why: The rules are those of `SendingHead`, over runs that are lent. An end of C lends the 16 in its struct, so that
 // all of it but the bytes is one struct.
@@ -404,8 +408,8 @@ pub extern "C" fn net_base_sending_end_init(
     true
 }
 
-/// Returns whether the end is sound over a storage of `capacity` bytes, for any numbers: `sender` is that of a sender
-/// over as many, and `scoreboard` is sound with `runs`. It looks at each used run.
+/// Returns whether the end is sound over a storage of `capacity` bytes: `sender` is that of a sender over as many, and
+/// `head.buffer.scoreboard` is sound with `runs`. All other numbers may be any. It looks at each used run.
 #[unsafe(no_mangle)]
 pub extern "C" fn net_base_sending_end_is_sound(end: &SendingEnd, capacity: usize) -> bool
     ensures { IsTrue result ↔ IsSoundSending capacity end.now }
