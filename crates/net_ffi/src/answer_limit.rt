@@ -39,7 +39,6 @@ pub extern "C" fn net_base_answer_limit_allows(
 ) -> bool
     ensures value { result ≡ allows (limit_of limit.old) segment.now now }
     ensures state { limit_of limit.new ≡ after_question (limit_of limit.old) segment.now now }
-    ensures each { IsFalse segment.now.syn → 1 ≤ segment.now.len → IsTrue result }
 {
     let mut it = net_tcp::AnswerLimit {
         until: Instant::from_micros(limit.until),

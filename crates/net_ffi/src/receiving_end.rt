@@ -27,13 +27,14 @@ ghost use Rattle.net_receiver.specs.FiniteHead.{finite_storage_after, next_of};
 ghost use Rattle.net_tcp.specs.Windows.{IsArrival};
 ghost use Rattle.net_ends.specs.Receiving.{new_receiving, opened, opening_field, free_end, is_worth, field_of};
 ghost use Rattle.net_ends.specs.Receiving.{listed, reported, arrival_result, after_event, Arrived};
-ghost use Rattle.net_ends.specs.Receiving.{Answered, Announced, Acknowledged, Took, WaitsAfter, is_empty};
+ghost use Rattle.net_ends.specs.Receiving.{Announced, Acknowledged, Took, WaitsAfter, is_empty};
 ghost use Rattle.net_ends.specs.Receiving.{after_arrival};
 ghost use Rattle.net_ffi.specs.ReceiverParts.{IsReadable};
 ghost use Rattle.net_ffi.specs.Refusals.{no_number};
 ghost use Rattle.net_ffi.specs.Results.{status_of_finite};
 ghost use Rattle.net_ends.specs.ReceivingRules.{room_of};
-ghost use Rattle.net_ffi.specs.ReceivingEnds.{receiving_of, waits_of, IsPlausibleEnd, HasSoundEnd, fields_of};
+ghost use Rattle.net_ffi.specs.ReceivingEnds.{receiving_of, begun_receiving, waits_of, IsPlausibleEnd, HasSoundEnd};
+ghost use Rattle.net_ffi.specs.ReceivingEnds.{fields_of};
 
 use crate::finite_receiver::has_number;
 use crate::receiver::{KeptCounts, RUNS, is_plausible, is_readable};
@@ -85,6 +86,7 @@ impl ReceivingEnd {
             receiving_of result storage ≡ new_receiving (length storage) first segment_size }
         ensures sound { (capacity : ℕ) → HasSoundEnd capacity result }
         ensures canonical { IsCanonical result.receiver.receiver.held }
+        ensures numbers { result ≡ begun_receiving first segment_size }
     {
         ReceivingEnd {
             receiver: FiniteReceiverHead::new(first),
@@ -290,7 +292,7 @@ pub extern "C" fn net_base_receiving_end_init(
     ensures state { IsTrue result → (storage : List ℕ) →
         receiving_of end.new storage ≡ new_receiving (length storage) first segment_size }
     ensures sound { IsTrue result → (capacity : ℕ) → HasSoundEnd capacity end.new }
-    ensures canonical { IsTrue result → IsCanonical end.new.receiver.receiver.held }
+    ensures numbers { IsTrue result → end.new ≡ begun_receiving first segment_size }
     ensures unchanged { IsFalse result → end.new ≡ end.old }
 {
     if first == u64::MAX {
@@ -449,9 +451,7 @@ pub extern "C" fn net_base_receiving_end_arrived(
 /// Has an acknowledgement sent at once.
 #[unsafe(no_mangle)]
 pub extern "C" fn net_base_receiving_end_answer(end: &mut ReceivingEnd)
-    ensures step { (storage : List ℕ) →
-        receiving_of end.new storage ≡ after_event 16 (receiving_of end.old storage) Answered }
-    ensures rest { end.new ≡ record end.old { head = record end.old.head { unanswered = 2 } } }
+    ensures { end.new ≡ record end.old { head = record end.old.head { unanswered = 2 } } }
 {
     end.head.answer();
 }
