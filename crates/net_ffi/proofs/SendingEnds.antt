@@ -17,7 +17,8 @@ use Rattle.net_ends.specs.declared.sending_end.Outgoing.{Outgoing}
 use Rattle.net_ends.proofs.Expiries.{restarted, none_left, none_means, none_step, expiry_is}
 
 pub hears_c : (n : ℕ) (s t : FiniteSenderState) (h left : SendingHead) (runs kept : List (ℕ × ℕ)) (timeout : ℕ)
-    (b bounds : Bounds) (seq ack window : ℕ) (pairs bs : List (ℕ × ℕ)) (empty : Bool) (at now : ℤ) (said : Acknowledged) →
+    (b bounds : Bounds) (seq ack window : ℕ) (pairs bs : List (ℕ × ℕ)) (empty : Bool) (at now : ℤ)
+    (said : Acknowledged) →
     n ≡ 16 → b ≡ bounds → pairs ≡ bs → at ≡ now → t ≡ sender_after_command s (Acknowledges ack) →
     Hears n (end_of s h runs timeout b) seq ack window pairs empty at said
     (end_of (sender_after_command s (Acknowledges ack)) left kept timeout b) →
@@ -36,14 +37,15 @@ hears_c n s t h left runs kept timeout b bounds seq ack window pairs bs empty at
     (end_of x left kept timeout b)) (sym step) hears))))
 
 pub chooses_c : (s t : FiniteSenderState) (h left : SendingHead) (runs : List (ℕ × ℕ)) (timeout : ℕ) (b bounds : Bounds)
-    (window : ℕ) (at now : ℤ) (said shown : Option Outgoing) → b ≡ bounds → at ≡ now → said ≡ shown → t ≡ marked s shown →
+    (window : ℕ) (at now : ℤ) (said shown : Option Outgoing) → b ≡ bounds → at ≡ now → said ≡ shown →
+    t ≡ marked s shown →
     Chooses (end_of s h runs timeout b) window at said (end_of (marked s said) left runs timeout b) →
     Chooses (end_of s h runs timeout bounds) window now shown (end_of t left runs timeout bounds)
 chooses_c s t h left runs timeout b bounds window at now said shown limits moment is step chooses =
     subst (λ (x : Bounds). Chooses (end_of s h runs timeout x) window now shown (end_of t left runs timeout x)) limits
     (subst (λ (x : ℤ). Chooses (end_of s h runs timeout b) window x shown (end_of t left runs timeout b)) moment
-    (subst (λ (x : FiniteSenderState). Chooses (end_of s h runs timeout b) window at shown (end_of x left runs timeout b))
-    (sym step)
+    (subst (λ (x : FiniteSenderState). Chooses (end_of s h runs timeout b) window at shown
+    (end_of x left runs timeout b)) (sym step)
     (subst (λ (x : Option Outgoing). Chooses (end_of s h runs timeout b) window at x
     (end_of (marked s x) left runs timeout b)) is chooses)))
 

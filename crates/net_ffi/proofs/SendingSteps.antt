@@ -51,4 +51,5 @@ parts_are capacity h pos limit at total size at' total' size' ends last xs all o
     let s = finite_sender_of h xs in
     let ys = take size' (drop at' xs) in
     two_parts s pos limit (take size (drop at xs)) ys ends last (one.lent xs all)
-    (subst (λ n. IsLent s (pos + n) limit ys last) (sym (part_size capacity at size xs all one.within)) (two.lent xs all))
+    (subst (λ n. IsLent s (pos + n) limit ys last) (sym (part_size capacity at size xs all one.within))
+    (two.lent xs all))

@@ -346,13 +346,14 @@ pub extern "C" fn net_base_receiving_end_open(
 /// bytes the storage has. It is as RFC 9293, section 3.10.7.4, has it, but for what follows. Resets and SYNs are
 /// answered as RFC 5961 has it: a reset counts only at `next`, the first number that is missing.
 ///
-/// No position is in a window that is shut. Of a segment with positions that begins at `next` then, as a probe does, the
-/// acknowledgement is taken all the same: otherwise two ends that both fill the other's window never hear of one
+/// No position is in a window that is shut. Of a segment with positions that begins at `next` then, as a probe does,
+/// the acknowledgement is taken all the same: otherwise two ends that both fill the other's window never hear of one
 /// another. So it is of a segment without positions whose number is below `next`, by `capacity` at most, and by one if
-/// that is 0. No honest peer's number is below that: it is not below what was acknowledged to the peer, which has no more
-/// than such a window on the way, or a probe. If all of the window is on the way, and some of it is missing, its number
-/// is the one after the window: that is taken too. By law `acknowledgements` no other number is needed. Otherwise two
-/// ends whose acknowledgements were lost, or came in another order, may refuse one another's for ever, and answer each.
+/// that is 0. No honest peer's number is below that: it is not below what was acknowledged to the peer, which has no
+/// more than such a window on the way, or a probe. If all of the window is on the way, and some of it is missing, its
+/// number is the one after the window: that is taken too. By law `acknowledgements` no other number is needed.
+/// Otherwise two ends whose acknowledgements were lost, or came in another order, may refuse one another's for ever,
+/// and answer each.
 ///
 /// Whether a segment may acknowledge what it does is tested afterwards, by `net_base_sending_end_acknowledged`.
 ///

@@ -261,7 +261,7 @@ fn block_at(blocks: &[HeldRun], at: usize) -> (u64, u64)
     }
 }
 
-/// Returns blocks as pairs, and none after them.
+/// Returns blocks as pairs, and none after them. Rust promises no layout of a pair, so these are copied.
 #[inline(always)]
 fn pairs_of(blocks: &[HeldRun]) -> [(u64, u64); BLOCKS]
     requires { AreBlocks blocks.now }
@@ -629,9 +629,9 @@ pub extern "C" fn net_base_sending_end_expired(
 }
 
 /// Returns whether the last recovery was for nothing, and ends it then: nothing that was found lost is missing but what
-/// was sent again, and all that was sent again came twice (RFC 3708). Then the congestion window may be what it was when
-/// the recovery began. Ask it after each acknowledgement, an old one too. It is true once: not before another recovery
-/// begins.
+/// was sent again, and all that was sent again came twice (RFC 3708). Then the congestion window may be what it was
+/// when the recovery began. Ask it after each acknowledgement, an old one too. It is true once: not before another
+/// recovery begins.
 ///
 /// It is refused if `end` isn't sound over `storage.len()` bytes: false, and nothing changes.
 #[unsafe(no_mangle)]

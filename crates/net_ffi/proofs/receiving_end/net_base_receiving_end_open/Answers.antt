@@ -22,7 +22,8 @@ returns-clause-window c = λ _ storage room.
     let made = c.new.ensures.state storage in
     let known = c.room-room.ensures.value storage room in
     let next = ap (λ (r : Room). r.next) known ∙ ap (λ e. acknowledged e.receiver) made
-    ∙ begins c.args.first (length storage) (omega (arith, c.ranges.first.fits, c.if-first-eq18446744073709551615.false)) in
+    ∙ begins c.args.first (length storage)
+    (omega (arith, c.ranges.first.fits, c.if-first-eq18446744073709551615.false)) in
     let last = ap (λ (r : Room). r.end) known ∙ ap (λ e. free_end e.receiver) made
     ∙ ap (λ n. free_end (fresh_finite c.args.first n)) (room_is old.receiver storage old.runs) in
     c.open.ensures.window ∙ (λ i. field_for 0 (last i - next i))
@@ -33,7 +34,8 @@ returns-clause-step c = λ yes storage room.
     let made = c.new.ensures.state storage in
     let known = c.room-room.ensures.value storage room in
     let next = ap (λ (r : Room). r.next) known ∙ ap (λ e. acknowledged e.receiver) made
-    ∙ begins c.args.first (length storage) (omega (arith, c.ranges.first.fits, c.if-first-eq18446744073709551615.false)) in
+    ∙ begins c.args.first (length storage)
+    (omega (arith, c.ranges.first.fits, c.if-first-eq18446744073709551615.false)) in
     let s = finite_of c.new.result.receiver storage c.new.result.runs in
     ap (λ (h : ReceivingHead). end_of s h) c.open.ensures.state
     ∙ (λ i. record (new_receiving (length storage) c.args.first old.head.segment_size) {

@@ -14,10 +14,10 @@ returns-clause-value c = λ sound few.
     let ack = c.args.it.now in (
       c.acknowledged-said.result,
       c.fields_of_acknowledged.ensures,
-      hears_c (length it.runs) s (finite_sender_of c.acknowledge.new.sender xs) it.head c.acknowledged-said.new.self it.runs
-          c.acknowledged-said.new.runs timeout c.bounds_from.result (bounds_of it.bounds) ack.seq ack.ack ack.window _
-          c.args.blocks.now c.args.is_empty c.moment.result c.args.now c.acknowledged-said.result c.are_sixteen.ensures
-          c.bounds_from.ensures c.pairs_of-pairs.ensures moment (c.acknowledge.ensures.step xs refl)
+      hears_c (length it.runs) s (finite_sender_of c.acknowledge.new.sender xs) it.head c.acknowledged-said.new.self
+          it.runs c.acknowledged-said.new.runs timeout c.bounds_from.result (bounds_of it.bounds) ack.seq ack.ack
+          ack.window _ c.args.blocks.now c.args.is_empty c.moment.result c.args.now c.acknowledged-said.result
+          c.are_sixteen.ensures c.bounds_from.ensures c.pairs_of-pairs.ensures moment (c.acknowledge.ensures.step xs refl)
           (c.acknowledged-said.ensures.hears s timeout (sym c.numbers_from-numbers.ensures)),
     )
 

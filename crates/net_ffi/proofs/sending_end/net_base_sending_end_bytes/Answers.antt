@@ -6,4 +6,5 @@ pub overflow_add-after : goal.overflow_add-after
 overflow_add-after c = (let below = lent_fits _ _ _ _ _ _ _ _ c.peek_at-ends.ensures in omega (arith, below, c.ranges))
 
 pub returns-clause-value : goal.returns-clause-value
-returns-clause-value c = λ sound xs all. parts_are _ _ _ _ _ _ _ _ _ _ _ _ xs all c.peek_at-ends.ensures c.peek_at-is_last.ensures
+returns-clause-value c = λ sound xs all.
+    parts_are _ _ _ _ _ _ _ _ _ _ _ _ xs all c.peek_at-ends.ensures c.peek_at-is_last.ensures

@@ -14,8 +14,8 @@ returns-in-None-clause-value c = λ sound.
       None,
       c.no_segment.ensures,
       chooses_c s s it.head c.next_segment-said.new.self it.runs timeout c.bounds_from.result (bounds_of it.bounds)
-          c.args.congestion_window c.moment.result c.args.now c.next_segment-said.result None c.bounds_from.ensures moment
-          c.in-None.is refl
+          c.args.congestion_window c.moment.result c.args.now c.next_segment-said.result None c.bounds_from.ensures
+          moment c.in-None.is refl
           (c.next_segment-said.ensures.chooses s timeout (sym (c.queued_from-queued.ensures.value xs refl))),
     )
 

@@ -43,7 +43,8 @@ returns-clause-step c = λ storage room.
     let known = c.room-room.ensures.value storage room in
     let told = c.acknowledge-next.ensures.state in
     let taken = c.take_duplicate-duplicate.ensures.state in
-    let list = ap (λ (h : ReceivingHead). listed (end_of s h)) taken ∙ ap (λ (h : ReceivingHead). listed (end_of s h)) told in
+    let list = ap (λ (h : ReceivingHead). listed (end_of s h)) taken
+    ∙ ap (λ (h : ReceivingHead). listed (end_of s h)) told in
     let before = ap (λ (h : ReceivingHead). h.recent) taken ∙ ap (λ (h : ReceivingHead). h.recent) told in
     let starts = c.list_runs-runs.ensures.recent storage sound ∙ (λ i. with_starts (before i) (list i)) in
     ap (λ e. end_of (finite_of e.receiver storage e.runs) e.head) c.list_runs-runs.ensures.rest
