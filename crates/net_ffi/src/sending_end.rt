@@ -15,7 +15,8 @@
 //! the least one; no call writes such a timeout.
 
 // Why: The rules are those of `SendingHead`, over runs that are lent. An end of C lends the 16 in its struct, so that
-// all of it but the bytes is one struct.
+// all of it but the bytes is one struct. They read a flag as 0 or not, and each number of the head has a meaning. So
+// `is_sound`, which each call asks, looks at the sender and at what was reported, and at nothing else.
 
 ghost use Rattle.std.specs.Prelude.{◌≡◌, ◌↔◌, ◌+◌, ◌-◌, ◌<◌, ◌≤◌, ◌^◌, ◌==◌, ◌++◌, ◌||◌, ℕ, List, length, min};
 ghost use Rattle.std.specs.Prelude.{take, drop, slice_get, IsTrue, IsFalse, is_some, is_none, unwrap_or};
