@@ -1114,11 +1114,19 @@ NET_BASE_MUST_USE size_t net_base_finite_sender_room(
 
 /** Returns the least scale by which this capacity, rounded down to a unit, can be announced, or 14
  * if none can.
+ *
+ * ``` use net_base::tcp::scale_for;
+ *
+ * assert_eq!((scale_for(65_535), scale_for(65_536), scale_for(1 << 20)), (0, 1, 5)); ```
  */
 uint8_t net_base_tcp_scale_for(uint64_t capacity) NET_BASE_LINK(tcp_scale_for);
 
 /** Returns how many bytes the field of a segment announces. A scale above 14 counts as 14, as RFC
  * 7323, section 2.3, has it.
+ *
+ * ``` use net_base::tcp::scaled;
+ *
+ * assert_eq!((scaled(50, 2), scaled(50, 0)), (200, 50)); ```
  */
 NET_BASE_MUST_USE uint64_t net_base_tcp_scaled(
     uint16_t field, uint8_t scale) NET_BASE_LINK(tcp_scaled);

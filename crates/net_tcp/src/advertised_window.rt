@@ -9,6 +9,12 @@ pub const MAX_SCALE: u8 = 14;
 
 /// Returns the least scale by which this capacity, rounded down to a unit, can be announced, or 14 if
 /// none can.
+///
+/// ```
+/// use net_base::tcp::scale_for;
+///
+/// assert_eq!((scale_for(65_535), scale_for(65_536), scale_for(1 << 20)), (0, 1, 5));
+/// ```
 #[must_use]
 pub fn scale_for(capacity: u64) -> u8
     ensures { IsScaleFor capacity result }
@@ -22,6 +28,16 @@ pub fn scale_for(capacity: u64) -> u8
 }
 
 /// What a receiver has announced: how far its promise reaches.
+///
+/// ```
+/// use net_base::tcp::AdvertisedWindow;
+///
+/// let mut advertised = AdvertisedWindow::new(0);
+/// // Nothing came yet, and there is room for 1,000 bytes. The scale is 2^3.
+/// assert_eq!(advertised.announce(3, 0, 1_000), 125);
+/// // 100 bytes came and wait to be read: what was promised stays, and nothing more is.
+/// assert_eq!((advertised.announce(3, 100, 1_000), advertised.edge()), (112, 1_000));
+/// ```
 #[repr(C)]
 #[derive(Copy, Clone, Debug, PartialEq, Eq, Hash)]
 pub struct AdvertisedWindow {
@@ -68,6 +84,14 @@ impl AdvertisedWindow {
     ///
     /// If the window ends before `next`, there is no room, as where the storage is full and the end, which has a
     /// number, is acknowledged.
+    ///
+    /// ```
+    /// use net_base::tcp::AdvertisedWindow;
+    ///
+    /// let mut advertised = AdvertisedWindow::new(0);
+    /// // In units of 8 no more is promised than there is, 15 here.
+    /// assert_eq!((advertised.announce(3, 0, 15), advertised.edge()), (1, 8));
+    /// ```
     pub fn announce(&mut self, scale: u8, next: u64, window_end: u64) -> u16
         ensures field { result ≡ field_for (shift_count scale) (window_end - next) }
         ensures edge { self.new.edge
@@ -95,6 +119,16 @@ impl AdvertisedWindow {
     /// the edge beyond `next` only if an update would be due: otherwise it announces what was promised
     /// before, rounded down. So the edge grows by what is worth an update, or only up to `next` (RFC
     /// 9293, section 3.8.6.2.2).
+    ///
+    /// ```
+    /// use net_base::tcp::AdvertisedWindow;
+    ///
+    /// let mut advertised = AdvertisedWindow::new(0);
+    /// assert_eq!(advertised.announce_in_steps(0, 0, 100, 100, 20), 100);
+    /// // Ten bytes came and were read. A segment has 20, so ten more aren't worth an update.
+    /// assert_eq!((advertised.announce_in_steps(0, 10, 110, 100, 20), advertised.edge()), (90, 100));
+    /// assert_eq!((advertised.announce_in_steps(0, 20, 120, 100, 20), advertised.edge()), (100, 120));
+    /// ```
     pub fn announce_in_steps(
         &mut self,
         scale: u8,
@@ -132,6 +166,15 @@ impl AdvertisedWindow {
     /// None is due if the window ends before `next`. Pass such a `window_end`, as 0, once all up to the end is
     /// acknowledged: nothing follows that needs room, and a peer that has closed its connection would answer an update
     /// by a reset.
+    ///
+    /// ```
+    /// use net_base::tcp::AdvertisedWindow;
+    ///
+    /// // All up to 100 was promised. A segment has 20 bytes.
+    /// let advertised = AdvertisedWindow::new(100);
+    /// assert!(advertised.is_update_due(0, 20, 120, 100, 20));
+    /// assert!(!advertised.is_update_due(0, 19, 119, 100, 20));
+    /// ```
     #[must_use]
     pub fn is_update_due(
         &self,

@@ -14,6 +14,14 @@ ghost use Rattle.net_tcp.specs.Windows.{IsAcceptable, IsArrival, IsHeard, IsTake
 use net_receiver::SentNumbers;
 
 /// The positions and the flags of an arriving segment.
+///
+/// ```
+/// use net_base::tcp::Segment;
+///
+/// // Five bytes at position 95, with the flags FIN, ACK and PSH: the FIN has a position, too.
+/// let segment = Segment::new(95, 5, 0x19);
+/// assert_eq!((segment.len, segment.ack, segment.syn), (6, true, false));
+/// ```
 #[repr(C)]
 #[derive(Copy, Clone, Debug, PartialEq, Eq, Hash)]
 pub struct Segment {
@@ -51,6 +59,16 @@ impl Segment {
 }
 
 /// What to do with a segment that arrives on a connection that both ends have opened.
+///
+/// ```
+/// use net_base::tcp::{classify, Arrival, Segment};
+///
+/// // What is to be done with a segment of one byte at 99, where 100 is missing.
+/// match classify(100, 10, 10, Segment::new(99, 1, 0x10)) {
+///     Arrival::Answer => println!("it came before: acknowledge again"),
+///     other => panic!("{other:?}"),
+/// }
+/// ```
 #[derive(Copy, Clone, Debug, PartialEq, Eq)]
 pub enum Arrival {
     /// Take what it acknowledges, its window, its bytes and its end.
@@ -74,6 +92,14 @@ pub enum Arrival {
 ///
 /// It is if it has a position within the window. If it has none at all it must be within the window
 /// itself, or at `next` if the window is empty.
+///
+/// ```
+/// use net_base::tcp::is_acceptable;
+///
+/// // Position 100 is missing, and ten were announced.
+/// assert!(is_acceptable(100, 10, 95, 6) && is_acceptable(100, 10, 109, 50));
+/// assert!(!is_acceptable(100, 10, 95, 5) && !is_acceptable(100, 10, 110, 1));
+/// ```
 #[must_use]
 pub fn is_acceptable(next: u64, window: u64, seq: u64, len: u64) -> bool
     ensures { IsTrue result ↔ IsAcceptable next window seq len }
@@ -123,6 +149,20 @@ fn is_heard(next: u64, window: u64, greatest_window: u64, seq: u64, len: u64) ->
 /// acknowledgements were lost, or came in another order, may refuse one another's for ever, and answer each.
 ///
 /// Whether a segment may acknowledge what it does is tested afterwards, by `is_acknowledgement`.
+///
+/// ```
+/// use net_base::tcp::{classify, Arrival, Segment};
+///
+/// let (syn, ack, rst) = (0x02, 0x10, 0x04);
+/// let arrival = |seq, bytes, flags| classify(100, 10, 10, Segment::new(seq, bytes, flags));
+/// assert_eq!(arrival(100, 8, ack), Arrival::Take);
+/// assert_eq!(arrival(110, 8, ack), Arrival::Answer); // beyond the window
+/// assert_eq!(arrival(100, 8, syn | ack), Arrival::Answer);
+/// assert_eq!((arrival(100, 0, rst), arrival(101, 0, rst)), (Arrival::Reset, Arrival::Answer));
+/// // A window that is shut is probed.
+/// let probe = Segment::new(100, 1, ack);
+/// assert_eq!(classify(100, 0, 10, probe), Arrival::AcknowledgementOnly);
+/// ```
 #[must_use]
 pub fn classify(next: u64, window: u64, greatest_window: u64, segment: Segment) -> Arrival
     ensures { IsArrival Arrival.Take Arrival.AcknowledgementOnly Arrival.Answer Arrival.Reset
@@ -152,6 +192,14 @@ pub fn classify(next: u64, window: u64, greatest_window: u64, segment: Segment) 
 /// Returns whether a segment may acknowledge `ack`: it isn't above what was sent, nor below the first
 /// unacknowledged position by more than the greatest window that the peer ever announced (RFC 5961,
 /// section 5). If it may not, nothing of the segment is taken, and it is answered.
+///
+/// ```
+/// use net_base::tcp::{is_acknowledgement, SentNumbers};
+///
+/// let numbers = SentNumbers { first_unacknowledged: 100, sent: 150 };
+/// assert!(is_acknowledgement(numbers, 20, 150) && is_acknowledgement(numbers, 20, 80));
+/// assert!(!is_acknowledgement(numbers, 20, 151) && !is_acknowledgement(numbers, 20, 79));
+/// ```
 #[must_use]
 pub fn is_acknowledgement(numbers: SentNumbers, greatest_window: u64, ack: u64) -> bool
     // Guarantee.

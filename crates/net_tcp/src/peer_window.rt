@@ -8,6 +8,14 @@ use net_receiver::SentNumbers;
 
 /// What a segment announces: the window from the position that it acknowledges on, and the numbers by
 /// which its age is told.
+///
+/// ```
+/// use net_base::tcp::{scaled, Announcement, PeerWindow};
+///
+/// // A header has the acknowledgement number of position 200 and 50 in its window field, and the scale is 2^2.
+/// let it = Announcement { seq: 7, ack: 200, window: scaled(50, 2) };
+/// assert_eq!(PeerWindow::of(it).edge(), 400);
+/// ```
 #[repr(C)]
 #[derive(Copy, Clone, Debug, PartialEq, Eq, Hash)]
 pub struct Announcement {
@@ -21,6 +29,19 @@ pub struct Announcement {
 
 /// The window that the peer announced, and the segment that it is from. It is kept as its right edge, a
 /// position.
+///
+/// ```
+/// use net_base::tcp::{Announcement, PeerWindow, SentNumbers};
+///
+/// let numbers = SentNumbers { first_unacknowledged: 100, sent: 150 };
+/// let mut window = PeerWindow::of(Announcement { seq: 7, ack: 100, window: 60 });
+/// // Of the bytes below 500, those below 160 may be sent.
+/// assert_eq!(window.send_limit(500), 160);
+/// // A later segment shuts the window; an older one doesn't open it again.
+/// assert!(window.update(numbers, Announcement { seq: 8, ack: 100, window: 0 }));
+/// assert!(!window.update(numbers, Announcement { seq: 7, ack: 100, window: 60 }));
+/// assert!(window.is_probe_allowed(100, 500));
+/// ```
 #[repr(C)]
 #[derive(Copy, Clone, Debug, PartialEq, Eq, Hash)]
 pub struct PeerWindow {
@@ -34,6 +55,12 @@ pub struct PeerWindow {
 
 /// Returns how many bytes the field of a segment announces. A scale above 14 counts as 14, as RFC 7323,
 /// section 2.3, has it.
+///
+/// ```
+/// use net_base::tcp::scaled;
+///
+/// assert_eq!((scaled(50, 2), scaled(50, 0)), (200, 50));
+/// ```
 #[must_use]
 #[tactic(auto, using(crate::proofs::WindowFacts::scaled_few))]
 pub fn scaled(field: u16, scale: u8) -> u64
@@ -80,6 +107,15 @@ impl PeerWindow {
 
     /// Lets all positions below `edge` be sent, unless more may be already: for a protocol that announces
     /// a position, and no number that tells which of two segments is the older one. Such a window doesn't shrink.
+    ///
+    /// ```
+    /// use net_base::tcp::PeerWindow;
+    ///
+    /// let mut window = PeerWindow::new();
+    /// window.open_to(1_000); // a MAX_STREAM_DATA
+    /// window.open_to(900); // an older one
+    /// assert_eq!(window.edge(), 1_000);
+    /// ```
     pub fn open_to(&mut self, edge: u64)
         ensures { self.new ≡ record self.old { edge = max self.old.edge edge } }
     {
@@ -93,6 +129,17 @@ impl PeerWindow {
     /// RFC 9293 takes none of an older number. So one forged segment ahead in the window would shut out
     /// each later one. It makes no difference whether the sender takes what the segment acknowledges
     /// before this call or after it.
+    ///
+    /// ```
+    /// use net_base::tcp::{Announcement, PeerWindow, SentNumbers};
+    ///
+    /// let numbers = SentNumbers { first_unacknowledged: 100, sent: 150 };
+    /// let mut window = PeerWindow::of(Announcement { seq: 7, ack: 100, window: 60 });
+    /// assert!(window.update(numbers, Announcement { seq: 7, ack: 120, window: 60 }));
+    /// // It acknowledges what was never sent.
+    /// assert!(!window.update(numbers, Announcement { seq: 9, ack: 151, window: 60 }));
+    /// assert_eq!(window.edge(), 180);
+    /// ```
     pub fn update(&mut self, numbers: SentNumbers, it: Announcement) -> bool
         // Guarantee.
         ensures accepted { IsTrue result ↔ ((numbers.first_unacknowledged ≤ it.ack)
@@ -129,6 +176,13 @@ impl PeerWindow {
     }
 
     /// Returns the end of what may be sent of the bytes below `end`.
+    ///
+    /// ```
+    /// use net_base::tcp::{Announcement, PeerWindow};
+    ///
+    /// let window = PeerWindow::of(Announcement { seq: 7, ack: 100, window: 60 });
+    /// assert_eq!((window.send_limit(500), window.send_limit(130)), (160, 130));
+    /// ```
     #[must_use]
     pub fn send_limit(&self, end: u64) -> u64
         // Guarantee.
@@ -139,6 +193,13 @@ impl PeerWindow {
 
     /// Returns whether a probe may be sent, the one byte at `first_unacknowledged`: the window has
     /// closed, and there are bytes below `end` that wait.
+    ///
+    /// ```
+    /// use net_base::tcp::{Announcement, PeerWindow};
+    ///
+    /// let shut = PeerWindow::of(Announcement { seq: 7, ack: 100, window: 0 });
+    /// assert!(shut.is_probe_allowed(100, 500) && !shut.is_probe_allowed(100, 100));
+    /// ```
     #[must_use]
     pub fn is_probe_allowed(&self, first_unacknowledged: u64, end: u64) -> bool
         // Guarantee.
@@ -156,6 +217,15 @@ impl PeerWindow {
     ///
     /// A peer whose window is shut takes no number beyond it, though a probe was sent there, nor what
     /// such a segment acknowledges.
+    ///
+    /// ```
+    /// use net_base::tcp::{Announcement, PeerWindow, SentNumbers};
+    ///
+    /// // The window ends at 160, and a probe was sent there.
+    /// let window = PeerWindow::of(Announcement { seq: 7, ack: 160, window: 0 });
+    /// let numbers = SentNumbers { first_unacknowledged: 160, sent: 161 };
+    /// assert_eq!(window.acknowledgement_number(numbers), 160);
+    /// ```
     #[must_use]
     pub fn acknowledgement_number(&self, numbers: SentNumbers) -> u64
         ensures value { result ≡ acknowledgement_number self.now

@@ -28,6 +28,18 @@ const FIRST_TIMEOUT: u64 = 1_000_000;
 const PROMPT: u64 = 8;
 
 /// What is due where a timer has expired.
+///
+/// ```
+/// use net_base::tcp::{Expiry, RetransmissionTimer, SentNumbers, TimeoutBounds};
+/// use net_base::time::{Duration, Instant};
+///
+/// let mut timer = RetransmissionTimer::new(Duration::from_secs(1), true);
+/// let numbers = SentNumbers { first_unacknowledged: 0, sent: 0 };
+/// timer.sent(TimeoutBounds::default(), 0..10, numbers, Instant::ZERO);
+/// // Without a sample there is no probe.
+/// let said = timer.expire(TimeoutBounds::default(), Instant::from_secs(1));
+/// assert_eq!(said, Some(Expiry::Timeout));
+/// ```
 #[derive(Copy, Clone, Debug, PartialEq, Eq, Hash)]
 pub enum Expiry {
     /// A probe: nothing is known to be lost, and the timeout passes when it would have passed.
@@ -37,6 +49,16 @@ pub enum Expiry {
 }
 
 /// A segment that is timed: it was sent once.
+///
+/// ```
+/// use net_base::tcp::{RetransmissionTimer, SentNumbers, TimedSegment, TimeoutBounds};
+/// use net_base::time::{Duration, Instant};
+///
+/// let mut timer = RetransmissionTimer::new(Duration::from_secs(1), true);
+/// let numbers = SentNumbers { first_unacknowledged: 0, sent: 0 };
+/// timer.sent(TimeoutBounds::default(), 0..10, numbers, Instant::from_millis(5));
+/// assert_eq!(timer.timed(), Some(TimedSegment { pos: 0, since: Instant::from_millis(5) }));
+/// ```
 #[derive(Copy, Clone, Debug, PartialEq, Eq, Hash)]
 pub struct TimedSegment {
     /// Its first position.
@@ -64,6 +86,20 @@ pub struct TimedSegment {
 ///
 /// It is numbers alone, so that C has it as it is: a flag is not 0 where it holds, and what there may be has one beside it.
 /// One of zeros is new, with a timeout of 1 second, of a peer that reports no blocks.
+///
+/// ```
+/// use net_base::tcp::{RetransmissionTimer, SentNumbers, TimeoutBounds};
+/// use net_base::time::{Duration, Instant};
+///
+/// let bounds = TimeoutBounds::default();
+/// let mut timer = RetransmissionTimer::new(Duration::from_secs(1), true);
+/// timer.sent(bounds, 0..10, SentNumbers { first_unacknowledged: 0, sent: 0 }, Instant::ZERO);
+/// assert_eq!(timer.expires_at(), Some(Instant::from_secs(1)));
+/// // All is acknowledged after 400 ms: the timer stops, and has a sample.
+/// let numbers = SentNumbers { first_unacknowledged: 0, sent: 10 };
+/// timer.acknowledged(bounds, numbers, 10, Instant::from_millis(400));
+/// assert_eq!((timer.expires_at(), timer.timeout()), (None, Duration::from_millis(1_200)));
+/// ```
 #[repr(C)]
 #[derive(Copy, Clone, Debug, PartialEq, Eq, Hash)]
 pub struct RetransmissionTimer {

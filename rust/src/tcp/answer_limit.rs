@@ -18,6 +18,20 @@ const PERIOD: u64 = 500_000;
 /// to know. What `AcknowledgementOnly` asks for isn't limited: by law `acknowledgements` the end that takes such
 /// an answer doesn't send such a segment again, unless something new comes; and each question whether this end is
 /// there is answered.
+///
+/// ```
+/// use net_base::tcp::{classify, AnswerLimit, Arrival, Segment};
+/// use net_base::time::Instant;
+///
+/// let mut limit = AnswerLimit::new();
+/// let forged = Segment::new(5_000, 0, 0x10);
+/// let mut answers = 0;
+/// for millis in 0..1_000 {
+///     let is_refused = classify(100, 10, 10, forged) == Arrival::Answer;
+///     answers += u32::from(is_refused && limit.allows(forged, Instant::from_millis(millis)));
+/// }
+/// assert_eq!(answers, 2);
+/// ```
 #[derive(Copy, Clone, Debug, PartialEq, Eq, Hash)]
 pub struct AnswerLimit {
     /// When the next such segment is answered.

@@ -8,6 +8,16 @@ use crate::storage::width::most;
 
 /// The sum of the 16-bit words of a message, which is given in parts of any lengths, one after another.
 /// One of zeros is that of no bytes.
+///
+/// ```
+/// use net_base::tcp::{checksum, PartsSum};
+///
+/// // A header and its text, in two pieces.
+/// let mut sum = PartsSum::new();
+/// sum.add(b"head");
+/// sum.add(b"text");
+/// assert_eq!(sum.checksum(), checksum(b"headtext"));
+/// ```
 #[repr(C)]
 #[derive(Copy, Clone, Debug, PartialEq, Eq, Hash)]
 pub struct PartsSum {

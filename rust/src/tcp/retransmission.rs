@@ -8,6 +8,15 @@ const LONGEST_SAMPLE: u64 = 1 << 60;
 
 /// An estimate of the time of a round trip: the smoothed time, in eighths of a microsecond, and its
 /// variation, in quarters.
+///
+/// ```
+/// use net_base::tcp::RttEstimate;
+/// use net_base::time::Duration;
+///
+/// let estimate = RttEstimate::first(Duration::from_millis(80));
+/// assert_eq!(estimate.srtt(), Duration::from_millis(80));
+/// assert_eq!(estimate.with_sample(Duration::from_millis(160)).srtt(), Duration::from_millis(90));
+/// ```
 #[derive(Copy, Clone, Debug, PartialEq, Eq, Hash)]
 pub struct RttEstimate {
     srtt_8: u64,
@@ -16,6 +25,16 @@ pub struct RttEstimate {
 
 /// The bounds of a timeout, the tick of the clock that the samples are read from, and how long a peer delays an
 /// acknowledgement.
+///
+/// ```
+/// use net_base::tcp::{RttEstimate, TimeoutBounds};
+/// use net_base::time::Duration;
+///
+/// let bounds = TimeoutBounds { least: Duration::from_millis(200), ..TimeoutBounds::default() };
+/// // The smoothed time and four times its variation, which is half of the first sample.
+/// let after = |millis| RttEstimate::first(Duration::from_millis(millis)).timeout(bounds);
+/// assert_eq!((after(100), after(10)), (Duration::from_millis(300), Duration::from_millis(200)));
+/// ```
 #[derive(Copy, Clone, Debug, PartialEq, Eq, Hash)]
 pub struct TimeoutBounds {
     /// The least timeout.
@@ -31,6 +50,18 @@ pub struct TimeoutBounds {
 
 /// When an acknowledged segment was sent. A segment that was sent again gives no sample: which of
 /// the copies was acknowledged is not known (Karn).
+///
+/// ```
+/// use net_base::tcp::{RetransmissionTimeout, TimeoutBounds, Transmission};
+/// use net_base::time::{Duration, Instant};
+///
+/// let (bounds, now) = (TimeoutBounds::default(), Instant::from_millis(500));
+/// let mut timeout = RetransmissionTimeout::new(Duration::from_secs(1));
+/// timeout.acknowledged(bounds, Transmission::Repeated, now);
+/// assert_eq!(timeout.rtt(), None);
+/// timeout.acknowledged(bounds, Transmission::Once(Instant::ZERO), now);
+/// assert_eq!(timeout.timeout(), Duration::from_millis(1_500));
+/// ```
 #[derive(Copy, Clone, Debug, PartialEq, Eq, Hash)]
 pub enum Transmission {
     /// Once, at this moment.
@@ -92,6 +123,18 @@ impl RttEstimate {
 }
 
 /// The time until a retransmission.
+///
+/// ```
+/// use net_base::tcp::{RetransmissionTimeout, TimeoutBounds};
+/// use net_base::time::Duration;
+///
+/// let bounds = TimeoutBounds::default();
+/// let mut timeout = RetransmissionTimeout::new(Duration::from_secs(1));
+/// timeout.take_sample(bounds, Duration::from_millis(400));
+/// assert_eq!(timeout.timeout(), Duration::from_millis(1_200));
+/// timeout.expired(bounds);
+/// assert_eq!(timeout.timeout(), Duration::from_millis(2_400));
+/// ```
 #[derive(Copy, Clone, Debug, PartialEq, Eq, Hash)]
 pub struct RetransmissionTimeout {
     estimate: Option<RttEstimate>,

@@ -6,6 +6,10 @@ ghost use Rattle.std.specs.Prelude.{◌*◌, ◌<◌, ◌^◌, ◌≡◌};
 
 /// Returns the least scale by which this capacity, rounded down to a unit, can be announced, or 14
 /// if none can.
+///
+/// ``` use net_base::tcp::scale_for;
+///
+/// assert_eq!((scale_for(65_535), scale_for(65_536), scale_for(1 << 20)), (0, 1, 5)); ```
 #[unsafe(no_mangle)]
 pub extern "C" fn net_base_tcp_scale_for(capacity: u64) -> u8
     ensures { IsScaleFor capacity result }
@@ -15,6 +19,10 @@ pub extern "C" fn net_base_tcp_scale_for(capacity: u64) -> u8
 
 /// Returns how many bytes the field of a segment announces. A scale above 14 counts as 14, as RFC
 /// 7323, section 2.3, has it.
+///
+/// ``` use net_base::tcp::scaled;
+///
+/// assert_eq!((scaled(50, 2), scaled(50, 0)), (200, 50)); ```
 #[unsafe(no_mangle)]
 pub extern "C" fn net_base_tcp_scaled(field: u16, scale: u8) -> u64
     ensures value { result ≡ field * 2 ^ shift_count scale }
