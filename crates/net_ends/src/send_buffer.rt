@@ -59,6 +59,20 @@ pub struct BufferHead {
 
 /// What kind of segment an acknowledgement came in. By it a sender of TCP tells one that only repeats the last, from
 /// which it learns that a segment has arrived (RFC 5681, section 2).
+///
+/// ```
+/// use net_base::ends::{AckKind, SendBuffer, Sending};
+///
+/// let mut storage = [0u8; 64];
+/// let mut buffer = SendBuffer::<4>::new_at(&mut storage[..], 0);
+/// assert_eq!(buffer.write(&[7; 32]), 32);
+/// buffer.mark(0, 32, Sending::Segment);
+/// // Three acknowledgements of nothing new, from a peer that reports no blocks: the first segment is lost.
+/// for _ in 0..3 {
+///     buffer.acknowledge(0, &[], 8, AckKind::Repeat).expect("0 isn't beyond what was sent");
+/// }
+/// assert_eq!(buffer.next(u64::MAX, u64::MAX, 8), Some((0, 8)));
+/// ```
 #[derive(Copy, Clone, Debug, PartialEq, Eq)]
 pub enum AckKind {
     /// It has no byte and no FIN, and announces the window that was announced last.
@@ -68,6 +82,17 @@ pub enum AckKind {
 }
 
 /// What an acknowledgement said that was taken.
+///
+/// ```
+/// use net_base::ends::{SendBuffer, Sending, TakenAck};
+///
+/// let mut storage = [0u8; 64];
+/// let mut buffer = SendBuffer::<4>::new_at(&mut storage[..], 0);
+/// assert_eq!(buffer.write(b"abc"), 3);
+/// buffer.mark(0, 3, Sending::Segment);
+/// let taken = buffer.acknowledge_range(0..2, 8);
+/// assert_eq!(taken, Some(TakenAck { new: 2, reports: false, begins: false }));
+/// ```
 #[derive(Copy, Clone, Debug, PartialEq, Eq)]
 pub struct TakenAck {
     /// How many numbers it acknowledged that weren't before.
@@ -79,6 +104,20 @@ pub struct TakenAck {
 }
 
 /// Why a range is sent.
+///
+/// ```
+/// use net_base::ends::{SendBuffer, Sending};
+///
+/// let mut storage = [0u8; 64];
+/// let mut buffer = SendBuffer::<4>::new_at(&mut storage[..], 0);
+/// assert_eq!(buffer.write(&[7; 16]), 16);
+/// let (start, end) = buffer.next(u64::MAX, u64::MAX, 8).expect("a segment");
+/// buffer.mark(start, end, Sending::Segment);
+/// // No answer came for two round trips: a probe asks for one.
+/// let (start, end) = buffer.next_probe(u64::MAX, 8).expect("a probe");
+/// buffer.mark(start, end, Sending::TailProbe);
+/// assert_eq!((start, end), (8, 16));
+/// ```
 #[derive(Copy, Clone, Debug, PartialEq, Eq)]
 pub enum Sending {
     /// As `SendBufferOver::next` returned it: a segment, or a part of it from its start on.
@@ -196,6 +235,17 @@ impl<S: Storage<u8>, const N: usize> SendBufferOver<S, N> {
     }
 
     /// Returns whether all that was written is acknowledged, and the end.
+    ///
+    /// ```
+    /// # use net_base::ends::{SendBuffer, Sending};
+    /// # let mut storage = [0u8; 64];
+    /// # let mut buffer = SendBuffer::<4>::new_at(&mut storage[..], 0);
+    /// assert_eq!(buffer.write(b"abc"), 3);
+    /// buffer.close();
+    /// buffer.mark(0, 4, Sending::Segment);
+    /// buffer.acknowledge_range(0..4, 8).expect("it was sent");
+    /// assert!(buffer.is_done());
+    /// ```
     #[must_use]
     pub fn is_done(&self) -> bool
         ensures { result ≡ (self.now.sender.finished == 1) }
@@ -204,6 +254,13 @@ impl<S: Storage<u8>, const N: usize> SendBufferOver<S, N> {
     }
 
     /// Enqueues the first of these bytes, as many as there is room for, and returns how many.
+    ///
+    /// ```
+    /// # use net_base::ends::{SendBuffer, Sending};
+    /// # let mut storage = [0u8; 64];
+    /// # let mut buffer = SendBuffer::<4>::new_at(&mut storage[..], 0);
+    /// assert_eq!((buffer.write(&[7; 60]), buffer.write(&[7; 60])), (60, 4));
+    /// ```
     #[must_use]
     pub fn write(&mut self, bytes: &[u8]) -> usize
         ensures count { result ≡ min (length bytes.now) (finite_room self.old.sender) }
@@ -226,6 +283,17 @@ impl<S: Storage<u8>, const N: usize> SendBufferOver<S, N> {
 
     /// Lends the bytes of a segment from `pos` on, whose numbers are below `end`, in two parts, and returns whether the
     /// stream ends after them. Of a position that is acknowledged it lends none.
+    ///
+    /// ```
+    /// # use net_base::ends::{SendBuffer, Sending};
+    /// # let mut storage = [0u8; 64];
+    /// # let mut buffer = SendBuffer::<4>::new_at(&mut storage[..], 0);
+    /// assert_eq!(buffer.write(b"abcdef"), 6);
+    /// buffer.close();
+    /// assert_eq!(buffer.bytes(2, 5), (&b"cde"[..], &b""[..], false));
+    /// // The end has the number 6.
+    /// assert_eq!(buffer.bytes(2, 7), (&b"cdef"[..], &b""[..], true));
+    /// ```
     #[must_use]
     pub fn bytes(&self, pos: u64, end: u64) -> (&[u8], &[u8], bool)
         ensures { IsSegment self.now.sender pos end (result.0.now ++ result.1.now) result.2 }
@@ -580,6 +648,20 @@ impl<S: Storage<u8>, const N: usize> SendBufferOver<S, N> {
     ///
     /// Returns `None`, and changes nothing, if `ack` is below the first number that isn't acknowledged, or above what
     /// was sent.
+    ///
+    /// ```
+    /// # use net_base::ends::{AckKind, SendBuffer, Sending};
+    /// # let mut storage = [0u8; 64];
+    /// # let mut buffer = SendBuffer::<4>::new_at(&mut storage[..], 0);
+    /// # assert_eq!(buffer.write(&[7; 32]), 32);
+    /// # while let Some((start, end)) = buffer.next(u64::MAX, u64::MAX, 8) {
+    /// #     buffer.mark(start, end, Sending::Segment);
+    /// # }
+    /// // All below 8, and a block.
+    /// let taken = buffer.acknowledge(8, &[(16, 24)], 8, AckKind::Other).expect("it was sent");
+    /// assert_eq!((taken.new, taken.reports), (8, true));
+    /// assert_eq!(buffer.acknowledge(33, &[], 8, AckKind::Other), None); // never sent
+    /// ```
     pub fn acknowledge(
         &mut self,
         ack: u64,
@@ -623,6 +705,21 @@ impl<S: Storage<u8>, const N: usize> SendBufferOver<S, N> {
     /// as if it were lost. No range tells of something that came twice, and none is an equal acknowledgement.
     ///
     /// Returns `None`, and changes nothing, if the range ends above what was sent.
+    ///
+    /// ```
+    /// # use net_base::ends::{SendBuffer, Sending};
+    /// # let mut storage = [0u8; 64];
+    /// # let mut buffer = SendBuffer::<4>::new_at(&mut storage[..], 0);
+    /// # assert_eq!(buffer.write(&[7; 32]), 32);
+    /// # while let Some((start, end)) = buffer.next(u64::MAX, u64::MAX, 8) {
+    /// #     buffer.mark(start, end, Sending::Segment);
+    /// # }
+    /// // Ranges in any order.
+    /// let taken = buffer.acknowledge_range(8..16, 8).expect("it was sent");
+    /// assert_eq!((taken.new, buffer.numbers().first_unacknowledged), (0, 0));
+    /// let taken = buffer.acknowledge_range(0..8, 8).expect("it was sent");
+    /// assert_eq!(buffer.numbers().first_unacknowledged, 16);
+    /// ```
     pub fn acknowledge_range(&mut self, range: Range<u64>, segment_size: usize) -> Option<TakenAck>
         ensures refused { is_some result ≡ nat_le range.end self.old.sender.sent }
         ensures unchanged { IfNone result (self.new ≡ self.old) }
@@ -683,6 +780,20 @@ impl<S: Storage<u8>, const N: usize> SendBufferOver<S, N> {
     }
 
     /// Loses all that was sent and isn't reported.
+    ///
+    /// ```
+    /// # use net_base::ends::{SendBuffer, Sending};
+    /// # let mut storage = [0u8; 64];
+    /// # let mut buffer = SendBuffer::<4>::new_at(&mut storage[..], 0);
+    /// # assert_eq!(buffer.write(&[7; 32]), 32);
+    /// # while let Some((start, end)) = buffer.next(u64::MAX, u64::MAX, 8) {
+    /// #     buffer.mark(start, end, Sending::Segment);
+    /// # }
+    /// buffer.acknowledge_range(0..8, 8).expect("it was sent");
+    /// assert_eq!(buffer.next(u64::MAX, u64::MAX, 8), None);
+    /// buffer.lose_all();
+    /// assert_eq!(buffer.next(u64::MAX, u64::MAX, 8), Some((8, 16)));
+    /// ```
     pub fn lose_all(&mut self)
         ensures { self.new ≡ record self.old {
           recovery = begun (first_number self.old.sender) self.old.sender.sent self.old.sender.sent
@@ -699,6 +810,19 @@ impl<S: Storage<u8>, const N: usize> SendBufferOver<S, N> {
     /// Of a `limit` above `numbers_end`, such as a window that has more room than there is to send, only what is below
     /// `numbers_end` counts. So each range has a number that was written, or is the end; and as long as nothing is
     /// acknowledged, lost or found overdue, what `next` returns and `mark` takes comes to an end.
+    ///
+    /// ```
+    /// # use net_base::ends::{SendBuffer, Sending};
+    /// # let mut storage = [0u8; 64];
+    /// # let mut buffer = SendBuffer::<4>::new_at(&mut storage[..], 0);
+    /// assert_eq!(buffer.write(&[7; 12]), 12);
+    /// let mut sent = vec![];
+    /// while let Some((start, end)) = buffer.next(u64::MAX, u64::MAX, 8) {
+    ///     buffer.mark(start, end, Sending::Segment);
+    ///     sent.push((start, end));
+    /// }
+    /// assert_eq!(sent, [(0, 8), (8, 12)]);
+    /// ```
     #[must_use]
     pub fn next(
         &self,
@@ -736,6 +860,18 @@ impl<S: Storage<u8>, const N: usize> SendBufferOver<S, N> {
     /// Returns what a probe for an answer sends below `limit`, whatever is in flight: in a recovery the first segment
     /// that isn't reported, else a new one, and if the limit allows none, the last one. Of a `limit` above `numbers_end`
     /// only what is below `numbers_end` counts.
+    ///
+    /// ```
+    /// # use net_base::ends::{SendBuffer, Sending};
+    /// # let mut storage = [0u8; 64];
+    /// # let mut buffer = SendBuffer::<4>::new_at(&mut storage[..], 0);
+    /// # assert_eq!(buffer.write(&[7; 32]), 32);
+    /// # while let Some((start, end)) = buffer.next(u64::MAX, u64::MAX, 8) {
+    /// #     buffer.mark(start, end, Sending::Segment);
+    /// # }
+    /// // Nothing is left to send, so the last segment is sent again, so that an answer comes.
+    /// assert_eq!(buffer.next_probe(u64::MAX, 8), Some((24, 32)));
+    /// ```
     #[must_use]
     pub fn next_probe(&self, limit: u64, segment_size: usize) -> Option<(u64, u64)>
         ensures value { (highest : ℕ) (hole : Option (ℕ × ℕ)) →

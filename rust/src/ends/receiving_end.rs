@@ -7,6 +7,17 @@ use crate::storage::{ManagedSlice, Storage};
 use crate::tcp::{AdvertisedWindow, Arrival, Segment};
 
 /// What a segment without bytes tells the peer.
+///
+/// ```
+/// use net_base::ends::{Acknowledgement, ReceivingEnd};
+///
+/// let mut storage = [0u8; 64];
+/// let mut receiving = ReceivingEnd::<4>::empty_at(&mut storage[..], 100, 8);
+/// let _window = receiving.open(100, 0);
+/// receiving.arrived(108, &[7; 8], false).expect("one range may wait");
+/// let told = Acknowledgement { next: 100, window: 64, blocks: [Some((108, 116)), None, None, None] };
+/// assert_eq!(receiving.acknowledgement(), told);
+/// ```
 #[derive(Copy, Clone, Debug, PartialEq, Eq)]
 pub struct Acknowledgement {
     /// The first number that is missing.
@@ -234,6 +245,14 @@ impl<S: Storage<u8>, const N: usize> ReceivingEndOver<S, N> {
     /// # Panics
     ///
     /// Panics unless `first` is below `u64::MAX`: an end there would have no number after it.
+    ///
+    /// ```
+    /// # use net_base::ends::ReceivingEnd;
+    /// # let mut storage = [0u8; 64];
+    /// # let mut receiving = ReceivingEnd::<4>::empty_at(&mut storage[..], 100, 8);
+    /// assert_eq!(receiving.open(100, 3), 64); // in a SYN the window has no scale
+    /// assert_eq!(receiving.announce(), (100, 8)); // in units of 2^3
+    /// ```
     #[track_caller]
     pub fn open(&mut self, first: u64, scale: u8) -> u16 {
         prove!(first < u64::MAX, "no number is left for an end");
@@ -244,6 +263,18 @@ impl<S: Storage<u8>, const N: usize> ReceivingEndOver<S, N> {
 
     /// Returns what to do with a segment, as `net_tcp::classify` says, in the window that was announced. Its acknowledgement
     /// is taken if it is of a peer that hears of what is announced here, whatever the path does: law `heard_ends`.
+    ///
+    /// ```
+    /// # use net_base::ends::ReceivingEnd;
+    /// # let mut storage = [0u8; 64];
+    /// # let mut receiving = ReceivingEnd::<4>::empty_at(&mut storage[..], 100, 8);
+    /// use net_base::tcp::{Arrival, Segment};
+    ///
+    /// let _window = receiving.open(100, 0);
+    /// let text = |seq| Segment::new(seq, 8, 0x10);
+    /// assert_eq!(receiving.classify(text(100)), Arrival::Take);
+    /// assert_eq!(receiving.classify(text(164)), Arrival::Answer);
+    /// ```
     #[must_use]
     pub fn classify(&self, segment: Segment) -> Arrival {
         self.head.advertised.classify(
@@ -261,6 +292,17 @@ impl<S: Storage<u8>, const N: usize> ReceivingEndOver<S, N> {
     /// # Errors
     ///
     /// As `FiniteReceiverOver::keep`.
+    ///
+    /// ```
+    /// # use net_base::ends::ReceivingEnd;
+    /// # let mut storage = [0u8; 64];
+    /// # let mut receiving = ReceivingEnd::<4>::empty_at(&mut storage[..], 100, 8);
+    /// let _window = receiving.open(100, 0);
+    /// let kept = receiving.arrived(103, b"def", true).expect("one range may wait");
+    /// assert_eq!((kept.kept, kept.queued), (3, 0));
+    /// let kept = receiving.arrived(100, b"abc", false).expect("it is in order");
+    /// assert_eq!((kept.kept, kept.queued), (3, 6));
+    /// ```
     pub fn arrived(
         &mut self,
         pos: u64,
@@ -288,6 +330,18 @@ impl<S: Storage<u8>, const N: usize> ReceivingEndOver<S, N> {
     }
 
     /// Returns whether an acknowledgement is to be sent at once.
+    ///
+    /// ```
+    /// # use net_base::ends::ReceivingEnd;
+    /// # let mut storage = [0u8; 64];
+    /// # let mut receiving = ReceivingEnd::<4>::empty_at(&mut storage[..], 100, 8);
+    /// let _window = receiving.open(100, 0);
+    /// // One segment may wait for a second one.
+    /// receiving.arrived(100, &[7; 8], false).expect("it is in order");
+    /// assert!(!receiving.is_due() && receiving.is_wanted());
+    /// receiving.arrived(108, &[7; 8], false).expect("it is in order");
+    /// assert!(receiving.is_due());
+    /// ```
     #[must_use]
     pub fn is_due(&self) -> bool {
         self.head.is_due()
@@ -296,6 +350,18 @@ impl<S: Storage<u8>, const N: usize> ReceivingEndOver<S, N> {
     /// Returns whether an acknowledgement is to be sent before one waits: something came, or an update of the window
     /// is worth a segment. No update is, once all bytes and the end have arrived: nothing follows that needs room, and
     /// a peer that has closed its connection would answer it by a reset.
+    ///
+    /// ```
+    /// # use net_base::ends::ReceivingEnd;
+    /// # let mut storage = [0u8; 64];
+    /// # let mut receiving = ReceivingEnd::<4>::empty_at(&mut storage[..], 100, 8);
+    /// let _window = receiving.open(100, 0);
+    /// assert!(!receiving.is_wanted());
+    /// receiving.arrived(100, b"abc", false).expect("it is in order");
+    /// assert!(receiving.is_wanted());
+    /// receiving.acknowledgement();
+    /// assert!(!receiving.is_wanted());
+    /// ```
     #[must_use]
     pub fn is_wanted(&self) -> bool {
         self.head.is_wanted(self.room())
@@ -304,12 +370,34 @@ impl<S: Storage<u8>, const N: usize> ReceivingEndOver<S, N> {
     /// Returns what a segment with bytes of its own tells, and takes notice that it does: the first number that is
     /// missing, and the window, in units of the scale. The window's edge is moved only if that is worth a segment.
     /// An acknowledgement that is due stays so, since it lists runs.
+    ///
+    /// ```
+    /// # use net_base::ends::ReceivingEnd;
+    /// # let mut storage = [0u8; 64];
+    /// # let mut receiving = ReceivingEnd::<4>::empty_at(&mut storage[..], 100, 8);
+    /// let _window = receiving.open(100, 0);
+    /// receiving.arrived(100, b"abc", false).expect("it is in order");
+    /// assert_eq!(receiving.announce(), (103, 61));
+    /// assert!(!receiving.is_wanted()); // the segment with bytes tells it
+    /// ```
     pub fn announce(&mut self) -> (u64, u16) {
         let room = self.room();
         self.head.announce(room)
     }
 
     /// Returns what a segment without bytes tells, and takes notice that it does. What came twice is told once.
+    ///
+    /// ```
+    /// # use net_base::ends::ReceivingEnd;
+    /// # let mut storage = [0u8; 64];
+    /// # let mut receiving = ReceivingEnd::<4>::empty_at(&mut storage[..], 100, 8);
+    /// let _window = receiving.open(100, 0);
+    /// receiving.arrived(100, b"abc", false).expect("it is in order");
+    /// receiving.arrived(100, b"abc", false).expect("it came twice");
+    /// let told = receiving.acknowledgement();
+    /// assert_eq!((told.next, told.window, told.blocks[0]), (103, 61, Some((100, 103))));
+    /// assert_eq!(receiving.acknowledgement().blocks[0], None);
+    /// ```
     pub fn acknowledgement(&mut self) -> Acknowledgement {
         let room = self.room();
         let (next, window) = self.head.acknowledge(room);
@@ -333,6 +421,16 @@ impl<S: Storage<u8>, const N: usize> ReceivingEndOver<S, N> {
 
     /// Moves bytes from the head of the queue to the beginning of `into`, and returns how many: as many as are queued
     /// and as `into` has room for. The rest of `into` stays as it is.
+    ///
+    /// ```
+    /// # use net_base::ends::ReceivingEnd;
+    /// # let mut storage = [0u8; 64];
+    /// # let mut receiving = ReceivingEnd::<4>::empty_at(&mut storage[..], 100, 8);
+    /// let _window = receiving.open(100, 0);
+    /// receiving.arrived(100, b"abc", false).expect("it is in order");
+    /// let mut into = [0; 8];
+    /// assert_eq!((receiving.read(&mut into), &into[..3]), (3, &b"abc"[..]));
+    /// ```
     pub fn read(&mut self, into: &mut [u8]) -> usize {
         self.receiver.read(into)
     }
@@ -360,6 +458,17 @@ impl<S: Storage<u8>, const N: usize> ReceivingEndOver<S, N> {
     }
 
     /// Lends the receiver, for reading.
+    ///
+    /// ```
+    /// # use net_base::ends::ReceivingEnd;
+    /// # let mut storage = [0u8; 64];
+    /// # let mut receiving = ReceivingEnd::<4>::empty_at(&mut storage[..], 100, 8);
+    /// let _window = receiving.open(100, 0);
+    /// receiving.arrived(100, b"abc", true).expect("it is in order");
+    /// assert!(!receiving.receiver().has_read_all());
+    /// assert_eq!(receiving.read(&mut [0; 8]), 3);
+    /// assert!(receiving.receiver().has_read_all());
+    /// ```
     #[must_use]
     pub fn receiver(&self) -> &FiniteReceiverOver<S, N> {
         &self.receiver

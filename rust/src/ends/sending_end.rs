@@ -31,6 +31,21 @@ use crate::tcp::{
 };
 
 /// What an acknowledgement was.
+///
+/// ```
+/// # use net_base::ends::{Acknowledged, SendingEnd};
+/// # use net_base::tcp::{Announcement, TimeoutBounds};
+/// # use net_base::time::{Duration, Instant};
+/// # let mut storage = [0u8; 64];
+/// # let (second, bounds) = (Duration::from_secs(1), TimeoutBounds::default());
+/// # let mut sending = SendingEnd::<4>::new_at(&mut storage[..], 100, second, bounds);
+/// sending.open(Announcement { seq: 1, ack: 100, window: 1000 }, 8, true, Instant::ZERO);
+/// let it = Announcement { seq: 1, ack: 101, window: 1000 };
+/// match sending.acknowledged(it, &[], true, Instant::ZERO) {
+///     Acknowledged::Refused => println!("101 was never sent: answer the segment, and take nothing"),
+///     other => panic!("{other:?}"),
+/// }
+/// ```
 #[derive(Copy, Clone, Debug, PartialEq, Eq)]
 pub enum Acknowledged {
     /// One that no peer sends: of what was never sent, or too far below what is acknowledged. Nothing of its segment is
@@ -50,6 +65,21 @@ pub enum Acknowledged {
 }
 
 /// What the timer's end means.
+///
+/// ```
+/// # use net_base::ends::{Expired, SendingEnd};
+/// # use net_base::tcp::{Announcement, TimeoutBounds};
+/// # use net_base::time::{Duration, Instant};
+/// # let mut storage = [0u8; 64];
+/// # let (second, bounds) = (Duration::from_secs(1), TimeoutBounds::default());
+/// # let mut sending = SendingEnd::<4>::new_at(&mut storage[..], 100, second, bounds);
+/// # sending.open(Announcement { seq: 1, ack: 100, window: 1000 }, 8, true, Instant::ZERO);
+/// let _taken = sending.write(b"abc");
+/// let _segment_to_send = sending.next_segment(1200, Instant::ZERO);
+/// // Before any sample the timeout is all that the timer waits for.
+/// assert_eq!(sending.expired(Instant::from_millis(999)), Expired::No);
+/// assert_eq!(sending.expired(Instant::from_secs(1)), Expired::Lost);
+/// ```
 #[derive(Copy, Clone, Debug, PartialEq, Eq)]
 pub enum Expired {
     /// It hasn't ended, or a probe is due and the peer reports nothing, so that it couldn't answer.
@@ -68,6 +98,19 @@ pub enum Expired {
 }
 
 /// A segment to send now, whose bytes `SendingEnd::bytes` lends.
+///
+/// ```
+/// # use net_base::ends::{Outgoing, SendingEnd};
+/// # use net_base::tcp::{Announcement, TimeoutBounds};
+/// # use net_base::time::{Duration, Instant};
+/// # let mut storage = [0u8; 64];
+/// # let (second, bounds) = (Duration::from_secs(1), TimeoutBounds::default());
+/// # let mut sending = SendingEnd::<4>::new_at(&mut storage[..], 100, second, bounds);
+/// # sending.open(Announcement { seq: 1, ack: 100, window: 1000 }, 8, true, Instant::ZERO);
+/// let _taken = sending.write(b"abc");
+/// let it = sending.next_segment(1200, Instant::ZERO);
+/// assert_eq!(it, Some(Outgoing { pos: 100, end: 103, is_again: false }));
+/// ```
 #[derive(Copy, Clone, Debug, PartialEq, Eq)]
 pub struct Outgoing {
     /// The position of its first byte, or of the end.
@@ -193,24 +236,81 @@ impl<S: Storage<u8>, const N: usize> SendingEndOver<S, N> {
     }
 
     /// Enqueues the first of these bytes, as many as there is room for, and returns how many.
+    ///
+    /// ```
+    /// # use net_base::ends::SendingEnd;
+    /// # use net_base::tcp::{Announcement, TimeoutBounds};
+    /// # use net_base::time::{Duration, Instant};
+    /// # let mut storage = [0u8; 64];
+    /// # let (second, bounds) = (Duration::from_secs(1), TimeoutBounds::default());
+    /// # let mut sending = SendingEnd::<4>::new_at(&mut storage[..], 100, second, bounds);
+    /// assert_eq!((sending.write(&[7; 60]), sending.write(&[7; 60])), (60, 4));
+    /// ```
     #[must_use]
     pub fn write(&mut self, bytes: &[u8]) -> usize {
         self.sender.write(bytes)
     }
 
     /// Ends the stream after what was written.
+    ///
+    /// ```
+    /// # use net_base::ends::SendingEnd;
+    /// # use net_base::tcp::{Announcement, TimeoutBounds};
+    /// # use net_base::time::{Duration, Instant};
+    /// # let mut storage = [0u8; 64];
+    /// # let (second, bounds) = (Duration::from_secs(1), TimeoutBounds::default());
+    /// # let mut sending = SendingEnd::<4>::new_at(&mut storage[..], 100, second, bounds);
+    /// # sending.open(Announcement { seq: 1, ack: 100, window: 1000 }, 8, true, Instant::ZERO);
+    /// let _taken = sending.write(b"abc");
+    /// sending.close();
+    /// // The end has a number, too.
+    /// let it = sending.next_segment(1200, Instant::ZERO).expect("three bytes and the end");
+    /// assert_eq!((it.pos, it.end), (100, 104));
+    /// ```
     pub fn close(&mut self) {
         self.sender.close();
     }
 
     /// Lends the bytes of a segment from `pos` on, whose numbers are below `end`, in two parts, and returns whether the
     /// stream ends after them. Of a position that is acknowledged it lends none.
+    ///
+    /// ```
+    /// # use net_base::ends::SendingEnd;
+    /// # use net_base::tcp::{Announcement, TimeoutBounds};
+    /// # use net_base::time::{Duration, Instant};
+    /// # let mut storage = [0u8; 64];
+    /// # let (second, bounds) = (Duration::from_secs(1), TimeoutBounds::default());
+    /// # let mut sending = SendingEnd::<4>::new_at(&mut storage[..], 100, second, bounds);
+    /// # sending.open(Announcement { seq: 1, ack: 100, window: 1000 }, 8, true, Instant::ZERO);
+    /// let _taken = sending.write(b"abc");
+    /// sending.close();
+    /// let it = sending.next_segment(1200, Instant::ZERO).expect("three bytes and the end");
+    /// assert_eq!(sending.bytes(it.pos, it.end), (&b"abc"[..], &b""[..], true));
+    /// ```
     #[must_use]
     pub fn bytes(&self, pos: u64, end: u64) -> (&[u8], &[u8], bool) {
         lend(&self.sender, pos, end)
     }
 
     /// Returns whether all that was written is acknowledged, and the end.
+    ///
+    /// ```
+    /// # use net_base::ends::SendingEnd;
+    /// # use net_base::tcp::{Announcement, TimeoutBounds};
+    /// # use net_base::time::{Duration, Instant};
+    /// # let mut storage = [0u8; 64];
+    /// # let (second, bounds) = (Duration::from_secs(1), TimeoutBounds::default());
+    /// # let mut sending = SendingEnd::<4>::new_at(&mut storage[..], 100, second, bounds);
+    /// # sending.open(Announcement { seq: 1, ack: 100, window: 1000 }, 8, true, Instant::ZERO);
+    /// let _taken = sending.write(b"abc");
+    /// sending.close();
+    /// let now = Instant::ZERO;
+    /// let _segment_to_send = sending.next_segment(1200, now);
+    /// assert!(!sending.is_done());
+    /// let it = Announcement { seq: 1, ack: 104, window: 1000 };
+    /// let _taken = sending.acknowledged(it, &[], true, now);
+    /// assert!(sending.is_done());
+    /// ```
     #[must_use]
     pub fn is_done(&self) -> bool {
         self.sender.is_closed_and_acknowledged()
@@ -603,6 +703,18 @@ impl<S: Storage<u8>, const N: usize> SendingEndOver<S, N> {
     /// blocks (SACK): one that doesn't couldn't answer a probe, and is sent none. What was written stays. It is done
     /// once, before anything is sent; a second time begins with another peer, and the timer runs if something is in
     /// flight.
+    ///
+    /// ```
+    /// # use net_base::ends::SendingEnd;
+    /// # use net_base::tcp::{Announcement, TimeoutBounds};
+    /// # use net_base::time::{Duration, Instant};
+    /// # let mut storage = [0u8; 64];
+    /// # let (second, bounds) = (Duration::from_secs(1), TimeoutBounds::default());
+    /// # let mut sending = SendingEnd::<4>::new_at(&mut storage[..], 100, second, bounds);
+    /// let it = Announcement { seq: 1, ack: 100, window: 1000 };
+    /// sending.open(it, 536, true, Instant::ZERO);
+    /// assert_eq!(sending.segment_size(), 536);
+    /// ```
     pub fn open(&mut self, it: Announcement, segment_size: usize, reports: bool, now: Instant) {
         let numbers = self.numbers();
         self.head.open(numbers, self.first_timeout, it, segment_size, reports, now);
@@ -616,6 +728,19 @@ impl<S: Storage<u8>, const N: usize> SendingEndOver<S, N> {
 
     /// Returns whether a SYN is to be sent now, the first one or one after a timeout, and starts the timer for the next.
     /// Ask it only until something is acknowledged, at which it doesn't look.
+    ///
+    /// ```
+    /// # use net_base::ends::SendingEnd;
+    /// # use net_base::tcp::{Announcement, TimeoutBounds};
+    /// # use net_base::time::{Duration, Instant};
+    /// # let mut storage = [0u8; 64];
+    /// # let (second, bounds) = (Duration::from_secs(1), TimeoutBounds::default());
+    /// # let mut sending = SendingEnd::<4>::new_at(&mut storage[..], 100, second, bounds);
+    /// // A SYN is sent now, and again after a second.
+    /// assert!(sending.is_opening_due(Instant::ZERO));
+    /// assert!(!sending.is_opening_due(Instant::from_millis(999)));
+    /// assert!(sending.is_opening_due(Instant::from_secs(1)));
+    /// ```
     pub fn is_opening_due(&mut self, now: Instant) -> bool {
         self.head.is_opening_due(self.bounds, now)
     }
@@ -626,6 +751,24 @@ impl<S: Storage<u8>, const N: usize> SendingEndOver<S, N> {
     /// A block counts that begins above the first number that isn't reported, has a number, and ends where something
     /// was sent and less than 2^32 above that one, if what is reported beyond that one is at most `N` runs then. Any
     /// other block says nothing.
+    ///
+    /// ```
+    /// # use net_base::ends::{Acknowledged, SendingEnd};
+    /// # use net_base::tcp::{Announcement, TimeoutBounds};
+    /// # use net_base::time::{Duration, Instant};
+    /// # let mut storage = [0u8; 64];
+    /// # let (second, bounds) = (Duration::from_secs(1), TimeoutBounds::default());
+    /// # let mut sending = SendingEnd::<4>::new_at(&mut storage[..], 100, second, bounds);
+    /// # sending.open(Announcement { seq: 1, ack: 100, window: 1000 }, 8, true, Instant::ZERO);
+    /// let (now, _taken) = (Instant::ZERO, sending.write(&[7; 32]));
+    /// while let Some(_segment_to_send) = sending.next_segment(1200, now) {}
+    /// // The first of four segments is missing, and the other three have come: a recovery begins.
+    /// let it = Announcement { seq: 1, ack: 100, window: 1000 };
+    /// let taken = sending.acknowledged(it, &[(108, 132)], true, now);
+    /// assert_eq!(taken, Acknowledged::Taken { new: 0, reports: true, begins: true });
+    /// let it = sending.next_segment(1200, now).expect("what was lost");
+    /// assert_eq!((it.pos, it.end, it.is_again), (100, 108, true));
+    /// ```
     pub fn acknowledged(
         &mut self,
         it: Announcement,
@@ -649,6 +792,20 @@ impl<S: Storage<u8>, const N: usize> SendingEndOver<S, N> {
 
     /// Returns the first number that isn't acknowledged, near which those of an acknowledgement are, and the one after
     /// the last that was sent.
+    ///
+    /// ```
+    /// # use net_base::ends::SendingEnd;
+    /// # use net_base::tcp::{Announcement, TimeoutBounds};
+    /// # use net_base::time::{Duration, Instant};
+    /// # let mut storage = [0u8; 64];
+    /// # let (second, bounds) = (Duration::from_secs(1), TimeoutBounds::default());
+    /// # let mut sending = SendingEnd::<4>::new_at(&mut storage[..], 100, second, bounds);
+    /// # sending.open(Announcement { seq: 1, ack: 100, window: 1000 }, 8, true, Instant::ZERO);
+    /// let _taken = sending.write(b"abc");
+    /// let _segment_to_send = sending.next_segment(1200, Instant::ZERO);
+    /// let numbers = sending.numbers();
+    /// assert_eq!((numbers.first_unacknowledged, numbers.sent), (100, 103));
+    /// ```
     #[must_use]
     pub fn numbers(&self) -> SentNumbers {
         self.sender.sent_numbers()
@@ -684,6 +841,23 @@ impl<S: Storage<u8>, const N: usize> SendingEndOver<S, N> {
     /// it is all that is left, or half of the greatest window that the peer announced (RFC 9293, 3.8.6.2.1), and
     /// Nagle's rule doesn't have it wait. Once the timer has ended, the next segment isn't held back. While anything
     /// that was written isn't acknowledged, the timer runs.
+    ///
+    /// ```
+    /// # use net_base::ends::SendingEnd;
+    /// # use net_base::tcp::{Announcement, TimeoutBounds};
+    /// # use net_base::time::{Duration, Instant};
+    /// # let mut storage = [0u8; 64];
+    /// # let (second, bounds) = (Duration::from_secs(1), TimeoutBounds::default());
+    /// # let mut sending = SendingEnd::<4>::new_at(&mut storage[..], 100, second, bounds);
+    /// # sending.open(Announcement { seq: 1, ack: 100, window: 1000 }, 8, true, Instant::ZERO);
+    /// let _taken = sending.write(&[7; 20]);
+    /// // 16 positions may be in flight: two segments of 8.
+    /// let mut sent = vec![];
+    /// while let Some(it) = sending.next_segment(16, Instant::ZERO) {
+    ///     sent.push((it.pos, it.end));
+    /// }
+    /// assert_eq!(sent, [(100, 108), (108, 116)]);
+    /// ```
     pub fn next_segment(&mut self, congestion_window: u64, now: Instant) -> Option<Outgoing> {
         let queued = self.queued();
         let Some(it) = self
@@ -697,6 +871,20 @@ impl<S: Storage<u8>, const N: usize> SendingEndOver<S, N> {
     }
 
     /// Returns when `expired` is to be asked.
+    ///
+    /// ```
+    /// # use net_base::ends::SendingEnd;
+    /// # use net_base::tcp::{Announcement, TimeoutBounds};
+    /// # use net_base::time::{Duration, Instant};
+    /// # let mut storage = [0u8; 64];
+    /// # let (second, bounds) = (Duration::from_secs(1), TimeoutBounds::default());
+    /// # let mut sending = SendingEnd::<4>::new_at(&mut storage[..], 100, second, bounds);
+    /// # sending.open(Announcement { seq: 1, ack: 100, window: 1000 }, 8, true, Instant::ZERO);
+    /// assert_eq!(sending.expires_at(), None);
+    /// let _taken = sending.write(b"abc");
+    /// let _segment_to_send = sending.next_segment(1200, Instant::from_millis(5));
+    /// assert_eq!(sending.expires_at(), Some(Instant::from_millis(1_005)));
+    /// ```
     #[must_use]
     pub fn expires_at(&self) -> Option<Instant> {
         self.head.timer.expires_at()
@@ -739,6 +927,19 @@ impl<S: Storage<u8>, const N: usize> SendingEndOver<S, N> {
     }
 
     /// Returns the number of a segment without positions.
+    ///
+    /// ```
+    /// # use net_base::ends::SendingEnd;
+    /// # use net_base::tcp::{Announcement, TimeoutBounds};
+    /// # use net_base::time::{Duration, Instant};
+    /// # let mut storage = [0u8; 64];
+    /// # let (second, bounds) = (Duration::from_secs(1), TimeoutBounds::default());
+    /// # let mut sending = SendingEnd::<4>::new_at(&mut storage[..], 100, second, bounds);
+    /// # sending.open(Announcement { seq: 1, ack: 100, window: 1000 }, 8, true, Instant::ZERO);
+    /// let _taken = sending.write(b"abc");
+    /// let _segment_to_send = sending.next_segment(1200, Instant::ZERO);
+    /// assert_eq!(sending.acknowledgement_number(), 103);
+    /// ```
     #[must_use]
     pub fn acknowledgement_number(&self) -> u64 {
         self.head.peer_window.acknowledgement_number(self.numbers())
@@ -748,6 +949,23 @@ impl<S: Storage<u8>, const N: usize> SendingEndOver<S, N> {
     /// than a whole segment waits by it, unless the stream is closed or the timer has ended. It is enabled at first, as
     /// in a socket of smoltcp: the RFC wants it so. Disable it where few bytes are written at a time, and none of them
     /// is to wait.
+    ///
+    /// ```
+    /// # use net_base::ends::SendingEnd;
+    /// # use net_base::tcp::{Announcement, TimeoutBounds};
+    /// # use net_base::time::{Duration, Instant};
+    /// # let mut storage = [0u8; 64];
+    /// # let (second, bounds) = (Duration::from_secs(1), TimeoutBounds::default());
+    /// # let mut sending = SendingEnd::<4>::new_at(&mut storage[..], 100, second, bounds);
+    /// # sending.open(Announcement { seq: 1, ack: 100, window: 1000 }, 8, true, Instant::ZERO);
+    /// let (now, _taken) = (Instant::ZERO, sending.write(b"abc"));
+    /// let _segment_to_send = sending.next_segment(1200, now);
+    /// // Three more bytes are less than a segment, and something is in flight.
+    /// let _taken = sending.write(b"def");
+    /// assert_eq!(sending.next_segment(1200, now), None);
+    /// sending.set_nagle_enabled(false);
+    /// assert!(sending.next_segment(1200, now).is_some());
+    /// ```
     pub fn set_nagle_enabled(&mut self, enabled: bool) {
         self.head.set_nagle_enabled(enabled);
     }
