@@ -36,7 +36,7 @@ OVER, OVER_OF_RUNS = 30, 45
 TYPES = {
     "assembler": "Assembler", "scoreboard": "Scoreboard", "recovery": "LossRecovery", "receiver": "ReceiverOver",
     "finite_receiver": "FiniteReceiverOver", "sender": "SenderOver", "finite_sender": "FiniteSenderOver",
-    "plan": "Plan", "fragments": "FragmentsOver", "slot": "FragmentSlot", "table": "fragment_table",
+    "plan": "Plan", "fragments": "FragmentsOver", "table": "fragment_table",
     "send_buffer": "SendBufferOver", "sending_end": "SendingEndOver", "receiving_end": "ReceivingEndOver",
 }
 # Calls without a class, by reason.
@@ -46,7 +46,7 @@ LEFT_OUT = {
         receiver: new new_at empty empty_at over over_at into_storage reset_at
         finite_receiver: empty_at over over_at into_storage reset_at
         sender: new new_at over over_at into_storage reset_at / finite_sender: new_at over over_at into_storage reset_at
-        fragments: new empty over into_storage / slot: over
+        fragments: new empty over into_storage
         send_buffer: new_at over_at reset_at / sending_end: forget new_at over_at reset_at
         receiving_end: empty_at over_at""",
     "it reads numbers of the head, or of what it is given": """
@@ -57,7 +57,7 @@ LEFT_OUT = {
         sender: capacity end first_unacknowledged is_empty len window
         finite_sender: capacity first_number is_closed is_closed_and_acknowledged is_empty len numbers_end sent
         finite_sender: sent_numbers window
-        fragments: capacity expires_at is_empty is_expired total_size / slot: is_for
+        fragments: capacity expires_at is_empty is_expired total_size
         send_buffer: is_blind is_closed is_done is_recovering numbers numbers_end window
         sending_end: acknowledgement_number expires_at flight_size is_done is_recovering nagle_enabled numbers
         sending_end: round_trip segment_size timeouts window / receiving_end: answer is_due receiver""",

@@ -58,7 +58,6 @@ UNGUARDED = {
     'ReceiverOver::read_with': READ,
     'FiniteReceiverOver::read_with': READ,
     'ReceivingEndOver::read_with': READ,
-    'Instant::earliest': ('Rust knows that an iterator can be asked; whether it ends no call tells',),
     'PacketsOver::last_dequeued_mut':
         ('no public call tells where the bytes before the read index begin',
          'let capacity = self.bytes.count(); prove!(size <= capacity - self.head.bytes.length,',

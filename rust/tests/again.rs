@@ -4,8 +4,8 @@ use net_base::managed::ManagedSlice;
 use net_base::receiver::Receiver;
 use net_base::scoreboard::Scoreboard;
 use net_base::sender::Sender;
-use net_base::storage::fragment_table::{claim, claim_or_evict, find, find_free, FragmentSlot};
-use net_base::storage::{FragmentBuffer, Full};
+use net_base::storage::fragment_table::{accept, remove_expired, AcceptError, FragmentSlot};
+use net_base::storage::FragmentBuffer;
 use net_base::tcp::{RetransmissionTimeout, TimeoutBounds};
 use net_base::time::{Duration, Instant};
 
@@ -94,24 +94,26 @@ fn a_scoreboard_and_a_buffer_of_fragments() {
     assert_eq!(timer.timeout(), Duration::from_micros(2_400));
 }
 
+/// A packet keeps its slot. Another one takes a free slot, or else that of the packet that expires first.
 #[test]
-fn a_slot_of_a_table_of_fragments() {
+fn slots_of_a_table_of_fragments() {
     let (mut first, mut second) = ([0; 4], [0; 4]);
     let mut slots: [FragmentSlot<u8, &mut [u8], 1>; 2] =
         [FragmentSlot::over(&mut first[..]), FragmentSlot::over(&mut second[..])];
-    assert_eq!(find_free(&slots), Some(0));
-    slots[0].begin(7, Instant::from_micros(20));
-    assert!(slots[0].is_for(7) && !slots[0].is_for(8));
-    assert_eq!((find_free(&slots), find(&slots, 7), find(&slots, 8)), (Some(1), Some(0), None));
-    slots[0].expire(Instant::from_micros(20));
-    assert!(slots[0].is_for(7));
-    slots[0].expire(Instant::from_micros(21));
-    assert_eq!(find_free(&slots), Some(0));
-    let at = Instant::from_micros(9);
-    assert_eq!([8, 9, 8].map(|key| claim(&mut slots, key, at)), [Ok(0), Ok(1), Ok(0)]);
-    assert_eq!((claim(&mut slots, 7, at), claim_or_evict(&mut slots, 7, at)), (Err(Full), Ok(0)));
-    assert_eq!((find(&slots, 8), find(&slots, 9)), (None, Some(1)));
-    assert_eq!(claim_or_evict(&mut slots[..0], 7, at), Err(Full));
+    let begin = |slots: &mut [_], key, until| {
+        accept(slots, key, 0, b"a", false, Instant::from_micros(until))
+    };
+    assert_eq!([7, 8, 7].map(|key| begin(&mut slots, key, 20)), [Ok(0), Ok(1), Ok(0)]);
+    assert_eq!(begin(&mut slots, 9, 9), Ok(0));
+    assert_eq!(begin(&mut slots, 6, 30), Ok(0));
+    assert_eq!(slots.each_ref().map(|slot| slot.key), [Some(6), Some(8)]);
+    remove_expired(&mut slots, Instant::from_micros(20));
+    assert_eq!(slots.each_ref().map(|slot| slot.key), [Some(6), Some(8)]);
+    remove_expired(&mut slots, Instant::from_micros(21));
+    assert_eq!(slots.each_ref().map(|slot| slot.key), [Some(6), None]);
+    assert_eq!(slots[1].buffer.get(0, 1), Some(&b"a"[..]));
+    assert_eq!(begin(&mut slots, 5, 40), Ok(1));
+    assert_eq!(begin(&mut slots[..0], 5, 40), Err(AcceptError::NoSlot));
 }
 
 /// Returns what is left of eight bytes `.` after they were a storage.

@@ -99,7 +99,8 @@ fn texts_of_what_stores() {
         "FragmentBuffer { capacity: 16, total_size: Some(9), expires_at: Instant { micros: 7000000 } }"
     );
     let mut slot = FragmentSlot::<char, _, 2>::over([0; 4]);
-    slot.begin('k', Instant::from_secs(5));
+    slot.key = Some('k');
+    slot.buffer.reset(Instant::from_secs(5));
     assert_eq!(
         debug(slot),
         "FragmentSlot { key: Some('k'), buffer: FragmentBuffer { capacity: 4, total_size: None, expires_at: \
@@ -371,7 +372,7 @@ fn lifetimes() {
     let mut ring = RingBuffer::new(&mut storage[..]);
     let (count, part) = ring.enqueue_many_with(|part| (part.len(), part));
     part[0] = 9;
-    assert_eq!((count, ring.get(0)), (3, Some(&9)));
+    assert_eq!((count, ring.iter().next()), (3, Some(&9)));
     let (mut slots, mut storage) = ([PacketMetadata::EMPTY; 2], [1u8, 2, 3]);
     let mut queue = PacketBuffer::new(&mut slots[..], &mut storage[..]);
     let mut kept = None;

@@ -25,13 +25,12 @@
 --     key_for, buffer_for      its key and its buffer, begun for that packet if it wasn't
 --     refusal_of e, answer_of at s      a buffer's refusal and answer, as those of its table
 --     Accepts      what a slot's call of `accept` returns, and leaves
---     is_overdue now key e      whether a slot is for a packet that was waited for up to e, which is before now
 --     ExpiresFirst expires xs at      where the first of those is that expire earliest
 --     is_in_writes p writes, newest_element writes p x      what the writes have at a position
 --     Reassembles writes buffer present      a buffer and a set of positions are what the writes make
 use Rattle.std.specs.Prelude.{◌≡◌, ◌≢◌, ◌+◌, ◌-◌, ◌<◌, ◌≤◌, ℕ, ℤ, List, Option, length, slice_index_or, unwrap_or}
 use Rattle.std.specs.Prelude.{◌⊎◌, IsTrue, IsFalse, Bool, if◌then◌else◌, refl, ◌&&◌, false, [], ◌∷◌, nat_eq}
-use Rattle.std.specs.Prelude.{nat_lt, nat_le, ◌↔◌, not, int_lt, ◌<ℤ◌, ◌≤ℤ◌, is_none, Result, Ok, Err, OnOk, IsErr}
+use Rattle.std.specs.Prelude.{nat_lt, nat_le, ◌↔◌, ◌<ℤ◌, ◌≤ℤ◌, is_none, Result, Ok, Err, OnOk, IsErr}
 use Rattle.std.specs.Coded.{Coded, code_by, coded×, coded_ℕ, coded_ℤ, coded_list, coded_option}
 use Rattle.std.specs.declared.option.Option.TheVariants.{Some, None}
 use Rattle.net_ring.specs.Overwrite.{overwrite}
@@ -197,10 +196,6 @@ last_byte p d (f ∷ fs) = last_byte p (if covers p f then slice_index_or f.1 (p
 abbrev pub is_for : {K : Type 0} → (K → K → Bool) → K → Option K → Bool
 is_for eq key None = false
 is_for eq key (Some own) = eq own key
-
--- whether a slot with this key, which expires after e, is for a packet that isn't waited for any more
-abbrev pub is_overdue : {K : Type 0} → ℤ → Option K → ℤ → Bool
-is_overdue now key e = not (is_none key) && int_lt e now
 
 -- none expires earlier than the one at an index, and each one before it later
 pub record ExpiresFirst {X : Type 0} (expires : X → ℤ) (xs : List X) (at : ℕ) : Type 0 where

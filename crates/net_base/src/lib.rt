@@ -11,9 +11,7 @@
 //!
 //! An `Instant` is a whole number of microseconds that fits an `i64` (`IsMoment`), a `Duration` a natural number of
 //! them that fits a `u64` (`IsLength`). A call that requires that its result fits has a test beside it, such as
-//! `fits_millis` or `can_add`; moments saturate (docs/DIFFERENCES.md). Of
-//! `Instant::earliest(moments.iter().copied())` the search finds `IsEarliest (λ t. t) moments.now result`. For
-//! moments in other values fold by `earlier`, with law `earliest_of_each`.
+//! `fits_millis` or `can_add`; moments saturate (docs/DIFFERENCES.md).
 //!
 //! A `Loopback` has a `medium` and a list `frames`, the next one first. A contract sees a device of your own through
 //! ghost members, relations on its states, which `src/phy/device.rt` explains. `taken`, `sent`, `abilities`, and

@@ -1,7 +1,6 @@
 //! The tests of `net_base`, each through its public calls, and a device that is no loopback.
 
 mod fragments;
-mod least;
 mod phy;
 mod refused;
 mod two_lists;

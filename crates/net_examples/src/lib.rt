@@ -74,5 +74,5 @@ pub use tcp::{
     accepts, accepts_promised, checksum_after, checksum_between, complement, expire, first_window,
     look_at_new, number_without_bytes, take_older,
 };
-pub use timer::{Timer, poll_at};
+pub use timer::Timer;
 pub use udp_socket::UdpSocket;

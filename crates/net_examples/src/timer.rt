@@ -1,9 +1,8 @@
-//! A timer that waits longer each time, and the first of several timers.
-ghost use Rattle.std.specs.Prelude.{◌≡◌, ◌↔◌, ◌*◌, ◌-◌, ◌^◌, ◌+ℤ◌, ◌≤ℤ◌, pos, min, IsTrue, Some};
-ghost use Rattle.net_base.specs.Time.{IsEarliest, earliest_of, IsMoment};
-ghost use Rattle.net_examples.specs.declared.timer.Timer.{Timer};
+//! A timer that waits longer each time.
+ghost use Rattle.std.specs.Prelude.{◌≡◌, ◌↔◌, ◌*◌, ◌-◌, ◌^◌, ◌+ℤ◌, ◌≤ℤ◌, pos, min, IsTrue};
+ghost use Rattle.net_base.specs.Time.{IsMoment};
 
-use net_base::time::{Duration, Instant, earlier, laws};
+use net_base::time::{Duration, Instant};
 
 /// A timer that expires a timeout after it was armed. Each time it can be made to wait twice as
 /// long.
@@ -42,22 +41,4 @@ impl Timer {
         self.timeout = self.timeout.saturating_mul(2);
         self.deadline = now.saturating_add(self.timeout);
     }
-}
-
-/// Returns when the first of the timers expires, or `None` if there are none: the moment at which to
-/// look at them again.
-pub fn poll_at(timers: &[Timer]) -> Option<Instant>
-    ensures { IsEarliest (λ (timer : Timer). Some timer.deadline) timers.now result }
-{
-    laws::earliest_of_each::<Timer>();
-    fold_earlier(timers)
-}
-
-/// Returns the earliest deadline, as a fold.
-fn fold_earlier(timers: &[Timer]) -> Option<Instant>
-    ensures { result ≡ earliest_of (λ (timer : Timer). Some timer.deadline) timers.now }
-{
-    timers
-        .iter()
-        .fold(None, |first, timer| earlier(first, Some(timer.deadline)))
 }

@@ -240,11 +240,6 @@ module _ {T : Type 0} where
         let same : g.count + min i (window g) ≡ g.count + i = omega arith in
         subst (λ (j : ℕ). At j (spare_index g i)) same (storage_index_is g (g.count + min i (window g)))
 
-    pub queue_at : (i : ℕ) → i ≤ g.count → At i (queue_index g i)
-    queue_at i le =
-        let same : min i g.count ≡ i = omega arith in
-        subst (λ (j : ℕ). At j (queue_index g i)) same (storage_index_is g (min i g.count))
-
     spare_index_le : (i : ℕ) → spare_index g i ≤ capacity g
     spare_index_le i = storage_index_le (g.count + min i (window g)) (omega (arith, wf.1))
 
@@ -275,20 +270,6 @@ module _ {T : Type 0} where
     nothing_spare i p =
         let still : with_elements g p [] ≡ g = ap (λ b. ring b g.read_at g.count) (overwrite_none g.storage p) in
         subst (WritesSpare g i []) (sym still) (refl, sym (overwrite_none (spare g) i), refl)
-
-    nothing_in_queue : (i p : ℕ) → WritesQueue g i [] (with_elements g p [])
-    nothing_in_queue i p =
-        let still : with_elements g p [] ≡ g = ap (λ b. ring b g.read_at g.count) (overwrite_none g.storage p) in
-        subst (WritesQueue g i []) (sym still) (sym (overwrite_none (queue g) i), refl, refl)
-
-    pub queue_part_law : (i n : ℕ) (ws : List T) → length ws ≡ contiguous_allocated g i n
-        → WritesQueue g i ws (with_elements g (queue_index g i) ws)
-    queue_part_law i n ws e = elim (cases_lt g.count i) [
-      | inr h ↦ queue_law i (queue_index g i) ws (omega arith) (omega (arith, queue_index_le i)) (queue_at i h)
-      | inl h ↦ let none : ws ≡ [] = nil_from_length ws (omega arith) in subst
-          (λ (l : List T). WritesQueue g i l (with_elements g (queue_index g i) l)) (sym none)
-          (nothing_in_queue i (queue_index g i))
-    ]
 
     -- the clause of `write_unallocated`
     pub wrapping_at : (i : ℕ) (ws : List T) → length ws ≤ window g - i
@@ -388,9 +369,6 @@ module _ {T : Type 0} where
         → p ≡ spare_index g i
     found_free c i p ec ep = ep ∙ ap₂ (λ (n : ℕ) (o : RingState T). index_after n o.read_at
         (o.count + min i (n - o.count))) ec is
-
-    pub found_queued : (c i p : ℕ) → c ≡ capacity g → p ≡ index_after c v.read_at (min i v.count) → p ≡ queue_index g i
-    found_queued c i p ec ep = ep ∙ ap₂ (λ (n : ℕ) (o : RingState T). index_after n o.read_at (min i o.count)) ec is
 
     -- and how many elements are contiguous
     pub found_window : (c m : ℕ) → c ≡ capacity g → m ≡ min (c - v.count) (c - index_after c v.read_at v.count)
@@ -658,11 +636,6 @@ module _ {X : Type 0} where
       i ≤ length xs → i + length part ≤ length xs
   end_of xs part i is le = omega (arith, simp (length-take, length-drop) at (ap length is))
 
--- the element m, after the first m and before those that follow it
-last_off : {X : Type 0} (l : List X) (m : ℕ) (x : X) → m < length l → slice_get (take (suc m) l) m ≡ Some x →
-    (take (suc m) l ≡ take m l ++ x ∷ []) × (drop m l ≡ x ∷ drop (suc m) l)
-last_off l m x fits e = (grind (arith, places, gets, take_more), grind (arith, places, gets, drop_more))
-
 module _ {T : Type 0} where
   -- elements of the queue
   pub queued_elements : (xs : List T) (p : RingHead) (i : ℕ) (s : Span) → IsSound (length xs) p → s.from ≡ queued_index
@@ -764,29 +737,6 @@ module _ {T : Type 0} where
       pub spare-wrote : drop n (drop r wrote ++ take r wrote) ≡ overwrite (drop n (drop r b ++ take r b)) i ws
       spare-wrote = (wrapping_at (ring b r n) (at, le) i ws few).1
 
-    -- the last one, x, is taken off
-    module _ (x : T) (last : slice_get (take n (drop r b ++ take r b)) (length (take n (drop r b ++ take r b)) - 1)
-        ≡ Some x) where
-      off_back : (take n (rotation b r) ≡ take (n - 1) (rotation b r) ++ x ∷ [])
-          × (drop (n - 1) (rotation b r) ≡ x ∷ drop n (rotation b r))
-      off_back =
-          let all = rotation b r in
-          let m : ℕ = n - 1 in
-          let long = length-queue (ring b r n) (at, le) in
-          let within = slice_get_within (take n all) (length (take n all) - 1) x last in
-          let one : n ≡ suc m = omega arith in
-          let end : length (take n all) - 1 ≡ m = omega arith in
-          let here : slice_get (take (suc m) all) m ≡ Some x = ap₂ (λ k i. slice_get (take k all) i) (sym one)
-          (sym end) ∙ last in
-          let parts = last_off all m x (omega (arith, length-rotation b r)) here in
-          (ap (λ k. take k all) one ∙ parts.0, parts.1 ∙ ap (λ k. x ∷ drop k all) (sym one))
-
-      pub queue-off_back : take (n - 1) (drop r b ++ take r b) ++ x ∷ [] ≡ take n (drop r b ++ take r b)
-      queue-off_back = sym off_back.0
-
-      pub spare-off_back : x ∷ drop n (drop r b ++ take r b) ≡ drop (n - 1) (drop r b ++ take r b)
-      spare-off_back = sym off_back.1
-
 -- what closes the goals of a head's calls, and of a ring's
 pub ruleset heads = (
   queue-read_on,
@@ -806,8 +756,6 @@ pub ruleset rings = (
   no_spare,
   take_sum,
   drop-drop,
-  queue-off_back,
-  spare-off_back,
   length-take,
   length-rotation,
 )

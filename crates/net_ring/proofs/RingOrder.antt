@@ -6,10 +6,10 @@ use Rattle.std.proofs.lemmas.Bool.{cases_lt}
 use Rattle.net_ring.specs.{overwrite, RingState, IsWellFormed, ring, capacity, window, queue, write_at, storage_index}
 use Rattle.net_ring.specs.{contiguous_window, contiguous_queued, contiguous_queue, spare_index, queue_index}
 use Rattle.net_ring.specs.{with_elements, with_elements_wrapping, with_enqueued, rewind_if_empty, RingCall, Clear}
-use Rattle.net_ring.specs.{Reset, RewindIfEmpty, PopBack, EnqueueSlice, EnqueueUnallocated, EnqueueMany}
+use Rattle.net_ring.specs.{Reset, RewindIfEmpty, EnqueueSlice, EnqueueUnallocated, EnqueueMany}
 use Rattle.net_ring.specs.{EnqueueManyWith, EnqueueOne, EnqueueErr, GetUnallocated, WriteUnallocated, Dequeue}
-use Rattle.net_ring.specs.{DequeueMany, DequeueManyWith, DequeueOne, DequeueErr, GetAllocatedMut, Makes, MakesAll}
-use Rattle.net_ring.specs.{log_written, log_without_last, log_after, log_after_all, history}
+use Rattle.net_ring.specs.{DequeueMany, DequeueManyWith, DequeueOne, DequeueErr, Makes, MakesAll}
+use Rattle.net_ring.specs.{log_written, log_after, log_after_all, history}
 use Rattle.net_ring.specs.Log.{Log, empty_log, log_accepted, log_left, log_dropped}
 use Rattle.net_ring.proofs.Rotations.{length-overwrite, overwrite-append_right, length-queue}
 use Rattle.net_ring.proofs.RingFacts as facts
@@ -121,17 +121,6 @@ module _ {T : Type 0} where
         let turn = over log.left (queue g) log.accepted (queue o) ws i before.turn le q in
         subst (InTurn (log_written i ws log)) (sym is) (record { ok = ok; turn = turn })
 
-    -- nothing was written, wherever that was
-    nothing_after : (i : ℕ) (ws : List T) → ws ≡ [] → queue o ≡ overwrite (queue g) i ws →
-        InTurn (log_written i ws log) h
-    nothing_after i ws none q =
-        let still : queue o ≡ queue g = q ∙ ap (overwrite (queue g) i) none ∙ facts.overwrite_none (queue g) i in
-        let came : log.accepted ≡ overwrite log.accepted (length log.left + i) ws =
-        sym (ap (overwrite log.accepted (length log.left + i)) none
-        ∙ facts.overwrite_none log.accepted (length log.left + i)) in
-        let turn = ap (λ (l : List T). log.left ++ l) still ∙ before.turn ∙ came in
-        subst (InTurn (log_written i ws log)) (sym is) (record { ok = ok; turn = turn })
-
     -- of the elements over which ws was written the first n left, as they were before
     less_and_over_after : (n : ℕ) (xs ws : List T) → xs ≡ contiguous_queue g →
         length ws ≡ contiguous_queued g → n ≤ length ws →
@@ -149,28 +138,12 @@ module _ {T : Type 0} where
         half room rest in
         subst (InTurn (log_written 0 (drop n ws) (log_left (take n xs) log))) (sym is) (record { ok = ok; turn = turn })
 
-  -- the last element was taken off
-  last_off : (log : Log T) (g h : RingState T) (x : T) → InTurn log g → queue g ≡ queue h ++ (x ∷ []) → IsWellFormed h →
-      InTurn (log_without_last log) h
-  last_off log g h x before is ok =
-      let rest : List T = log.left ++ queue h in
-      let all : log.accepted ≡ rest ++ (x ∷ []) =
-      sym before.turn ∙ ap (λ (l : List T). log.left ++ l) is ∙ sym (append_assoc log.left (queue h) (x ∷ [])) in
-      let long : length rest ≡ length log.accepted - 1 = omega (arith, ap length all, length-append rest (x ∷ [])) in
-      record {
-        ok = ok;
-        turn = sym (ap (take (length log.accepted - 1)) all
-            ∙ take_at rest (x ∷ []) (length log.accepted - 1) long);
-      }
-
   step : (call : RingCall T) (log : Log T) (g h : RingState T) → InTurn log g → Makes call g h →
       InTurn (log_after call log) h
   unfolding Makes
   step Clear log g h before does = none_after log g _ h before does (inl refl, omega arith) refl
   step (Reset storage) log g h before does = none_after log g _ h before does.1 (inl refl, omega arith) refl
   step RewindIfEmpty log g h before does = let m = moved g before.ok in same_as log g _ h before does m.0 m.1
-  step (PopBack x) log g h before does =
-      last_off log g h x before does.0 (subst IsWellFormed (sym does.1) (before.ok.0, omega (arith, before.ok.1)))
   step (EnqueueSlice xs) log g h before does =
       let m = moved g before.ok in
       let w = in_wrapping (rewind_if_empty g) xs m.0 (omega (arith, does.0, m.2)) in
@@ -221,14 +194,6 @@ module _ {T : Type 0} where
       let ok = facts.written_wf g before.ok g.read_at (y ∷ []) in
       let room : 0 + 1 ≤ length (queue g) = omega (arith, does.0, length-queue g before.ok) in
       over_after log g _ h before does.1 ok 0 (y ∷ []) room (facts.head_written g before.ok y does.0).0
-  step (GetAllocatedMut i ws) log g h before does =
-      let ok = facts.written_wf g before.ok (queue_index g i) ws in
-      let law = facts.queue_part_law g before.ok i (length ws) ws does.0 in
-      elim (cases_lt g.count i) [
-        | inl past ↦ nothing_after log g _ h before does.1 ok i ws (nil_from_length ws (omega (arith, does.0))) law.0
-        | inr within ↦ over_after log g _ h before does.1 ok i ws
-            (omega (arith, does.0, length-queue g before.ok)) law.0
-      ]
 
   steps : (calls : List (RingCall T)) (log : Log T) (g h : RingState T) → InTurn log g → MakesAll calls g h →
       InTurn (log_after_all calls log) h

@@ -5,8 +5,8 @@ use Rattle.std.specs.Prelude.{◌≡◌, ◌≢◌, ◌≤◌, ℕ, ◌+◌, ◌
 use Rattle.net_ring.specs.Overwrite.{overwrite}
 use Rattle.net_ring.specs.Log.{Log, empty_log, log_accepted, log_left, log_dropped}
 use Rattle.net_ring.specs.Ring.{RingState, ring, capacity, window, queue, spare, write_at, contiguous_window}
-use Rattle.net_ring.specs.Ring.{contiguous_queued, contiguous_queue, contiguous_unallocated, contiguous_allocated}
-use Rattle.net_ring.specs.Ring.{spare_index, queue_index, with_elements, with_elements_wrapping, with_enqueued}
+use Rattle.net_ring.specs.Ring.{contiguous_queued, contiguous_queue, contiguous_unallocated}
+use Rattle.net_ring.specs.Ring.{spare_index, with_elements, with_elements_wrapping, with_enqueued}
 use Rattle.net_ring.specs.Ring.{with_dequeued, with_one_enqueued, with_one_dequeued, rewind_if_empty}
 
 -- ---- calls
@@ -35,8 +35,6 @@ pub data RingCall (T : Type 0) : Type 0 where
   GetUnallocated : ℕ → List T → RingCall T
   -- `write_unallocated`: the offset, and the elements that there was room for
   WriteUnallocated : ℕ → List T → RingCall T
-  -- `pop_back`: the element that it returned
-  PopBack : T → RingCall T
   -- `dequeue_slice` or `dequeue_allocated`: the elements that left
   Dequeue : List T → RingCall T
   -- `dequeue_many`: the elements that it lent, and those that were written there
@@ -49,8 +47,6 @@ pub data RingCall (T : Type 0) : Type 0 where
   DequeueOne : T → T → RingCall T
   -- `dequeue_one_with`, whose closure returned `Err`: the element that it wrote
   DequeueErr : T → RingCall T
-  -- `get_allocated_mut`: the offset, and the elements that were written there
-  GetAllocatedMut : ℕ → List T → RingCall T
 
 module _ {T : Type 0} where
   -- the call makes h of g: clause `call` of its contract. No `abbrev`, so that a caller's proof keeps the name
@@ -78,8 +74,6 @@ module _ {T : Type 0} where
       (length ws ≡ contiguous_unallocated g i (length ws)) × (h ≡ with_elements g (spare_index g i) ws)
   Makes (WriteUnallocated i ws) g h =
       (length ws ≤ window g - i) × (h ≡ with_elements_wrapping g (spare_index g i) ws)
-  Makes (PopBack x) g h =
-      (queue g ≡ queue h ++ (x ∷ [])) × (h ≡ ring g.storage g.read_at (g.count - 1))
   Makes (Dequeue xs) g h =
       (length xs ≤ g.count) × (xs ≡ take (length xs) (queue g)) × (h ≡ with_dequeued (length xs) g)
   Makes (DequeueMany xs ws) g h =
@@ -92,8 +86,6 @@ module _ {T : Type 0} where
       (g.count ≢ 0) × (queue g ≡ x ∷ drop 1 (queue g))
       × (h ≡ with_one_dequeued g y)
   Makes (DequeueErr y) g h = (g.count ≢ 0) × (h ≡ with_elements g g.read_at (y ∷ []))
-  Makes (GetAllocatedMut i ws) g h =
-      (length ws ≡ contiguous_allocated g i (length ws)) × (h ≡ with_elements g (queue_index g i) ws)
 
   -- the calls, one after another, make h of g
   abbrev pub MakesAll : List (RingCall T) → RingState T → RingState T → Type 0
@@ -105,11 +97,6 @@ module _ {T : Type 0} where
   abbrev pub log_written : ℕ → List T → Log T → Log T
   log_written i ws log =
       record { accepted = overwrite log.accepted (length log.left + i) ws; left = log.left }
-
-  -- the last that was accepted counts as never accepted
-  abbrev pub log_without_last : Log T → Log T
-  log_without_last log =
-      record { accepted = take (length log.accepted - 1) log.accepted; left = log.left }
 
   -- the log after a call
   abbrev pub log_after : RingCall T → Log T → Log T
@@ -124,13 +111,11 @@ module _ {T : Type 0} where
   log_after (EnqueueErr x) log = log
   log_after (GetUnallocated i ws) log = log
   log_after (WriteUnallocated i ws) log = log
-  log_after (PopBack x) log = log_without_last log
   log_after (Dequeue xs) log = log_left xs log
   log_after (DequeueMany xs ws) log = log_left xs log
   log_after (DequeueManyWith xs ws n) log = log_written 0 (drop n ws) (log_left (take n xs) log)
   log_after (DequeueOne x y) log = log_left (x ∷ []) log
   log_after (DequeueErr y) log = log_written 0 (y ∷ []) log
-  log_after (GetAllocatedMut i ws) log = log_written i ws log
 
   -- the log after calls, one after another
   abbrev pub log_after_all : List (RingCall T) → Log T → Log T

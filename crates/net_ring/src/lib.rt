@@ -11,14 +11,13 @@
 //! `queue g` is the list of the queued elements, and `spare g` that of the free ones, in the order in which they are
 //! filled. `g.count` and `window g` are their lengths, and `capacity g` is the sum. After each call the prover knows
 //! queue, count, window and capacity. While a part of a ring is lent, nothing else can be asked of it, so ask
-//! `contiguous_allocated(offset, n)` and `contiguous_unallocated` first. After `*ring.enqueue_one()? = byte` the
-//! queue is `queue ring.old ++ byte ∷ []`, and after `ring.get_allocated_mut(i, 1)[0] = byte` it is `overwrite
-//! (queue ring.old) i (byte ∷ [])`.
+//! `contiguous_unallocated(offset, n)` first. After `*ring.enqueue_one()? = byte` the queue is `queue ring.old ++
+//! byte ∷ []`, and after `ring.get_unallocated(i, 1)[0] = byte` the spare part is `overwrite (spare ring.old) i
+//! (byte ∷ [])`.
 //!
 //! To know the first of these, call the second before:
 //!
 //! - window and capacity after `dequeue_many_with`, if the closure counts fewer than it is lent: `window()`
-//! - that `back()` is the element that was just pushed: `len()`
 //! - that `len() + window()` fits `usize`: `capacity()`
 //! - `slice_set`, or `slice_get` of each index, after a write over one element: `laws::element_set::<T>()`
 //!

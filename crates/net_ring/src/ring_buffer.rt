@@ -2,8 +2,8 @@
 #![tactic(auto, using(crate::proofs::RingFacts::rings), unfolding(crate::specs::RingHistory::Makes))]
 
 ghost use Rattle.std.specs.Prelude.{◌≡◌, ◌≢◌, ◌↔◌, ◌≤◌, ◌<◌, ◌==◌, ◌-◌, ◌+◌, ◌^◌, ◌∷◌, ◌++◌, [], ℕ, List, length, take};
-ghost use Rattle.std.specs.Prelude.{drop, min, slice_get, slice_index_or, IsTrue, IsErr, IsNone, IsSome, OnErr, OnOk};
-ghost use Rattle.std.specs.Prelude.{IfOk, IfSome, is_ok, if◌then◌else◌, option_copied};
+ghost use Rattle.std.specs.Prelude.{drop, min, slice_get, slice_index_or, IsTrue, IsErr, OnErr};
+ghost use Rattle.std.specs.Prelude.{IfOk, is_ok, if◌then◌else◌};
 ghost use Rattle.std.specs.Borrow.{sem};
 ghost use Rattle.std.specs.Fn.{FnOnceTakesAtMut, FnOnceReturnsAtMut};
 ghost use Rattle.std.specs.List.{AllZip};
@@ -11,12 +11,12 @@ ghost use Rattle.net_ring.specs.{ring, capacity, window, queue, spare, write_at,
 ghost use Rattle.net_ring.specs.{contiguous_spare, contiguous_unallocated, spare_index, contiguous_queued};
 ghost use Rattle.net_ring.specs.{contiguous_queue, contiguous_allocated, queue_index, with_elements};
 ghost use Rattle.net_ring.specs.{with_elements_wrapping, with_enqueued, with_dequeued, with_one_enqueued};
-ghost use Rattle.net_ring.specs.{with_one_dequeued, rewind_if_empty, Enqueues, Dequeues, WritesSpare, WritesQueue};
+ghost use Rattle.net_ring.specs.{with_one_dequeued, rewind_if_empty, Enqueues, Dequeues, WritesSpare};
 ghost use Rattle.net_ring.specs.{TakesFirstOf, CalledOnNext, CalledOnFirst, CountsWithin, CalledOnSpare, CalledOnQueue};
 ghost use Rattle.net_ring.specs.{place, IsSound, ring_at, Makes, Clear, Reset, RewindIfEmpty, EnqueueOne, EnqueueErr};
-ghost use Rattle.net_ring.specs.{DequeueOne, DequeueErr, PopBack, EnqueueMany, EnqueueManyWith, DequeueMany};
+ghost use Rattle.net_ring.specs.{DequeueOne, DequeueErr, EnqueueMany, EnqueueManyWith, DequeueMany};
 ghost use Rattle.net_ring.specs.{DequeueManyWith, EnqueueSlice, Dequeue, GetUnallocated, WriteUnallocated};
-ghost use Rattle.net_ring.specs.{EnqueueUnallocated, GetAllocatedMut};
+ghost use Rattle.net_ring.specs.{EnqueueUnallocated};
 
 use crate::error::{Empty, Full};
 use crate::head::RingHead;
@@ -524,65 +524,6 @@ impl<T, S: Storage<T>> RingOver<T, S> {
         self.head.dequeue_contiguous(self.storage.count(), 1);
         self.storage.element_mut(at)
     }
-
-    /// Takes the last element of the queue off, and returns it; `None` if it is empty. The storage
-    /// stays as it is, so the element is the next free one. smoltcp has no such call.
-    ///
-    /// ```
-    /// # use net_base::storage::RingBuffer;
-    /// # let mut storage = [0u8; 4];
-    /// # let mut ring = RingBuffer::new(&mut storage[..]);
-    /// assert_eq!(ring.enqueue_slice(b"abc"), 3);
-    /// assert_eq!((ring.pop_back(), ring.back()), (Some(b'c'), Some(&b'b')));
-    /// ```
-    pub fn pop_back(&mut self) -> Option<T>
-    where
-        T: Copy,
-        ensures empty { IsNone result ↔ (self.old.count ≡ 0) }
-        // Guarantee.
-        ensures queue { IfSome result (λ x. queue self.old ≡ queue self.new ++ x ∷ []) }
-        ensures spare { IfSome result (λ x. spare self.new ≡ x ∷ spare self.old) }
-        ensures room { IfSome result (λ x. window self.new ≡ window self.old + 1) }
-        ensures ring { self.new ≡ ring self.old.storage self.old.read_at (self.old.count - 1) }
-        ensures call { IfSome result (λ x. Makes (PopBack x) self.old self.new) }
-    {
-        let last = *self.back()?;
-        self.head.drop_last(1);
-        Some(last)
-    }
-}
-
-/// One element that is enqueued by value.
-impl<T: Drop, S: Storage<T>> RingOver<T, S> {
-    /// Enqueues an element, over the next free one.
-    ///
-    /// smoltcp has no such call.
-    ///
-    /// ```
-    /// # use net_base::storage::{Full, RingBuffer};
-    /// # let mut storage = [0u8; 1];
-    /// # let mut ring = RingBuffer::new(&mut storage[..]);
-    /// assert_eq!((ring.push_one(7), ring.push_one(8)), (Ok(()), Err(Full)));
-    /// ```
-    ///
-    /// # Errors
-    ///
-    /// `Full` if the ring is full. Then it stays as it is, and the element is dropped.
-    pub fn push_one(&mut self, element: T) -> Result<(), Full>
-        // Guarantee.
-        ensures full { IsErr result ↔ (window self.old ≡ 0) }
-        // Guarantee.
-        ensures unchanged { OnErr result (self.new ≡ self.old) }
-        // Guarantee.
-        ensures queue { OnOk result (queue self.new ≡ queue self.old ++ element ∷ []) }
-        ensures room { OnOk result (window self.new + 1 ≡ window self.old) }
-        ensures capacity { capacity self.new ≡ capacity self.old }
-        ensures ring { OnOk result (self.new ≡ with_one_enqueued self.old element) }
-        ensures call { OnOk result (Makes (EnqueueOne element) self.old self.new) }
-    {
-        *self.enqueue_one()? = element;
-        Ok(())
-    }
 }
 
 /// Many elements at a time: those that are lent are contiguous, those that are copied wrap at the
@@ -927,19 +868,6 @@ impl<T, S: Storage<T>> RingOver<T, S> {
         self.head.enqueue(self.storage.count(), count);
     }
 
-    /// Returns the length of what `get_allocated` shows and `get_allocated_mut` lends, as
-    /// [`contiguous_unallocated`](RingOver::contiguous_unallocated) does. smoltcp has no such call.
-    #[must_use]
-    pub fn contiguous_allocated(&self, offset: usize, size: usize) -> usize
-        ensures count { result ≡ contiguous_allocated self.now offset size }
-        ensures within { (result ≤ size) × (result ≤ self.now.count - offset) }
-        ensures not_empty { offset < self.now.count → 0 < size → 0 < result }
-    {
-        self.head
-            .allocated(self.capacity(), offset, size)
-            .contiguous
-    }
-
     /// Shows at most `size` elements of the queue from the one at `offset` on: as many as are
     /// contiguous, and none if `offset` is past the queue.
     ///
@@ -968,44 +896,6 @@ impl<T, S: Storage<T>> RingOver<T, S> {
     {
         let span = self.head.allocated(self.capacity(), offset, size);
         self.storage.part(span.from, span.from + span.contiguous)
-    }
-
-    /// Lends what [`get_allocated`](RingOver::get_allocated) shows, to be changed in place. smoltcp has
-    /// no such call.
-    ///
-    /// ```
-    /// # use net_base::storage::RingBuffer;
-    /// # let mut storage = [0u8; 4];
-    /// # let mut ring = RingBuffer::new(&mut storage[..]);
-    /// assert_eq!(ring.enqueue_slice(b"abc"), 3);
-    /// ring.get_allocated_mut(1, 1)[0] = b'-';
-    /// assert_eq!(ring.get_allocated(0, 4), b"a-c");
-    /// ```
-    pub fn get_allocated_mut(&mut self, offset: usize, size: usize) -> &mut [T]
-        ensures* writes_back { sem 𝓛 (lends_many T.row S.row S.Storage self.entry
-            self.old (queue_index self.old offset) result) }
-        ensures count { length result.now ≡ contiguous_allocated self.old offset size }
-        // Guarantee.
-        ensures not_empty { offset < self.old.count → 0 < size → 0 < length result.now }
-        // Guarantee.
-        ensures value { result.now ≡ take (length result.now) (drop offset (queue self.old)) }
-        ensures first { 0 < size → slice_get result.now 0 ≡ slice_get (queue self.old) offset }
-        ensures each { (k : ℕ) (d : T) → offset ≤ k → k < offset + length result.now →
-            slice_index_or (queue self.old) k d ≡ slice_index_or result.now (k - offset) d }
-        ensures end { offset ≤ length (queue self.old) →
-            offset + length result.now ≤ length (queue self.old) }
-        ensures stored { result.now
-            ≡ take (length result.now) (drop (queue_index self.old offset) self.old.storage) }
-        ensures written { (ws : List T) → length ws ≡ contiguous_allocated self.old offset size →
-            WritesQueue self.old offset ws
-            (with_elements self.old (queue_index self.old offset) ws) }
-        ensures call { (ws : List T) → length ws ≡ contiguous_allocated self.old offset size →
-            Makes (GetAllocatedMut offset ws) self.old
-            (with_elements self.old (queue_index self.old offset) ws) }
-    {
-        let span = self.head.allocated(self.capacity(), offset, size);
-        self.storage
-            .part_mut(span.from, span.from + span.contiguous)
     }
 
     /// Copies as many elements of the queue as `data` has room for, from the one at `offset` on, to
@@ -1127,67 +1017,6 @@ impl<T, S: Storage<T>> RingOver<T, S> {
     {
         let (first, second) = self.as_slices();
         Iter { first, second }
-    }
-
-    /// Shows the element of the queue at `index`; `None` if there is none.
-    ///
-    /// ```
-    /// # use net_base::storage::RingBuffer;
-    /// # let mut storage = [0u8; 4];
-    /// # let mut ring = RingBuffer::new(&mut storage[..]);
-    /// assert_eq!(ring.enqueue_slice(b"abc"), 3);
-    /// assert_eq!((ring.get(0), ring.get(2), ring.get(3)), (Some(&b'a'), Some(&b'c'), None));
-    /// ```
-    #[must_use]
-    pub fn get(&self, index: usize) -> Option<&T>
-        ensures value { option_copied result ≡ slice_get (queue self.now) index }
-        ensures some { IsSome result ↔ (index < self.now.count) }
-        ensures none { IsNone result ↔ (self.now.count ≤ index) }
-        ensures of_queue { IsSome result ↔ (index < length (queue self.now)) }
-    {
-        self.get_allocated(index, 1).first()
-    }
-
-    /// Shows the first element of the queue, the next one to be dequeued; `None` if it is empty.
-    ///
-    /// ```
-    /// # use net_base::storage::RingBuffer;
-    /// # let mut storage = [0u8; 4];
-    /// # let mut ring = RingBuffer::new(&mut storage[..]);
-    /// assert_eq!(ring.enqueue_slice(b"abc"), 3);
-    /// assert_eq!(ring.front(), Some(&b'a'));
-    /// ```
-    #[must_use]
-    pub fn front(&self) -> Option<&T>
-        ensures value { option_copied result ≡ slice_get (queue self.now) 0 }
-        ensures some { IsSome result ↔ (0 < self.now.count) }
-        ensures empty { IsNone result ↔ (self.now.count ≡ 0) }
-        ensures none_queued { IsNone result ↔ (queue self.now ≡ []) }
-    {
-        if self.is_empty() {
-            return None;
-        }
-        Some(self.storage.element(self.head.read_at))
-    }
-
-    /// Shows the last element of the queue, the one that was enqueued last; `None` if it is empty.
-    ///
-    /// ```
-    /// # use net_base::storage::RingBuffer;
-    /// # let mut storage = [0u8; 4];
-    /// # let mut ring = RingBuffer::new(&mut storage[..]);
-    /// assert_eq!(ring.enqueue_slice(b"abc"), 3);
-    /// assert_eq!(ring.back(), Some(&b'c'));
-    /// ```
-    #[must_use]
-    pub fn back(&self) -> Option<&T>
-        ensures value { option_copied result
-            ≡ slice_get (queue self.now) (length (queue self.now) - 1) }
-        ensures some { IsSome result ↔ (0 < self.now.count) }
-        ensures empty { IsNone result ↔ (self.now.count ≡ 0) }
-        ensures none_queued { IsNone result ↔ (queue self.now ≡ []) }
-    {
-        self.get(self.len().saturating_sub(1))
     }
 }
 

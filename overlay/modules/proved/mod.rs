@@ -37,7 +37,6 @@ pub mod storage {
 pub mod time {
     mod duration;
     mod instant;
-    mod optional;
 
     pub use self::duration::Duration;
     pub use self::instant::Instant;

@@ -34,7 +34,7 @@ impl<'a, T, S: Storage<T>> IntoIterator for &'a RingOver<T, S> {
 impl<T, S: Storage<T>> Extend<T> for RingOver<T, S> {
     fn extend<I: IntoIterator<Item = T>>(&mut self, elements: I) {
         for element in elements {
-            self.push_one(element).expect("room for an element");
+            *self.enqueue_one().expect("room for an element") = element;
         }
     }
 }

@@ -333,56 +333,6 @@ impl<T, S: Storage<T>> RingOver<T, S> {
         self.head.dequeue_contiguous(self.storage.count(), 1);
         self.storage.element_mut(at)
     }
-
-    /// Takes the last element of the queue off, and returns it; `None` if it is empty. The storage
-    /// stays as it is, so the element is the next free one. smoltcp has no such call.
-    ///
-    /// ```
-    /// # use net_base::storage::RingBuffer;
-    /// # let mut storage = [0u8; 4];
-    /// # let mut ring = RingBuffer::new(&mut storage[..]);
-    /// assert_eq!(ring.enqueue_slice(b"abc"), 3);
-    /// assert_eq!((ring.pop_back(), ring.back()), (Some(b'c'), Some(&b'b')));
-    /// ```
-    ///
-    /// # [Guarantees](crate#guarantees)
-    ///
-    /// - on `Some(x)`: `old(self).queue == self.queue ++ [x]`
-    pub fn pop_back(&mut self) -> Option<T>
-    where
-        T: Copy, {
-        let last = *self.back()?;
-        self.head.drop_last(1);
-        Some(last)
-    }
-}
-
-/// One element that is enqueued by value.
-impl<T: Sized, S: Storage<T>> RingOver<T, S> {
-    /// Enqueues an element, over the next free one.
-    ///
-    /// smoltcp has no such call.
-    ///
-    /// ```
-    /// # use net_base::storage::{Full, RingBuffer};
-    /// # let mut storage = [0u8; 1];
-    /// # let mut ring = RingBuffer::new(&mut storage[..]);
-    /// assert_eq!((ring.push_one(7), ring.push_one(8)), (Ok(()), Err(Full)));
-    /// ```
-    ///
-    /// # Errors
-    ///
-    /// `Full` if the ring is full. Then it stays as it is, and the element is dropped.
-    ///
-    /// # [Guarantees](crate#guarantees)
-    ///
-    /// - `result.is_err()` exactly if `old(self).window() == 0`
-    /// - on `Err`: `self == old(self)`
-    /// - on `Ok`: `self.queue == old(self).queue ++ [element]`
-    pub fn push_one(&mut self, element: T) -> Result<(), Full> {
-        *self.enqueue_one()? = element;
-        Ok(())
-    }
 }
 
 /// Many elements at a time: those that are lent are contiguous, those that are copied wrap at the
@@ -621,15 +571,6 @@ impl<T, S: Storage<T>> RingOver<T, S> {
         self.head.enqueue(self.storage.count(), count);
     }
 
-    /// Returns the length of what `get_allocated` shows and `get_allocated_mut` lends, as
-    /// [`contiguous_unallocated`](RingOver::contiguous_unallocated) does. smoltcp has no such call.
-    #[must_use]
-    pub fn contiguous_allocated(&self, offset: usize, size: usize) -> usize {
-        self.head
-            .allocated(self.capacity(), offset, size)
-            .contiguous
-    }
-
     /// Shows at most `size` elements of the queue from the one at `offset` on: as many as are
     /// contiguous, and none if `offset` is past the queue.
     ///
@@ -649,28 +590,6 @@ impl<T, S: Storage<T>> RingOver<T, S> {
     pub fn get_allocated(&self, offset: usize, size: usize) -> &[T] {
         let span = self.head.allocated(self.capacity(), offset, size);
         self.storage.part(span.from, span.from + span.contiguous)
-    }
-
-    /// Lends what [`get_allocated`](RingOver::get_allocated) shows, to be changed in place. smoltcp has
-    /// no such call.
-    ///
-    /// ```
-    /// # use net_base::storage::RingBuffer;
-    /// # let mut storage = [0u8; 4];
-    /// # let mut ring = RingBuffer::new(&mut storage[..]);
-    /// assert_eq!(ring.enqueue_slice(b"abc"), 3);
-    /// ring.get_allocated_mut(1, 1)[0] = b'-';
-    /// assert_eq!(ring.get_allocated(0, 4), b"a-c");
-    /// ```
-    ///
-    /// # [Guarantees](crate#guarantees)
-    ///
-    /// - if `offset < old(self).len()` and `0 < size`, then `0 < result.len()`
-    /// - `result == old(self).queue[offset..][..result.len()]`
-    pub fn get_allocated_mut(&mut self, offset: usize, size: usize) -> &mut [T] {
-        let span = self.head.allocated(self.capacity(), offset, size);
-        self.storage
-            .part_mut(span.from, span.from + span.contiguous)
     }
 
     /// Copies as many elements of the queue as `data` has room for, from the one at `offset` on, to
@@ -770,51 +689,6 @@ impl<T, S: Storage<T>> RingOver<T, S> {
     pub fn iter(&self) -> Iter<'_, T> {
         let (first, second) = self.as_slices();
         Iter { first, second }
-    }
-
-    /// Shows the element of the queue at `index`; `None` if there is none.
-    ///
-    /// ```
-    /// # use net_base::storage::RingBuffer;
-    /// # let mut storage = [0u8; 4];
-    /// # let mut ring = RingBuffer::new(&mut storage[..]);
-    /// assert_eq!(ring.enqueue_slice(b"abc"), 3);
-    /// assert_eq!((ring.get(0), ring.get(2), ring.get(3)), (Some(&b'a'), Some(&b'c'), None));
-    /// ```
-    #[must_use]
-    pub fn get(&self, index: usize) -> Option<&T> {
-        self.get_allocated(index, 1).first()
-    }
-
-    /// Shows the first element of the queue, the next one to be dequeued; `None` if it is empty.
-    ///
-    /// ```
-    /// # use net_base::storage::RingBuffer;
-    /// # let mut storage = [0u8; 4];
-    /// # let mut ring = RingBuffer::new(&mut storage[..]);
-    /// assert_eq!(ring.enqueue_slice(b"abc"), 3);
-    /// assert_eq!(ring.front(), Some(&b'a'));
-    /// ```
-    #[must_use]
-    pub fn front(&self) -> Option<&T> {
-        if self.is_empty() {
-            return None;
-        }
-        Some(self.storage.element(self.head.read_at))
-    }
-
-    /// Shows the last element of the queue, the one that was enqueued last; `None` if it is empty.
-    ///
-    /// ```
-    /// # use net_base::storage::RingBuffer;
-    /// # let mut storage = [0u8; 4];
-    /// # let mut ring = RingBuffer::new(&mut storage[..]);
-    /// assert_eq!(ring.enqueue_slice(b"abc"), 3);
-    /// assert_eq!(ring.back(), Some(&b'c'));
-    /// ```
-    #[must_use]
-    pub fn back(&self) -> Option<&T> {
-        self.get(self.len().saturating_sub(1))
     }
 }
 

@@ -2,7 +2,7 @@
 
 ghost use Rattle.std.specs.Prelude.{◌≡◌, ◌-◌, ◌^◌, ◌<◌, ◌<ℤ◌, pos, Some, ℕ, ℤ, List, Option};
 ghost use Rattle.std.specs.Ordering.{MatchOrdering};
-ghost use Rattle.net_base.specs.Time.{earliest_of, IsEarliest, distance, moment_text, length_text};
+ghost use Rattle.net_base.specs.Time.{distance, moment_text, length_text};
 ghost use Rattle.std.specs.Fmt.{format_spec};
 ghost use Rattle.net_base.specs.Values.{ClonesAreSame, ComparesValues};
 
@@ -63,12 +63,4 @@ pub fn texts()
     ensures duration { (x : _) (fill align flags width precision : ℕ)
         → ⟦<Duration as Display>⟧.styled_output x (format_spec fill align flags width precision)
         ≡ Some (length_text x) }
-{}
-
-/// States that a fold with `earlier`, from `None` on, finds the earliest of the moments of a list's
-/// elements.
-#[tactic(auto, using(crate::proofs::Moments::earliest_is))]
-pub fn earliest_of_each<T>()
-    ensures { (f : T → Option ℤ) (xs : List T) (t : Option ℤ) → t ≡ earliest_of f xs →
-        IsEarliest f xs t }
 {}

@@ -5,8 +5,8 @@ ghost use Rattle.net_receiver.specs.Execution.{CommandFits};
 use crate::assertions::assert_holds;
 use net_base::time::{Duration, Instant};
 use net_examples::{
-    PeerError, Timer, acknowledge, check_frame, keep_both, keep_frame, least_missing, poll_at,
-    read_last, receive,
+    PeerError, Timer, acknowledge, check_frame, keep_both, keep_frame, least_missing, read_last,
+    receive,
 };
 use net_receiver::{Command, FiniteReceiver, Receiver, SequenceNumber};
 use net_ring::ManagedSlice;
@@ -89,12 +89,6 @@ fn a_timer_expires_and_waits_longer(rt: HostRuntime) {
         ("step", 2),
     );
     assert_holds(&rt, timer.is_expired(Instant::from_secs(3)), ("step", 3));
-    let slow = Timer::new(Duration::from_secs(9), now);
-    assert_holds(
-        &rt,
-        poll_at(&[slow, timer]) == Some(Instant::from_secs(3)) && poll_at(&[]).is_none(),
-        ("step", 4),
-    );
 }
 
 /// Gives frames to a receiver over eight bytes, of a stream whose end is said to be 6.

@@ -33,9 +33,8 @@ pub fn rewinding_keeps_the_queue<T>()
 /// order, from a new ring on, the elements that left, in order, followed by those that are still
 /// queued, are exactly the elements that were enqueued, in order. An element leaves with the value
 /// that is shown then, and this is the value last written to it while it was queued, by the call
-/// that enqueued it or through a loan. Elements that `clear` and `reset` drop, and the one that
-/// `pop_back` takes off, count as never enqueued. Clause `call` of each call says which `RingCall`
-/// it is.
+/// that enqueued it or through a loan. Elements that `clear` and `reset` drop count as never
+/// enqueued. Clause `call` of each call says which `RingCall` it is.
 #[tactic(auto, using(crate::proofs::RingOrder::in_turn))]
 pub fn elements_leave_in_turn<T>()
     ensures { (storage : List T) (calls : List (RingCall T)) (g : RingState T)

@@ -92,16 +92,25 @@ fn a_ring_over_a_vector_drops_it(rt: HostRuntime) -> Result<(), Fail> {
     Ok(())
 }
 
-/// Returns whether `push_one` enqueues a value.
+/// Writes a value to the element that `enqueue_one` lends.
+fn push<'c, S: Storage<Counted<'c>>>(
+    ring: &mut RingOver<Counted<'c>, S>,
+    value: Counted<'c>,
+) -> Result<(), Full> {
+    *ring.enqueue_one()? = value;
+    Ok(())
+}
+
+/// Returns whether a value is enqueued.
 fn pushes<'c, S: Storage<Counted<'c>>>(
     ring: &mut RingOver<Counted<'c>, S>,
     drops: &'c Cell<u32>,
 ) -> bool {
-    ring.push_one(Counted { drops }).is_ok()
+    push(ring, Counted { drops }).is_ok()
 }
 
-/// Moves the read index of an empty ring of `count` values, fills the ring by `push_one`, which drops those that it
-/// writes over and the one that it refuses, and drops the ring. Returns whether each call did so, and whether as many
+/// Moves the read index of an empty ring of `count` values, fills the ring, which drops those that are written over and
+/// the one that is refused, and drops the ring. Returns whether each call did so, and whether as many
 /// values were dropped as there were.
 fn drops_what_it_pushes<'c, S: Storage<Counted<'c>> + Drop>(
     ring: RingOver<Counted<'c>, S>,

@@ -3,9 +3,9 @@ ghost use Rattle.std.specs.Prelude.{◌≡◌, ◌≢◌, ◌<◌, ◌↔◌, �
 ghost use Rattle.std.specs.Prelude.{List, IsErr, OnOk, OnErr, IfOk, vec_len};
 ghost use Rattle.net_ring.specs.Ring.{window, queue, spare, contiguous_window};
 ghost use Rattle.net_ring.specs.Ring.{contiguous_queued, contiguous_unallocated};
-ghost use Rattle.net_ring.specs.Ring.{contiguous_allocated, rewind_if_empty};
+ghost use Rattle.net_ring.specs.Ring.{rewind_if_empty};
 ghost use Rattle.net_ring.specs.Ring.{Enqueues, Dequeues};
-ghost use Rattle.net_ring.specs.Ring.{WritesSpare, WritesQueue};
+ghost use Rattle.net_ring.specs.Ring.{WritesSpare};
 
 use net_ring::{Empty, Full, ManagedSlice, RingBuffer};
 use std::marker::Model;
@@ -35,14 +35,6 @@ pub fn stage(ring: &mut RingBuffer<'_, u8>, offset: usize, byte: u8)
     ensures { WritesSpare ring.old offset (byte ∷ []) ring.new }
 {
     ring.get_unallocated(offset, 1)[0] = byte;
-}
-
-/// Writes over a byte of the queue.
-pub fn patch(ring: &mut RingBuffer<'_, u8>, offset: usize, byte: u8)
-    requires { 0 < contiguous_allocated ring.old offset 1 }
-    ensures { WritesQueue ring.old offset (byte ∷ []) ring.new }
-{
-    ring.get_allocated_mut(offset, 1)[0] = byte;
 }
 
 /// Dequeues the first byte of the queue, and leaves zero in its place.
