@@ -3,7 +3,7 @@
 
 use crate::rattle::prelude::*;
 use crate::time::Instant;
-use crate::storage::Run;
+use crate::storage::{Run, assembler};
 use crate::storage::{ManagedSlice, Storage};
 
 mod head;
@@ -232,7 +232,10 @@ impl<B: Storage<u8>, const N: usize> FragmentsOver<B, N> {
     /// Returns the packet's size, once it is known. smoltcp has no such call.
     #[must_use]
     pub fn total_size(&self) -> Option<usize> {
-        self.head.total_size()
+        if self.head.has_total == 0 {
+            return None;
+        }
+        Some(self.head.total)
     }
 
     /// Returns whether one of the `len` positions from `offset` on has arrived: whether a fragment there
@@ -306,8 +309,12 @@ impl<B: Storage<u8>, const N: usize> FragmentsOver<B, N> {
     /// ```
     #[must_use]
     pub fn get(&self, offset: usize, len: usize) -> Option<&[u8]> {
+        assembler::laws::first_missing();
         let count = self.bytes.count();
-        if offset > count || len > count - offset || !self.head.has(&self.runs, offset, len) {
+        if offset > count || len > count - offset {
+            return None;
+        }
+        if self.head.present.first_missing(&self.runs, offset) - offset < len {
             return None;
         }
         Some(self.bytes.part(offset, offset + len))

@@ -9,7 +9,7 @@ ghost use Rattle.net_base.specs.Fragments.{fragments_of, HasSoundParts, IsExact,
 ghost use Rattle.net_base.specs.Fragments.{Differs, Adds, TakesSize, Meets, HasRange, empty, begun};
 
 use crate::time::Instant;
-use net_assembler::Run;
+use net_assembler::{Run, assembler};
 use net_ring::{ManagedSlice, Storage};
 use std::marker::Model;
 use thiserror::Error;
@@ -319,7 +319,10 @@ impl<B: Storage<u8>, const N: usize> FragmentsOver<B, N> {
         ensures room { limit_of self.now ≤ length self.now.bytes }
         ensures below { IsBelow self.now.present (limit_of self.now) }
     {
-        self.head.total_size()
+        if self.head.has_total == 0 {
+            return None;
+        }
+        Some(self.head.total)
     }
 
     /// Returns whether one of the `len` positions from `offset` on has arrived: whether a fragment there
@@ -406,8 +409,12 @@ impl<B: Storage<u8>, const N: usize> FragmentsOver<B, N> {
         ensures bytes { IfSome result (λ r. r.now
             ≡ slice_range self.now.bytes offset (offset + len)) }
     {
+        assembler::laws::first_missing();
         let count = self.bytes.count();
-        if offset > count || len > count - offset || !self.head.has(&self.runs, offset, len) {
+        if offset > count || len > count - offset {
+            return None;
+        }
+        if self.head.present.first_missing(&self.runs, offset) - offset < len {
             return None;
         }
         Some(self.bytes.part(offset, offset + len))

@@ -195,15 +195,6 @@ impl FragmentsHead {
         Ok(())
     }
 
-    /// Returns the packet's size, once it is known.
-    pub(crate) fn total_size(&self) -> Option<usize> {
-        if self.has_total == 0 {
-            None
-        } else {
-            Some(self.total)
-        }
-    }
-
     /// Returns whether one of the `len` positions from `offset` on has arrived: whether a fragment there
     /// overlaps bytes that are present. They need not be within the buffer.
     ///
@@ -222,16 +213,6 @@ impl FragmentsHead {
             Some(end) => end - offset < len,
             None => false,
         }
-    }
-
-    /// Returns whether all of the `len` positions from `offset` on have arrived; `true` if there is none.
-    ///
-    /// # Requires
-    ///
-    /// The runs are sound.
-    pub(crate) fn has(&self, runs: &[Run], offset: usize, len: usize) -> bool {
-        assembler::laws::first_missing();
-        self.present.first_missing(runs, offset) - offset >= len
     }
 
     /// Returns whether a byte that arrived differs from that of the fragment whose first byte is that of the packet at

@@ -6,7 +6,7 @@ ghost use Rattle.std.specs.Prelude.{OnErr, unwrap_or, false};
 ghost use Rattle.std.specs.declared.option.Option.TheVariants.{Some};
 ghost use Rattle.net_assembler.specs.Positions.{nothing};
 ghost use Rattle.net_assembler.specs.RunLists.{set_of, HasSoundRuns};
-ghost use Rattle.net_base.specs.Fragments.{IsComplete, IsBelow, begun, Adds, TakesSize, Differs, HasOther, Meets, HasRange};
+ghost use Rattle.net_base.specs.Fragments.{IsComplete, IsBelow, begun, Adds, TakesSize, Differs, HasOther, Meets};
 ghost use Rattle.net_base.specs.Fragments.{total_of, fragments_of, HasSoundParts, IsExact, zero_fragments};
 
 use super::FragmentError;
@@ -279,17 +279,6 @@ impl FragmentsHead {
         Ok(())
     }
 
-    /// Returns the packet's size, once it is known.
-    pub(crate) fn total_size(&self) -> Option<usize>
-        ensures { result ≡ total_of self.now }
-    {
-        if self.has_total == 0 {
-            None
-        } else {
-            Some(self.total)
-        }
-    }
-
     /// Returns whether one of the `len` positions from `offset` on has arrived: whether a fragment there
     /// overlaps bytes that are present. They need not be within the buffer.
     ///
@@ -311,19 +300,6 @@ impl FragmentsHead {
             Some(end) => end - offset < len,
             None => false,
         }
-    }
-
-    /// Returns whether all of the `len` positions from `offset` on have arrived; `true` if there is none.
-    ///
-    /// # Requires
-    ///
-    /// The runs are sound.
-    pub(crate) fn has(&self, runs: &[Run], offset: usize, len: usize) -> bool
-        requires sound { HasSoundRuns self.now.present runs.now }
-        ensures { IsTrue result ↔ HasRange (set_of self.now.present runs.now) offset len }
-    {
-        assembler::laws::first_missing();
-        self.present.first_missing(runs, offset) - offset >= len
     }
 
     /// Returns whether a byte that arrived differs from that of the fragment whose first byte is that of the packet at
