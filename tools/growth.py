@@ -35,9 +35,9 @@ OVER, OVER_OF_RUNS = 30, 45
 # case.
 TYPES = {
     "assembler": "Assembler", "scoreboard": "Scoreboard", "recovery": "LossRecovery", "receiver": "ReceiverOver",
-    "finite_receiver": "FiniteReceiverOver", "sender": "SenderOver", "finite_sender": "FiniteSenderOver",
-    "plan": "Plan", "fragments": "FragmentsOver", "table": "fragment_table",
-    "send_buffer": "SendBufferOver", "sending_end": "SendingEndOver", "receiving_end": "ReceivingEndOver",
+    "finite_receiver": "FiniteReceiverOver", "finite_sender": "FiniteSenderOver", "fragments": "FragmentsOver",
+    "table": "fragment_table", "send_buffer": "SendBufferOver", "sending_end": "SendingEndOver",
+    "receiving_end": "ReceivingEndOver",
 }
 # Calls without a class, by reason.
 LEFT_OUT = {
@@ -45,16 +45,15 @@ LEFT_OUT = {
         assembler: new empty clear / scoreboard: empty empty_at reset_at / recovery: new
         receiver: new new_at empty empty_at over over_at into_storage reset_at
         finite_receiver: empty_at over over_at into_storage reset_at
-        sender: new new_at over over_at into_storage reset_at / finite_sender: new_at over over_at into_storage reset_at
+        finite_sender: new_at over over_at into_storage reset_at
         fragments: new empty over into_storage
         send_buffer: new_at over_at reset_at / sending_end: forget new_at over_at reset_at
         receiving_end: empty_at over_at""",
     "it reads numbers of the head, or of what it is given": """
         assembler: fits is_empty peek_front run_count / scoreboard: first_unreported
         recovery: duplicates is_active is_blind
-        receiver: capacity first_unread fits held_count is_empty next queued window window_end
+        receiver: capacity fits held_count is_empty next queued window window_end
         finite_receiver: acknowledged end has_read_all is_complete receiver window_end
-        sender: capacity end first_unacknowledged is_empty len window
         finite_sender: capacity first_number is_closed is_closed_and_acknowledged is_empty len numbers_end sent
         finite_sender: sent_numbers window
         fragments: capacity expires_at is_empty is_expired total_size
@@ -62,13 +61,12 @@ LEFT_OUT = {
         sending_end: acknowledgement_number expires_at flight_size is_done is_recovering nagle_enabled numbers
         sending_end: round_trip segment_size timeouts window / receiving_end: answer is_due receiver""",
     "only a program makes it, and it takes queued bytes": """
-        receiver: as_slices peek peek_slice peek_slices read_with / finite_receiver: read_with
+        receiver: as_slices peek peek_slice read_with / finite_receiver: read_with
         receiving_end: read_with""",
     "only a program makes it, and it gives bytes, or ends the stream": """
-        sender: write / finite_sender: close write / send_buffer: close write
+        finite_sender: close write / send_buffer: close write
         sending_end: close set_nagle_enabled write""",
-    "only a program makes it: it compares two values": "receiver: same_state / finite_receiver: same_state",
-    "it copies the runs, of which callgrind counts each byte where they are many": "receiver: plan",
+    "only a program makes it: it compares two values": "receiver: same_state",
 }
 HERE = Path(__file__).resolve().parent
 PAGE = HERE.parent / "compare/results/growth.md"

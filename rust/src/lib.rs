@@ -4,10 +4,11 @@
 //! Of smoltcp there are `storage`, `time`, `rand`, and of `phy` capabilities, checksums and metadata. Names, signatures
 //! and behaviour are those of [smoltcp](https://github.com/smoltcp-rs/smoltcp) 0.14.0, except where an item says
 //! otherwise. Beyond smoltcp there are [`receiver::Receiver`], which joins segments that come in any order to a stream,
-//! [`sender::Sender`], which stores bytes until they are acknowledged, the same for streams that end ([`finite`]),
-//! [`scoreboard::Scoreboard`], which says what to send again, [`sequence_number::SequenceNumber`], TCP's numbers that
-//! wrap, the small machines of [`tcp`], and [`storage::Assembler`]s of any number of runs. [`ends`] has all of these as
-//! the two ends of a connection. For a stream of QUIC there are [`finite::FiniteReceiver`] and [`ends::SendBuffer`].
+//! [`finite::FiniteReceiver`], which knows where its stream ends, [`finite::FiniteSender`], which stores bytes until they
+//! are acknowledged, [`scoreboard::Scoreboard`], which says what to send again, [`sequence_number::SequenceNumber`],
+//! TCP's numbers that wrap, the small machines of [`tcp`], and [`storage::Assembler`]s of any number of runs. [`ends`]
+//! has all of these as the two ends of a connection. For a stream of QUIC there are [`finite::FiniteReceiver`] and
+//! [`ends::SendBuffer`].
 //! `docs/GUIDE.md` of the repository has each as code, and the order of their calls.
 //!
 //! ```
@@ -93,7 +94,6 @@ pub mod phy;
 mod rattle;
 pub mod receiver;
 pub mod scoreboard;
-pub mod sender;
 pub mod sequence_number;
 pub mod storage;
 mod stream;

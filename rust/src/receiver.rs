@@ -9,8 +9,7 @@ use crate::managed::ManagedSlice;
 use crate::storage::{Listed, Storage};
 
 pub use crate::stream::{
-    HeldRunIter, HeldRuns, Kept, KeptBytes, MissingRunIter, NewestRunIter, Plan, Receiver,
-    ReceiverOver, SegmentParts,
+    HeldRunIter, HeldRuns, Kept, KeptBytes, NewestRunIter, Receiver, ReceiverOver, SegmentParts,
 };
 
 impl<'a> Receiver<'a> {
@@ -88,16 +87,6 @@ impl fmt::Debug for HeldRunIter<'_> {
 impl ExactSizeIterator for HeldRunIter<'_> {}
 
 impl iter::FusedIterator for HeldRunIter<'_> {}
-
-impl fmt::Debug for MissingRunIter<'_> {
-    fn fmt(&self, f: &mut fmt::Formatter) -> fmt::Result {
-        f.debug_list().entries(self.clone()).finish()
-    }
-}
-
-impl ExactSizeIterator for MissingRunIter<'_> {}
-
-impl iter::FusedIterator for MissingRunIter<'_> {}
 
 #[cfg(test)]
 mod tests {

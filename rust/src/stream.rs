@@ -1,6 +1,5 @@
 //! A stream of bytes: what receives it, what sends it, and what is lost on the way. Public are [`crate::receiver`],
-//! [`crate::sender`], [`crate::finite`], [`crate::scoreboard`] and [`crate::sequence_number`], and loss recovery in
-//! [`crate::tcp`].
+//! [`crate::finite`], [`crate::scoreboard`] and [`crate::sequence_number`], and loss recovery in [`crate::tcp`].
 erased! {
     pub(crate) mod duplicate_block;
     pub(crate) mod equal_acknowledgement;
@@ -14,13 +13,11 @@ erased! {
     pub(crate) mod laws;
     pub(crate) mod loss_recovery;
     pub(crate) mod numbering;
-    pub(crate) mod plan;
     pub(crate) mod receiver;
     pub(crate) mod receiver_head;
     pub(crate) mod reported;
     pub(crate) mod scoreboard;
     pub(crate) mod scoreboard_head;
-    pub(crate) mod sender;
     pub(crate) mod sender_head;
     pub(crate) mod sent_numbers;
     pub(crate) mod sequence_number;
@@ -30,16 +27,14 @@ pub use duplicate_block::is_duplicate_block;
 pub use equal_acknowledgement::is_equal_acknowledgement;
 pub use finite_receiver::{FiniteReceiver, FiniteReceiverOver};
 pub use finite_sender::{FiniteSender, FiniteSenderOver};
-pub use held_runs::{HeldRunIter, HeldRuns, MissingRunIter, NewestRunIter};
+pub use held_runs::{HeldRunIter, HeldRuns, NewestRunIter};
 pub use kept::{FiniteError, Kept, KeptBytes, SegmentParts};
 pub use loss_recovery::{Answer, LossRecovery};
 pub use numbering::Numbering;
-pub use plan::Plan;
 pub use receiver::{Receiver, ReceiverOver};
 pub use reported::Reported;
 pub use scoreboard::Scoreboard;
 pub use scoreboard_head::ReportError;
-pub use sender::{Sender, SenderOver};
 pub use sent_numbers::SentNumbers;
 pub use sequence_number::SequenceNumber;
 

@@ -6,7 +6,6 @@ use net_base::ends::{
 use net_base::finite::{FiniteReceiver, FiniteSender, SentNumbers};
 use net_base::receiver::Receiver;
 use net_base::scoreboard::Scoreboard;
-use net_base::sender::Sender;
 use net_base::sequence_number::SequenceNumber;
 use net_base::storage::fragment_table::{accept, remove_expired, take_complete, FragmentSlot};
 use net_base::storage::FragmentBuffer;
@@ -75,24 +74,23 @@ fn receivers() {
     let mut into = [0; 9];
     for _ in 0..calls() {
         let ([pos, other], bytes) = (draw.numbers(), draw.bytes(BYTES));
-        match draw.below(10) {
+        match draw.below(9) {
             0 => {
                 plain.reset_at(pos);
                 finite.reset_at(pos.min(u64::MAX - 1));
                 draw.1 = pos;
             }
             1 => assert!(plain.read(&mut into) <= 9 && finite.read(&mut into) <= 9),
-            2 => assert!(plain.count_new(pos, other as usize) <= plain.window()),
-            3 => assert!(finite.count_new(pos, other as usize) <= finite.receiver().window()),
-            4 => assert!(
+            2 => assert!(finite.count_new(pos, other as usize) <= finite.receiver().window()),
+            3 => assert!(
                 !finite.can_end(u64::MAX)
                     && (finite.end().is_none()
                         || !finite.can_end(pos)
                         || finite.end() == Some(pos))
             ),
-            5 => assert!(plain.newest_runs(pos, &mut [other; 2]).count() <= 2),
-            6 => assert!(finite.receiver().newest_runs(pos, &mut [other; 2]).count() <= 2),
-            7 => assert!(plain.keep(pos, bytes).map_or(0, |it| it.kept) <= bytes.len()),
+            4 => assert!(plain.newest_runs(pos, &mut [other; 2]).count() <= 2),
+            5 => assert!(finite.receiver().newest_runs(pos, &mut [other; 2]).count() <= 2),
+            6 => assert!(plain.keep(pos, bytes).map_or(0, |it| it.kept) <= bytes.len()),
             _ => {
                 let next = finite.acknowledged();
                 let is_known = finite.end().is_some();
@@ -108,45 +106,33 @@ fn receivers() {
 #[test]
 fn senders() {
     let mut draw = Draw(0xd1b5_4a32_d192_ed03, 0);
-    let (mut storage, mut other) = ([0; 16], [0; 16]);
-    let mut plain = Sender::new_at(&mut storage[..], 0);
-    let mut finite = FiniteSender::new_at(&mut other[..], 0);
+    let mut storage = [0; 16];
+    let mut finite = FiniteSender::new_at(&mut storage[..], 0);
     let mut board = Scoreboard::<2>::empty();
     for _ in 0..calls() {
         let [pos, limit, sent] = draw.numbers();
-        let [initial, start, end] = draw.numbers().map(|it: u64| SequenceNumber::new(it as u32));
-        match draw.below(14) {
+        let [initial, start] = draw.numbers().map(|it: u64| SequenceNumber::new(it as u32));
+        match draw.below(10) {
             0 => {
-                plain.reset_at(pos);
                 finite.reset_at(pos.min(u64::MAX - 1));
                 board.reset_at(pos);
                 draw.1 = pos;
             }
-            1 => assert!(
-                plain.write(draw.bytes(BYTES)) <= 16 && finite.write(draw.bytes(BYTES)) <= 16
-            ),
+            1 => assert!(finite.write(draw.bytes(BYTES)) <= 16),
             2 => finite.close(),
             3 => assert!(finite.peek_at(pos, limit).0.len() <= 16),
             4 => assert!(finite.send_at(pos, limit).0.len() <= 16),
-            5 => assert!(plain.peek_at(pos, limit as usize).len() <= 16),
-            6 => assert!(!plain.acknowledge(pos) || plain.first_unacknowledged() == pos),
-            7 => assert!(!finite.acknowledge(pos) || finite.first_number() == pos),
-            8 => assert!(!finite.mark_sent(pos) || finite.sent() >= pos),
-            9 => board.acknowledge(pos),
-            10 => assert!(board.report(pos, limit, sent).is_err() || board.contains(pos)),
-            11 => assert!(board.report_block(initial, start, end, sent).is_err() || sent > 0),
-            12 => {
+            5 => assert!(!finite.acknowledge(pos) || finite.first_number() == pos),
+            6 => assert!(!finite.mark_sent(pos) || finite.sent() >= pos),
+            7 => board.acknowledge(pos),
+            8 => assert!(board.report(pos, limit, sent).is_err() || board.contains(pos)),
+            _ => {
                 assert!(board.next_hole(pos, limit).is_none_or(|it| pos <= it.0 && it.1 <= limit))
             }
-            _ => assert!(board
-                .next_lost(pos, limit as usize, sent as usize)
-                .is_none_or(|it| it.0 < it.1)),
         }
-        assert!(finite.is_block(pos, limit) == (pos < limit && limit <= finite.sent()));
         assert!(start
             .position(initial, pos)
             .is_none_or(|it| SequenceNumber::at(initial, it) == start));
-        assert!(board.contains(pos) == (board.first_missing(pos) > pos));
         assert!(
             board.lost_below(limit as usize, sent as usize)
                 <= board.highest_reported().max(board.first_unreported())

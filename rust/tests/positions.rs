@@ -3,7 +3,6 @@
 use net_base::finite::{FiniteError, FiniteReceiver, FiniteSender};
 use net_base::receiver::Receiver;
 use net_base::scoreboard::{ReportError, Scoreboard};
-use net_base::sender::Sender;
 use net_base::sequence_number::SequenceNumber;
 use net_base::storage::{Assembler, FragmentBuffer, FragmentError, RingBuffer};
 use net_base::time::Instant;
@@ -33,7 +32,7 @@ fn received() {
         for pos in aliases(first).chain(aliases(first + 4)).filter(|&pos| pos < u64::MAX - 1) {
             let kept = it.segment(pos, b"no").expect("no run is added");
             assert_eq!((kept.kept, kept.queued, it.held().count()), (0, 0, 0), "{first} {pos}");
-            assert_eq!(it.count_new(pos, 2), 0);
+            assert_eq!(it.parts_of(pos, 2).in_window, 0);
         }
         assert_eq!(it.segment(first + 4, b"ef").map(|kept| (kept.kept, kept.queued)), Ok((2, 0)));
         assert_eq!(it.held().collect::<Vec<_>>(), [(first + 4, first + 6)]);
@@ -54,18 +53,19 @@ fn received() {
 fn sent() {
     for first in begins() {
         let mut storage = [0u8; 8];
-        let mut it = Sender::new_at(&mut storage[..], first);
-        assert_eq!((it.write(b"abcdefghi"), it.end()), (8, first + 8));
-        assert_eq!((it.peek_at(first, 9), it.peek_at(first + 7, 9)), (&b"abcdefgh"[..], &b"h"[..]));
+        let mut it = FiniteSender::new_at(&mut storage[..], first);
+        let lent = |it: &FiniteSender, pos: u64| it.peek_at(pos, u64::MAX).0.to_vec();
+        assert_eq!((it.write(b"abcdefghi"), it.numbers_end()), (8, first + 8));
+        assert_eq!((lent(&it, first), lent(&it, first + 7)), (b"abcdefgh".to_vec(), b"h".to_vec()));
         for pos in aliases(first + 1) {
-            assert_eq!(it.peek_at(pos, 4), b"", "{first} {pos}");
+            assert_eq!(lent(&it, pos), b"", "{first} {pos}");
             assert!(!it.acknowledge(pos), "{first} {pos}");
-            let mut mark = first;
-            assert_eq!((it.mark_sent(&mut mark, pos), mark), (pos <= first, first));
+            assert_eq!((it.mark_sent(pos), it.sent()), (pos <= first, first));
         }
-        assert!(it.acknowledge(first + 5) && it.first_unacknowledged() == first + 5);
-        assert_eq!((it.write(b"jklmnopq"), it.peek_at(first + 7, 9)), (5, &b"h"[..]));
-        assert_eq!(it.peek_at(first + 8, 9), b"jklmn");
+        assert!(it.mark_sent(first + 5) && it.acknowledge(first + 5));
+        assert_eq!(it.first_number(), first + 5);
+        assert_eq!((it.write(b"jklmnopq"), lent(&it, first + 7)), (5, b"h".to_vec()));
+        assert_eq!(lent(&it, first + 8), b"jklmn");
     }
 }
 
@@ -139,13 +139,12 @@ fn last_positions() {
     assert_eq!(it.segment(u64::MAX - 4, b"abcd").map(|kept| (kept.kept, kept.queued)), Ok((4, 4)));
     assert_eq!(it.next(), u64::MAX);
     let mut storage = [0u8; 16];
-    let mut it = Sender::new_at(&mut storage[..], u64::MAX - 4);
-    assert_eq!((it.window(), it.write(b"abcdef"), it.end()), (4, 4, u64::MAX));
-    assert_eq!(
-        (it.window(), it.peek_at(u64::MAX - 1, 9), it.peek_at(u64::MAX, 9)),
-        (0, &b"d"[..], &b""[..])
-    );
-    assert!(it.acknowledge(u64::MAX) && it.is_empty() && it.window() == 0);
+    let mut it = FiniteSender::new_at(&mut storage[..], u64::MAX - 5);
+    assert_eq!((it.window(), it.write(b"abcdef"), it.numbers_end()), (4, 4, u64::MAX - 1));
+    it.close();
+    assert_eq!((it.window(), it.numbers_end()), (0, u64::MAX));
+    assert_eq!(it.send_at(u64::MAX - 2, u64::MAX), (&b"d"[..], true));
+    assert!(it.acknowledge(u64::MAX) && it.is_closed_and_acknowledged() && it.window() == 0);
 }
 
 /// Offsets of an assembler are `usize`: up to the greatest one.

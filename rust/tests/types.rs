@@ -19,7 +19,6 @@ use net_base::phy::{
 use net_base::rand::Rand;
 use net_base::receiver::{Kept, KeptBytes, Receiver, ReceiverOver};
 use net_base::scoreboard::{ReportError, Scoreboard};
-use net_base::sender::{Sender, SenderOver};
 use net_base::sequence_number::{Numbering, SequenceNumber};
 use net_base::storage::fragment_table::{AcceptError, FragmentSlot};
 use net_base::storage::{
@@ -284,7 +283,8 @@ fn constants() {
     static QUEUE: Mutex<PacketsOver<u8, [PacketMetadata<u8>; 2], [u8; 9]>> =
         Mutex::new(PacketsOver::over([PacketMetadata::EMPTY; 2], [0; 9]));
     static RECEIVER: Mutex<ReceiverOver<[u8; 8], 2>> = Mutex::new(ReceiverOver::over_at([0; 8], 5));
-    static SENDER: Mutex<SenderOver<[u8; 8]>> = Mutex::new(SenderOver::over_at([0; 8], 5));
+    static SENDER: Mutex<FiniteSenderOver<[u8; 8]>> =
+        Mutex::new(FiniteSenderOver::over_at([0; 8], 5));
     static FRAGMENTS: Mutex<FragmentsOver<[u8; 8], 2>> =
         Mutex::new(FragmentsOver::over([0; 8], Instant::ZERO));
     let mut ring = RING.lock().unwrap();
@@ -295,7 +295,7 @@ fn constants() {
     let mut receiver = RECEIVER.lock().unwrap();
     assert!(receiver.segment(6, b"b").is_ok() && receiver.next() == 5);
     let mut sender = SENDER.lock().unwrap();
-    assert_eq!((sender.write(b"ab"), sender.end()), (2, 7));
+    assert_eq!((sender.write(b"ab"), sender.numbers_end()), (2, 7));
     assert_eq!(FRAGMENTS.lock().unwrap().add(7, b"ab"), Err(FragmentError::TooLong));
     assert!(ASSEMBLER.is_empty() && FOUR.is_empty() && !SCOREBOARD.contains(0) && SLOTS.len() == 2);
     assert_eq!((RAND.state(), NUMBER), (3, 7));
@@ -318,7 +318,7 @@ fn threads() {
     both::<FragmentBuffer<'_, 4>>();
     both::<Receiver<'_, 4>>();
     both::<FiniteReceiver<'_, 4>>();
-    both::<Sender<'_>>();
+    both::<FiniteSender<'_>>();
     both::<Scoreboard<4>>();
     both::<(Rand, SequenceNumber, Instant, Duration, DeviceCapabilities, PacketMeta)>();
     both::<(PartsSum, PeerWindow, AdvertisedWindow, RetransmissionTimeout, Segment, Arrival)>();
@@ -346,7 +346,7 @@ fn lifetimes() {
     fn finite<'s>(it: FiniteReceiver<'static>, _: &'s u8) -> FiniteReceiver<'s> {
         it
     }
-    fn sender<'s>(it: Sender<'static>, _: &'s u8) -> Sender<'s> {
+    fn sender<'s>(it: FiniteSender<'static>, _: &'s u8) -> FiniteSender<'s> {
         it
     }
     fn slice<'s>(it: ManagedSlice<'static, u8>, _: &'s u8) -> ManagedSlice<'s, u8> {
@@ -362,7 +362,7 @@ fn lifetimes() {
     assert_eq!(fragments(FragmentBuffer::new(leak(), Instant::ZERO), &short).capacity(), 4);
     assert_eq!(receiver(Receiver::new(leak()), &short).capacity(), 4);
     assert_eq!(finite(FiniteReceiver::empty_at(leak(), 5), &short).acknowledged(), 5);
-    assert_eq!(sender(Sender::new(leak()), &short).capacity(), 4);
+    assert_eq!(sender(FiniteSender::new_at(leak(), 0), &short).capacity(), 4);
     assert_eq!(slice(ManagedSlice::from(leak()), &short).len(), 4);
     let slots = Box::leak(vec![PacketMetadata::EMPTY; 2].into_boxed_slice());
     let it = PacketLoopback::new(Medium::Ip, PacketBuffer::new(slots, leak()), leak(), leak());

@@ -2,13 +2,9 @@
 --     IsError s pos xs last e      a frame of the bytes xs at pos is the error e of a peer
 --     IsFirst s pos xs last e      and none that is named before it
 --     IsFine s pos xs last      it is none
---     IsTaken v p xs, after_frame v p xs      whether a receiver of 4 held runs keeps a frame, and what that leaves
-use Rattle.std.specs.Prelude.{ℕ, ◌+◌, ◌<◌, ◌⊎◌, List, length, Bool, IsTrue, IsOk}
+use Rattle.std.specs.Prelude.{ℕ, ◌+◌, ◌<◌, ◌⊎◌, List, length, Bool, IsTrue}
 use Rattle.net_receiver.specs.Finite.{FiniteState, has_other_end}
-use Rattle.net_receiver.specs.Schedule.{piece}
-use Rattle.net_receiver.specs.ReceiverState.{ReceiverState, Segment, existing, verdict, numbers, receiver_after_command}
 use Rattle.net_receiver.specs.PartsOf.{finite_parts}
-use Rattle.net_receiver.specs.Differences.{DiffersFrom}
 use Rattle.net_examples.specs.declared.stream_frame.PeerError.{PeerError}
 use Rattle.net_examples.specs.declared.stream_frame.PeerError.TheVariants as errors
 
@@ -17,19 +13,10 @@ module _ (s : FiniteState) (pos : ℕ) (xs : List ℕ) (last : Bool) where
   IsError errors.FinalSize =
       (0 < (finite_parts s pos (length xs)).past_end) ⊎ IsTrue (has_other_end s (pos + length xs) last)
   IsError errors.FlowControl = 0 < (finite_parts s pos (length xs)).beyond
-  IsError errors.ProtocolViolation = DiffersFrom s.receiver pos xs
 
   abbrev pub IsFirst : PeerError → Type 0
   IsFirst errors.FinalSize = IsError errors.FinalSize
   IsFirst errors.FlowControl = IsError errors.FlowControl × (IsError errors.FinalSize → ⊥)
-  IsFirst errors.ProtocolViolation =
-      IsError errors.ProtocolViolation × (IsError errors.FlowControl → ⊥) × (IsError errors.FinalSize → ⊥)
 
   abbrev pub IsFine : Type 0
   IsFine = (e : PeerError) → IsError e → ⊥
-
-abbrev pub IsTaken : ReceiverState → ℕ → List ℕ → Type 0
-IsTaken v p xs = IsOk (numbers v (verdict 4 v (piece p (existing p xs))))
-
-abbrev pub after_frame : ReceiverState → ℕ → List ℕ → ReceiverState
-after_frame v p xs = receiver_after_command 4 v (Segment p (existing p xs))

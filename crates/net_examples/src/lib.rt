@@ -68,7 +68,7 @@ pub use samples::Samples;
 pub use send_frame::send_bytes;
 pub use split_ring::read_written;
 pub use storage::{free_indices, seeded};
-pub use stream_frame::{PeerError, check_frame, keep_both, keep_frame};
+pub use stream_frame::{PeerError, check_frame, keep_frame};
 pub use streams::{begin, is_all_acknowledged, is_counted, keep_first, next_missing, skip};
 pub use tcp::{
     accepts, accepts_promised, checksum_after, checksum_between, complement, expire, first_window,

@@ -1,9 +1,9 @@
 //! Frames of a QUIC stream: what their peer did wrong is seen before anything is kept.
-ghost use Rattle.std.specs.Prelude.{◌≡◌, ◌<◌, ◌↔◌, IsTrue, IsFalse, IfSome, length, MatchResult};
+ghost use Rattle.std.specs.Prelude.{◌≡◌, ◌<◌, ◌↔◌, IsTrue, IfSome, length, MatchResult};
 ghost use Rattle.net_receiver.specs.PartsOf.{finite_parts};
-ghost use Rattle.net_examples.specs.StreamFrames.{IsFine, IsFirst, IsTaken, after_frame};
+ghost use Rattle.net_examples.specs.StreamFrames.{IsFine, IsFirst};
 
-use net_receiver::{FiniteReceiver, Receiver, laws};
+use net_receiver::{FiniteReceiver, laws};
 
 /// Why a frame is an error of the peer, by the names of QUIC (RFC 9000, section 20.1).
 #[derive(Debug, Clone, Copy, PartialEq, Eq, Drop)]
@@ -12,8 +12,6 @@ pub enum PeerError {
     FinalSize,
     /// `FLOW_CONTROL_ERROR`: it has bytes past the free window.
     FlowControl,
-    /// `PROTOCOL_VIOLATION`: it has another byte at a position than came before.
-    ProtocolViolation,
 }
 
 /// Returns whether a frame has bytes in the free window; if it has none, its bytes are a repetition. Nothing is kept.
@@ -40,9 +38,6 @@ pub fn check_frame(
     if parts.beyond > 0 {
         return Err(PeerError::FlowControl);
     }
-    if receiver.differs(offset, bytes) {
-        return Err(PeerError::ProtocolViolation);
-    }
     Ok(parts.in_window > 0)
 }
 
@@ -57,28 +52,4 @@ pub fn keep_frame(receiver: &mut FiniteReceiver<'_, 4>, offset: u64, bytes: &[u8
         Ok(it) => Some(it.kept),
         Err(_) => None,
     }
-}
-
-/// Keeps two frames of a packet, each with its offset in the stream. If either would be refused, it keeps neither and
-/// returns `false`.
-pub fn keep_both(
-    receiver: &mut Receiver<'_, 4>,
-    first_at: u64,
-    first: &[u8],
-    second_at: u64,
-    second: &[u8],
-) -> bool
-    ensures taken { IsTrue result ↔ (IsTaken receiver.old first_at first.now
-        × IsTaken (after_frame receiver.old first_at first.now) second_at second.now) }
-    ensures both { IsTrue result → receiver.new
-        ≡ after_frame (after_frame receiver.old first_at first.now) second_at second.now }
-    ensures neither { IsFalse result → receiver.new ≡ receiver.old }
-{
-    let mut plan = receiver.plan();
-    if plan.keep(first_at, first.len()).is_err() || plan.keep(second_at, second.len()).is_err() {
-        return false;
-    }
-    let _first = receiver.keep(first_at, first).is_ok();
-    let _second = receiver.keep(second_at, second).is_ok();
-    true
 }

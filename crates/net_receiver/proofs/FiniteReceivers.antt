@@ -14,7 +14,7 @@ use Rattle.net_receiver.specs.{HasSoundHeld, HasSoundFinite, next_at, held_at, t
 use Rattle.net_receiver.specs.FiniteHead.{end_of, next_of}
 use Rattle.net_receiver.proofs.Words.{AssemblerHead, Refuses, Keeps}
 use Rattle.net_receiver.specs.{ReceivesFrom, AcknowledgedGrows, EndIsTaken}
-use Rattle.net_receiver.specs.{AllBytesComplete, SameEndConverges}
+use Rattle.net_receiver.specs.{AllBytesComplete}
 use Rattle.net_receiver.specs.{finite_after_command, bytes_of, bytes_taken}
 use Rattle.net_receiver.specs.{SoundEndStays, EndStays, SegmentOfStream, ReadsTheStream, OnlyEndsDiffer, KeepsNone}
 use Rattle.net_receiver.specs.{EndInOrder, queue_only, queue_alone, ends_in_order, before_segment, usual_after}
@@ -53,7 +53,7 @@ use Rattle.net_receiver.proofs.Words.{range_with_len, unwrap_or, KeptState, HasR
 use Rattle.net_receiver.proofs.Sets.{piece_at, clip_at, contains-domain, next_joined, lacks, lacking, updated_has}
 use Rattle.net_receiver.proofs.Sets.{left_above, cond_some, slice_get-take, piece_from, clip_byte, some_cond, same_both}
 use Rattle.net_receiver.proofs.Sets.{first_unique, map_range_same}
-use Rattle.net_receiver.proofs.Schedules.{any_verdict, some_of, converge, schedule, none_of, missing_is}
+use Rattle.net_receiver.proofs.Schedules.{any_verdict, some_of, schedule, none_of, missing_is}
 use Rattle.net_receiver.proofs.Theorems.{sound_stays}
 use Rattle.std.proofs.lemmas.Bool.{not-true}
 use Rattle.std.specs.Prelude.{IsOk, Ok, OnErr}
@@ -1035,10 +1035,6 @@ pub all_bytes_complete : AllBytesComplete
 all_bytes_complete N s sound end all =
     let reached = has_all_reaches N s.receiver s.end sound all in
     eq_tests (next_position s.receiver) s.end (omega (arith, end.below))
-
-pub same_end_converges : SameEndConverges
-same_end_converges x s t k l d e first agrees agrees' same read ends =
-    (ends, converge x s.receiver t.receiver k l d e first agrees agrees' same read)
 
 -- ---- Lists of segments and reads of a receiver of a stream that ends, as lists of a receiver's commands.
 -- ---- one segment, by what it meets

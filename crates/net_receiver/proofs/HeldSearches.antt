@@ -5,7 +5,7 @@ use Rattle.net_receiver.proofs.Words.{◌∷◌, length, Some, None, slice_get, 
 use Rattle.net_receiver.proofs.Words.{find, cond-true, cond-false, cases_lt, Positions, contains, maximal_runs, lies_in}
 use Rattle.net_receiver.proofs.Words.{IsMaximalRun, IsTrue, IsRising, run_at, shift_up, runs_shifted_up}
 use Rattle.net_receiver.proofs.Words.{maximal_runs-shift_up, end_at, Bool, true, cond, not, max, ◌&&◌, nat_le, nat_lt}
-use Rattle.net_receiver.proofs.Words.{le-leb, contains-shift_up, from_bool, All, All-head}
+use Rattle.net_receiver.proofs.Words.{le-leb, contains-shift_up, from_bool}
 use Rattle.std.proofs.lemmas.List.Elements.{All-get_or}
 use Rattle.std.proofs.lemmas.Option.{slice_get_within, slice_get-get_or, get_or_from_slice_get}
 use Rattle.net_assembler.specs.RunLists.{SplitsRuns, start_at}
@@ -14,7 +14,6 @@ use Rattle.net_assembler.proofs.Runs.{are_maximal_runs, rising-maximal_runs}
 use Rattle.net_assembler.proofs.ShiftedRuns.{end_at-up, get_or-up, length-up, start_at-up}
 use Rattle.net_receiver.proofs.NewestRuns.{lies_from, count, count_more, clipped}
 use Rattle.net_assembler.specs.Positions.{present_count}
-use Rattle.net_assembler.proofs.Holes.{all_holes, first_hole}
 
 lacks : (p : ℕ) (r : ℕ × ℕ) → (p < r.0) ⊎ (r.1 ≤ p) → lies_in p r ≡ false
 lacks p r (inl l) = grind (arith, nat_tests)
@@ -171,14 +170,3 @@ new_in s next window p n from to held begins ends is =
           ap (count lacks (max next p)) size in
           (few, omega (arith, none, same, clip)))
     ]
-
--- ---- holes
--- the held runs rise from after the first missing position on
-pub rises_above : (n : ℕ) (rs : List (ℕ × ℕ)) → IsRising 0 rs → All (λ (r : ℕ × ℕ). (n < r.0) × (r.0 < r.1)) rs →
-    IsRising (n + 1) rs
-rises_above n [] h above = tt
-rises_above n (r ∷ rs) h above =
-    let first = All-head (λ (r : ℕ × ℕ). (n < r.0) × (r.0 < r.1)) r rs above in (omega (arith, first.0), h.1, h.2)
-
--- what the iterators of runs and holes need
-pub ruleset held_runs = (all_holes, first_hole)

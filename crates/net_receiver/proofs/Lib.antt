@@ -15,5 +15,3 @@ pub mod BoardSearches
 pub mod HeldSearches
 pub mod Duplicates
 pub mod PartsOf
-pub mod Differences
-pub mod Plans

@@ -14,7 +14,6 @@ use Rattle.net_receiver.proofs.Words.{beyond, HasNoRoom, IsSoundBoard, IsSoundSc
 use Rattle.net_receiver.proofs.Words.{MakesTooManyRuns, makes_too_many_runs, TooManyHolesError, IsRising, set_of}
 use Rattle.net_receiver.proofs.Words.{length-runs_of, from_bool, sum_by-cons, AssemblerHead, EndBelow, runs_of, no_runs}
 use Rattle.net_receiver.proofs.Words.{HasSoundRuns}
-use Rattle.net_ring.specs.Width.{shortfall}
 use Rattle.std.specs.List.{count_by}
 use Rattle.net_assembler.specs.Positions.{front}
 use Rattle.net_assembler.proofs.Sets.{positions-set_of_list}
@@ -472,24 +471,14 @@ runs_fit b s fits =
     subst (EndBelow (2 ^ 64)) (maximal_runs-shift_up s b)
     (ends_below are_maximal_runs (2 ^ 64) (shift_up s b) (beyond_fits b s fits))
 
--- the number of reported positions is one of `usize`
-pub sizes_usize : (h : AssemblerHead) (rs : List (ℕ × ℕ)) → HasSoundRuns h rs → 0 < sizes (maximal_runs (set_of h rs)) →
-    sizes (maximal_runs (set_of h rs)) + shortfall < 2 ^ 64
-sizes_usize h rs sound some =
-    let top = 2 ^ 64 - 1 - shortfall in
-    let few = sizes_few top (set_of h rs) (λ p has. let l = position_fits h rs sound p has in omega (arith, l)) in
-    omega (arith, few, some)
-
 pub ruleset fronts = (front_board, no_front, front_none, board_below, board_from, position_fits)
 
 pub ruleset empties = (empty_board, unused_board, no_board, contains-nothing)
 
 pub ruleset ends = (end_beyond)
 
-pub ruleset counts = (sizes_usize, number_beyond)
-
 pub ruleset missing_runs = (runs_beyond, runs_fit)
 
-pub ruleset heads = (fronts, empties, ends, counts, missing_runs, nat_tests)
+pub ruleset heads = (fronts, empties, ends, missing_runs, nat_tests)
 
 pub ruleset scoreboards = (front_board, empties)

@@ -2,7 +2,7 @@
 use Rattle.std.proofs.Common.{length-take, replicate}
 use Rattle.std.proofs.lemmas.Bool.{leb-true, eqb-true}
 use Rattle.net_assembler.proofs.Sets.{either}
-use Rattle.std.proofs.lemmas.List.{get_or-take, get_or-drop, drop-append-le}
+use Rattle.std.proofs.lemmas.List.{drop-append-le}
 use Rattle.std.proofs.lemmas.List.{length-replicate}
 use Rattle.net_receiver.specs.{numbers_end, has_end_at, accepts}
 use Rattle.net_receiver.specs.{SenderCommand, Writes, Closes, Marks, Acknowledges, written_of}
@@ -10,9 +10,9 @@ use Rattle.net_receiver.specs.{sender_after_command, sender_after_commands, byte
 use Rattle.net_receiver.specs.{FreshSentIsSound, SoundSentStays, ClosedStays, LentIsOfStream, LendsAt}
 use Rattle.net_receiver.specs.{IsSoundFiniteSender}
 use Rattle.net_receiver.specs.{ReceivesFrom}
-use Rattle.net_receiver.proofs.Words.{◌≡◌, ℕ, ◌+◌, ◌-◌, ◌<◌, ◌≤◌, List, [], length, take, drop, get_or, ◌++◌, ◌∙◌}
+use Rattle.net_receiver.proofs.Words.{◌≡◌, ℕ, ◌+◌, ◌-◌, ◌<◌, ◌≤◌, List, [], length, take, drop, ◌++◌, ◌∙◌}
 use Rattle.net_receiver.proofs.Words.{arith, sym, ap, min, max, length-append, length-drop, Bool, true, false, cond}
-use Rattle.net_receiver.proofs.Words.{◌∷◌, nat_eq, nat_le, ◌&&◌, refl, subst, append_assoc, append-nil, All, ⊎_elim}
+use Rattle.net_receiver.proofs.Words.{◌∷◌, nat_eq, nat_le, refl, subst, append_assoc, append-nil, All, ⊎_elim}
 use Rattle.net_receiver.proofs.Words.{cases_lt, cond_both, and_parts, cond-false, nat_tests, drop_all, drop-drop}
 use Rattle.net_receiver.proofs.Words.{nil_from_length, MatchesStream, MatchesWhatIsThere, sender_state, Sends, end_of}
 use Rattle.net_receiver.proofs.Words.{contiguous_end, with_written, sender_from, MatchesLonger}
@@ -21,7 +21,6 @@ use Rattle.net_receiver.proofs.Words.{open_room, acknowledged_below, MatchesFini
 use Rattle.net_receiver.proofs.Words.{acknowledged, fresh_finite_sender, FiniteCommand, Arrives, Reads, CommandMatches}
 use Rattle.net_receiver.proofs.Words.{finite_after_commands, from_bool, queue, ring_at, length-queue, FiniteSenderHead}
 use Rattle.net_receiver.proofs.Words.{All-head, All-tail, All-weaker, ReceiverState}
-use Rattle.net_receiver.specs.{QueueFromGreatest, acknowledge, acknowledge_each, greatest_within}
 use Rattle.net_receiver.specs.SenderState.{SenderState}
 use Rattle.std.specs.Prelude.{IsTrue, IsFalse}
 use Rattle.net_ring.specs.RingHead.{IsSound, place}
@@ -41,17 +40,6 @@ lent_says says f w v pos xs s h is =
     (is ∙ ap (λ q. take (length xs) (drop (pos - v.first_unacknowledged) q)) s.queue
     ∙ ap (take (length xs)) (drop-drop (pos - v.first_unacknowledged) (v.first_unacknowledged - f) w
     ∙ ap (λ n. drop n w) place))
-
-pub lent_bytes : (f : ℕ) (w : List ℕ) (v : SenderState) (pos : ℕ) (xs : List ℕ) → Sends f w v →
-    v.first_unacknowledged ≤ pos → xs ≡ take (length xs) (drop (pos - v.first_unacknowledged) v.queue) →
-    MatchesStream f w pos xs
-lent_bytes = lent_says matches_what_is_there
-
--- and each of its bytes is kept there
-pub lent_at : (head pos : ℕ) (queue xs : List ℕ) → head ≤ pos →
-    xs ≡ take (length xs) (drop (pos - head) queue) → (q d : ℕ) →
-    pos ≤ q → q < pos + length xs → get_or queue (q - head) d ≡ get_or xs (q - pos) d
-lent_at head pos queue xs h is = grind (arith, nat_tests, get_or-take, get_or-drop)
 
 -- as many bytes are lent as are queued there, at most
 pub lent_within : (v : SenderState) (pos most n : ℕ) →
@@ -88,47 +76,6 @@ fresh_sends f capacity = record {
   queue =
       sym (drop_all (f - f) [] (omega arith));
 }
-
--- ---- Several acknowledgements.
--- what acknowledgements leave
-abbrev Follow : SenderState → List ℕ → SenderState → Type 0
-Follow v ns u = (u.first_unacknowledged ≡ greatest_within (end_of v) v.first_unacknowledged ns)
-    × (v.first_unacknowledged ≤ u.first_unacknowledged) × (end_of u ≡ end_of v)
-    × (u.queue ≡ drop (u.first_unacknowledged - v.first_unacknowledged) v.queue)
-
-nothing_dropped : (v : SenderState) → v.queue ≡ drop (v.first_unacknowledged - v.first_unacknowledged) v.queue
-nothing_dropped v = ap (λ k. drop k v.queue) (let e : 0 ≡ v.first_unacknowledged - v.first_unacknowledged =
-    omega arith in e)
-
-one_follows : (v : SenderState) (n : ℕ) → Follow v (n ∷ []) (acknowledge v n)
-one_follows v n =
-    cond_both (nat_le v.first_unacknowledged n && nat_le n (end_of v)) (sender_from v n) v (Follow v (n ∷ []))
-    (λ on.
-    let both = and_parts (nat_le v.first_unacknowledged n) (nat_le n (end_of v)) on in
-    let low = leb-true v.first_unacknowledged n both.0 in
-    let high = leb-true n (end_of v) both.1 in
-    (grind (arith, nat_tests), low, omega (arith, length-drop (n - v.first_unacknowledged) v.queue), refl))
-    (λ off. (grind (arith, nat_tests), omega arith, refl, nothing_dropped v))
-
-all_follow : (v : SenderState) (ns : List ℕ) → Follow v ns (acknowledge_each v ns)
-all_follow v [] = (refl, omega arith, refl, nothing_dropped v)
-all_follow v (n ∷ ns) =
-    let u = acknowledge v n in
-    let here = one_follows v n in
-    let rest = all_follow u ns in
-    let w = acknowledge_each u ns in
-    let place : (u.first_unacknowledged - v.first_unacknowledged) + (w.first_unacknowledged - u.first_unacknowledged)
-    ≡ w.first_unacknowledged - v.first_unacknowledged = omega arith in (
-      rest.0 ∙ (λ i. greatest_within (here.2 i) (here.0 i) ns),
-      omega arith,
-      rest.2 ∙ here.2,
-      rest.3 ∙ ap (drop (w.first_unacknowledged - u.first_unacknowledged)) here.3
-          ∙ drop-drop (w.first_unacknowledged - u.first_unacknowledged)
-          (u.first_unacknowledged - v.first_unacknowledged) v.queue ∙ ap (λ k. drop k v.queue) place,
-    )
-
-pub queue_from_greatest : QueueFromGreatest
-queue_from_greatest v ns = (let h = all_follow v ns in (h.0, h.2, h.3))
 
 -- ---- The laws of a sender of a stream that ends.
 pub fresh_sent_is_sound : FreshSentIsSound
@@ -482,8 +429,6 @@ any_path_carries N first to_send to_receive ws cs fits from =
 -- ---- The lemmas of each law.
 pub ruleset lent_segments_law = (lent_some, lent_room, lent_none, lent_numbers, lent_beyond, lent_written)
 
-pub ruleset sends_law = (fresh_sends, sends_written, sends_from, lent_bytes)
-
 -- ---- What closes the goals of the calls.
 -- the part of the queue from its byte number i on, as that of the storage
 pub part_queued : (n i r k : ℕ) (xs : List ℕ) → IsSound (length xs) (place r k) → n ≤ k - i →
@@ -500,11 +445,4 @@ pub ruleset heads = (length-queue, part_queued)
 pub part_long : (n p : ℕ) (xs : List ℕ) → p + n ≤ length xs → length (take n (drop p xs)) ≡ n
 part_long n p xs within = omega (arith, length-take n (drop p xs), length-drop p xs)
 
--- what is left of the stream after an acknowledgement
-pub dropped_twice : (f h n : ℕ) (w : List ℕ) → f ≤ h → h ≤ n → drop (n - h) (drop (h - f) w) ≡ drop (n - f) w
-dropped_twice f h n w low high =
-    let place : (h - f) + (n - h) ≡ n - f = omega arith in drop-drop (n - h) (h - f) w ∙ ap (λ k. drop k w) place
-
-pub ruleset senders = (part_long, dropped_twice, length-drop, fresh_sends, written_number, nat_tests)
-
-pub ruleset peeks = (part_long, lent_at)
+pub ruleset senders = (part_long, length-drop, fresh_sends, written_number, nat_tests)

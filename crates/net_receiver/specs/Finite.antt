@@ -13,7 +13,6 @@
 --     usual_after N s pos xs last, usual_result N s pos xs last      the same by what it meets
 --     finite_after_read s n      what a read leaves
 --     is_complete s, acknowledged s, has_read_all s      what it says of the end
---     IsSameFinite s t      what `same_state` compares
 --     IsSoundEnd s      what is true of every such receiver
 --     finite_code      what is stored, as a code
 -- The laws of a receiver of a stream that ends.
@@ -42,13 +41,13 @@ use Rattle.std.specs.Prelude.{[], ◌∷◌, ◌++◌, All, ◌⊎◌, drop, map
 use Rattle.std.specs.Coded.{Coded, code_by, coded×, coded_ℕ}
 use Rattle.net_receiver.specs.ReceiverState.{receiver_code, Segment, verdict, numbers, ReceiverState, domain}
 use Rattle.net_receiver.specs.ReceiverState.{fresh_receiver, next_position, limit_of, receiver_after_command}
-use Rattle.net_receiver.specs.ReceiverState.{receiver_after_read, IsSameState, IsSound, Refines, CommandValue, Read}
+use Rattle.net_receiver.specs.ReceiverState.{receiver_after_read, IsSound, Refines, CommandValue, Read}
 use Rattle.net_receiver.specs.ReceiverState.{setting}
 use Rattle.net_assembler.specs.declared.assembler.error.TooManyHolesError.{TooManyHolesError}
 use Rattle.net_assembler.specs.Positions.{bound_of, positions}
 use Rattle.net_receiver.specs.declared.kept.FiniteError.{FiniteError}
 use Rattle.net_receiver.specs.declared.kept.KeptBytes.{KeptBytes}
-use Rattle.net_receiver.specs.Schedule.{piece, piece_within, is_covered, KeptState, Setting, Agrees, bytes_read}
+use Rattle.net_receiver.specs.Schedule.{piece, piece_within, KeptState, Setting, bytes_read}
 use Rattle.net_receiver.specs.OneStream.{HasByteAt, MatchesStream, ReceivesFrom}
 use Rattle.net_receiver.specs.Headline.{state_from, replies_from, missing, ReplyValue}
 use Rattle.std.specs.FinMap as fin
@@ -170,10 +169,6 @@ acknowledged s = if is_complete s then s.end + 1 else next_position s.receiver
 -- all bytes were read, up to the end
 abbrev pub has_read_all : FiniteState → Bool
 has_read_all s = nat_eq (s.receiver.first + s.receiver.read) s.end
-
--- what `same_state` compares
-abbrev pub IsSameFinite : FiniteState → FiniteState → Type 0
-IsSameFinite s t = (s.end ≡ t.end) × IsSameState s.receiver t.receiver
 
 -- no byte is at or above the end; and there is a number for an end after the last byte
 pub record IsSoundEnd (s : FiniteState) : Type 0 where
@@ -307,12 +302,6 @@ EndIsTaken = (most_runs : ℕ) (s : FiniteState) (pos : ℕ) (xs : List ℕ) →
 abbrev pub AllBytesComplete : Type 0
 AllBytesComplete = (most_runs : ℕ) (s : FiniteState) → IsSound most_runs s.receiver → IsSoundEnd s →
     ((p : ℕ) → next_position s.receiver ≤ p → p < s.end → HasByteAt s.receiver p) → IsTrue (is_complete s)
-
--- two receivers of one stream that kept the same positions, read as much and know the same of the end are the same
-abbrev pub SameEndConverges : Type 0
-SameEndConverges = (x : List ℕ) (s t : FiniteState) (k l : KeptState) → Refines s.receiver k → Refines t.receiver l →
-    s.receiver.first ≡ t.receiver.first → Agrees s.receiver.first k.kept x → Agrees s.receiver.first l.kept x →
-    ((p : ℕ) → is_covered k.kept p ≡ is_covered l.kept p) → k.read ≡ l.read → s.end ≡ t.end → IsSameFinite s t
 
 -- ---- Laws of lists of segments and reads of a receiver of a stream that ends, as those of a receiver's commands.
 -- a segment without its bytes from the end on, or nothing if it says that the stream ends elsewhere

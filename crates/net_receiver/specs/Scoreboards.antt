@@ -4,7 +4,6 @@
 --     HasNoRoom most s o n      a range isn't stored, since there would be too many runs
 --     IsReport first sent start end      a block that can be: of positions that were sent, and not too far above the
 --         first missing one
---     IsBlock i s start end p q      p and q are the positions of a block's numbers, above the first missing one
 --     IsSoundBoard h runs      what is true of the parts of a scoreboard
 --     IsSoundScoreboard n s      what is true of its positions, if n runs have room
 --     IsEnd s n      n is the position after the last one
@@ -24,7 +23,6 @@ use Rattle.net_assembler.specs.Positions.{shift_up, shift_down, lies_in}
 pub use Rattle.net_assembler.specs.Positions.{IsEnd}
 use Rattle.net_assembler.specs.RunLists.{set_of, HasSoundRuns, IsRising}
 use Rattle.net_receiver.specs.ReceiverState.{EndBelow}
-use Rattle.net_receiver.specs.SequenceNumbers.{IsNamed}
 use Rattle.net_receiver.specs.declared.scoreboard_head.ScoreboardHead.{ScoreboardHead}
 use Rattle.std.specs.Int.{from_bool}
 
@@ -54,12 +52,6 @@ pub record IsReport (first sent start end : ℕ) : Type 0 where
   pub some : start < end
   pub was_sent : end ≤ sent
   pub near : first < start → end < first + 2 ^ 32
-
--- position 0 has the number i
-pub record IsBlock (i : ℕ) (s : Positions) (start end p q : ℕ) : Type 0 where
-  pub begins : IsNamed i (front s) start p
-  pub ends : IsNamed i (front s) end q
-  pub beyond : front s < p
 
 -- a head and runs are those of a scoreboard: the runs are sound, the base is missing, and each reported
 -- position and its end are numbers of 64 bits

@@ -5,15 +5,13 @@
 --     end_of v, room_of v      the position after the queue, and how many bytes can be written
 --     contiguous_end v p      the end of the bytes that are contiguous in the storage with the one at p
 --     with_written v xs      the sender once these bytes were written
---     sender_from v n, acknowledge v n      the sender once all below position n was acknowledged, if n can be
---     acknowledge_each v ns      the sender once several acknowledgements arrived
---     QueueFromGreatest      a law on several acknowledgements
+--     sender_from v n      the sender once all below position n was acknowledged
 --     Sends f w v      w was written to a sender, its first byte at position f
 -- A sender in parts: a head of numbers, and the storage of its ring.
 --     sender_of h xs      what is stored
 --     IsSoundHead c h      the head is that of a sender whose storage has c bytes
-use Rattle.std.specs.Prelude.{◌≡◌, ℕ, ◌+◌, ◌-◌, ◌≤◌, ◌^◌, ◌&&◌, nat_lt, nat_le, nat_eq, min, max, if◌then◌else◌, List}
-use Rattle.std.specs.Prelude.{[], ◌∷◌, ◌++◌, length, drop, ◌<◌}
+use Rattle.std.specs.Prelude.{◌≡◌, ℕ, ◌+◌, ◌-◌, ◌≤◌, ◌^◌, nat_lt, nat_eq, min, if◌then◌else◌, List}
+use Rattle.std.specs.Prelude.{◌++◌, length, drop, ◌<◌}
 use Rattle.net_ring.specs.Ring.{queue}
 use Rattle.net_ring.specs.RingHead.{IsSound, ring_at}
 use Rattle.net_receiver.specs.declared.sender_head.SenderHead.{SenderHead}
@@ -57,29 +55,6 @@ with_written v xs = record v { queue = v.queue ++ xs; wraps_at = next_wrap v }
 abbrev pub sender_from : SenderState → ℕ → SenderState
 sender_from v n = sender_state v.capacity n (drop (n - v.first_unacknowledged) v.queue)
     (if nat_lt n v.wraps_at then v.wraps_at else v.wraps_at + v.capacity)
-
--- a position below the first unacknowledged one or above the end changes nothing
-abbrev pub acknowledge : SenderState → ℕ → SenderState
-acknowledge v n = if nat_le v.first_unacknowledged n && nat_le n (end_of v) then sender_from v n else v
-
--- ---- several acknowledgements
--- the sender once they arrived, one after another
-abbrev pub acknowledge_each : SenderState → List ℕ → SenderState
-acknowledge_each v [] = v
-acknowledge_each v (n ∷ ns) = acknowledge_each (acknowledge v n) ns
-
--- the greatest of p and of their positions, except those above the limit
-abbrev pub greatest_within : ℕ → ℕ → List ℕ → ℕ
-greatest_within limit p [] = p
-greatest_within limit p (n ∷ ns) = greatest_within limit (if nat_le n limit then max p n else p) ns
-
--- a sender's queue is all bytes from the greatest acknowledged position on, of those up to its end
-abbrev pub QueueFromGreatest : Type 0
-QueueFromGreatest = (v : SenderState) (ns : List ℕ) →
-    ((acknowledge_each v ns).first_unacknowledged ≡ greatest_within (end_of v) v.first_unacknowledged ns)
-    × (end_of (acknowledge_each v ns) ≡ end_of v)
-    × ((acknowledge_each v ns).queue
-    ≡ drop ((acknowledge_each v ns).first_unacknowledged - v.first_unacknowledged) v.queue)
 
 -- the queue is the rest of w, from its position on
 pub record Sends (f : ℕ) (w : List ℕ) (v : SenderState) : Type 0 where

@@ -1,12 +1,10 @@
 -- Sequence numbers of 32 bits, and the positions that they represent.
 --     number_at i pos      the number of a position, where position 0 has the number i
 --     ahead_of a b      how far the number b is ahead of a, going round at 2^32
---     ComesBefore a b      b is ahead of a by 1 to 2^31 - 1
 --     IsNear next pos      pos is at most 2^31 before next, or less than 2^31 after it
 --     IsNearAround near pos      the same, going round at 2^64
---     IsNamed i next number pos      pos is the position near next that has this number
 -- The others are laws.
-use Rattle.std.specs.Prelude.{◌≡◌, ◌≢◌, ◌↔◌, ◌⊎◌, ℕ, ◌+◌, ◌-◌, ◌<◌, ◌≤◌, ◌%◌, ◌^◌}
+use Rattle.std.specs.Prelude.{◌≡◌, ◌≢◌, ℕ, ◌+◌, ◌-◌, ◌<◌, ◌≤◌, ◌%◌, ◌^◌}
 
 -- the number of a position, where position 0 has the number i
 abbrev pub number_at : ℕ → ℕ → ℕ
@@ -16,10 +14,6 @@ number_at i pos = (i + pos) % 2 ^ 32
 abbrev pub ahead_of : ℕ → ℕ → ℕ
 ahead_of a b = (b + 2 ^ 32 - a) % 2 ^ 32
 
--- b is ahead of a by less than 2^31, and by 1 at least
-abbrev pub ComesBefore : ℕ → ℕ → Type 0
-ComesBefore a b = (0 < ahead_of a b) × (ahead_of a b < 2 ^ 31)
-
 -- at most 2^31 positions before next, or less than 2^31 after it
 abbrev pub IsNear : ℕ → ℕ → Type 0
 IsNear next pos = (pos < next + 2 ^ 31) × (next ≤ pos + 2 ^ 31)
@@ -28,33 +22,13 @@ IsNear next pos = (pos < next + 2 ^ 31) × (next ≤ pos + 2 ^ 31)
 abbrev pub IsNearAround : ℕ → ℕ → Type 0
 IsNearAround near pos = (pos + 2 ^ 31 + 2 ^ 64 - near) % 2 ^ 64 < 2 ^ 32
 
-pub record IsNamed (i next number pos : ℕ) : Type 0 where
-  pub named : number_at i pos ≡ number
-  pub near : IsNear next pos
-  pub fits : pos < 2 ^ 64
-
 -- to add to a number is to add to the position
 abbrev pub NumbersAdd : Type 0
 NumbersAdd = (i pos n : ℕ) → number_at i (pos + n) ≡ (number_at i pos + n) % 2 ^ 32
 
--- of two positions less than 2^32 apart, the lower one's number comes before the other's exactly if
--- they are less than 2^31 apart
-abbrev pub NumbersAreOrdered : Type 0
-NumbersAreOrdered = (i p q : ℕ) → p < q → q < p + 2 ^ 32 →
-    ComesBefore (number_at i p) (number_at i q) ↔ (q < p + 2 ^ 31)
-
--- their numbers differ
+-- of two positions less than 2^32 apart the numbers differ
 abbrev pub NumbersDiffer : Type 0
 NumbersDiffer = (i p q : ℕ) → p < q → q < p + 2 ^ 32 → number_at i p ≢ number_at i q
-
--- of two numbers at most one comes before the other
-abbrev pub OrderIsOneWay : Type 0
-OrderIsOneWay = (a b : ℕ) → a < 2 ^ 32 → b < 2 ^ 32 → ComesBefore a b → ComesBefore b a → ⊥
-
--- and one does, unless they are equal or 2^31 apart
-abbrev pub OrderIsTotal : Type 0
-OrderIsTotal = (a b : ℕ) → a < 2 ^ 32 → b < 2 ^ 32 → a ≢ b → ahead_of a b ≢ 2 ^ 31 →
-    ComesBefore a b ⊎ ComesBefore b a
 
 -- of all positions near a given one, going round at 2^64, only one has its number
 abbrev pub NumbersComeBack : Type 0

@@ -7,20 +7,18 @@
 // It is a type of its own, with a receiver in it that is given segments cut at the end. So the bytes are that
 // receiver's, whose promises hold unchanged.
 //
-// The rule of `keep` is a function of the receiver's numbers and the end: a type and a head lend it theirs. A
-// `FiniteSender` lends no `Sender`: thirteen rules would be written twice.
+// The rule of `keep` is a function of the receiver's numbers and the end: a type and a head lend it theirs.
 
 #![tactic(auto, using(crate::proofs::FiniteReceivers::ends))]
 
-ghost use Rattle.std.specs.Prelude.{◌≡◌, ◌↔◌, ℕ, ◌+◌, ◌-◌, ◌<◌, ◌≤◌, ◌^◌, min, List, length, ◌++◌, IsTrue, Some, None};
+ghost use Rattle.std.specs.Prelude.{◌≡◌, ℕ, ◌+◌, ◌-◌, ◌<◌, ◌≤◌, ◌^◌, min, List, length, ◌++◌, IsTrue, Some, None};
 ghost use Rattle.std.specs.Prelude.{take, drop, max, IsOk};
 ghost use Rattle.net_receiver.specs.{no_end, fresh_finite, can_end, bytes_end, finite_after, finite_result};
-ghost use Rattle.net_receiver.specs.{finite_after_read, is_complete, acknowledged, has_read_all, IsSameFinite};
+ghost use Rattle.net_receiver.specs.{finite_after_read, is_complete, acknowledged, has_read_all};
 ghost use Rattle.net_receiver.specs.{IsSoundEnd, finite_of, HasSoundFinite, new_count, MatchesFinite, ReceivesFinite};
 ghost use Rattle.net_receiver.specs.{end_with, contiguous_count, first_part, limit_of, next_position};
 ghost use Rattle.net_receiver.specs.{IsSound, ends_in_order};
 ghost use Rattle.net_receiver.specs.PartsOf.{finite_parts};
-ghost use Rattle.net_receiver.specs.Differences.{DiffersFrom};
 ghost use Rattle.std.specs.Fn.{FnOnceTakesAt, FnOnceReturnsAt};
 ghost use Rattle.net_assembler.specs.RunLists.{IsCanonical};
 
@@ -375,23 +373,6 @@ impl<S: Storage<u8>, const N: usize> FiniteReceiverOver<S, N> {
         Some(end.max(self.acknowledged()))
     }
 
-    /// Returns whether a byte that is queued or held differs from that of the segment at its position, as
-    /// `ReceiverOver::differs` does. Neither bytes that were read are compared, nor those past the end.
-    ///
-    /// ```
-    /// # use net_base::finite::FiniteReceiver;
-    /// # let mut storage = [0u8; 16];
-    /// # let mut receiver = FiniteReceiver::<4>::empty_at(&mut storage[..], 0);
-    /// assert!(receiver.keep(1, b"bc", true).is_ok());
-    /// assert!(receiver.differs(0, b"aB") && !receiver.differs(0, b"abcd"));
-    /// ```
-    #[must_use]
-    pub fn differs(&self, pos: u64, bytes: &[u8]) -> bool
-        ensures { IsTrue result ↔ DiffersFrom self.now.receiver pos bytes.now }
-    {
-        self.receiver.differs(pos, bytes)
-    }
-
     /// Returns where the bytes of a segment of `len` bytes at `pos` are, as `ReceiverOver::parts_of` does. Bytes at
     /// the end or above it are counted as `past_end` alone. While no end is known, that counts bytes which leave no
     /// number for an end after them: no stream has such.
@@ -430,16 +411,6 @@ impl<S: Storage<u8>, const N: usize> FiniteReceiverOver<S, N> {
     {
         let count = count_below(self.after_end, position, len);
         self.receiver.count_part(position, count)
-    }
-
-    /// Returns whether two receivers of a stream that ends are equal in first position, count of
-    /// bytes read, queued bytes, held runs and end.
-    #[must_use]
-    pub fn same_state<O: Storage<u8>>(&self, other: &FiniteReceiverOver<O, N>) -> bool
-        ensures { IsTrue result ↔ IsSameFinite self.now other.now }
-    {
-        end_or_max(self.after_end) == end_or_max(other.after_end)
-            && self.receiver.same_state(&other.receiver)
     }
 
     /// States what is true of every receiver; it does nothing. Callers use `laws::is_sound_end`.

@@ -6,7 +6,7 @@ ghost use Rattle.std.specs.Prelude.{None, ◌==◌, ◌++◌, take, drop, nat_lt
 ghost use Rattle.net_ring.specs.Ring.{queue};
 ghost use Rattle.net_ring.specs.RingHead.{IsSound as IsSoundPlace, ring_at};
 ghost use Rattle.net_receiver.specs.Finite.{no_end, fresh_finite, can_end_by, finite_after, finite_result};
-ghost use Rattle.net_receiver.specs.Finite.{finite_after_read, IsSameFinite, is_complete, acknowledged, has_read_all};
+ghost use Rattle.net_receiver.specs.Finite.{finite_after_read, is_complete, acknowledged, has_read_all};
 ghost use Rattle.net_receiver.specs.ReceiverState.{count_between, limit_of};
 ghost use Rattle.net_receiver.specs.Head.{head_after_read, held_at, top_at, HasSoundHeld};
 ghost use Rattle.net_receiver.specs.FiniteHead.{finite_at, finite_of, HasSoundFinite, next_of, end_of, end_with};

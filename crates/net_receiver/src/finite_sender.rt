@@ -17,12 +17,17 @@ use std::marker::Model;
 
 /// A [`FiniteSender`] over any storage.
 ///
-/// It is a `Sender` that can be closed. Once it is closed nothing can be written, and the end has the
-/// number after the last byte's (that of TCP's FIN): it is sent, reported and acknowledged as a byte
-/// is, and takes no room. A number is kept for it, so that it can always be closed. The sender keeps
-/// the mark of what was sent itself, which counts the end.
+/// Its queue has the bytes that were written and not yet acknowledged. It serves as the sending half of
+/// a TCP socket: `send_at` lends the bytes of a segment, and notes that they were sent.
 ///
-/// No call takes memory. smoltcp has no such type.
+/// Positions are absolute and counted in bytes, as a `Receiver` counts them. The storage's length is
+/// the most bytes that are queued.
+///
+/// Once it is closed nothing can be written, and the end has the number after the last byte's (that of
+/// TCP's FIN): it is sent, reported and acknowledged as a byte is, and takes no room. A number is kept
+/// for it, so that it can always be closed. A stream that doesn't end has a sender that is never closed.
+///
+/// No call takes memory. smoltcp's TCP socket has its transmit buffer inside.
 pub struct FiniteSenderOver<S: Storage<u8>> {
     // Invariant: the end is acknowledged only once the sender is closed and its queue is empty. What
     // was sent ends between what is acknowledged and what was written, the end counted. The end's
@@ -33,10 +38,24 @@ pub struct FiniteSenderOver<S: Storage<u8>> {
 
 /// A sender of a stream that ends, over storage that is lent or owned. Its calls are those of
 /// [`FiniteSenderOver`].
+///
+/// ```
+/// use net_base::finite::FiniteSender;
+///
+/// let mut storage = [0u8; 4];
+/// let mut sender = FiniteSender::new_at(&mut storage[..], 0);
+/// assert_eq!(sender.write(b"abcde"), 4);
+/// assert_eq!(sender.send_at(0, 3), (&b"abc"[..], false));
+/// assert!(sender.acknowledge(3));
+/// assert_eq!((sender.first_number(), sender.len()), (3, 1));
+/// ```
 pub type FiniteSender<'a> = FiniteSenderOver<ManagedSlice<'a, u8>>;
 
-/// Contracts see what they see of a `Sender`; 1 or 0 for whether it is closed, and for whether the
-/// end is acknowledged; and the number after the last one that was sent.
+/// Contracts see a `SenderState`: the capacity, the first unacknowledged position, which is that of the
+/// queue's head, the queue, and the position at which the storage begins again. They also see 1 or 0 for
+/// whether it is closed, and for whether the end is acknowledged; and the number after the last one that
+/// was sent. `Sends f w` says of such a state that all bytes that were ever written are `w`, the first at
+/// position `f`.
 impl<S: Storage<u8>> Model for FiniteSenderOver<S> {
     ghost use Rattle.std.specs.Prelude.{length};
     ghost use Rattle.net_receiver.specs.FiniteSender.{FiniteSenderState, finite_sender_of};
@@ -70,6 +89,8 @@ impl<S: Storage<u8>> FiniteSenderOver<S> {
     }
 
     /// Returns a sender of a stream that begins at position `first`, to which nothing was written.
+    ///
+    /// Its capacity is the length of `storage` in bytes, of which 0 is allowed.
     ///
     /// # Requires
     ///
@@ -209,8 +230,14 @@ impl<S: Storage<u8>> FiniteSenderOver<S> {
         self.storage.count()
     }
 
-    /// Returns the window: how many bytes `write` would take: 0 once the sender is closed. A number
-    /// is kept for the end.
+    /// Returns the window: how many bytes `write` would take. As many as have room in the storage and
+    /// below the last position, `u64::MAX - 1`, which is kept for the end; none once the sender is closed.
+    ///
+    /// ```
+    /// # use net_base::finite::FiniteSender;
+    /// # let mut storage = [0u8; 4];
+    /// assert_eq!(FiniteSender::new_at(&mut storage[..], u64::MAX - 3).window(), 2);
+    /// ```
     #[must_use]
     pub fn window(&self) -> usize
         ensures { result ≡ finite_room self.now }
@@ -219,6 +246,14 @@ impl<S: Storage<u8>> FiniteSenderOver<S> {
     }
 
     /// Enqueues the first of these bytes, as many as `window` says, and returns how many.
+    ///
+    /// ```
+    /// # use net_base::finite::FiniteSender;
+    /// # let mut storage = [0u8; 4];
+    /// # let mut sender = FiniteSender::new_at(&mut storage[..], 0);
+    /// assert_eq!((sender.write(b"abc"), sender.write(b"def")), (3, 1));
+    /// assert_eq!(sender.peek_at(0, 9), (&b"abcd"[..], false));
+    /// ```
     #[must_use]
     pub fn write(&mut self, bytes: &[u8]) -> usize
         // Guarantee.
@@ -242,9 +277,12 @@ impl<S: Storage<u8>> FiniteSenderOver<S> {
         self.head.close();
     }
 
-    /// Lends the bytes of a segment from `pos` on, as `Sender::peek_at` does, and returns whether the
-    /// segment ends the stream (TCP's FIN): the sender is closed, the bytes end where it does, and the
-    /// end isn't acknowledged. A segment without bytes that ends the stream is the end alone.
+    /// Lends the queued bytes of a segment from the one at `pos` on, without a copy: as many as are
+    /// contiguous in the storage, which wraps. No byte is lent if the byte at `pos` isn't queued.
+    ///
+    /// Returns also whether the segment ends the stream (TCP's FIN): the sender is closed, the bytes end
+    /// where it does, and the end isn't acknowledged. A segment without bytes that ends the stream is the
+    /// end alone.
     ///
     /// All its numbers, the end's among them, are below `limit`: the end of the window is one, as
     /// `PeerWindow::send_limit` gives it, and `(pos + mss).min(send_limit)` keeps a segment size too.
@@ -295,6 +333,15 @@ impl<S: Storage<u8>> FiniteSenderOver<S> {
 
     /// Notes that all numbers below `pos` were sent, the end's among them if `pos` is past it, and
     /// returns true. Returns false, and changes nothing, if `pos` is above `numbers_end`.
+    ///
+    /// ```
+    /// # use net_base::finite::FiniteSender;
+    /// # let mut storage = [0u8; 4];
+    /// # let mut sender = FiniteSender::new_at(&mut storage[..], 100);
+    /// assert_eq!(sender.write(b"abc"), 3);
+    /// assert!(sender.mark_sent(102) && sender.mark_sent(101));
+    /// assert!(sender.sent() == 102 && !sender.mark_sent(104));
+    /// ```
     #[must_use]
     pub fn mark_sent(&mut self, pos: u64) -> bool
         ensures accepted { IsTrue result ↔ (pos ≤ numbers_end self.old) }
@@ -309,7 +356,16 @@ impl<S: Storage<u8>> FiniteSenderOver<S> {
 
     /// Dequeues the bytes below `next`, notes that the end is acknowledged if `next` is past it, and
     /// returns true. Returns false, and changes nothing, if `next` is below `first_number` or above
-    /// `sent`.
+    /// `sent`. RFC 9293, section 3.10.7.4, wants an acknowledgement above `sent` refused.
+    ///
+    /// ```
+    /// # use net_base::finite::FiniteSender;
+    /// # let mut storage = [0u8; 4];
+    /// # let mut sender = FiniteSender::new_at(&mut storage[..], 100);
+    /// assert!(sender.write(b"abc") == 3 && sender.mark_sent(102));
+    /// assert!(!sender.acknowledge(103) && sender.acknowledge(102));
+    /// assert_eq!(sender.peek_at(102, 109), (&b"c"[..], false));
+    /// ```
     #[must_use]
     pub fn acknowledge(&mut self, next: u64) -> bool
         // Guarantee.
@@ -323,15 +379,6 @@ impl<S: Storage<u8>> FiniteSenderOver<S> {
         ensures refused { IsFalse result → self.new ≡ self.old }
     {
         self.head.acknowledge(self.storage.count(), next)
-    }
-
-    /// Returns whether a SACK block can be right: it has a number, and none above those that were
-    /// sent, of which the end's is one.
-    #[must_use]
-    pub fn is_block(&self, start: u64, end: u64) -> bool
-        ensures { IsTrue result ↔ ((start < end) × (end ≤ self.now.sent)) }
-    {
-        self.head.is_block(start, end)
     }
 
     /// Returns whether the sender is closed.

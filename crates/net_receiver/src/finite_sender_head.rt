@@ -251,15 +251,6 @@ impl FiniteSenderHead {
         self.sender.acknowledge(capacity, last)
     }
 
-    /// Returns whether a SACK block can be right: it has a number, and none above those that were
-    /// sent, of which the end's is one.
-    #[inline]
-    pub fn is_block(&self, start: u64, end: u64) -> bool
-        ensures { IsTrue result ↔ ((start < end) × (end ≤ self.now.sent)) }
-    {
-        start < end && end <= self.sent
-    }
-
     /// Returns whether the sender is closed.
     #[inline]
     pub fn is_closed(&self) -> bool

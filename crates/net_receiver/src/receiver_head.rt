@@ -4,7 +4,7 @@
 ghost use Rattle.std.specs.Prelude.{◌≡◌, ◌↔◌, ℕ, ◌+◌, ◌-◌, ◌<◌, ◌≤◌, ◌^◌, ◌%◌, List, length, All};
 ghost use Rattle.std.specs.Prelude.{IsTrue, IfOk, OnErr, Some, None, min, ◌++◌, take, drop};
 ghost use Rattle.std.specs.Prelude.{◌∷◌};
-ghost use Rattle.net_assembler.specs.Positions.{contains, maximal_runs, runs as run_count, holes_before};
+ghost use Rattle.net_assembler.specs.Positions.{contains, maximal_runs, runs as run_count};
 ghost use Rattle.net_assembler.specs.RunLists.{HasSoundRuns, IsCanonical, set_of};
 ghost use Rattle.net_receiver.specs.Schedule.{piece};
 ghost use Rattle.net_receiver.specs.ReceiverState.{verdict, state_after, numbers, first_three, segment_result};
@@ -14,14 +14,13 @@ ghost use Rattle.net_receiver.specs.Finite.{queue_only};
 ghost use Rattle.net_receiver.specs.NewHeads.{receiver_head};
 ghost use Rattle.net_receiver.specs.Duplicates.{came, TellsPart, TellsFirst};
 ghost use Rattle.net_receiver.specs.PartsOf.{parts_between};
-ghost use Rattle.net_receiver.specs.Differences.{DiffersFrom, HasOther};
 ghost use Rattle.net_receiver.specs.Head.{receiver_of, HasSoundParts, HasSoundHeld, storage_after, head_after_read};
 ghost use Rattle.net_receiver.specs.Head.{next_at, held_at, top_at, verdict_at, counts_of, with_admitted};
-ghost use Rattle.net_ring.specs.Ring.{queue, contiguous_allocated, contiguous_queued, rotation};
+ghost use Rattle.net_ring.specs.Ring.{queue, contiguous_allocated, contiguous_queued};
 ghost use Rattle.net_ring.specs.RingHead.{IsSound as IsSoundPlace, ring_at};
 ghost use Rattle.net_receiver.specs.NewestRuns.{newest_runs, with_starts, run_at, with_run};
 
-use crate::held_runs::{HeldRun, HeldRunIter, MissingRunIter, is_listed, remember};
+use crate::held_runs::{HeldRun, HeldRunIter, is_listed, remember};
 use crate::kept::{KeptBytes, SegmentParts};
 use net_assembler::assembler::Turns;
 use net_assembler::{AssemblerHead, Run, TooManyHolesError};
@@ -338,32 +337,6 @@ impl ReceiverHead {
         &storage[span.from..span.from + span.contiguous]
     }
 
-    /// Shows at most `size` bytes of the queue, from its byte `offset` on, in two parts: those up to the
-    /// storage's end, and those from its beginning on. The second part is empty unless the bytes wrap.
-    ///
-    /// # Requires
-    ///
-    /// The queue is in the storage.
-    #[inline]
-    pub(crate) fn peek_slices<'a>(
-        &self,
-        storage: &'a [u8],
-        offset: usize,
-        size: usize,
-    ) -> (&'a [u8], &'a [u8])
-        requires { IsSoundPlace (length storage.now) self.now.place }
-        ensures bytes { result.0.now ++ result.1.now
-            ≡ take size (drop offset (queue (ring_at storage.now self.now.place))) }
-        ensures cut { length result.0.now
-            ≡ contiguous_allocated (ring_at storage.now self.now.place) offset size }
-    {
-        let span = self.place.allocated(storage.len(), offset, size);
-        (
-            &storage[span.from..span.from + span.contiguous],
-            &storage[..span.count - span.contiguous],
-        )
-    }
-
     /// Shows the queue, in order, in two parts: the bytes up to the storage's end, and those from
     /// its beginning on. The second part is empty unless the queue wraps.
     ///
@@ -469,22 +442,6 @@ impl ReceiverHead {
             All (λ run. run.1 ≤ self.now.first + self.now.count_read + capacity) result }
     {
         HeldRunIter::over(self.held.iter_data(runs), self.next())
-    }
-
-    /// Returns the holes between the queue and the last held byte, as `ReceiverOver::holes` does.
-    ///
-    /// # Requires
-    ///
-    /// Head and runs are sound, as `is_sound` tests, with a storage of some length.
-    #[inline(always)]
-    pub(crate) fn holes<'a>(&self, runs: &'a [Run]) -> MissingRunIter<'a>
-        requires { HasSoundHeld self.now runs.now }
-        ensures holes { result
-            ≡ holes_before (next_at self.now) (maximal_runs (held_at self.now runs.now)) }
-        ensures count { length result ≡ run_count (held_at self.now runs.now) }
-        ensures bound { length result ≤ length runs.now }
-    {
-        MissingRunIter::before(self.held(runs), self.next())
     }
 
     /// Returns how many runs are held, without a look at them.
@@ -659,92 +616,6 @@ impl ReceiverHead {
         after
     }
 
-    /// Returns whether a byte that is queued or held differs from that of a segment, as `ReceiverOver::differs` does.
-    ///
-    /// # Requires
-    ///
-    /// Head, storage and runs are sound, as `is_sound` tests.
-    pub(crate) fn differs(&self, storage: &[u8], runs: &[Run], pos: u64, bytes: &[u8]) -> bool
-        requires { HasSoundParts self.now (length storage.now) runs.now }
-        ensures { IsTrue result
-            ↔ DiffersFrom (receiver_of self.now storage.now runs.now) pos bytes.now }
-    {
-        // The segment's bytes that weren't read, and where the first of them is, counted from the first
-        // position that wasn't.
-        let unread = self.first + self.count_read;
-        let late = unread.saturating_sub(pos).min(bytes.len() as u64) as usize;
-        let ahead = pos.saturating_sub(unread).min(storage.len() as u64) as usize;
-        let rest = &bytes[late..];
-        if self.part_differs(storage, 0, self.place.length, ahead, rest) {
-            return true;
-        }
-        self.held_differs(storage, runs, ahead, rest)
-    }
-
-    /// Returns whether a held byte differs from that of `data`, whose first byte is at `offset`, counted from the
-    /// first position that wasn't read.
-    fn held_differs(&self, storage: &[u8], runs: &[Run], offset: usize, data: &[u8]) -> bool
-        requires { HasSoundParts self.now (length storage.now) runs.now }
-        ensures { let bytes = rotation storage.now self.now.place.read_at in IsTrue result
-            ↔ ((p : ℕ) × IsTrue (contains (set_of self.now.held runs.now) p)
-            × HasOther bytes offset «data».now (self.now.place.length + p)) }
-    {
-        let queued = self.place.length;
-        let mut turns = Turns::new();
-        // The runs before the last one that starts by `offset` end by then.
-        let first = self
-            .held
-            .runs_by(runs, offset.saturating_sub(queued))
-            .saturating_sub(1);
-        for k in first..self.held.run_count() {
-            turns.step();
-            turns.were_a_pass(runs);
-            let Some((start, end)) = self.held.run_at(runs, k) else {
-                return false;
-            };
-            let start = queued + start;
-            prove!(start <= storage.len(), "in any `usize`");
-            let end = queued + end;
-            prove!(end <= storage.len(), "in any `usize`");
-            if start.saturating_sub(offset) >= data.len() {
-                return false;
-            }
-            if self.part_differs(storage, start, end, offset, data) {
-                return true;
-            }
-        }
-        false
-    }
-
-    /// Returns whether one of the bytes from `start` on and below `end` differs from that of `data`, whose first byte
-    /// is at `offset`. All are counted from the first position that wasn't read.
-    fn part_differs(
-        &self,
-        storage: &[u8],
-        start: usize,
-        end: usize,
-        offset: usize,
-        data: &[u8],
-    ) -> bool
-        requires place { IsSoundPlace (length storage.now) self.now.place }
-        requires end { end ≤ length storage.now }
-        ensures { let bytes = rotation storage.now self.now.place.read_at in IsTrue result
-            ↔ ((p : ℕ) × (start ≤ p) × (p < end) × HasOther bytes offset «data».now p) }
-    {
-        let first = start.saturating_sub(offset);
-        let last = end.saturating_sub(offset).min(data.len());
-        if first >= last {
-            return false;
-        }
-        let place = RingHead {
-            read_at: self.place.read_at,
-            length: storage.len(),
-        };
-        let whole = ReceiverHead { place, ..*self };
-        let (one, two) = whole.peek_slices(storage, start.max(offset), last - first);
-        !is_joined(one, two, &data[first..last])
-    }
-
     /// Returns where the bytes of a segment are, where the storage has `capacity` bytes, as
     /// `ReceiverOver::parts_of` does.
     ///
@@ -771,21 +642,6 @@ impl ReceiverHead {
             beyond: rest - in_window,
             past_end: 0,
         }
-    }
-
-    /// Returns how many bytes of a segment of `len` bytes at `position` would be new, where the
-    /// storage has `capacity` bytes, as `ReceiverOver::count_new` does.
-    ///
-    /// # Requires
-    ///
-    /// Head, storage and runs are sound, as `is_sound` tests.
-    pub fn count_new(&self, capacity: usize, runs: &[Run], position: u64, len: usize) -> usize
-        requires sound { HasSoundParts self.now capacity runs.now }
-        ensures { result ≡ count_between (next_at self.now)
-            (self.now.first + self.now.count_read + capacity) (held_at self.now runs.now)
-            position (min len (2 ^ 64 - 1 - position)) }
-    {
-        self.count_part(capacity, runs, position, count_existing(position, len))
     }
 
     /// Counts those of a segment that ends within 64 bits.
@@ -872,14 +728,6 @@ impl ReceiverHead {
         }
         true
     }
-}
-
-/// Returns whether these bytes are two parts, one after the other.
-fn is_joined(one: &[u8], two: &[u8], bytes: &[u8]) -> bool
-    requires { length one.now + length two.now ≡ length bytes.now }
-    ensures { IsTrue result ↔ (one.now ++ two.now ≡ bytes.now) }
-{
-    one == &bytes[..one.len()] && two == &bytes[one.len()..]
 }
 
 /// The part of a segment that is kept: how many bytes are before it, how far after the queue it goes, and the counts.

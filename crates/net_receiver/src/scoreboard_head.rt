@@ -7,7 +7,7 @@
 
 ghost use Rattle.std.specs.Prelude.{◌≡◌, ◌↔◌, ◌-◌, ◌≤◌, ◌^◌, List, ℕ, length, min, IsTrue, Err, OnOk, OnErr};
 ghost use Rattle.net_assembler.specs.Positions.{contains, first_missing, front, maximal_runs, missing_count};
-ghost use Rattle.net_assembler.specs.Positions.{nothing, positions, with_range};
+ghost use Rattle.net_assembler.specs.Positions.{nothing, with_range};
 ghost use Rattle.net_assembler.specs.RunLists.{IsCanonical};
 ghost use Rattle.net_ring.specs.Width.{shortfall};
 ghost use Rattle.net_receiver.specs.Scoreboards.{HasNoRoom, IsEnd, IsNextHole, IsReport, IsSoundBoard, beyond};
@@ -228,23 +228,6 @@ impl ScoreboardHead {
         ensures { IsEnd (reported_by self.now runs.now) result }
     {
         self.base + self.reported.end(runs) as u64
-    }
-
-    /// Returns how many positions were reported beyond the first one that wasn't, which is `base`.
-    ///
-    /// # Requires
-    ///
-    /// The scoreboard is sound with the runs.
-    pub fn count_beyond(&self, runs: &[Run]) -> usize
-        requires { IsSoundBoard self.now runs.now }
-        ensures { result ≡ length (positions (beyond (reported_by self.now runs.now))) }
-    {
-        let mut count = 0;
-        for (start, end) in self.reported.iter_data(runs) {
-            count += end.saturating_sub(start);
-            prove!(count <= most(), "in any `usize`");
-        }
-        count
     }
 
     /// Returns the first position from `pos` on that wasn't reported.

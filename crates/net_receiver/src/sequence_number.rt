@@ -1,6 +1,6 @@
 //! Sequence numbers, which wrap.
-ghost use Rattle.std.specs.Prelude.{◌≡◌, ◌↔◌, ℕ, ◌<◌, ◌^◌, IsTrue, IfSome, Some};
-ghost use Rattle.net_receiver.specs.SequenceNumbers.{number_at, ahead_of, ComesBefore, IsNear};
+ghost use Rattle.std.specs.Prelude.{◌≡◌, ℕ, ◌<◌, ◌^◌, IfSome, Some};
+ghost use Rattle.net_receiver.specs.SequenceNumbers.{number_at, ahead_of, IsNear};
 
 use std::marker::Model;
 use std::ops::Add;
@@ -16,7 +16,7 @@ use std::ops::Add;
 ///
 /// let last = SequenceNumber::new(u32::MAX);
 /// assert_eq!((last + 1).get(), 0);
-/// assert!(last.is_before(last + 1));
+/// assert_eq!((last + 1).ahead_of(last), 1);
 /// ```
 #[derive(Debug, Copy, Clone, PartialEq, Eq)]
 pub struct SequenceNumber {
@@ -123,7 +123,8 @@ impl SequenceNumber {
         }
     }
 
-    /// Returns how far this number is ahead of another one, modulo 2^32.
+    /// Returns how far this number is ahead of another one, modulo 2^32. TCP takes it for a later one if
+    /// that is above 0 and below 2^31.
     ///
     /// ```
     /// # use net_base::sequence_number::SequenceNumber;
@@ -135,23 +136,6 @@ impl SequenceNumber {
         ensures { result ≡ ahead_of other self }
     {
         self.number.wrapping_sub(other.number)
-    }
-
-    /// Returns whether another number is ahead of this one by less than 2^31, and is not the same.
-    /// Of two numbers that are 2^31 apart neither is before the other.
-    ///
-    /// ```
-    /// # use net_base::sequence_number::SequenceNumber;
-    /// let (one, other) = (SequenceNumber::new(u32::MAX), SequenceNumber::new(2));
-    /// assert!(one.is_before(other) && !other.is_before(one) && !one.is_before(one));
-    /// ```
-    #[inline]
-    #[must_use]
-    pub fn is_before(self, other: SequenceNumber) -> bool
-        ensures { IsTrue result ↔ ComesBefore self other }
-    {
-        let ahead = other.ahead_of(self);
-        0 < ahead && ahead < 0x8000_0000
     }
 }
 

@@ -7,7 +7,6 @@ use std::io::{BufRead, Error, ErrorKind, Read, Result, Write};
 use super::{RingOver, Storage};
 use crate::finite::{FiniteReceiverOver, FiniteSenderOver};
 use crate::receiver::ReceiverOver;
-use crate::sender::SenderOver;
 
 /// How many bytes a call moved, unless it moved none though it was asked to, and may move some later.
 fn moved(count: usize, asked: usize, is_for_now: bool) -> Result<usize> {
@@ -109,20 +108,6 @@ impl<S: Storage<u8>, const N: usize> BufRead for FiniteReceiverOver<S, N> {
 impl<S: Storage<u8>> Write for RingOver<u8, S> {
     fn write(&mut self, bytes: &[u8]) -> Result<usize> {
         moved(self.enqueue_slice(bytes), bytes.len(), self.capacity() != 0)
-    }
-
-    fn flush(&mut self) -> Result<()> {
-        Ok(())
-    }
-}
-
-/// Takes as many bytes as there is room for. A full sender is refused as [`ErrorKind::WouldBlock`]; one without
-/// storage, or of whose positions none is left, takes nothing ever, which is `Ok(0)`. `flush` doesn't wait for
-/// acknowledgements.
-impl<S: Storage<u8>> Write for SenderOver<S> {
-    fn write(&mut self, bytes: &[u8]) -> Result<usize> {
-        let is_full = !self.is_empty() && self.len() == self.capacity();
-        moved(SenderOver::write(self, bytes), bytes.len(), is_full)
     }
 
     fn flush(&mut self) -> Result<()> {

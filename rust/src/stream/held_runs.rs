@@ -1,11 +1,10 @@
 // Written by tools/erase.py from crates/net_receiver/src/held_runs.rt: a change here would be lost.
 //! The held runs of a receiver, one after another: in rising order, and in the order in which a selective
-//! acknowledgement lists them; and the holes before them.
+//! acknowledgement lists them.
 
 use crate::rattle::prelude::*;
 use crate::storage::RunIter;
 use crate::storage::assembler::Turns;
-use crate::rattle::std::mem;
 
 /// An iterator over the held runs of a receiver, made by `held`.
 ///
@@ -35,41 +34,6 @@ impl<'a> Iterator for HeldRunIter<'a> {
     fn next(&mut self) -> Option<(u64, u64)> {
         let (start, end) = self.runs.next()?;
         Some((self.from + start as u64, self.from + end as u64))
-    }
-
-    #[inline]
-    fn size_hint(&self) -> (usize, Option<usize>) {
-        self.runs.size_hint()
-    }
-}
-
-/// An iterator over the holes of a receiver, made by `holes`.
-///
-/// It yields (start, end) of each hole as absolute positions in rising order, the end not included,
-/// and then ends.
-#[derive(Clone)]
-pub struct MissingRunIter<'a> {
-    // The held runs that are left, and where the queue or the run before them ended.
-    runs: HeldRunIter<'a>,
-    from: u64,
-}
-
-impl<'a> MissingRunIter<'a> {
-    /// Returns the hole before each of these runs. The first hole begins at `from`.
-    #[inline]
-    pub(crate) fn before(runs: HeldRunIter<'a>, from: u64) -> Self {
-        MissingRunIter { runs, from }
-    }
-}
-
-impl<'a> Iterator for MissingRunIter<'a> {
-    type Item = (u64, u64);
-
-    #[inline]
-    fn next(&mut self) -> Option<(u64, u64)> {
-        let (start, end) = self.runs.next()?;
-        let from = mem::replace(&mut self.from, end);
-        Some((from, start))
     }
 
     #[inline]

@@ -11,9 +11,8 @@ use crate::rattle::prelude::*;
 // them. `keep` lists none, for callers that list others, by `newest_runs`, or none.
 
 use crate::stream::finite_receiver_head::keep_ending;
-use crate::stream::held_runs::{HeldRun, HeldRuns, MissingRunIter, NewestRunIter};
+use crate::stream::held_runs::{HeldRun, HeldRuns, NewestRunIter};
 use crate::stream::kept::{FiniteError, Kept, KeptBytes, SegmentParts};
-use crate::stream::plan::Plan;
 use crate::stream::receiver_head::{ReceiverHead, count_existing};
 use crate::storage::{Run, TooManyHolesError};
 use crate::storage::{ManagedSlice, Storage};
@@ -205,13 +204,6 @@ impl<S: Storage<u8>, const N: usize> ReceiverOver<S, N> {
         self.keep_part(pos, existing(pos, bytes))
     }
 
-    /// Returns the receiver's numbers and its held runs, of which `Plan::keep` says what would be kept of
-    /// segments, one after another. It copies the N runs, and no bytes. smoltcp has no such call.
-    #[must_use]
-    pub fn plan(&self) -> Plan<N> {
-        Plan::over(self.head, self.runs, self.storage.count())
-    }
-
     /// Keeps a segment that ends within 64 bits.
     #[inline]
     pub(crate) fn keep_part(
@@ -317,19 +309,6 @@ impl<S: Storage<u8>, const N: usize> ReceiverOver<S, N> {
     #[must_use]
     pub fn peek(&self, offset: usize, size: usize) -> &[u8] {
         self.head.peek(whole(&self.storage), offset, size)
-    }
-
-    /// Shows at most `size` bytes of the queue, from its byte `offset` on, in two parts: those up to the
-    /// storage's end, and those from its beginning on. The second part is empty unless the bytes wrap.
-    ///
-    /// `peek` shows the first of them alone. smoltcp has no such call.
-    ///
-    /// # [Guarantees](crate#guarantees)
-    ///
-    /// - `result.0 ++ result.1 == self.queue[offset..][..size]`
-    #[must_use]
-    pub fn peek_slices(&self, offset: usize, size: usize) -> (&[u8], &[u8]) {
-        self.head.peek_slices(whole(&self.storage), offset, size)
     }
 
     /// Shows the queue, in order, in two parts: the bytes up to the storage's end, and those from its
@@ -511,22 +490,6 @@ impl<S: Storage<u8>, const N: usize> ReceiverOver<S, N> {
         self.head.held(&self.runs)
     }
 
-    /// Returns the holes between the queue and the last held byte, as absolute (start, end), the end not
-    /// included, in rising order: one before each held run, so at most `N`. The first begins at `next`. A byte
-    /// in one of them is missing, and a later one was kept. smoltcp has no such call.
-    ///
-    /// ```
-    /// # use net_base::receiver::Receiver;
-    /// # let mut storage = [0u8; 16];
-    /// # let mut receiver = Receiver::new(&mut storage[..]);
-    /// assert!(receiver.keep(2, b"cd").is_ok() && receiver.keep(7, b"h").is_ok());
-    /// assert!(receiver.holes().eq([(0, 2), (4, 7)]));
-    /// ```
-    #[must_use]
-    pub fn holes(&self) -> MissingRunIter<'_> {
-        self.head.holes(&self.runs)
-    }
-
     /// Returns how many runs are held, without a look at them: as many as `held` yields, at most `N`.
     #[must_use]
     pub fn held_count(&self) -> usize {
@@ -586,29 +549,6 @@ impl<S: Storage<u8>, const N: usize> ReceiverOver<S, N> {
         self.head.duplicate_of(&self.runs, pos, pos + count as u64)
     }
 
-    /// Returns whether a byte that is queued or held differs from that of the segment at its position. Bytes that were
-    /// read aren't known any more: a segment doesn't differ from them.
-    ///
-    /// It is asked before the segment is kept, which writes over what is held, by callers who refuse a peer that
-    /// sends two texts for one position. It finds the first held run that the segment meets by a search, and looks
-    /// at those that it meets, and at most two more. smoltcp has no such call.
-    ///
-    /// ```
-    /// # use net_base::receiver::Receiver;
-    /// # let mut storage = [0u8; 16];
-    /// # let mut receiver = Receiver::new(&mut storage[..]);
-    /// assert!(receiver.keep(0, b"ab").is_ok() && receiver.keep(4, b"ef").is_ok());
-    /// assert!(!receiver.differs(1, b"bcdefg") && receiver.differs(1, b"bcdeF"));
-    /// assert!(receiver.differs(0, b"A"));
-    /// assert_eq!(receiver.read(&mut [0; 1]), 1);
-    /// assert!(!receiver.differs(0, b"A"));
-    /// ```
-    #[must_use]
-    pub fn differs(&self, pos: u64, bytes: &[u8]) -> bool {
-        self.head
-            .differs(whole(&self.storage), &self.runs, pos, bytes)
-    }
-
     /// Returns where the bytes of a segment of `len` bytes at `pos` are: below `next`, in the free window, or above
     /// it. Any segment may be asked for. `keep` then keeps those in the free window, unless it refuses the
     /// segment. It is asked before the segment is kept, by callers who refuse a peer that sends more than it was
@@ -631,44 +571,14 @@ impl<S: Storage<u8>, const N: usize> ReceiverOver<S, N> {
         self.head.parts_of(self.storage.count(), pos, len)
     }
 
-    /// Returns how many bytes of a segment of `len` bytes at `position` would be new: those in the
-    /// free window whose positions are not held. `segment` keeps the others of the free window too,
-    /// and counts them. If all that it brings was read, queued or held, there are none: a duplicate,
-    /// which TCP may report (RFC 2883). It is asked before `segment`; smoltcp has no such call.
-    ///
-    /// ```
-    /// # use net_base::receiver::Receiver;
-    /// # let mut storage = [0u8; 16];
-    /// # let mut receiver = Receiver::new(&mut storage[..]);
-    /// assert!(receiver.segment(4, b"ef").is_ok());
-    /// assert_eq!((receiver.count_new(3, 4), receiver.count_new(4, 2)), (2, 0));
-    /// ```
-    ///
-    /// Positions from `u64::MAX` on, which no stream has, aren't counted.
-    #[must_use]
-    pub fn count_new(&self, position: u64, len: usize) -> usize {
-        self.count_part(position, count_existing(position, len))
-    }
-
     /// Counts those of a segment that ends within 64 bits.
     pub(crate) fn count_part(&self, position: u64, len: usize) -> usize {
         self.head
             .count_part(self.storage.count(), &self.runs, position, len)
     }
 
-    /// Returns the position of the first byte that wasn't read: that of the stream's first byte, plus the count of
-    /// bytes read. The queue begins there, and ends at `next`. smoltcp has no such call.
-    ///
-    /// ```
-    /// # use net_base::receiver::Receiver;
-    /// # let mut storage = [0u8; 16];
-    /// # let mut receiver = Receiver::new_at(&mut storage[..], 100);
-    /// assert!(receiver.keep(100, b"abc").is_ok());
-    /// assert_eq!(receiver.read(&mut [0; 2]), 2);
-    /// assert_eq!((receiver.first_unread(), receiver.next()), (102, 103));
-    /// ```
-    #[must_use]
-    pub fn first_unread(&self) -> u64 {
+    /// Returns the position of the first byte that wasn't read.
+    pub(crate) fn first_unread(&self) -> u64 {
         let head = &self.head;
         head.first + head.count_read
     }

@@ -2,9 +2,8 @@
 //! A receiver in parts: a head of numbers, a storage, and runs that are kept elsewhere.
 
 use crate::rattle::prelude::*;
-use crate::stream::held_runs::{HeldRun, HeldRunIter, MissingRunIter, is_listed, remember};
+use crate::stream::held_runs::{HeldRun, HeldRunIter, is_listed, remember};
 use crate::stream::kept::{KeptBytes, SegmentParts};
-use crate::storage::assembler::Turns;
 use crate::storage::{AssemblerHead, Run, TooManyHolesError};
 use crate::storage::RingHead;
 use crate::storage::width::most;
@@ -224,26 +223,6 @@ impl ReceiverHead {
         &storage[span.from..span.from + span.contiguous]
     }
 
-    /// Shows at most `size` bytes of the queue, from its byte `offset` on, in two parts: those up to the
-    /// storage's end, and those from its beginning on. The second part is empty unless the bytes wrap.
-    ///
-    /// # Requires
-    ///
-    /// The queue is in the storage.
-    #[inline]
-    pub(crate) fn peek_slices<'a>(
-        &self,
-        storage: &'a [u8],
-        offset: usize,
-        size: usize,
-    ) -> (&'a [u8], &'a [u8]) {
-        let span = self.place.allocated(storage.len(), offset, size);
-        (
-            &storage[span.from..span.from + span.contiguous],
-            &storage[..span.count - span.contiguous],
-        )
-    }
-
     /// Shows the queue, in order, in two parts: the bytes up to the storage's end, and those from
     /// its beginning on. The second part is empty unless the queue wraps.
     ///
@@ -316,16 +295,6 @@ impl ReceiverHead {
     #[inline(always)]
     pub fn held<'a>(&self, runs: &'a [Run]) -> HeldRunIter<'a> {
         HeldRunIter::over(self.held.iter_data(runs), self.next())
-    }
-
-    /// Returns the holes between the queue and the last held byte, as `ReceiverOver::holes` does.
-    ///
-    /// # Requires
-    ///
-    /// Head and runs are sound, as `is_sound` tests, with a storage of some length.
-    #[inline(always)]
-    pub(crate) fn holes<'a>(&self, runs: &'a [Run]) -> MissingRunIter<'a> {
-        MissingRunIter::before(self.held(runs), self.next())
     }
 
     /// Returns how many runs are held, without a look at them.
@@ -460,78 +429,6 @@ impl ReceiverHead {
         after
     }
 
-    /// Returns whether a byte that is queued or held differs from that of a segment, as `ReceiverOver::differs` does.
-    ///
-    /// # Requires
-    ///
-    /// Head, storage and runs are sound, as `is_sound` tests.
-    pub(crate) fn differs(&self, storage: &[u8], runs: &[Run], pos: u64, bytes: &[u8]) -> bool {
-        // The segment's bytes that weren't read, and where the first of them is, counted from the first
-        // position that wasn't.
-        let unread = self.first + self.count_read;
-        let late = unread.saturating_sub(pos).min(bytes.len() as u64) as usize;
-        let ahead = pos.saturating_sub(unread).min(storage.len() as u64) as usize;
-        let rest = &bytes[late..];
-        if self.part_differs(storage, 0, self.place.length, ahead, rest) {
-            return true;
-        }
-        self.held_differs(storage, runs, ahead, rest)
-    }
-
-    /// Returns whether a held byte differs from that of `data`, whose first byte is at `offset`, counted from the
-    /// first position that wasn't read.
-    fn held_differs(&self, storage: &[u8], runs: &[Run], offset: usize, data: &[u8]) -> bool {
-        let queued = self.place.length;
-        let mut turns = Turns::new();
-        // The runs before the last one that starts by `offset` end by then.
-        let first = self
-            .held
-            .runs_by(runs, offset.saturating_sub(queued))
-            .saturating_sub(1);
-        for k in first..self.held.run_count() {
-            turns.step();
-            turns.were_a_pass(runs);
-            let Some((start, end)) = self.held.run_at(runs, k) else {
-                return false;
-            };
-            let start = queued + start;
-            prove!(start <= storage.len(), "in any `usize`");
-            let end = queued + end;
-            prove!(end <= storage.len(), "in any `usize`");
-            if start.saturating_sub(offset) >= data.len() {
-                return false;
-            }
-            if self.part_differs(storage, start, end, offset, data) {
-                return true;
-            }
-        }
-        false
-    }
-
-    /// Returns whether one of the bytes from `start` on and below `end` differs from that of `data`, whose first byte
-    /// is at `offset`. All are counted from the first position that wasn't read.
-    fn part_differs(
-        &self,
-        storage: &[u8],
-        start: usize,
-        end: usize,
-        offset: usize,
-        data: &[u8],
-    ) -> bool {
-        let first = start.saturating_sub(offset);
-        let last = end.saturating_sub(offset).min(data.len());
-        if first >= last {
-            return false;
-        }
-        let place = RingHead {
-            read_at: self.place.read_at,
-            length: storage.len(),
-        };
-        let whole = ReceiverHead { place, ..*self };
-        let (one, two) = whole.peek_slices(storage, start.max(offset), last - first);
-        !is_joined(one, two, &data[first..last])
-    }
-
     /// Returns where the bytes of a segment are, where the storage has `capacity` bytes, as
     /// `ReceiverOver::parts_of` does.
     ///
@@ -553,16 +450,6 @@ impl ReceiverHead {
             beyond: rest - in_window,
             past_end: 0,
         }
-    }
-
-    /// Returns how many bytes of a segment of `len` bytes at `position` would be new, where the
-    /// storage has `capacity` bytes, as `ReceiverOver::count_new` does.
-    ///
-    /// # Requires
-    ///
-    /// Head, storage and runs are sound, as `is_sound` tests.
-    pub fn count_new(&self, capacity: usize, runs: &[Run], position: u64, len: usize) -> usize {
-        self.count_part(capacity, runs, position, count_existing(position, len))
     }
 
     /// Counts those of a segment that ends within 64 bits.
@@ -630,11 +517,6 @@ impl ReceiverHead {
         }
         true
     }
-}
-
-/// Returns whether these bytes are two parts, one after the other.
-fn is_joined(one: &[u8], two: &[u8], bytes: &[u8]) -> bool {
-    one == &bytes[..one.len()] && two == &bytes[one.len()..]
 }
 
 /// The part of a segment that is kept: how many bytes are before it, how far after the queue it goes, and the counts.

@@ -4,17 +4,16 @@
 use crate::rattle::prelude::*;
 use crate::stream::held_runs::HeldRuns;
 use crate::stream::scoreboard_head::{ReportError, ScoreboardHead};
-use crate::stream::sequence_number::SequenceNumber;
 use crate::storage::Run;
 
 /// What a sender knows of the positions that the other end has, as acknowledgements and their SACK
 /// blocks report them: a scoreboard.
 ///
 /// Positions are absolute. At most `N` runs are stored beyond the first position that wasn't reported;
-/// what is below that needs none. No call takes memory. `next_lost` gives what is lost, range by
-/// range, and `next_hole` all that isn't reported, of which most may only be in flight; when it is
-/// sent again is the caller's choice. smoltcp has no such type: its TCP socket sends again from the
-/// first unacknowledged position on.
+/// what is below that needs none. No call takes memory. `next_hole` gives what isn't reported, range by
+/// range. Most of it may only be in flight: what is below `lost_below` is lost. When it is sent again is
+/// the caller's choice. smoltcp has no such type: its TCP socket sends again from the first
+/// unacknowledged position on.
 ///
 /// ```
 /// use net_base::scoreboard::Scoreboard;
@@ -87,8 +86,8 @@ impl<const N: usize> Scoreboard<N> {
     }
 
     /// Reports the positions from `start` on and below `end`, as a SACK block of an acknowledgement
-    /// does. Blocks may overlap. `sent` is the position after the last byte that was ever sent, as
-    /// `Sender::mark_sent` keeps it.
+    /// does. Blocks may overlap. `sent` is the number after the last one that was ever sent, as
+    /// `FiniteSender::sent` returns it.
     ///
     /// ```
     /// # use net_base::scoreboard::{ReportError, Scoreboard};
@@ -114,47 +113,6 @@ impl<const N: usize> Scoreboard<N> {
     /// - on `Err`: `self == old(self)`
     pub fn report(&mut self, start: u64, end: u64, sent: u64) -> Result<(), ReportError> {
         self.head.report(&mut self.runs, start, end, sent)
-    }
-
-    /// Reports a SACK block as `report` does, from its numbers: of each it takes the position nearest to
-    /// the first one that wasn't reported, if position 0 has the number `initial`. Call it after
-    /// `acknowledge`.
-    ///
-    /// ```
-    /// # use net_base::scoreboard::{ReportError, Scoreboard};
-    /// # use net_base::sequence_number::SequenceNumber;
-    /// let [initial, start, end] = [7, 12, 16].map(SequenceNumber::new);
-    /// let mut scoreboard = Scoreboard::<4>::empty();
-    /// assert_eq!(scoreboard.report_block(initial, start, end, 20), Ok(()));
-    /// assert_eq!(scoreboard.next_hole(0, 20), Some((0, 5)));
-    /// let old = scoreboard.report_block(initial, initial, start, 20);
-    /// assert_eq!(old, Err(ReportError::NoBlock));
-    /// ```
-    ///
-    /// # Errors
-    ///
-    /// `NoBlock`, and nothing changes, exactly if a number has no position there, `start` isn't above that
-    /// first one, so that the block is of what came twice (RFC 2883), `start` isn't below `end`, or `end` is
-    /// above `sent`. `TooManyHoles`, and nothing changes, exactly if there would be more than `N` runs
-    /// beyond the first position that wasn't reported.
-    pub fn report_block(
-        &mut self,
-        initial: SequenceNumber,
-        start: SequenceNumber,
-        end: SequenceNumber,
-        sent: u64,
-    ) -> Result<(), ReportError> {
-        let first = self.first_unreported();
-        let Some(start) = start.position(initial, first) else {
-            return Err(ReportError::NoBlock);
-        };
-        let Some(end) = end.position(initial, first) else {
-            return Err(ReportError::NoBlock);
-        };
-        if start <= first {
-            return Err(ReportError::NoBlock);
-        }
-        self.report(start, end, sent)
     }
 
     /// Reports all positions below `next`. It is never refused.
@@ -202,18 +160,6 @@ impl<const N: usize> Scoreboard<N> {
         self.head.highest_reported(&self.runs)
     }
 
-    /// Returns how many positions were reported beyond the first one that wasn't.
-    #[must_use]
-    pub fn count_beyond(&self) -> usize {
-        self.head.count_beyond(&self.runs)
-    }
-
-    /// Returns the first position from `pos` on that wasn't reported.
-    #[must_use]
-    pub fn first_missing(&self, pos: u64) -> u64 {
-        self.head.first_missing(&self.runs, pos)
-    }
-
     /// Returns how many positions from `start` on and below `end` weren't reported.
     ///
     /// ```
@@ -229,7 +175,8 @@ impl<const N: usize> Scoreboard<N> {
 
     /// Returns the next range that wasn't reported, as a start and an end, the end not included: it
     /// begins at the first position from `pos` on that wasn't, and ends at the next one that was, or at
-    /// `limit`. `None` if there is none below `limit`. Of these bytes most may only be in flight.
+    /// `limit`. `None` if there is none below `limit`. Of these bytes most may only be in flight. What is
+    /// lost is below `lost_below`, as `limit`: a caller sends it, and passes its end as the next `pos`.
     ///
     /// ```
     /// # use net_base::scoreboard::Scoreboard;
@@ -253,27 +200,18 @@ impl<const N: usize> Scoreboard<N> {
     /// `duplicates - 1` segments of `segment_size` bytes have. It is 0 if nothing is lost. A run counts as
     /// above a position if it begins above it; of a position that wasn't reported that is the RFC's rule
     /// exactly.
-    #[must_use]
-    pub fn lost_below(&self, duplicates: usize, segment_size: usize) -> u64 {
-        self.head.lost_below(&self.runs, duplicates, segment_size)
-    }
-
-    /// Returns the next range to send again, as `next_hole` does, of that which is lost, as `lost_below`
-    /// says: it begins at `pos` or above. `None` if nothing from `pos` on is lost.
-    ///
-    /// A caller sends it, passes its end as the next `pos`, and begins again at the first unacknowledged
-    /// position with the next recovery.
     ///
     /// ```
     /// # use net_base::scoreboard::Scoreboard;
     /// # let mut scoreboard = Scoreboard::<4>::empty();
     /// // Segments of 100 bytes: the first is missing, the three after it have arrived, four are in flight.
     /// assert_eq!(scoreboard.report(100, 400, 800), Ok(()));
-    /// assert_eq!(scoreboard.next_lost(0, 3, 100), Some((0, 100)));
-    /// assert_eq!(scoreboard.next_lost(100, 3, 100), None);
+    /// let lost = scoreboard.lost_below(3, 100);
+    /// assert_eq!(scoreboard.next_hole(0, lost), Some((0, 100)));
+    /// assert_eq!(scoreboard.next_hole(100, lost), None);
     /// ```
     #[must_use]
-    pub fn next_lost(&self, pos: u64, duplicates: usize, segment_size: usize) -> Option<(u64, u64)> {
-        self.next_hole(pos, self.lost_below(duplicates, segment_size))
+    pub fn lost_below(&self, duplicates: usize, segment_size: usize) -> u64 {
+        self.head.lost_below(&self.runs, duplicates, segment_size)
     }
 }

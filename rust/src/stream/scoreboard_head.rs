@@ -170,20 +170,6 @@ impl ScoreboardHead {
         self.base + self.reported.end(runs) as u64
     }
 
-    /// Returns how many positions were reported beyond the first one that wasn't, which is `base`.
-    ///
-    /// # Requires
-    ///
-    /// The scoreboard is sound with the runs.
-    pub fn count_beyond(&self, runs: &[Run]) -> usize {
-        let mut count = 0;
-        for (start, end) in self.reported.iter_data(runs) {
-            count += end.saturating_sub(start);
-            prove!(count <= most(), "in any `usize`");
-        }
-        count
-    }
-
     /// Returns the first position from `pos` on that wasn't reported.
     ///
     /// # Requires

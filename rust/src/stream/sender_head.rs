@@ -24,7 +24,7 @@ pub struct SenderHead {
 impl SenderHead {
     /// Returns the head of a sender of a stream that begins at position `first`, to which nothing
     /// was written. It is sound for every storage.
-    pub const fn new(first: u64) -> Self {
+    pub(crate) const fn new(first: u64) -> Self {
         SenderHead {
             first_unacknowledged: first,
             place: RingHead {
@@ -36,7 +36,7 @@ impl SenderHead {
 
     /// Returns whether this head is sound for a storage of `capacity` bytes: `place` is that of a
     /// ring of as many, and the position after the queue fits 64 bits.
-    pub fn is_sound(&self, capacity: usize) -> bool {
+    pub(crate) fn is_sound(&self, capacity: usize) -> bool {
         self.place.is_sound(capacity) && self.end_fits()
     }
 
@@ -118,40 +118,6 @@ impl SenderHead {
         self.place.dequeue(capacity, count);
         self.first_unacknowledged = next;
         true
-    }
-
-    /// Moves `sent`, the position after the last byte that was ever sent, up to `pos`, if that is
-    /// above it. Returns false, and changes nothing, if `sent` or `pos` is above `end`: no such byte
-    /// was written.
-    ///
-    /// The caller keeps this mark. It begins as the position of the stream's first byte.
-    ///
-    /// # Requires
-    ///
-    /// The position after the last byte that was written fits 64 bits, as `end_fits` tests.
-    #[inline]
-    pub(crate) fn mark_sent(&self, sent: &mut u64, pos: u64) -> bool {
-        let end = self.end();
-        if *sent > end || pos > end {
-            return false;
-        }
-        *sent = pos.max(*sent);
-        true
-    }
-
-    /// Drops the bytes below `next`, as `acknowledge` does, if they were sent: `sent` is the position
-    /// after the last byte that was ever sent, as `mark_sent` keeps it. Returns false, and changes
-    /// nothing, if `next` is below `first_unacknowledged` or above `sent`, or `sent` is above `end`.
-    ///
-    /// # Requires
-    ///
-    /// The head is sound for a storage of `capacity` bytes.
-    #[inline]
-    pub(crate) fn acknowledge_sent(&mut self, capacity: usize, next: u64, sent: u64) -> bool {
-        if next > sent || sent > self.end() {
-            return false;
-        }
-        self.acknowledge(capacity, next)
     }
 }
 

@@ -45,7 +45,6 @@ impl<S: Storage<u8>> Subject for Closing<S> {
                 let (part, is_last) = sender.send_at(one, call.at(1));
                 format!("{} {}", bytes(part), truth(is_last))
             }
-            "is_block" => truth(sender.is_block(one, call.at(1))).to_string(),
             name => panic!("no call {name}"),
         }
     }

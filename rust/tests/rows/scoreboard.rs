@@ -2,7 +2,6 @@
 use crate::show::{digest, mix, truth, START};
 use crate::{Call, Subject};
 use net_base::scoreboard::{ReportError, Scoreboard};
-use net_base::sequence_number::SequenceNumber;
 
 /// A scoreboard, and its stream's first position.
 struct Board<const N: usize> {
@@ -36,20 +35,13 @@ impl<const N: usize> Subject for Board<N> {
         let (board, one, two) = (&mut self.board, call.at(0), call.at(1));
         match call.name {
             "report" => answer(board.report(one, two, call.at(2))),
-            "report_block" => {
-                let [initial, start, end] =
-                    [0, 1, 2].map(|index| SequenceNumber::new(call.at(index) as u32));
-                answer(board.report_block(initial, start, end, call.at(3)))
-            }
             "acknowledge" => {
                 board.acknowledge(one);
                 "done".to_string()
             }
             "contains" => truth(board.contains(one)).to_string(),
-            "first_missing" => board.first_missing(one).to_string(),
             "next_hole" => range(board.next_hole(one, two)),
             "lost_below" => board.lost_below(call.size(0), call.size(1)).to_string(),
-            "next_lost" => range(board.next_lost(one, call.size(1), call.size(2))),
             name => panic!("no call {name}"),
         }
     }
@@ -64,7 +56,7 @@ impl<const N: usize> Subject for Board<N> {
             board.first_unreported() - self.first,
             board.highest_reported() - self.first,
             board.reported().count(),
-            board.count_beyond(),
+            board.reported().map(|(start, end)| end - start).sum::<u64>(),
             digest(sum)
         )
     }

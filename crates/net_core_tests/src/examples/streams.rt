@@ -5,8 +5,7 @@ ghost use Rattle.net_receiver.specs.Execution.{CommandFits};
 use crate::assertions::assert_holds;
 use net_base::time::{Duration, Instant};
 use net_examples::{
-    PeerError, Timer, acknowledge, check_frame, keep_both, keep_frame, least_missing, read_last,
-    receive,
+    PeerError, Timer, acknowledge, check_frame, keep_frame, least_missing, read_last, receive,
 };
 use net_receiver::{Command, FiniteReceiver, Receiver, SequenceNumber};
 use net_ring::ManagedSlice;
@@ -28,20 +27,6 @@ fn segments_are_read_in_order(rt: HostRuntime) {
         ("step", 2),
     );
     assert_holds(&rt, into.starts_with(b"hello, world"), ("step", 3));
-}
-
-/// The third packet has a frame that would make a fifth run.
-#[test]
-fn frames_of_a_packet_are_kept_or_none(rt: HostRuntime) {
-    let mut storage = [0u8; 16];
-    let mut receiver = Receiver::<4>::new(ManagedSlice::Borrowed(&mut storage));
-    let runs = keep_both(&mut receiver, 2, b"c", 4, b"e")
-        && keep_both(&mut receiver, 6, b"g", 8, b"i");
-    assert_holds(&rt, runs && receiver.held_count() == 4, ("step", 1));
-    let refused = !keep_both(&mut receiver, 0, b"a", 10, b"k");
-    assert_holds(&rt, refused && receiver.next() == 0, ("step", 2));
-    let joined = keep_both(&mut receiver, 3, b"d", 0, b"ab");
-    assert_holds(&rt, joined && receiver.next() == 5, ("step", 3));
 }
 
 /// Returns whether a segment of this number is acknowledged by this number and this window.
@@ -97,7 +82,6 @@ fn checks_frames(storage: &mut [u8]) -> bool {
     keep_frame(&mut receiver, 2, b"cd") == Some(2)
         && check_frame(&receiver, 0, b"abcdef", true) == Ok(true)
         && check_frame(&receiver, 6, b"ghi", false) == Err(PeerError::FlowControl)
-        && check_frame(&receiver, 1, b"bX", false) == Err(PeerError::ProtocolViolation)
         && receiver.keep(4, b"ef", true).is_ok()
         && check_frame(&receiver, 4, b"efg", false) == Err(PeerError::FinalSize)
         && check_frame(&receiver, 4, b"e", true) == Err(PeerError::FinalSize)
@@ -108,7 +92,7 @@ fn checks_frames(storage: &mut [u8]) -> bool {
 #[test]
 fn frames_are_checked_before_they_are_kept(rt: HostRuntime) {
     let mut storage = [0u8; 8];
-    assert_holds(&rt, checks_frames(&mut storage), ("frames", 9));
+    assert_holds(&rt, checks_frames(&mut storage), ("frames", 8));
 }
 
 /// Returns two segments that disagree at position 3, and the bytes before them.

@@ -1,6 +1,6 @@
 //! Receivers and senders in parts: a head, and a storage, runs or both.
 use crate::assertions::assert_holds;
-use net_receiver::{FiniteReceiverOver, FiniteSenderOver, ReceiverOver, SenderOver};
+use net_receiver::{FiniteReceiverOver, FiniteSenderOver, ReceiverOver};
 
 /// A receiver over a slice of bytes is put together from its parts again.
 #[test]
@@ -30,25 +30,12 @@ fn a_finite_receiver_goes_on_from_its_parts(rt: HostRuntime) {
     assert_holds(&rt, receiver.is_complete(), ("end", 9));
 }
 
-/// A sender keeps the bytes that nobody acknowledged.
-#[test]
-fn a_sender_goes_on_from_its_parts(rt: HostRuntime) {
-    let mut storage = *b"........";
-    let mut sender = SenderOver::<&mut [u8]>::over_at(&mut storage, 5);
-    let taken = sender.write(b"abcd") == 4 && sender.acknowledge(7);
-    let (head, bytes) = sender.into_parts();
-    let sound = head.is_sound(8);
-    let sender = SenderOver::<&mut [u8]>::from_parts(head, bytes);
-    assert_holds(&rt, taken && sound, ("bytes", 4));
-    assert_holds(&rt, sender.peek_at(7, 99) == b"cd".as_slice(), ("bytes", 2));
-}
-
-/// A sender of a stream that ends keeps its bytes, and its end.
+/// A sender of a stream that ends keeps the bytes that nobody acknowledged, and its end.
 #[test]
 fn a_finite_sender_goes_on_from_its_parts(rt: HostRuntime) {
     let mut storage = *b"........";
-    let mut sender = FiniteSenderOver::<&mut [u8]>::over_at(&mut storage, 5);
-    let taken = sender.write(b"ab") == 2;
+    let mut sender = FiniteSenderOver::<&mut [u8]>::over_at(&mut storage, 3);
+    let taken = sender.write(b"--ab") == 4 && sender.mark_sent(5) && sender.acknowledge(5);
     sender.close();
     let (head, bytes) = sender.into_parts();
     let sender = FiniteSenderOver::<&mut [u8]>::from_parts(head, bytes);

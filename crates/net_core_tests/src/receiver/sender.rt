@@ -1,7 +1,7 @@
 //! Senders: long bytes, and what their storage has. Rows of `rust/tests` show the calls of senders of few bytes.
 
 use crate::assertions::assert_holds;
-use net_receiver::Sender;
+use net_receiver::FiniteSender;
 use net_ring::ManagedSlice;
 use std::alloc::{AllocError, Global};
 
@@ -11,18 +11,24 @@ fn part(elements: &[u8], from: usize, to: usize) -> &[u8] {
     &elements[from.min(to)..to]
 }
 
+/// Returns whether a sender lends these bytes from `pos` on and below `limit`.
+fn lends(sender: &FiniteSender<'_>, pos: u64, limit: u64, bytes: &[u8]) -> bool {
+    let (lent, is_last) = sender.peek_at(pos, limit);
+    lent == bytes && !is_last
+}
+
 /// Returns whether a sender of as many bytes as these lends all of them, and after an
 /// acknowledgement the rest of them and the bytes that are written then.
-fn lends_all(sender: &mut Sender<'_>, bytes: &[u8]) -> bool {
+fn lends_all(sender: &mut FiniteSender<'_>, bytes: &[u8]) -> bool {
     let is_full = sender.write(bytes) == bytes.len() && sender.window() == 0;
-    let is_lent = sender.peek_at(0, usize::MAX) == bytes
-        && sender.peek_at(1_000, 65_528) == part(bytes, 1_000, 66_528);
     is_full
-        && is_lent
+        && lends(sender, 0, u64::MAX, bytes)
+        && lends(sender, 1_000, 66_528, part(bytes, 1_000, 66_528))
+        && sender.mark_sent(200_000)
         && sender.acknowledge(200_000)
         && sender.write(part(bytes, 0, 100_000)) == 100_000
-        && sender.peek_at(200_000, usize::MAX) == part(bytes, 200_000, 262_144)
-        && sender.peek_at(262_144, usize::MAX) == part(bytes, 0, 100_000)
+        && lends(sender, 200_000, u64::MAX, part(bytes, 200_000, 262_144))
+        && lends(sender, 262_144, u64::MAX, part(bytes, 0, 100_000))
 }
 
 /// Returns bytes that differ from their neighbours: byte i is i modulo 251.
@@ -38,21 +44,21 @@ fn pattern(alloc: Global, len: usize) -> Result<Vec<u8>, AllocError> {
 fn a_large_sender_lends_all_at_once(rt: HostRuntime) -> Result<(), AllocError> {
     let bytes = pattern(rt.alloc(), 262_144)?;
     let mut storage = pattern(rt.alloc(), 262_144)?;
-    let mut sender = Sender::over(ManagedSlice::Borrowed(&mut storage));
+    let mut sender = FiniteSender::over(ManagedSlice::Borrowed(&mut storage));
     assert_holds(&rt, lends_all(&mut sender, &bytes), ("sender", 0));
     Ok(())
 }
 
 /// Writes bytes, has two of them acknowledged, and writes two more. Returns whether all were taken.
 fn writes_six(storage: &mut [u8]) -> bool {
-    let mut sender = Sender::over(ManagedSlice::Borrowed(storage));
-    let is_written = sender.write(b"abcd") == 4;
+    let mut sender = FiniteSender::over(ManagedSlice::Borrowed(storage));
+    let is_written = sender.write(b"abcd") == 4 && sender.mark_sent(2);
     is_written && sender.acknowledge(2) && sender.write(b"ef") == 2
 }
 
-/// Writes bytes from four positions below the last one on. Returns whether four were taken.
+/// Writes bytes from four positions below the last one on, which is the end's. Returns whether four were taken.
 fn writes_to_the_last(storage: &mut [u8]) -> bool {
-    let mut sender = Sender::over_at(ManagedSlice::Borrowed(storage), u64::MAX - 4);
+    let mut sender = FiniteSender::over_at(ManagedSlice::Borrowed(storage), u64::MAX - 5);
     sender.write(b"abcdefghi") == 4
 }
 
@@ -71,7 +77,7 @@ fn storage_is_written_only_where_bytes_are_queued(rt: HostRuntime) {
 
 /// Returns how many of these bytes a sender over this storage takes.
 fn taken_by(storage: &mut [u8], bytes: &[u8]) -> usize {
-    let mut sender = Sender::over(ManagedSlice::Borrowed(storage));
+    let mut sender = FiniteSender::over(ManagedSlice::Borrowed(storage));
     sender.write(bytes)
 }
 

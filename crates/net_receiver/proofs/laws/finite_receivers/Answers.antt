@@ -1,6 +1,6 @@
 use Rattle.net_receiver.proofs.FiniteReceivers.{fresh_sound_end, sound_end_stays, end_stays, segment_of_stream}
 use Rattle.net_receiver.proofs.FiniteReceivers.{one_read, reads_the_stream, all_of_stream, acknowledged_grows}
-use Rattle.net_receiver.proofs.FiniteReceivers.{end_is_taken, all_bytes_complete, same_end_converges, only_ends_differ}
+use Rattle.net_receiver.proofs.FiniteReceivers.{end_is_taken, all_bytes_complete, only_ends_differ}
 use Rattle.net_receiver.proofs.FiniteReceivers.{end_in_order}
 use Rattle.net_receiver.proofs.laws.finite_receivers.Goals as goal
 
@@ -18,5 +18,4 @@ returns c = record {
   acknowledged = acknowledged_grows;
   taken = end_is_taken;
   complete = all_bytes_complete;
-  same = same_end_converges;
 }
