@@ -23,7 +23,7 @@ ghost use Rattle.std.specs.Fn.{FnOnceTakesAt, FnOnceReturnsAt};
 ghost use Rattle.net_assembler.specs.RunLists.{IsCanonical};
 
 use crate::finite_receiver_head::{
-    FiniteReceiverHead, NO_END, acknowledged, count_below, end_or_max,
+    FiniteReceiverHead, NO_END, acknowledged, count_below, end_or_max, known_end,
 };
 use crate::kept::{FiniteError, KeptBytes, SegmentParts};
 use crate::receiver::ReceiverOver;
@@ -321,7 +321,7 @@ impl<S: Storage<u8>, const N: usize> FiniteReceiverOver<S, N> {
         ensures some { self.now.end < no_end → result ≡ Some self.now.end }
         ensures none { no_end ≤ self.now.end → result ≡ None }
     {
-        self.after_end.checked_sub(1)
+        known_end(self.after_end)
     }
 
     /// Returns whether all bytes and the end have arrived. Once it is so it stays so, until `reset_at`.

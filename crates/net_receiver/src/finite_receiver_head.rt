@@ -89,7 +89,8 @@ pub(crate) fn acknowledged(next: u64, after_end: u64) -> u64
 }
 
 /// Returns the position after the last byte, once it is known.
-fn known_end(after_end: u64) -> Option<u64>
+#[inline(always)]
+pub(crate) fn known_end(after_end: u64) -> Option<u64>
     ensures some { end_with after_end < no_end → result ≡ Some (end_with after_end) }
     ensures none { no_end ≤ end_with after_end → result ≡ None }
 {

@@ -1,8 +1,8 @@
 //! A sender in parts: a head of numbers, and a storage that is kept elsewhere.
 #![tactic(auto, using(crate::proofs::Senders::heads))]
 
-ghost use Rattle.std.specs.Prelude.{◌≡◌, ◌↔◌, ◌+◌, ◌-◌, ◌<◌, ◌≤◌, ◌^◌, ◌&&◌, ℕ, List, [], length, take, drop};
-ghost use Rattle.std.specs.Prelude.{min, max, nat_le, IsTrue, IsFalse};
+ghost use Rattle.std.specs.Prelude.{◌≡◌, ◌↔◌, ◌+◌, ◌-◌, ◌<◌, ◌≤◌, ◌^◌, ℕ, List, [], length, take, drop};
+ghost use Rattle.std.specs.Prelude.{min, IsTrue, IsFalse};
 ghost use Rattle.net_ring.specs.Ring.{queue, rewind_if_empty, with_enqueued, write_at, with_elements_wrapping};
 ghost use Rattle.net_ring.specs.RingHead.{ring_at, queued_index, dequeued_place};
 ghost use Rattle.net_receiver.specs.SenderState.{sender_state, room_of, contiguous_end, Sends, with_written};
@@ -51,23 +51,15 @@ impl SenderHead {
     pub(crate) fn is_sound(&self, capacity: usize) -> bool
         ensures { IsTrue result ↔ IsSoundHead capacity self.now }
     {
-        self.place.is_sound(capacity) && self.end_fits()
-    }
-
-    /// Returns whether the position after the last byte that was written fits 64 bits.
-    #[inline]
-    pub(crate) fn end_fits(&self) -> bool
-        ensures { IsTrue result
-            ↔ (self.now.first_unacknowledged + self.now.place.length < 2 ^ 64) }
-    {
-        self.place.length as u64 <= u64::MAX - self.first_unacknowledged
+        self.place.is_sound(capacity)
+            && self.place.length as u64 <= u64::MAX - self.first_unacknowledged
     }
 
     /// Returns the position after the last byte that was written.
     ///
     /// # Requires
     ///
-    /// It fits 64 bits, as `end_fits` tests, and as it does where the head is sound for a storage.
+    /// It fits 64 bits, as it does where the head is sound for a storage.
     #[inline]
     pub(crate) fn end(&self) -> u64
         requires { self.now.first_unacknowledged + self.now.place.length < 2 ^ 64 }
@@ -171,7 +163,7 @@ impl SenderHead {
             Sends f w (sender_of self.old storage) → Sends f w (sender_of self.new storage) }
         ensures refused { IsFalse result → self.new ≡ self.old }
     {
-        if !is_acknowledgeable(self.first_unacknowledged, self.end(), next) {
+        if next < self.first_unacknowledged || next > self.end() {
             return false;
         }
         prove!(
@@ -183,14 +175,4 @@ impl SenderHead {
         self.first_unacknowledged = next;
         true
     }
-}
-
-/// Returns whether an acknowledgement of the bytes below `next` is accepted, where those from
-/// `first` up to `end` are queued.
-#[inline]
-fn is_acknowledgeable(first: u64, end: u64, next: u64) -> bool
-    ensures value { result ≡ (nat_le first next && nat_le next end) }
-    ensures within { IsTrue result ↔ ((first ≤ next) × (next ≤ end)) }
-{
-    first <= next && next <= end
 }

@@ -12,7 +12,7 @@ use crate::rattle::prelude::*;
 // The rule of `keep` is a function of the receiver's numbers and the end: a type and a head lend it theirs.
 
 use crate::stream::finite_receiver_head::{
-    NO_END, acknowledged, count_below, end_or_max,
+    NO_END, acknowledged, count_below, end_or_max, known_end,
 };
 use crate::stream::kept::{FiniteError, KeptBytes, SegmentParts};
 use crate::stream::receiver::ReceiverOver;
@@ -208,7 +208,7 @@ impl<S: Storage<u8>, const N: usize> FiniteReceiverOver<S, N> {
     /// Returns the position after the last byte, once it is known.
     #[must_use]
     pub fn end(&self) -> Option<u64> {
-        self.after_end.checked_sub(1)
+        known_end(self.after_end)
     }
 
     /// Returns whether all bytes and the end have arrived. Once it is so it stays so, until `reset_at`.

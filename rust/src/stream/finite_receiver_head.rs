@@ -64,7 +64,8 @@ pub(crate) fn acknowledged(next: u64, after_end: u64) -> u64 {
 }
 
 /// Returns the position after the last byte, once it is known.
-fn known_end(after_end: u64) -> Option<u64> {
+#[inline(always)]
+pub(crate) fn known_end(after_end: u64) -> Option<u64> {
     after_end.checked_sub(1)
 }
 

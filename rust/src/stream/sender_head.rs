@@ -37,20 +37,15 @@ impl SenderHead {
     /// Returns whether this head is sound for a storage of `capacity` bytes: `place` is that of a
     /// ring of as many, and the position after the queue fits 64 bits.
     pub(crate) fn is_sound(&self, capacity: usize) -> bool {
-        self.place.is_sound(capacity) && self.end_fits()
-    }
-
-    /// Returns whether the position after the last byte that was written fits 64 bits.
-    #[inline]
-    pub(crate) fn end_fits(&self) -> bool {
-        self.place.length as u64 <= u64::MAX - self.first_unacknowledged
+        self.place.is_sound(capacity)
+            && self.place.length as u64 <= u64::MAX - self.first_unacknowledged
     }
 
     /// Returns the position after the last byte that was written.
     ///
     /// # Requires
     ///
-    /// It fits 64 bits, as `end_fits` tests, and as it does where the head is sound for a storage.
+    /// It fits 64 bits, as it does where the head is sound for a storage.
     #[inline]
     pub(crate) fn end(&self) -> u64 {
         self.first_unacknowledged + self.place.length as u64
@@ -107,7 +102,7 @@ impl SenderHead {
     /// The head is sound for a storage of `capacity` bytes.
     #[inline]
     pub(crate) fn acknowledge(&mut self, capacity: usize, next: u64) -> bool {
-        if !is_acknowledgeable(self.first_unacknowledged, self.end(), next) {
+        if next < self.first_unacknowledged || next > self.end() {
             return false;
         }
         prove!(
@@ -119,11 +114,4 @@ impl SenderHead {
         self.first_unacknowledged = next;
         true
     }
-}
-
-/// Returns whether an acknowledgement of the bytes below `next` is accepted, where those from
-/// `first` up to `end` are queued.
-#[inline]
-fn is_acknowledgeable(first: u64, end: u64, next: u64) -> bool {
-    first <= next && next <= end
 }
