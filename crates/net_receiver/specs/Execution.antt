@@ -16,7 +16,8 @@
 --     Replays N v calls u      what calls of `replay`, one after another, store
 --     Composes N v calls u      these calls do what one call does
 -- The others are laws, and what they name.
-use Rattle.std.specs.Prelude.{◌≡◌, ◌↔◌, ℕ, ◌+◌, ◌-◌, ◌<◌, ◌≤◌, ◌^◌, ◌⊎◌, ⊤, Bool, true, IsTrue, Option, Some, None, Ok, All}
+use Rattle.std.specs.Prelude.{◌≡◌, ◌↔◌, ℕ, ◌+◌, ◌-◌, ◌<◌, ◌≤◌, ◌^◌, ◌⊎◌, ⊤, Bool, true, IsTrue, Option, Some, None}
+use Rattle.std.specs.Prelude.{Ok, All}
 use Rattle.std.specs.Prelude.{List, [], ◌∷◌, ◌++◌, map, flat_map, length, take, drop, slice_range, AllPairs, count_by}
 use Rattle.net_assembler.specs.Positions.{contains, Positions, lies_in, IsMaximalRun}
 use Rattle.net_receiver.specs.Headline.{CommandValue, Segment, Read, Show, ReplyValue, SegmentReply, ReadReply}

@@ -26,7 +26,7 @@
 -- Laws of lists of segments and reads of a receiver of a stream that ends, as those of a receiver's commands.
 --     plain_of s c      the receiver's commands that one comes to
 --     without_held w k      a schedule's state without what is held
---     kept_before s k c, kept_after N s k c      a schedule's state before the commands that one comes to, and after them
+--     kept_before s k c, kept_after N s k c      a schedule's state before the commands that one comes to, and after
 --     kept_after_all N s k cs, replies_to_all N s k cs      its state after those of several, and the replies to them
 --     AreAccepted N s cs      no segment is refused
 --     BringsByte cs p, BringsEnd cs e      a segment has the position p; a last one ends at e
@@ -137,8 +137,8 @@ queue_only v = record v { held = fin.empty }
 abbrev pub queue_alone : FiniteState → FiniteState
 queue_alone s = record { receiver = queue_only s.receiver; end = no_end }
 
--- while something is missing, a last segment from pos to e ends the stream in order if it has all that is missing before
--- its end, which is within the free window
+-- while something is missing, a last segment from pos to e ends the stream in order if it has all that is missing
+-- before its end, which is within the free window
 abbrev pub ends_in_order : FiniteState → ℕ → ℕ → Bool
 ends_in_order s pos e =
     nat_le pos (next_position s.receiver) && nat_le (next_position s.receiver) e && nat_le e (limit_of s.receiver)

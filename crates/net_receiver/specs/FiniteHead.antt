@@ -1,6 +1,6 @@
 -- A receiver of a stream that ends, in parts.
 --     finite_of h xs rs      what is stored
---     end_of h, end_with n      the position after the last byte, or `no_end`; where n is the number after its own, or 0
+--     end_of h, end_with n      the position after the last byte, or `no_end`; n is the number after its own, or 0
 --     finite_at h n      a head of these fields
 --     ending_at v n      the receiver of the bytes v, and that end
 --     next_of h      the first missing position
@@ -55,4 +55,5 @@ usual_storage_after most_runs h xs s pos bytes last =
 -- the storage after a segment
 abbrev pub finite_storage_after : FiniteReceiverHead → List ℕ → List (ℕ × ℕ) → ℕ → List ℕ → Bool → List ℕ
 finite_storage_after h xs rs pos bytes last =
-    usual_storage_after (length rs) h xs (before_segment (finite_of h xs rs) pos (pos + length bytes) last) pos bytes last
+    usual_storage_after (length rs) h xs (before_segment (finite_of h xs rs) pos (pos + length bytes) last) pos bytes
+    last

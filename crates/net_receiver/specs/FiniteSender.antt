@@ -128,7 +128,8 @@ pub record IsLent (s : FiniteSenderState) (pos limit : ℕ) (xs : List ℕ) (las
 -- of `total` bytes from the index `at` on, which are queued and below limit, `size` are contiguous: these are lent
 pub record LendsAt (capacity : ℕ) (h : FiniteSenderHead) (pos limit at total size : ℕ) (last : Bool) : Type 0 where
   pub within : at + size ≤ capacity
-  pub from : h.sender.first_unacknowledged ≤ pos → at ≡ queued_index capacity h.sender.place (pos - h.sender.first_unacknowledged)
+  pub from : h.sender.first_unacknowledged ≤ pos →
+      at ≡ queued_index capacity h.sender.place (pos - h.sender.first_unacknowledged)
   pub whole : h.sender.first_unacknowledged ≤ pos →
       total ≡ min (limit - pos) (h.sender.place.length - (pos - h.sender.first_unacknowledged))
   pub before : pos < h.sender.first_unacknowledged → (at ≡ 0) × (total ≡ 0) × (size ≡ 0)

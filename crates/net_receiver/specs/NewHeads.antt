@@ -1,5 +1,6 @@
 -- The numbers of new heads; of a stream that begins at position 0 they are all 0, as a program in C sets them.
---     receiver_head first, sender_head first, scoreboard_head first, finite_receiver_head first, finite_sender_head first
+--     receiver_head first, sender_head first, scoreboard_head first
+--     finite_receiver_head first, finite_sender_head first
 -- The others are laws: what such heads of zeros store.
 use Rattle.std.specs.Prelude.{◌≡◌, ℕ, List, [], length}
 use Rattle.net_ring.specs.declared.head.RingHead.{RingHead}
@@ -42,7 +43,8 @@ finite_sender_head first = record { sender = sender_head first; closed = 0; fini
 -- ---- laws
 abbrev pub ZerosReceive : Type 0
 ZerosReceive = (xs : List ℕ) (rs : List (ℕ × ℕ)) →
-    HasSoundParts (receiver_head 0) (length xs) rs × (receiver_of (receiver_head 0) xs rs ≡ fresh_receiver 0 (length xs))
+    HasSoundParts (receiver_head 0) (length xs) rs
+    × (receiver_of (receiver_head 0) xs rs ≡ fresh_receiver 0 (length xs))
 
 abbrev pub ZerosReceiveAnEnd : Type 0
 ZerosReceiveAnEnd = (xs : List ℕ) (rs : List (ℕ × ℕ)) → HasSoundFinite (finite_receiver_head 0) (length xs) rs

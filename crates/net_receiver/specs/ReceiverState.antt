@@ -30,7 +30,7 @@
 --     KeepsOrRefuses v xs u r      xs is kept, or nothing changes
 --     JoinsQueue v xs u r      xs is kept and joins the queue
 --     existing p xs      the bytes of a segment at p that are below position 2 ^ 64 - 1: no stream has others
---     count_between next limit held p n      of the positions of n bytes at p, how many from next on and below limit aren't held
+--     count_between next limit held p n      how many positions of n bytes at p are from next on, below limit, not held
 --     new_count v p n      how many bytes of a segment of n bytes at p would be new
 use Rattle.std.specs.Prelude.{◌≡◌, ℕ, ◌+◌, ◌-◌, ◌≤◌, ◌<◌, ◌&&◌, not, min, true, List, [], ◌∷◌, ◌++◌, map, take, length}
 use Rattle.std.specs.Prelude.{drop, nat_eq, nat_le, unwrap_or, is_some, if◌then◌else◌, None, Result, Ok, Err, ◌^◌, All}
@@ -99,8 +99,8 @@ first_lacking held n = first_missing (domain held) n
 abbrev pub held_bytes_at : HeldBytes → ℕ → ℕ → List ℕ
 held_bytes_at held p n = map (λ q. unwrap_or (fin.get held q) 0) (range_with_len p n)
 
--- the bytes from n up to `end`, the first missing position, join the queue. `bytes` has the bytes of the kept piece, and
--- at the other positions the held ones
+-- the bytes from n up to `end`, the first missing position, join the queue. `bytes` has the bytes of the kept piece,
+-- and at the other positions the held ones
 abbrev pub receiver_up_to : ReceiverState → ℕ → HeldBytes → ℕ → ReceiverState
 receiver_up_to v n bytes end = record {
   first = v.first;
