@@ -1,6 +1,6 @@
 -- What the rules of numbers say, of an end of a sender with these numbers: e is an end of the sender s and a head h.
-use Rattle.std.proofs.Common.{◌≡◌, ℕ, ℤ, ◌-◌, ◌+◌, ◌<◌, ◌≤◌, true, false, refl, sym, ap, subst, ◌∙◌, rules, arith, List, length}
-use Rattle.std.specs.Prelude.{Bool, IsTrue, IsFalse, IfSome, IfNone, Option, Some, None, is_some, ◌↔◌, not, nat_eq, nat_lt, max, ◌&&◌, ◌||◌}
+use Rattle.std.proofs.Common.{◌≡◌, ℕ, ℤ, ◌-◌, ◌+◌, ◌<◌, ◌≤◌, true, false, refl, sym, ap, subst, ◌∙◌, arith, List, length}
+use Rattle.std.specs.Prelude.{Bool, IsTrue, IsFalse, IfSome, Option, Some, is_some, ◌↔◌, not, nat_eq, nat_lt, max, ◌&&◌}
 use Rattle.std.specs.Prelude.{nat_le, ◌==◌, if◌then◌else◌}
 use Rattle.std.specs.Option.{option_or}
 use Rattle.net_assembler.specs.Positions.{Positions, contains}
@@ -17,31 +17,30 @@ use Rattle.net_receiver.specs.FiniteSender.{acknowledged_below}
 use Rattle.net_receiver.specs.Scoreboards.{IsEnd, IsSoundBoard, reported_by as reported_to}
 use Rattle.net_receiver.specs.declared.scoreboard_head.ScoreboardHead.{ScoreboardHead}
 use Rattle.net_recovery.specs.LossRecovery.{Recovery, recovery_of, begun, forgotten, is_active}
-use Rattle.net_tcp.specs.Retransmission.{Timer, timer_of, after_acknowledged, after_sending, started}
+use Rattle.net_tcp.specs.Retransmission.{Timer, timer_of, after_acknowledged, after_sending}
 use Rattle.net_tcp.specs.Windows.{after_update}
 use Rattle.net_tcp.specs.declared.retransmission.TimeoutBounds.{TimeoutBounds}
-use Rattle.net_tcp.specs.declared.retransmission_timer.Expiry.{Expiry}
 use Rattle.net_tcp.specs.declared.retransmission_timer.Expiry.TheVariants as timer
-use Rattle.net_ends.specs.Acknowledgements.{reported_by, numbers_of, unsent_at, Recovers, after_wait, begins_by, after_segment, doubted}
+use Rattle.net_ends.specs.Acknowledgements.{reported_by, numbers_of, unsent_at, Recovers, after_wait, begins_by, after_segment}
 use Rattle.net_ends.specs.Buffers.{Buffer, board_of, buffer_of, is_window_probe, is_tail_probe}
 use Rattle.net_ends.specs.declared.send_buffer.TakenAck.{TakenAck}
 use Rattle.net_ends.specs.declared.send_buffer.Sending.{Sending}
 use Rattle.net_ends.specs.declared.send_buffer.BufferHead.{BufferHead}
 use Rattle.std.proofs.lemmas.Bool.Decides.{nat_tests}
-use Rattle.net_ends.specs.Calls.{Hears, Silent, TimesOut, Takes, Chooses}
-use Rattle.net_ends.specs.Ends.{End, is_acceptable, after_event, Heard, Sent, Rested, heard, kept, told, sampled, synchronized}
-use Rattle.net_ends.specs.Ends.{greatest_of, reports_of, may_send, is_due, hurries, asks, first}
-use Rattle.net_ends.specs.Parts.{end_of, marked}
+use Rattle.net_ends.specs.Calls.{Hears, Silent, TimesOut, Chooses}
+use Rattle.net_ends.specs.Ends.{End, is_acceptable, heard, kept, told, sampled, synchronized}
+use Rattle.net_ends.specs.Ends.{greatest_of, may_send, is_due, asks, first}
+use Rattle.net_ends.specs.Parts.{end_of}
 use Rattle.net_ends.specs.Rules.{Known, queued_of, known_of, known_by, low, high, seeks, nothing_lost, asks_window, most_to, due}
 use Rattle.net_ends.specs.Rules.{HolesOf, ProbedOf, next_of, due_part, probe_part, is_probing, room_to}
 use Rattle.net_ends.specs.declared.send_buffer.Queued.{Queued}
 use Rattle.net_ends.specs.declared.sending_end.SendingHead.{SendingHead}
 use Rattle.net_ends.specs.declared.sending_end.Acknowledged.{Acknowledged}
-use Rattle.net_ends.specs.declared.sending_end.Acknowledged.TheVariants.{Refused, Old, Taken}
+use Rattle.net_ends.specs.declared.sending_end.Acknowledged.TheVariants.{Refused, Taken}
 use Rattle.net_ends.specs.declared.sending_end.Expired.{Expired}
 use Rattle.net_ends.specs.declared.sending_end.Expired.TheVariants.{No, Overdue, Probe, Lost}
 use Rattle.net_ends.specs.declared.sending_end.Outgoing.{Outgoing}
-use Rattle.net_ends.proofs.Steps.{heard_none, heard_old, heard_is, missing_is, refused_none, may_is, worth_is, sent_is}
+use Rattle.net_ends.proofs.Steps.{heard_none, heard_is, missing_is, refused_none, may_is, worth_is, sent_is}
 
 -- ---- the timer's end
 -- the clauses of `take_silence` and of `take_timeout`
@@ -210,48 +209,6 @@ refuses n s h runs timeout bounds seq ack window bs empty now at is none =
       twice = λ may _. cc (may, off);
     }
 
--- the clauses of `doubt`
-abbrev pub Doubts : BufferHead → BufferHead → SentNumbers → ℕ → List (ℕ × ℕ) → Type 0
-Doubts h left at ack bs = record {
-  rest : left.scoreboard ≡ h.scoreboard;
-  recovery : recovery_of left.recovery ≡ doubted at ack bs (recovery_of h.recovery);
-}
-
-pub ignores : (n : ℕ) (s : FiniteSenderState) (h : SendingHead) (b : BufferHead) (runs : List (ℕ × ℕ)) (timeout : ℕ)
-    (bounds : TimeoutBounds) (seq ack window : ℕ) (bs : List (ℕ × ℕ)) (empty : Bool) (now : ℤ) (at : SentNumbers) →
-    numbers_of s ≡ at →
-    IsTrue (nat_le at.first_unacknowledged (ack + h.greatest_window) && nat_le ack at.sent) →
-    IsFalse (nat_le at.first_unacknowledged ack && nat_le ack at.sent) → Doubts h.buffer b at ack bs →
-    Hears n (end_of s h runs timeout bounds) seq ack window bs empty now Old
-    (end_of (sender_after_command s (Acknowledges ack)) (record h { buffer = b }) runs timeout bounds)
-ignores n s h b runs timeout bounds seq ack window bs empty now at is may none doubts =
-    let e : End = end_of s h runs timeout bounds in
-    let on : IsTrue (is_acceptable e ack) =
-    subst (λ (x : SentNumbers). IsTrue (nat_le x.first_unacknowledged (ack + h.greatest_window) && nat_le ack x.sent))
-    (sym is) may in
-    let off : IsFalse (accepts s ack) =
-    subst (λ (x : SentNumbers). IsFalse (nat_le x.first_unacknowledged ack && nat_le ack x.sent)) (sym is) none in
-    let of : Doubts h.buffer b (numbers_of s) ack bs =
-    subst (λ (x : SentNumbers). Doubts h.buffer b x ack bs) (sym is) doubts in
-    let r : Recovery = recovery_of b.recovery in
-    let left : End = end_of (sender_after_command s (Acknowledges ack)) (record h { buffer = b }) runs timeout bounds in
-    let same : left ≡ record e { recovery = r } =
-    ap (λ (x : FiniteSenderState). end_of x (record h { buffer = b }) runs timeout bounds)
-    (if_not (accepts s ack) s (acknowledged_below s ack) off)
-    ∙ ap (λ (c : ScoreboardHead). record e { reported = reported_to c runs; recovery = r }) of.rest in
-    record {
-      refused = (λ x. cc, λ x. cc (x, on));
-      old = (λ x. (on, off), λ x. refl);
-      new = λ some. cc (some, off);
-      step = same ∙ sym (heard_old e left.reported r false seq ack window now off);
-      missing = λ some _. cc (some, off);
-      reported = λ some. cc (some, off);
-      reports = λ some. cc (some, off);
-      recovery = λ some. absurd (cc (some, off));
-      unchanged = λ not. cc (on, not);
-      twice = λ _ _. same ∙ ap (λ (x : Recovery). record e { recovery = x }) of.recovery;
-    }
-
 -- ---- a segment
 -- the clauses of `choose`
 abbrev pub Chose : Known → ℕ → Option (ℕ × ℕ) × Sending → Type 0
@@ -272,14 +229,6 @@ Chose k window r = record {
       IsTrue (is_some r.0);
 }
 
--- and those of `wait` and of `mark`
-abbrev pub Waits : SendingHead → SendingHead → ℤ → Queued → Type 0
-Waits h left now q = record {
-  rest : left ≡ record h { timer = left.timer };
-  timer : timer_of left.timer ≡ (if nat_lt q.numbers.first_unacknowledged q.end then started now (timer_of h.timer)
-      else timer_of h.timer);
-}
-
 abbrev pub Notes : SendingHead → SendingHead → TimeoutBounds → ℕ → ℕ → Sending → ℤ → SentNumbers → Type 0
 Notes h left bounds from to sending now at = record {
   rest : left ≡ record h { buffer = left.buffer; timer = left.timer; is_window_probe_due = 0; is_overdue = 0 };
@@ -289,38 +238,6 @@ Notes h left bounds from to sending now at = record {
   recovery : recovery_of left.buffer.recovery
       ≡ after_segment at from to (is_window_probe sending) (is_tail_probe sending) (recovery_of h.buffer.recovery);
 }
-
-rests_at : (s : FiniteSenderState) (h left : SendingHead) (runs : List (ℕ × ℕ)) (timeout : ℕ) (bounds : TimeoutBounds)
-    (window : ℕ) (now : ℤ) (r : Option (ℕ × ℕ) × Sending) → Chose (known_of h runs (queued_of s)) window r → r.0 ≡ None →
-    Waits h left now (queued_of s) →
-    Chooses (end_of s h runs timeout bounds) window now None (end_of s left runs timeout bounds)
-rests_at s h left runs timeout bounds window now r at none waits =
-    let e : End = end_of s h runs timeout bounds in
-    record {
-      within = tt;
-      probe = λ _. tt;
-      asked = λ on. cc (none, at.probe on);
-      worth = tt;
-      late = λ on calm all more. cc (none, at.late on calm all more);
-      next = λ lost others off calm holes. sym none ∙ at.next lost others off calm holes;
-      again = tt;
-      rests = ap (λ (x : SendingHead). end_of s x runs timeout bounds) waits.rest
-          ∙ ap (λ (u : Timer). record e { timer = u }) waits.timer;
-      sends = tt;
-      answer = λ lost others highest hole off on holes probed.
-          sym none ∙ at.answer lost others highest hole off on holes probed;
-      recovery = λ _ _ _. tt;
-      noted = tt;
-    }
-
-pub rests_is : (s : FiniteSenderState) (h left : SendingHead) (runs : List (ℕ × ℕ)) (timeout : ℕ) (bounds : TimeoutBounds)
-    (window : ℕ) (now : ℤ) (r : Option (ℕ × ℕ) × Sending) (q : Queued) → queued_of s ≡ q →
-    Chose (known_of h runs q) window r → r.0 ≡ None → Waits h left now q →
-    Chooses (end_of s h runs timeout bounds) window now None (end_of s left runs timeout bounds)
-rests_is s h left runs timeout bounds window now r q is chose none waits =
-    rests_at s h left runs timeout bounds window now r
-    (subst (λ (x : Queued). Chose (known_of h runs x) window r) (sym is) chose) none
-    (subst (Waits h left now) (sym is) waits)
 
 same_pair : (p q : ℕ × ℕ) → Some p ≡ Some q → (p.0 ≡ q.0) × (p.1 ≡ q.1)
 same_pair p q is = (cc, cc)

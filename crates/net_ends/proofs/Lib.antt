@@ -1,7 +1,5 @@
-pub mod Choices
 pub mod Ends
 pub mod Expiries
-pub mod Found
 pub mod Heads
 pub mod Loops
 pub mod PairLaws
