@@ -1,6 +1,6 @@
 -- What the rules of numbers say, of an end of a sender with these numbers: e is an end of the sender s and a head h.
 use Rattle.std.proofs.Common.{◌≡◌, ℕ, ℤ, ◌-◌, ◌+◌, ◌<◌, ◌≤◌, true, false, refl, sym, ap, subst, ◌∙◌, arith, List, length}
-use Rattle.std.specs.Prelude.{Bool, IsTrue, IsFalse, IfSome, Option, Some, is_some, ◌↔◌, not, nat_eq, nat_lt, max, ◌&&◌}
+use Rattle.std.specs.Prelude.{Bool, IsTrue, IsFalse, IfSome, Option, Some, is_some, not, nat_eq, nat_lt, max, ◌&&◌}
 use Rattle.std.specs.Prelude.{nat_le, ◌==◌, if◌then◌else◌}
 use Rattle.std.specs.Option.{option_or}
 use Rattle.net_assembler.specs.Positions.{Positions, contains}
@@ -14,94 +14,31 @@ use Rattle.net_tcp.specs.Retransmission.{new_timer, new_fields}
 use Rattle.net_tcp.specs.Windows.{no_window}
 use Rattle.net_ends.specs.Ends.{new_end}
 use Rattle.net_receiver.specs.FiniteSender.{acknowledged_below}
-use Rattle.net_receiver.specs.Scoreboards.{IsEnd, IsSoundBoard, reported_by as reported_to}
+use Rattle.net_receiver.specs.Scoreboards.{IsSoundBoard, reported_by as reported_to}
 use Rattle.net_receiver.specs.declared.scoreboard_head.ScoreboardHead.{ScoreboardHead}
-use Rattle.net_recovery.specs.LossRecovery.{Recovery, recovery_of, begun, forgotten, is_active}
+use Rattle.net_recovery.specs.LossRecovery.{Recovery, recovery_of, is_active}
 use Rattle.net_tcp.specs.Retransmission.{Timer, timer_of, after_acknowledged, after_sending}
 use Rattle.net_tcp.specs.Windows.{after_update}
 use Rattle.net_tcp.specs.declared.retransmission.TimeoutBounds.{TimeoutBounds}
 use Rattle.net_tcp.specs.declared.retransmission_timer.Expiry.TheVariants as timer
-use Rattle.net_ends.specs.Acknowledgements.{reported_by, numbers_of, unsent_at, Recovers, after_wait, begins_by, after_segment}
+use Rattle.net_ends.specs.Acknowledgements.{reported_by, numbers_of, unsent_at, Recovers, after_segment}
 use Rattle.net_ends.specs.Buffers.{Buffer, board_of, buffer_of, is_window_probe, is_tail_probe}
 use Rattle.net_ends.specs.declared.send_buffer.TakenAck.{TakenAck}
 use Rattle.net_ends.specs.declared.send_buffer.Sending.{Sending}
 use Rattle.net_ends.specs.declared.send_buffer.BufferHead.{BufferHead}
 use Rattle.std.proofs.lemmas.Bool.Decides.{nat_tests}
-use Rattle.net_ends.specs.Calls.{Hears, Silent, TimesOut, Chooses}
+use Rattle.net_ends.specs.Calls.{Hears, Chooses}
 use Rattle.net_ends.specs.Ends.{End, is_acceptable, heard, kept, told, sampled, synchronized}
 use Rattle.net_ends.specs.Ends.{greatest_of, may_send, is_due, asks, first}
 use Rattle.net_ends.specs.Parts.{end_of}
-use Rattle.net_ends.specs.Rules.{Known, queued_of, known_of, known_by, low, high, seeks, nothing_lost, asks_window, most_to, due}
+use Rattle.net_ends.specs.Rules.{Known, queued_of, known_of, low, high, asks_window, most_to, due}
 use Rattle.net_ends.specs.Rules.{HolesOf, ProbedOf, next_of, due_part, probe_part, is_probing, room_to}
 use Rattle.net_ends.specs.declared.send_buffer.Queued.{Queued}
 use Rattle.net_ends.specs.declared.sending_end.SendingHead.{SendingHead}
 use Rattle.net_ends.specs.declared.sending_end.Acknowledged.{Acknowledged}
 use Rattle.net_ends.specs.declared.sending_end.Acknowledged.TheVariants.{Refused, Taken}
-use Rattle.net_ends.specs.declared.sending_end.Expired.{Expired}
-use Rattle.net_ends.specs.declared.sending_end.Expired.TheVariants.{No, Overdue, Probe, Lost}
 use Rattle.net_ends.specs.declared.sending_end.Outgoing.{Outgoing}
 use Rattle.net_ends.proofs.Steps.{heard_none, heard_is, missing_is, refused_none, may_is, worth_is, sent_is}
-
--- ---- the timer's end
--- the clauses of `take_silence` and of `take_timeout`
-abbrev pub Quiet : SendingHead → SendingHead → List (ℕ × ℕ) → Expired → Queued → Type 0
-Quiet h left runs said q = record {
-  rest : left ≡ record h { buffer = left.buffer; is_window_probe_due = 0; is_overdue = left.is_overdue };
-  scoreboard : left.buffer.scoreboard ≡ h.buffer.scoreboard;
-  overdue : not (nat_eq left.is_overdue 0) ≡ seeks (known_by h q);
-  no : (said ≡ No) ↔ IsTrue (recovery_of h.buffer.recovery).is_blind;
-  recovery : (highest : ℕ) → IsEnd (board_of h.buffer runs) highest → recovery_of left.buffer.recovery
-      ≡ after_wait (seeks (known_by h q)) q.numbers highest (recovery_of h.buffer.recovery);
-  begins : (highest : ℕ) → IsEnd (board_of h.buffer runs) highest → IsFalse (recovery_of h.buffer.recovery).is_blind →
-      said ≡ Overdue (seeks (known_by h q) && begins_by q.numbers highest (recovery_of h.buffer.recovery));
-}
-
-abbrev pub Late : SendingHead → SendingHead → Expired → Queued → Type 0
-Late h left said q = record {
-  rest : left ≡ record h { buffer = left.buffer; is_window_probe_due = 1; is_overdue = 0 };
-  scoreboard : left.buffer.scoreboard ≡ h.buffer.scoreboard;
-  recovery : recovery_of left.buffer.recovery
-      ≡ begun q.numbers.first_unacknowledged q.numbers.sent q.numbers.sent (forgotten (recovery_of h.buffer.recovery));
-  value : said ≡ (if nothing_lost (known_by h q) then Probe else Lost);
-}
-
-pub silent_is : (s : FiniteSenderState) (h left : SendingHead) (runs : List (ℕ × ℕ)) (timeout : ℕ) (bounds : TimeoutBounds)
-    (said : Expired) (q : Queued) → queued_of s ≡ q → Quiet h left runs said q →
-    Silent (end_of s h runs timeout bounds) said (end_of s left runs timeout bounds)
-silent_is s h left runs timeout bounds said q is quiet =
-    let at : Quiet h left runs said (queued_of s) = subst (Quiet h left runs said) (sym is) quiet in
-    let mid : Positions → Bool → End = λ p b. record (end_of s h runs timeout bounds) {
-      reported = p;
-      recovery = recovery_of left.buffer.recovery;
-      probes = false;
-      overdue = b;
-    } in
-    record {
-      no = at.no;
-      state = ap (λ (x : SendingHead). end_of s x runs timeout bounds) at.rest
-          ∙ ap (λ (c : ScoreboardHead). mid (reported_to c runs) (not (nat_eq left.is_overdue 0))) at.scoreboard
-          ∙ ap (λ (b : Bool). mid (board_of h.buffer runs) b) at.overdue;
-      recovery = at.recovery;
-      begins = at.begins;
-    }
-
-pub late_takes : (s : FiniteSenderState) (h left : SendingHead) (runs : List (ℕ × ℕ)) (timeout : ℕ) (bounds : TimeoutBounds)
-    (said : Expired) (q : Queued) → queued_of s ≡ q → Late h left said q →
-    TimesOut (end_of s h runs timeout bounds) said (end_of s left runs timeout bounds)
-late_takes s h left runs timeout bounds said q is late =
-    let at : Late h left said (queued_of s) = subst (Late h left said) (sym is) late in
-    let mid : Positions → Recovery → End = λ p r. record (end_of s h runs timeout bounds) {
-      reported = p;
-      recovery = r;
-      probes = true;
-      overdue = false;
-    } in
-    record {
-      value = at.value;
-      state = ap (λ (x : SendingHead). end_of s x runs timeout bounds) at.rest
-          ∙ ap (λ (c : ScoreboardHead). mid (reported_to c runs) (recovery_of left.buffer.recovery)) at.scoreboard
-          ∙ ap (λ (r : Recovery). mid (board_of h.buffer runs) r) at.recovery;
-    }
 
 -- ---- an acknowledgement
 if_not : (b : Bool) (s t : FiniteSenderState) → b ≡ false → (if b then t else s) ≡ s

@@ -20,42 +20,42 @@
 // `acknowledged`), and a timeout sends it again.
 
 ghost use Rattle.std.specs.Prelude.{◌≡◌, ◌↔◌, ◌-◌, ◌+◌, ◌<◌, ◌≤◌, ◌&&◌, ◌==◌, ℕ, Option, Some, IsTrue, IsFalse, min};
-ghost use Rattle.std.specs.Prelude.{IfSome, IfNone, is_some, is_none, ◌||◌, ◌++◌, not, nat_lt, true, false};
-ghost use Rattle.std.specs.Prelude.{if◌then◌else◌, length, Bool, nat_le, ◌*◌};
+ghost use Rattle.std.specs.Prelude.{IfSome, IfNone, is_some, is_none, ◌||◌, ◌++◌, not, nat_lt, false};
+ghost use Rattle.std.specs.Prelude.{if◌then◌else◌, length, Bool};
 ghost use Rattle.net_assembler.specs.Positions.{contains};
 ghost use Rattle.net_recovery.specs.LossRecovery.{is_active, is_wrong, taken_back};
-ghost use Rattle.net_receiver.specs.FiniteSender.{sender_after_command, Marks, Acknowledges, accepts, finite_room};
+ghost use Rattle.net_receiver.specs.FiniteSender.{sender_after_command, Acknowledges, accepts, finite_room};
 ghost use Rattle.net_receiver.specs.Finite.{no_end};
 ghost use Rattle.net_ends.specs.Ends.{new_end, first, end, is_acceptable, greatest_of, is_shut, asks, told};
-ghost use Rattle.net_ends.specs.Ends.{limit, may_send, waiting, after_event, Wrote, Shut, Heard, Looked, Sent, Rested};
+ghost use Rattle.net_ends.specs.Ends.{limit, may_send, after_event, Wrote, Shut, Heard, Looked, Sent, Rested};
 ghost use Rattle.net_ends.specs.Ends.{Resumed};
-ghost use Rattle.net_ends.specs.Ends.{IsSegment, round_trip, Opened, Forgot, Opening, renewed, synchronized, sampled};
-ghost use Rattle.net_ends.specs.Ends.{timed_out, all_lost, has_timed_out, is_overdue, reports_of, new_of, kept};
-ghost use Rattle.net_ends.specs.Ends.{has_dropped, begins_of, is_due, is_worth, is_enough, delays, hurries, Enabled};
-ghost use Rattle.net_ends.specs.Acknowledgements.{with_block, is_new, after_blocks, reported_by, has_block};
-ghost use Rattle.net_ends.specs.Acknowledgements.{is_duplicated, numbers_of, unsent_of, unsent_at, doubted, IsLeft, Recovers};
-ghost use Rattle.net_ends.specs.Acknowledgements.{is_sought, begins_by, after_segment, after_wait, loses_nothing};
+ghost use Rattle.net_ends.specs.Ends.{IsSegment, round_trip, Opened, Forgot, Opening, synchronized, sampled};
+ghost use Rattle.net_ends.specs.Ends.{timed_out, has_timed_out, is_overdue, reports_of, new_of, kept};
+ghost use Rattle.net_ends.specs.Ends.{begins_of, is_due, is_worth, is_enough, delays, hurries, Enabled};
+ghost use Rattle.net_ends.specs.Acknowledgements.{reported_by};
+ghost use Rattle.net_ends.specs.Acknowledgements.{numbers_of, unsent_of, unsent_at, doubted, Recovers};
+ghost use Rattle.net_ends.specs.Acknowledgements.{is_sought, after_segment, after_wait};
 ghost use Rattle.net_ends.specs.Acknowledgements.{expiry_of};
 ghost use Rattle.net_receiver.specs.Scoreboards.{IsEnd, IsHole};
 ghost use Rattle.net_recovery.specs.LossRecovery.{next_probe};
 ghost use Rattle.net_ends.specs.Parts.{end_of, marked};
-ghost use Rattle.net_ends.specs.Calls.{Hears, Chooses};
+ghost use Rattle.net_ends.specs.Calls.{Hears, Silent, TimesOut, Chooses};
 ghost use Rattle.net_ends.specs.Rules.{queued_of, known_of, known_by, low, high, window_shut, asks_window, room_to, most_to};
 ghost use Rattle.net_ends.specs.Rules.{in_hurry, nagle_waits, enough, worth_sending, due, HolesOf, next_of, due_part};
-ghost use Rattle.net_ends.specs.Rules.{ProbedOf, probe_part, is_probing, seeks, nothing_lost, renewed_by};
+ghost use Rattle.net_ends.specs.Rules.{ProbedOf, probe_part, is_probing, renewed_by};
 ghost use Rattle.net_ends.specs.Buffers.{board_of};
 ghost use Rattle.net_receiver.specs.FiniteSender.{FiniteSenderState};
 ghost use Rattle.net_receiver.specs.Scoreboards.{IsSoundBoard};
 ghost use Rattle.net_assembler.specs.Positions.{with_range, nothing};
-ghost use Rattle.net_recovery.specs.LossRecovery.{new_recovery, no_loss, recovery_of, begun, forgotten};
+ghost use Rattle.net_recovery.specs.LossRecovery.{new_recovery, no_loss, recovery_of};
 ghost use Rattle.net_tcp.specs.Retransmission.{new_timer, new_fields, started};
 ghost use Rattle.net_receiver.specs.NewHeads.{scoreboard_head};
 ghost use Rattle.net_tcp.specs.Windows.{no_window, window_from};
 ghost use Rattle.std.specs.Prelude.{List, max, nat_eq};
 ghost use Rattle.net_tcp.specs.Retransmission.{timer_of};
-ghost use Rattle.net_ends.specs.Buffers.{is_repeat, is_window_probe, is_tail_probe};
-ghost use Rattle.net_tcp.specs.Retransmission.{has_ended, expiry, has_expired, after_expiry, after_sending};
-ghost use Rattle.net_tcp.specs.Retransmission.{with_sample, after_acknowledged, expires_at};
+ghost use Rattle.net_ends.specs.Buffers.{is_window_probe, is_tail_probe};
+ghost use Rattle.net_tcp.specs.Retransmission.{has_ended, has_expired, after_expiry, after_sending};
+ghost use Rattle.net_tcp.specs.Retransmission.{after_acknowledged, expires_at};
 ghost use Rattle.net_ends.specs.Ends.{AreHoles, open_to, found, due_of, range_of, IsProbed, probe_of, is_probe};
 ghost use Rattle.std.specs.Option.{option_or};
 ghost use Rattle.net_tcp.specs.Windows.{after_update, acknowledgement_number};
@@ -63,7 +63,7 @@ ghost use Rattle.net_tcp.specs.Windows.{after_update, acknowledgement_number};
 use crate::send_buffer::{AckKind, BufferHead, Queued, Sending, TakenAck, accept, lend, mark};
 use net_assembler::Run;
 use net_base::time::{Duration, Instant};
-use net_receiver::{FiniteSenderOver, SentNumbers, flag_of};
+use net_receiver::{FiniteSenderOver, SentNumbers};
 use net_ring::{ManagedSlice, Storage};
 use net_tcp::{
     Announcement, Expiry, PeerWindow, RetransmissionTimer, TimeoutBounds, is_acknowledgement,
@@ -710,32 +710,21 @@ impl SendingHead {
           is_overdue = self.new.is_overdue;
         } }
         ensures scoreboard { self.new.buffer.scoreboard ≡ self.old.buffer.scoreboard }
-        ensures overdue { not (nat_eq self.new.is_overdue 0) ≡ seeks (known_by self.old queued) }
-        ensures no { (result ≡ Expired.No)
-            ↔ IsTrue (recovery_of self.old.buffer.recovery).is_blind }
-        ensures recovery { (highest : ℕ) → IsEnd (board_of self.old.buffer runs.now) highest →
-            recovery_of self.new.buffer.recovery ≡ after_wait (seeks (known_by self.old queued))
-            queued.numbers highest (recovery_of self.old.buffer.recovery) }
-        ensures begins { (highest : ℕ) → IsEnd (board_of self.old.buffer runs.now) highest →
-            IsFalse (recovery_of self.old.buffer.recovery).is_blind →
-            result ≡ Expired.Overdue (seeks (known_by self.old queued)
-            && begins_by queued.numbers highest (recovery_of self.old.buffer.recovery)) }
+        ensures silent { (s : FiniteSenderState) (timeout : ℕ) (bounds : TimeoutBounds) → queued_of s ≡ queued →
+            Silent (end_of s self.old runs.now timeout bounds) result (end_of s self.new runs.now timeout bounds) }
     {
-        let is_sought = self.is_sought(queued);
         self.is_window_probe_due = 0;
-        self.is_overdue = flag_of(is_sought);
+        self.is_overdue = 0;
         if self.buffer.recovery.is_blind() {
             return Expired::No;
         }
-        let begins = seek(&mut self.buffer, runs, queued.numbers, is_sought);
-        Expired::Overdue { begins }
-    }
-
-    /// Returns whether what is overdue is sought, where the timer's probe is due.
-    fn is_sought(&self, queued: Queued) -> bool
-        ensures { result ≡ seeks (known_by self.now queued) }
-    {
-        !self.buffer.recovery.is_blind() && !self.is_shut(queued)
+        if self.is_shut(queued) {
+            return Expired::Overdue { begins: false };
+        }
+        self.is_overdue = 1;
+        Expired::Overdue {
+            begins: self.buffer.find_overdue(runs, queued.numbers),
+        }
     }
 
     /// Takes notice that the timeout has passed, and returns what that means. Loses all that was sent and isn't reported.
@@ -747,11 +736,9 @@ impl SendingHead {
           is_overdue = 0;
         } }
         ensures scoreboard { self.new.buffer.scoreboard ≡ self.old.buffer.scoreboard }
-        ensures recovery { recovery_of self.new.buffer.recovery
-            ≡ begun queued.numbers.first_unacknowledged queued.numbers.sent queued.numbers.sent
-            (forgotten (recovery_of self.old.buffer.recovery)) }
-        ensures value { result
-            ≡ (if nothing_lost (known_by self.old queued) then Expired.Probe else Expired.Lost) }
+        ensures late { (s : FiniteSenderState) (runs : List (ℕ × ℕ)) (timeout : ℕ) (bounds : TimeoutBounds) →
+            queued_of s ≡ queued →
+            TimesOut (end_of s self.old runs timeout bounds) result (end_of s self.new runs timeout bounds) }
     {
         self.buffer.recovery.lose_all(queued.numbers);
         self.is_window_probe_due = 1;
@@ -1431,19 +1418,6 @@ impl<S: Storage<u8>, const N: usize> SendingEndOver<S, N> {
     {
         self.head.segment_size()
     }
-}
-
-/// Finds what is overdue, if it is sought, and returns whether a recovery begins.
-fn seek(buffer: &mut BufferHead, runs: &[Run], numbers: SentNumbers, is_sought: bool) -> bool
-    requires { IsSoundBoard buffer.old.scoreboard runs.now }
-    ensures rest { buffer.new.scoreboard ≡ buffer.old.scoreboard }
-    ensures recovery { (highest : ℕ) → IsEnd (board_of buffer.old runs.now) highest →
-        recovery_of buffer.new.recovery
-        ≡ after_wait is_sought numbers highest (recovery_of buffer.old.recovery) }
-    ensures begins { (highest : ℕ) → IsEnd (board_of buffer.old runs.now) highest →
-        result ≡ (is_sought && begins_by numbers highest (recovery_of buffer.old.recovery)) }
-{
-    is_sought && buffer.find_overdue(runs, numbers)
 }
 
 /// Takes the window that is announced. Returns the greatest one so far.

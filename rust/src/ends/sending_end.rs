@@ -24,7 +24,7 @@ use crate::rattle::prelude::*;
 use crate::ends::send_buffer::{AckKind, BufferHead, Queued, Sending, TakenAck, accept, lend, mark};
 use crate::storage::Run;
 use crate::time::{Duration, Instant};
-use crate::stream::{FiniteSenderOver, SentNumbers, flag_of};
+use crate::stream::{FiniteSenderOver, SentNumbers};
 use crate::storage::{ManagedSlice, Storage};
 use crate::tcp::{
     Announcement, Expiry, PeerWindow, RetransmissionTimer, TimeoutBounds, is_acknowledgement,
@@ -504,19 +504,18 @@ impl SendingHead {
     /// window is shut, or it reports nothing: then it is sent no probe.
     #[inline]
     pub fn take_silence(&mut self, runs: &[Run], queued: Queued) -> Expired {
-        let is_sought = self.is_sought(queued);
         self.is_window_probe_due = 0;
-        self.is_overdue = flag_of(is_sought);
+        self.is_overdue = 0;
         if self.buffer.recovery.is_blind() {
             return Expired::No;
         }
-        let begins = seek(&mut self.buffer, runs, queued.numbers, is_sought);
-        Expired::Overdue { begins }
-    }
-
-    /// Returns whether what is overdue is sought, where the timer's probe is due.
-    fn is_sought(&self, queued: Queued) -> bool {
-        !self.buffer.recovery.is_blind() && !self.is_shut(queued)
+        if self.is_shut(queued) {
+            return Expired::Overdue { begins: false };
+        }
+        self.is_overdue = 1;
+        Expired::Overdue {
+            begins: self.buffer.find_overdue(runs, queued.numbers),
+        }
     }
 
     /// Takes notice that the timeout has passed, and returns what that means. Loses all that was sent and isn't reported.
@@ -981,11 +980,6 @@ impl<S: Storage<u8>, const N: usize> SendingEndOver<S, N> {
     pub fn segment_size(&self) -> usize {
         self.head.segment_size()
     }
-}
-
-/// Finds what is overdue, if it is sought, and returns whether a recovery begins.
-fn seek(buffer: &mut BufferHead, runs: &[Run], numbers: SentNumbers, is_sought: bool) -> bool {
-    is_sought && buffer.find_overdue(runs, numbers)
 }
 
 /// Takes the window that is announced. Returns the greatest one so far.

@@ -4,7 +4,6 @@ use Rattle.net_ffi.specs.Retransmission.{given_or, bounds_of}
 use Rattle.net_tcp.specs.Retransmission.{Timer, timer_of, expiry}
 use Rattle.net_tcp.specs.declared.retransmission_timer.Expiry.TheVariants.{Probe, Timeout}
 use Rattle.net_ends.specs.declared.sending_end.Expired.TheVariants.{No}
-use Rattle.net_ends.proofs.Heads.{silent_is, late_takes}
 use Rattle.net_ffi.specs.SendingEnds.{sending_of}
 use Rattle.net_ffi.proofs.SendingEnds.{looks_none, looks_some, restarted_c}
 use Rattle.net_ffi.proofs.sending_end.net_base_sending_end_expired.Goals as goal
@@ -37,9 +36,8 @@ returns-in-Some-Probe-clause-value c = λ sound.
       c.fields_of_expired.ensures,
       looks_some Probe (sending_of it xs) _ _ c.args.now c.take_silence.result
           (says ∙ c.in-Some-Probe.is ∙ ap Some c.in-Some-Probe.field-0-is) same
-          (silent_is s (record it.head { timer = c.expire.new.self }) c.take_silence.new.self it.runs timeout
-          (bounds_of it.bounds) c.take_silence.result _ (sym (c.queued_from-queued.ensures.value xs refl))
-          c.take_silence.ensures),
+          (c.take_silence.ensures.silent s timeout (bounds_of it.bounds)
+          (sym (c.queued_from-queued.ensures.value xs refl))),
     )
 
 pub returns-in-Some-Timeout-clause-value : goal.returns-in-Some-Timeout-clause-value
@@ -57,7 +55,6 @@ returns-in-Some-Timeout-clause-value c = λ sound.
       c.fields_of_expired-in-Some-Timeout.ensures,
       looks_some Timeout (sending_of it xs) _ _ c.args.now c.take_timeout.result
           (says ∙ c.in-Some-Timeout.is ∙ ap Some c.in-Some-Timeout.field-0-is) same
-          (late_takes s (record it.head { timer = c.expire.new.self }) c.take_timeout.new.self it.runs timeout
-          (bounds_of it.bounds) c.take_timeout.result _
-          (sym (c.queued_from-queued-in-Some-Timeout.ensures.value xs refl)) c.take_timeout.ensures),
+          (c.take_timeout.ensures.late s it.runs timeout (bounds_of it.bounds)
+          (sym (c.queued_from-queued-in-Some-Timeout.ensures.value xs refl))),
     )

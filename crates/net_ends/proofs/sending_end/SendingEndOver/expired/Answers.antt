@@ -4,7 +4,6 @@ use Rattle.net_tcp.specs.declared.retransmission_timer.Expiry.TheVariants.{Probe
 use Rattle.net_ends.specs.Ends.{End}
 use Rattle.net_ends.specs.Parts.{end_of}
 use Rattle.net_ends.proofs.Expiries.{restarted, none_left, none_means, none_step, expiry_is}
-use Rattle.net_ends.proofs.Heads.{silent_is, late_takes}
 use Rattle.net_ends.proofs.sending_end.SendingEndOver.expired.Goals as goal
 
 pub returns-in-Some-Probe : goal.returns-in-Some-Probe
@@ -16,8 +15,8 @@ returns-in-Some-Probe g c =
     expiry_is Probe e _ _ c.args.now c.take_silence.result
     (ap (λ (x : End). expiry x.timer c.args.now) (sym c.self.view_is) ∙ sym c.expire.ensures.result ∙ c.in-Some-Probe.is
     ∙ ap Some c.in-Some-Probe.field-0-is) same
-    (silent_is c.self.inside.sender (record c.self.inside.head { timer = c.expire.new.self }) c.take_silence.new.self c.self.inside.runs c.self.inside.first_timeout
-    c.self.inside.bounds c.take_silence.result _ (sym c.queued-queued.ensures.value) c.take_silence.ensures)
+    (c.take_silence.ensures.silent c.self.inside.sender c.self.inside.first_timeout c.self.inside.bounds
+    (sym c.queued-queued.ensures.value))
 
 pub returns-in-Some-Timeout : goal.returns-in-Some-Timeout
 returns-in-Some-Timeout g c =
@@ -28,8 +27,8 @@ returns-in-Some-Timeout g c =
     expiry_is Timeout e _ _ c.args.now c.take_timeout.result
     (ap (λ (x : End). expiry x.timer c.args.now) (sym c.self.view_is) ∙ sym c.expire.ensures.result ∙ c.in-Some-Timeout.is
     ∙ ap Some c.in-Some-Timeout.field-0-is) same
-    (late_takes c.self.inside.sender (record c.self.inside.head { timer = c.expire.new.self }) c.take_timeout.new.self c.self.inside.runs c.self.inside.first_timeout
-    c.self.inside.bounds c.take_timeout.result _ (sym c.queued-queued-in-Some-Timeout.ensures.value) c.take_timeout.ensures)
+    (c.take_timeout.ensures.late c.self.inside.sender c.self.inside.runs c.self.inside.first_timeout c.self.inside.bounds
+    (sym c.queued-queued-in-Some-Timeout.ensures.value))
 
 pub returns-in-None-clause-step : goal.returns-in-None-clause-step
 returns-in-None-clause-step g c =

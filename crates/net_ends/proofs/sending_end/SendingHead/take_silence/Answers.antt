@@ -1,11 +1,72 @@
-use Rattle.std.proofs.Common.{ap, ◌∙◌}
-use Rattle.std.specs.Prelude.{Bool, ◌&&◌}
+-- By the numbers of the sender: f is the end before.
+use Rattle.std.proofs.Common.{◌≡◌, false, true, refl, sym, ap, subst, ◌∙◌}
+use Rattle.std.specs.Prelude.{Bool, not, ◌&&◌}
+use Rattle.net_receiver.specs.Scoreboards.{reported_by}
+use Rattle.net_receiver.specs.declared.scoreboard_head.ScoreboardHead.{ScoreboardHead}
 use Rattle.net_recovery.specs.LossRecovery.{recovery_of}
-use Rattle.net_ends.specs.Acknowledgements.{begins_by}
+use Rattle.net_ends.specs.Acknowledgements.{is_sought, numbers_of, after_wait, begins_by}
+use Rattle.net_ends.specs.Parts.{end_of}
+use Rattle.net_ends.specs.Rules.{known_by, window_shut}
+use Rattle.net_ends.specs.declared.send_buffer.Queued.{Queued}
 use Rattle.net_ends.specs.declared.sending_end.Expired.TheVariants.{Overdue}
 use Rattle.net_ends.proofs.sending_end.SendingHead.take_silence.Goals as goal
 
-pub returns-clause-begins : goal.returns-clause-begins
-returns-clause-begins c = λ highest end hears. ap Overdue (c.seek-begins.ensures.begins highest end
-    ∙ ap (λ (b : Bool). b && begins_by c.args.queued.numbers highest (recovery_of c.args.self.now.buffer.recovery))
-    c.is_sought-is_sought.ensures)
+-- whether it is sought, by what the two tests say
+not_blind : (a b : Bool) → a ≡ true → (not a && b) ≡ false
+not_blind true b is = refl
+not_blind false b is = cc
+
+not_shut : (a b : Bool) → b ≡ true → (not a && not b) ≡ false
+not_shut true b is = refl
+not_shut false true is = refl
+not_shut false false is = cc
+
+neither : (a b : Bool) → a ≡ false → b ≡ false → (not a && not b) ≡ true
+neither false false blind shut = refl
+neither true b blind shut = cc
+neither false true blind shut = cc
+
+pub returns-then-is_blind-clause-silent : goal.returns-then-is_blind-clause-silent
+returns-then-is_blind-clause-silent c = λ s timeout bounds is.
+    let f = end_of s c.args.self.now c.args.runs.now timeout bounds in
+    let blind : f.recovery.is_blind ≡ true = sym c.is_blind.ensures ∙ c.if-is_blind.true in
+    let off : is_sought f ≡ false = not_blind _ _ blind in
+    record {
+      no = (λ _. blind, λ _. refl);
+      state = ap (λ (b : Bool). record f { probes = false; overdue = b }) (sym off);
+      recovery = λ highest end. ap (λ (b : Bool). after_wait b (numbers_of s) highest f.recovery) (sym off);
+      begins = λ highest end says. cc (blind, says);
+    }
+
+pub returns-then-is_shut-clause-silent : goal.returns-then-is_shut-clause-silent
+returns-then-is_shut-clause-silent c = λ s timeout bounds is.
+    let f = end_of s c.args.self.now c.args.runs.now timeout bounds in
+    let says : f.recovery.is_blind ≡ false = sym c.is_blind.ensures ∙ c.if-is_blind.false in
+    let shut : window_shut (known_by c.args.self.now c.args.queued) ≡ true = sym c.is_shut.ensures ∙ c.if-is_shut.true in
+    let off : is_sought f ≡ false = not_shut _ _ (subst (λ (q : Queued). window_shut (known_by c.args.self.now q) ≡ true)
+    (sym is) shut) in
+    record {
+      no = (λ p. cc, λ blind. cc (says, blind));
+      state = ap (λ (b : Bool). record f { probes = false; overdue = b }) (sym off);
+      recovery = λ highest end. ap (λ (b : Bool). after_wait b (numbers_of s) highest f.recovery) (sym off);
+      begins = λ highest end _. ap (λ (b : Bool). Overdue (b && begins_by (numbers_of s) highest f.recovery)) (sym off);
+    }
+
+pub returns-clause-silent : goal.returns-clause-silent
+returns-clause-silent c = λ s timeout bounds is.
+    let f = end_of s c.args.self.now c.args.runs.now timeout bounds in
+    let says : f.recovery.is_blind ≡ false = sym c.is_blind.ensures ∙ c.if-is_blind.false in
+    let shut : window_shut (known_by c.args.self.now c.args.queued) ≡ false = sym c.is_shut.ensures ∙ c.if-is_shut.false in
+    let on : is_sought f ≡ true = neither _ _ says (subst (λ (q : Queued). window_shut (known_by c.args.self.now q) ≡ false)
+    (sym is) shut) in
+    let said = rw (← is) at c.find_overdue.ensures in
+    let left = recovery_of c.find_overdue.new.self.recovery in
+    record {
+      no = (λ p. cc, λ blind. cc (says, blind));
+      state = ap (λ (h : ScoreboardHead). record f { reported = reported_by h c.args.runs.now; recovery = left; probes = false; overdue = true })
+          said.rest ∙ ap (λ (b : Bool). record f { recovery = left; probes = false; overdue = b }) (sym on);
+      recovery = λ highest end. said.recovery highest end
+          ∙ ap (λ (b : Bool). after_wait b (numbers_of s) highest f.recovery) (sym on);
+      begins = λ highest end _. ap Overdue (said.begins highest end
+          ∙ ap (λ (b : Bool). b && begins_by (numbers_of s) highest f.recovery) (sym on));
+    }
