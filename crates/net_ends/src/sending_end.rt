@@ -21,7 +21,7 @@
 
 ghost use Rattle.std.specs.Prelude.{◌≡◌, ◌↔◌, ◌-◌, ◌+◌, ◌<◌, ◌≤◌, ◌&&◌, ◌==◌, ℕ, Option, Some, IsTrue, IsFalse, min};
 ghost use Rattle.std.specs.Prelude.{IfSome, IfNone, is_some, is_none, ◌||◌, ◌++◌, not, nat_lt, false};
-ghost use Rattle.std.specs.Prelude.{if◌then◌else◌, length, Bool};
+ghost use Rattle.std.specs.Prelude.{length, Bool};
 ghost use Rattle.net_assembler.specs.Positions.{contains};
 ghost use Rattle.net_recovery.specs.LossRecovery.{is_active, is_wrong, taken_back};
 ghost use Rattle.net_receiver.specs.FiniteSender.{sender_after_command, Acknowledges, accepts, finite_room};
@@ -31,7 +31,7 @@ ghost use Rattle.net_ends.specs.Ends.{limit, may_send, after_event, Wrote, Shut,
 ghost use Rattle.net_ends.specs.Ends.{Resumed};
 ghost use Rattle.net_ends.specs.Ends.{IsSegment, round_trip, Opened, Forgot, Opening, synchronized, sampled};
 ghost use Rattle.net_ends.specs.Ends.{timed_out, has_timed_out, is_overdue, reports_of, new_of, kept};
-ghost use Rattle.net_ends.specs.Ends.{begins_of, is_due, is_worth, is_enough, delays, hurries, Enabled};
+ghost use Rattle.net_ends.specs.Ends.{begins_of, is_due, is_worth, is_enough, hurries, Enabled};
 ghost use Rattle.net_ends.specs.Acknowledgements.{reported_by};
 ghost use Rattle.net_ends.specs.Acknowledgements.{numbers_of, unsent_of, unsent_at, doubted, Recovers};
 ghost use Rattle.net_ends.specs.Acknowledgements.{is_sought, after_segment, after_wait};
@@ -41,7 +41,7 @@ ghost use Rattle.net_recovery.specs.LossRecovery.{next_probe};
 ghost use Rattle.net_ends.specs.Parts.{end_of, marked};
 ghost use Rattle.net_ends.specs.Calls.{Hears, Silent, TimesOut, Chooses};
 ghost use Rattle.net_ends.specs.Rules.{queued_of, known_of, known_by, low, high, window_shut, asks_window, room_to, most_to};
-ghost use Rattle.net_ends.specs.Rules.{in_hurry, nagle_waits, enough, worth_sending, due, HolesOf, next_of, due_part};
+ghost use Rattle.net_ends.specs.Rules.{in_hurry, enough, worth_sending, due, HolesOf, next_of, due_part};
 ghost use Rattle.net_ends.specs.Rules.{ProbedOf, probe_part, is_probing, renewed_by};
 ghost use Rattle.net_ends.specs.Buffers.{board_of};
 ghost use Rattle.net_receiver.specs.FiniteSender.{FiniteSenderState};
@@ -54,7 +54,7 @@ ghost use Rattle.net_tcp.specs.Windows.{no_window, window_from};
 ghost use Rattle.std.specs.Prelude.{List, max, nat_eq};
 ghost use Rattle.net_tcp.specs.Retransmission.{timer_of};
 ghost use Rattle.net_ends.specs.Buffers.{is_window_probe, is_tail_probe};
-ghost use Rattle.net_tcp.specs.Retransmission.{has_ended, has_expired, after_expiry, after_sending};
+ghost use Rattle.net_tcp.specs.Retransmission.{has_ended, has_expired, after_expiry};
 ghost use Rattle.net_tcp.specs.Retransmission.{after_acknowledged, expires_at};
 ghost use Rattle.net_ends.specs.Ends.{AreHoles, open_to, found, due_of, range_of, IsProbed, probe_of, is_probe};
 ghost use Rattle.std.specs.Option.{option_or};
@@ -602,38 +602,9 @@ impl SendingHead {
         let taken = self
             .buffer
             .acknowledged(runs, numbers, it.ack, blocks, size, kind);
-        self.take(runs, numbers, bounds, it, taken.reports, now);
-        taken
-    }
-
-    /// Takes the window of an acknowledgement that the buffer has taken, and tells the timer.
-    fn take(
-        &mut self,
-        runs: &[Run],
-        numbers: SentNumbers,
-        bounds: TimeoutBounds,
-        it: Announcement,
-        reports: bool,
-        now: Instant,
-    )
-        requires { IsSoundBoard self.old.buffer.scoreboard runs.now }
-        ensures rest { self.new ≡ record self.old {
-          timer = self.new.timer;
-          peer_window = after_update self.old.peer_window numbers.first_unacknowledged numbers.sent
-              it.seq it.ack it.window;
-          greatest_window = greatest_of self.old.peer_window self.old.greatest_window
-              numbers.first_unacknowledged numbers.sent it.seq it.ack it.window;
-          last_window = it.window;
-          is_open = 1;
-        } }
-        ensures timer { timer_of self.new.timer ≡ told reports now (after_acknowledged bounds
-            numbers.first_unacknowledged numbers.sent it.ack now
-            (sampled (board_of self.old.buffer runs.now) bounds now
-            (synchronized (not (nat_eq self.old.is_open 0)) numbers.first_unacknowledged numbers.sent
-            (timer_of self.old.timer)))) }
-    {
         self.take_window(numbers, it);
-        self.update_timer(runs, numbers, bounds, it.ack, reports, now);
+        self.update_timer(runs, numbers, bounds, it.ack, taken.reports, now);
+        taken
     }
 
     /// Takes the window that is announced, and that a peer answers.
@@ -809,7 +780,8 @@ impl SendingHead {
         )
     }
 
-    /// Returns what a probe for an answer sends below a limit.
+    /// Returns what a probe for an answer sends below a limit. A function of its own, since the search doesn't find
+    /// what `choose` says with this call in it.
     fn next_probe(&self, runs: &[Run], numbers: SentNumbers, limit: u64) -> Option<(u64, u64)>
         requires sound { IsSoundBoard self.now.buffer.scoreboard runs.now }
         requires order { numbers.first_unacknowledged ≤ numbers.sent }
@@ -873,12 +845,17 @@ impl SendingHead {
     }
 
     /// Returns whether a range is worth a segment (RFC 9293, 3.8.6.2.1): a whole one; or, unless Nagle's rule has it
-    /// wait, all that is left, or half of the greatest window that the peer announced.
+    /// wait, all that is left, or half of the greatest window that the peer announced. By that rule it waits while
+    /// something is in flight, and the stream isn't closed.
     fn is_worth(&self, queued: Queued, from: u64, to: u64) -> bool
         ensures { result ≡ worth_sending (known_by self.now queued) from to }
     {
+        let numbers = queued.numbers;
         let is_whole = self.segment_size() as u64 <= to.saturating_sub(from);
-        is_whole || self.is_enough(queued, from, to) && !self.delays(queued)
+        let waits = self.nagle_enabled()
+            && numbers.first_unacknowledged < numbers.sent
+            && !queued.is_closed;
+        is_whole || self.is_enough(queued, from, to) && !waits
     }
 
     /// Returns whether a range is all that is left, or half of the greatest window that the peer announced.
@@ -887,56 +864,6 @@ impl SendingHead {
     {
         let len = to.saturating_sub(from);
         queued.end <= to || self.greatest_window.saturating_sub(len) <= len
-    }
-
-    /// Returns whether less than a whole segment waits, by Nagle's rule: something is in flight, and the stream isn't
-    /// closed.
-    fn delays(&self, queued: Queued) -> bool
-        ensures { result ≡ nagle_waits (known_by self.now queued) }
-    {
-        let numbers = queued.numbers;
-        self.nagle_enabled() && numbers.first_unacknowledged < numbers.sent && !queued.is_closed
-    }
-
-    /// Starts the timer, unless it runs, if anything that was written isn't acknowledged.
-    fn wait(&mut self, queued: Queued, now: Instant)
-        ensures rest { self.new ≡ record self.old { timer = self.new.timer } }
-        ensures timer { timer_of self.new.timer
-            ≡ (if nat_lt queued.numbers.first_unacknowledged queued.end
-            then started now (timer_of self.old.timer) else timer_of self.old.timer) }
-    {
-        if queued.numbers.first_unacknowledged < queued.end {
-            self.timer.start(now);
-        }
-    }
-
-    /// Takes notice that a range is sent, and why.
-    fn mark(
-        &mut self,
-        numbers: SentNumbers,
-        bounds: TimeoutBounds,
-        from: u64,
-        to: u64,
-        sending: Sending,
-        now: Instant,
-    )
-        ensures rest { self.new ≡ record self.old {
-          buffer = self.new.buffer;
-          timer = self.new.timer;
-          is_window_probe_due = 0;
-          is_overdue = 0;
-        } }
-        ensures scoreboard { self.new.buffer.scoreboard ≡ self.old.buffer.scoreboard }
-        ensures timer { timer_of self.new.timer ≡ after_sending bounds from to
-            numbers.first_unacknowledged numbers.sent now (timer_of self.old.timer) }
-        ensures recovery { recovery_of self.new.buffer.recovery
-            ≡ after_segment numbers from to (is_window_probe sending) (is_tail_probe sending)
-            (recovery_of self.old.buffer.recovery) }
-    {
-        self.timer.sent(bounds, from..to, numbers, now);
-        self.is_window_probe_due = 0;
-        self.is_overdue = 0;
-        self.buffer.sent(numbers, from, to, sending);
     }
 
     /// Returns the segment that is to be sent now, and takes notice that it is: if the peer's window and the congestion
@@ -962,10 +889,15 @@ impl SendingHead {
         let (chosen, sending) = self.choose(runs, queued, congestion_window);
         let Some((from, to)) = chosen else {
             // Not before something is sent: what `start` starts has no probe.
-            self.wait(queued, now);
+            if queued.numbers.first_unacknowledged < queued.end {
+                self.timer.start(now);
+            }
             return None;
         };
-        self.mark(queued.numbers, bounds, from, to, sending, now);
+        self.timer.sent(bounds, from..to, queued.numbers, now);
+        self.is_window_probe_due = 0;
+        self.is_overdue = 0;
+        self.buffer.sent(queued.numbers, from, to, sending);
         Some(Outgoing {
             pos: from,
             end: to,
@@ -1420,7 +1352,8 @@ impl<S: Storage<u8>, const N: usize> SendingEndOver<S, N> {
     }
 }
 
-/// Takes the window that is announced. Returns the greatest one so far.
+/// Takes the window that is announced. Returns the greatest one so far. A function of its own, since the search doesn't
+/// find what `take_window` leaves with this test in it.
 fn greatest_after_update(
     peer: &mut PeerWindow,
     greatest: u64,

@@ -437,22 +437,9 @@ impl SendingHead {
         let taken = self
             .buffer
             .acknowledged(runs, numbers, it.ack, blocks, size, kind);
-        self.take(runs, numbers, bounds, it, taken.reports, now);
-        taken
-    }
-
-    /// Takes the window of an acknowledgement that the buffer has taken, and tells the timer.
-    fn take(
-        &mut self,
-        runs: &[Run],
-        numbers: SentNumbers,
-        bounds: TimeoutBounds,
-        it: Announcement,
-        reports: bool,
-        now: Instant,
-    ) {
         self.take_window(numbers, it);
-        self.update_timer(runs, numbers, bounds, it.ack, reports, now);
+        self.update_timer(runs, numbers, bounds, it.ack, taken.reports, now);
+        taken
     }
 
     /// Takes the window that is announced, and that a peer answers.
@@ -560,7 +547,8 @@ impl SendingHead {
         )
     }
 
-    /// Returns what a probe for an answer sends below a limit.
+    /// Returns what a probe for an answer sends below a limit. A function of its own, since the search doesn't find
+    /// what `choose` says with this call in it.
     fn next_probe(&self, runs: &[Run], numbers: SentNumbers, limit: u64) -> Option<(u64, u64)> {
         self.buffer
             .next_probe(runs, numbers, limit, self.segment_size())
@@ -598,46 +586,21 @@ impl SendingHead {
     }
 
     /// Returns whether a range is worth a segment (RFC 9293, 3.8.6.2.1): a whole one; or, unless Nagle's rule has it
-    /// wait, all that is left, or half of the greatest window that the peer announced.
+    /// wait, all that is left, or half of the greatest window that the peer announced. By that rule it waits while
+    /// something is in flight, and the stream isn't closed.
     fn is_worth(&self, queued: Queued, from: u64, to: u64) -> bool {
+        let numbers = queued.numbers;
         let is_whole = self.segment_size() as u64 <= to.saturating_sub(from);
-        is_whole || self.is_enough(queued, from, to) && !self.delays(queued)
+        let waits = self.nagle_enabled()
+            && numbers.first_unacknowledged < numbers.sent
+            && !queued.is_closed;
+        is_whole || self.is_enough(queued, from, to) && !waits
     }
 
     /// Returns whether a range is all that is left, or half of the greatest window that the peer announced.
     fn is_enough(&self, queued: Queued, from: u64, to: u64) -> bool {
         let len = to.saturating_sub(from);
         queued.end <= to || self.greatest_window.saturating_sub(len) <= len
-    }
-
-    /// Returns whether less than a whole segment waits, by Nagle's rule: something is in flight, and the stream isn't
-    /// closed.
-    fn delays(&self, queued: Queued) -> bool {
-        let numbers = queued.numbers;
-        self.nagle_enabled() && numbers.first_unacknowledged < numbers.sent && !queued.is_closed
-    }
-
-    /// Starts the timer, unless it runs, if anything that was written isn't acknowledged.
-    fn wait(&mut self, queued: Queued, now: Instant) {
-        if queued.numbers.first_unacknowledged < queued.end {
-            self.timer.start(now);
-        }
-    }
-
-    /// Takes notice that a range is sent, and why.
-    fn mark(
-        &mut self,
-        numbers: SentNumbers,
-        bounds: TimeoutBounds,
-        from: u64,
-        to: u64,
-        sending: Sending,
-        now: Instant,
-    ) {
-        self.timer.sent(bounds, from..to, numbers, now);
-        self.is_window_probe_due = 0;
-        self.is_overdue = 0;
-        self.buffer.sent(numbers, from, to, sending);
     }
 
     /// Returns the segment that is to be sent now, and takes notice that it is: if the peer's window and the congestion
@@ -656,10 +619,15 @@ impl SendingHead {
         let (chosen, sending) = self.choose(runs, queued, congestion_window);
         let Some((from, to)) = chosen else {
             // Not before something is sent: what `start` starts has no probe.
-            self.wait(queued, now);
+            if queued.numbers.first_unacknowledged < queued.end {
+                self.timer.start(now);
+            }
             return None;
         };
-        self.mark(queued.numbers, bounds, from, to, sending, now);
+        self.timer.sent(bounds, from..to, queued.numbers, now);
+        self.is_window_probe_due = 0;
+        self.is_overdue = 0;
+        self.buffer.sent(queued.numbers, from, to, sending);
         Some(Outgoing {
             pos: from,
             end: to,
@@ -982,7 +950,8 @@ impl<S: Storage<u8>, const N: usize> SendingEndOver<S, N> {
     }
 }
 
-/// Takes the window that is announced. Returns the greatest one so far.
+/// Takes the window that is announced. Returns the greatest one so far. A function of its own, since the search doesn't
+/// find what `take_window` leaves with this test in it.
 fn greatest_after_update(
     peer: &mut PeerWindow,
     greatest: u64,
