@@ -1,6 +1,6 @@
 //! What a stream that ends has sent, without a clock.
 ghost use Rattle.std.specs.Prelude.{◌≡◌, ◌-◌, ◌+◌, ◌<◌, ◌≤◌, ◌&&◌, ◌==◌, ℕ, Option, Some, IsTrue, IsFalse, min, max};
-ghost use Rattle.std.specs.Prelude.{IfSome, IfNone, is_some, ◌++◌, not, true, false, if◌then◌else◌, length, nat_le};
+ghost use Rattle.std.specs.Prelude.{IfSome, IfNone, is_some, ◌++◌, not, true, false, length, nat_le};
 ghost use Rattle.net_assembler.specs.Positions.{contains};
 ghost use Rattle.net_recovery.specs.LossRecovery.{is_wrong, taken_back, was_sent_again};
 ghost use Rattle.net_recovery.specs.LossRecovery.{is_active, in_flight, begun, forgotten, next_segment, next_range};
@@ -15,7 +15,6 @@ ghost use Rattle.net_assembler.specs.Positions.{with_range, nothing};
 ghost use Rattle.net_recovery.specs.LossRecovery.{new_recovery, no_loss};
 ghost use Rattle.net_receiver.specs.NewHeads.{scoreboard_head};
 ghost use Rattle.std.specs.Prelude.{◌↔◌, List};
-ghost use Rattle.net_assembler.specs.RunLists.{IsCanonical};
 ghost use Rattle.net_ends.specs.Ends.{IsSegment, kept, has_dropped};
 ghost use Rattle.net_ends.specs.Buffers.{new_buffer, buffer_of, board_of, marked, remaining, is_repeat};
 ghost use Rattle.net_ends.specs.Buffers.{is_window_probe, is_tail_probe, ack_of, blocks_of, Takes};
@@ -369,34 +368,8 @@ impl BufferHead {
             (recovery_of self.new.recovery) result.begins }
     {
         let unsent = self.recovery.unsent(numbers, &self.board(runs));
-        self.take(runs, numbers, unsent, ack, blocks, segment_size, kind)
-    }
-
-    /// Takes the blocks of an acknowledgement that the sender has taken, and finds what is lost.
-    fn take(
-        &mut self,
-        runs: &mut [Run],
-        numbers: SentNumbers,
-        unsent: u64,
-        ack: u64,
-        blocks: &[(u64, u64)],
-        segment_size: usize,
-        kind: AckKind,
-    ) -> TakenAck
-        requires { IsSoundBoard self.old.scoreboard runs.old }
-        ensures sound { IsSoundBoard self.new.scoreboard runs.new }
-        ensures length { length runs.new ≡ length runs.old }
-        ensures reported { board_of self.new runs.new
-            ≡ kept (reported_by (length runs.old) numbers.sent (board_of self.old runs.old) ack blocks.now).0
-            ack numbers.sent }
-        ensures new { result.new ≡ ack - numbers.first_unacknowledged }
-        ensures reports { result.reports
-            ≡ (reported_by (length runs.old) numbers.sent (board_of self.old runs.old) ack blocks.now).1 }
-        ensures recovery { Recovers (length runs.old) segment_size numbers unsent
-            (board_of self.old runs.old) (recovery_of self.old.recovery) ack blocks.now (is_repeat kind) result.reports
-            (recovery_of self.new.recovery) result.begins }
-    {
-        let reports = self.report(runs, ack, blocks, numbers.sent);
+        self.scoreboard.acknowledge(runs, ack);
+        let reports = report_blocks(&mut self.scoreboard, runs, blocks, numbers.sent);
         let is_bare = is_repeat(kind) && !has_block(blocks);
         let answer = Answer {
             first: numbers.first_unacknowledged,
@@ -410,21 +383,6 @@ impl BufferHead {
             reports,
             begins,
         }
-    }
-
-    /// Reports all below `ack`, and the blocks. Returns whether a block reports what wasn't known.
-    fn report(&mut self, runs: &mut [Run], ack: u64, blocks: &[(u64, u64)], sent: u64) -> bool
-        requires { IsSoundBoard self.old.scoreboard runs.old }
-        ensures sound { IsSoundBoard self.new.scoreboard runs.new }
-        ensures length { length runs.new ≡ length runs.old }
-        ensures rest { self.new.recovery ≡ self.old.recovery }
-        ensures state { board_of self.new runs.new
-            ≡ (reported_by (length runs.old) sent (board_of self.old runs.old) ack blocks.now).0 }
-        ensures value { result
-            ≡ (reported_by (length runs.old) sent (board_of self.old runs.old) ack blocks.now).1 }
-    {
-        self.scoreboard.acknowledge(runs, ack);
-        report_blocks(&mut self.scoreboard, runs, blocks, sent)
     }
 
     /// Finds what is lost by an acknowledgement, and returns whether a recovery begins.
@@ -972,30 +930,13 @@ fn find_losses(
     ensures recovery { IsLeft segment_size after.first_unacknowledged after.sent answer
         (reported_to board.old runs.now) (recovery_of recovery.old) (recovery_of recovery.new) result }
 {
+    let seen = LentScoreboard::new(*board, runs);
     if has_dropped(board, runs, after) {
-        let begins = lose_dropped(recovery, board, runs, after);
+        let begins = recovery.lose_dropped(after, &seen);
         *board = ScoreboardHead::new_at(after.first_unacknowledged);
         return begins;
     }
-    let seen = LentScoreboard::new(*board, runs);
     recovery.find_losses(after, &seen, segment_size, answer)
-}
-
-/// Loses what the peer had reported and has dropped, and returns whether a recovery begins.
-fn lose_dropped(
-    recovery: &mut LossRecovery,
-    board: &ScoreboardHead,
-    runs: &[Run],
-    after: SentNumbers,
-) -> bool
-    requires { IsSoundBoard board.now runs.now }
-    ensures state { (highest : ℕ) → IsEnd (reported_to board.now runs.now) highest →
-        recovery_of recovery.new ≡ begun after.first_unacknowledged after.sent
-        (max (recovery_of recovery.old).lost highest) (recovery_of recovery.old) }
-    ensures begins { result ≡ not (is_active (recovery_of recovery.old) after.first_unacknowledged) }
-{
-    let seen = LentScoreboard::new(*board, runs);
-    recovery.lose_dropped(after, &seen)
 }
 
 /// Returns whether the peer has dropped what it had reported: it acknowledges up to such a number.

@@ -275,21 +275,8 @@ impl BufferHead {
         kind: AckKind,
     ) -> TakenAck {
         let unsent = self.recovery.unsent(numbers, &self.board(runs));
-        self.take(runs, numbers, unsent, ack, blocks, segment_size, kind)
-    }
-
-    /// Takes the blocks of an acknowledgement that the sender has taken, and finds what is lost.
-    fn take(
-        &mut self,
-        runs: &mut [Run],
-        numbers: SentNumbers,
-        unsent: u64,
-        ack: u64,
-        blocks: &[(u64, u64)],
-        segment_size: usize,
-        kind: AckKind,
-    ) -> TakenAck {
-        let reports = self.report(runs, ack, blocks, numbers.sent);
+        self.scoreboard.acknowledge(runs, ack);
+        let reports = report_blocks(&mut self.scoreboard, runs, blocks, numbers.sent);
         let is_bare = is_repeat(kind) && !has_block(blocks);
         let answer = Answer {
             first: numbers.first_unacknowledged,
@@ -303,12 +290,6 @@ impl BufferHead {
             reports,
             begins,
         }
-    }
-
-    /// Reports all below `ack`, and the blocks. Returns whether a block reports what wasn't known.
-    fn report(&mut self, runs: &mut [Run], ack: u64, blocks: &[(u64, u64)], sent: u64) -> bool {
-        self.scoreboard.acknowledge(runs, ack);
-        report_blocks(&mut self.scoreboard, runs, blocks, sent)
     }
 
     /// Finds what is lost by an acknowledgement, and returns whether a recovery begins.
@@ -659,24 +640,13 @@ fn find_losses(
     segment_size: usize,
     answer: Answer,
 ) -> bool {
+    let seen = LentScoreboard::new(*board, runs);
     if has_dropped(board, runs, after) {
-        let begins = lose_dropped(recovery, board, runs, after);
+        let begins = recovery.lose_dropped(after, &seen);
         *board = ScoreboardHead::new_at(after.first_unacknowledged);
         return begins;
     }
-    let seen = LentScoreboard::new(*board, runs);
     recovery.find_losses(after, &seen, segment_size, answer)
-}
-
-/// Loses what the peer had reported and has dropped, and returns whether a recovery begins.
-fn lose_dropped(
-    recovery: &mut LossRecovery,
-    board: &ScoreboardHead,
-    runs: &[Run],
-    after: SentNumbers,
-) -> bool {
-    let seen = LentScoreboard::new(*board, runs);
-    recovery.lose_dropped(after, &seen)
 }
 
 /// Returns whether the peer has dropped what it had reported: it acknowledges up to such a number.
