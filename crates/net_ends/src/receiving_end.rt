@@ -8,7 +8,7 @@ ghost use Rattle.net_tcp.specs.Windows.{IsArrival, announced, field_for};
 ghost use Rattle.net_receiver.specs.ReceiverState.{first_part, contiguous_count};
 ghost use Rattle.net_receiver.specs.NewestRuns.{with_starts};
 ghost use Rattle.net_receiver.specs.Finite.{no_end, acknowledged, is_complete, finite_result};
-ghost use Rattle.net_ends.specs.Receiving.{new_receiving, opened, opening_field, free_end, is_worth, field_of, promise};
+ghost use Rattle.net_ends.specs.Receiving.{new_receiving, opened, opening_field, is_worth, field_of, promise};
 ghost use Rattle.net_ends.specs.Receiving.{listed, blocks_of, arrival_result, after_event, Arrived, Answered};
 ghost use Rattle.net_ends.specs.Receiving.{Announced, Acknowledged, Took, after_arrival, adds};
 ghost use Rattle.net_ends.specs.Receiving.{reported, part_reported, WaitsAfter};
@@ -155,10 +155,11 @@ impl ReceivingHead {
             self.has_duplicate = 1;
         }
         self.newest = pos;
-        self.unanswered = if is_next(held, is_last, kept) {
-            self.unanswered.saturating_add(1).min(2)
-        } else {
-            2
+        self.unanswered = match kept {
+            Ok(kept) if held == 0 && !is_last && kept.queued > 0 => {
+                self.unanswered.saturating_add(1).min(2)
+            }
+            _ => 2,
         };
     }
 
@@ -648,16 +649,6 @@ impl<S: Storage<u8>, const N: usize> ReceivingEndOver<S, N> {
             capacity: self.receiver.receiver().capacity() as u64,
             is_complete: self.receiver.is_complete(),
         }
-    }
-}
-
-/// Returns whether a segment joined the queue where so many runs were held before, and the end wasn't in it.
-fn is_next(held: usize, is_last: bool, kept: Result<KeptBytes, FiniteError>) -> bool
-    ensures { result ≡ (nat_eq held 0 && not is_last && adds kept) }
-{
-    match kept {
-        Ok(kept) => held == 0 && !is_last && kept.queued > 0,
-        Err(_) => false,
     }
 }
 

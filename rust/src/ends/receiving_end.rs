@@ -106,10 +106,11 @@ impl ReceivingHead {
             self.has_duplicate = 1;
         }
         self.newest = pos;
-        self.unanswered = if is_next(held, is_last, kept) {
-            self.unanswered.saturating_add(1).min(2)
-        } else {
-            2
+        self.unanswered = match kept {
+            Ok(kept) if held == 0 && !is_last && kept.queued > 0 => {
+                self.unanswered.saturating_add(1).min(2)
+            }
+            _ => 2,
         };
     }
 
@@ -482,14 +483,6 @@ impl<S: Storage<u8>, const N: usize> ReceivingEndOver<S, N> {
             capacity: self.receiver.receiver().capacity() as u64,
             is_complete: self.receiver.is_complete(),
         }
-    }
-}
-
-/// Returns whether a segment joined the queue where so many runs were held before, and the end wasn't in it.
-fn is_next(held: usize, is_last: bool, kept: Result<KeptBytes, FiniteError>) -> bool {
-    match kept {
-        Ok(kept) => held == 0 && !is_last && kept.queued > 0,
-        Err(_) => false,
     }
 }
 
