@@ -551,7 +551,7 @@ fn a_send_buffer_takes_a_recovery_back() {
     assert!(buffer.acknowledge(60, &[], 10, AckKind::Other).is_some() && !buffer.take_back());
     assert_eq!(buffer.acknowledge(50, &[(10, 20)], 10, AckKind::Other), None);
     assert!(!buffer.take_back());
-    buffer.doubt(50, &[(10, 20)]);
+    buffer.note_duplicate(50, &[(10, 20)]);
     assert_eq!(
         [buffer.take_back(), buffer.take_back(), buffer.is_recovering()],
         [true, false, false]

@@ -403,7 +403,7 @@ impl BufferHead {
             (doubted numbers ack blocks.now (recovery_of self.old.recovery))
             (recovery_of self.new.recovery) result }
     {
-        self.doubt(numbers, ack, blocks);
+        self.note_duplicate(numbers, ack, blocks);
         let after = SentNumbers {
             first_unacknowledged: ack,
             sent: numbers.sent,
@@ -419,7 +419,7 @@ impl BufferHead {
     }
 
     /// Tells the recovery, if the first block reports what came twice.
-    pub fn doubt(&mut self, numbers: SentNumbers, ack: u64, blocks: &[(u64, u64)])
+    pub fn note_duplicate(&mut self, numbers: SentNumbers, ack: u64, blocks: &[(u64, u64)])
         ensures rest { self.new.scoreboard ≡ self.old.scoreboard }
         ensures recovery { recovery_of self.new.recovery
             ≡ doubted numbers ack blocks.now (recovery_of self.old.recovery) }
@@ -703,14 +703,14 @@ impl<S: Storage<u8>, const N: usize> SendBufferOver<S, N> {
 
     /// Tells the recovery, if the first block of an acknowledgement reports what came twice: for one of TCP that
     /// `acknowledge` doesn't take, since it is an old one.
-    pub fn doubt(&mut self, ack: u64, blocks: &[(u64, u64)])
+    pub fn note_duplicate(&mut self, ack: u64, blocks: &[(u64, u64)])
         ensures { self.new ≡ record self.old {
           recovery =
               doubted (numbers_of self.old.sender) ack blocks.now self.old.recovery;
         } }
     {
         let numbers = self.numbers();
-        self.head.doubt(numbers, ack, blocks);
+        self.head.note_duplicate(numbers, ack, blocks);
     }
 
     /// Returns whether the last recovery was for nothing, and ends it then.

@@ -539,7 +539,7 @@ impl SendingHead {
             return Acknowledged::Refused;
         }
         if it.ack < numbers.first_unacknowledged || numbers.sent < it.ack {
-            self.buffer.doubt(numbers, it.ack, blocks);
+            self.buffer.note_duplicate(numbers, it.ack, blocks);
             return Acknowledged::Old;
         }
         let taken = self.take_accepted(runs, numbers, bounds, it, blocks, is_empty, now);

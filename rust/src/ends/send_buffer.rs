@@ -302,7 +302,7 @@ impl BufferHead {
         segment_size: usize,
         answer: Answer,
     ) -> bool {
-        self.doubt(numbers, ack, blocks);
+        self.note_duplicate(numbers, ack, blocks);
         let after = SentNumbers {
             first_unacknowledged: ack,
             sent: numbers.sent,
@@ -318,7 +318,7 @@ impl BufferHead {
     }
 
     /// Tells the recovery, if the first block reports what came twice.
-    pub fn doubt(&mut self, numbers: SentNumbers, ack: u64, blocks: &[(u64, u64)]) {
+    pub fn note_duplicate(&mut self, numbers: SentNumbers, ack: u64, blocks: &[(u64, u64)]) {
         if is_duplicated(ack, blocks) {
             let (from, to) = blocks[0];
             self.recovery.came_twice(numbers, from..to);
@@ -500,9 +500,9 @@ impl<S: Storage<u8>, const N: usize> SendBufferOver<S, N> {
 
     /// Tells the recovery, if the first block of an acknowledgement reports what came twice: for one of TCP that
     /// `acknowledge` doesn't take, since it is an old one.
-    pub fn doubt(&mut self, ack: u64, blocks: &[(u64, u64)]) {
+    pub fn note_duplicate(&mut self, ack: u64, blocks: &[(u64, u64)]) {
         let numbers = self.numbers();
-        self.head.doubt(numbers, ack, blocks);
+        self.head.note_duplicate(numbers, ack, blocks);
     }
 
     /// Returns whether the last recovery was for nothing, and ends it then.
