@@ -441,6 +441,7 @@ impl SendingHead {
     /// blocks (SACK): one that doesn't couldn't answer a probe, and is sent none. What was written stays. It is done
     /// once, before anything is sent; a second time begins with another peer, and the timer runs if something is in
     /// flight.
+    #[inline]
     pub fn open(
         &mut self,
         numbers: SentNumbers,
@@ -477,6 +478,7 @@ impl SendingHead {
     }
 
     /// Begins again without a peer: the timer stops, unless something is in flight. What was written stays.
+    #[inline]
     pub fn forget(&mut self, numbers: SentNumbers, first_timeout: Duration, now: Instant)
         ensures rest { self.new ≡ record self.old { timer = self.new.timer; is_open = 0 } }
         ensures timer { timer_of self.new.timer ≡ renewed_by numbers first_timeout false now }
@@ -485,6 +487,7 @@ impl SendingHead {
     }
 
     /// Begins with a timer that had no sample.
+    #[inline]
     fn renew(&mut self, numbers: SentNumbers, first_timeout: Duration, reports: bool, now: Instant)
         ensures rest { self.new ≡ record self.old { timer = self.new.timer; is_open = 0 } }
         ensures timer { timer_of self.new.timer ≡ renewed_by numbers first_timeout reports now }
@@ -498,6 +501,7 @@ impl SendingHead {
 
     /// Returns whether a SYN is to be sent now, the first one or one after a timeout, and starts the timer for the next.
     /// Ask it only until something is acknowledged, at which it doesn't look.
+    #[inline]
     pub fn is_opening_due(&mut self, bounds: TimeoutBounds, now: Instant) -> bool
         ensures value { result ≡ (has_expired (timer_of self.old.timer) now
             || is_none (expires_at (timer_of self.old.timer))) }
@@ -918,6 +922,7 @@ impl SendingHead {
 
     /// Returns whether Nagle's rule is enabled.
     #[must_use]
+    #[inline]
     pub fn nagle_enabled(&self) -> bool
         ensures { result ≡ nat_eq self.now.no_delay 0 }
     {
@@ -926,6 +931,7 @@ impl SendingHead {
 
     /// Returns the most bytes of a segment.
     #[must_use]
+    #[inline]
     pub fn segment_size(&self) -> usize
         ensures { result ≡ max self.now.segment_size 1 }
     {
@@ -936,6 +942,7 @@ impl SendingHead {
     /// than a whole segment waits by it, unless the stream is closed or the timer has ended. It is enabled at first, as
     /// in a socket of smoltcp: the RFC wants it so. Disable it where few bytes are written at a time, and none of them
     /// is to wait.
+    #[inline]
     pub fn set_nagle_enabled(&mut self, enabled: bool)
         ensures rest { self.new ≡ record self.old { no_delay = self.new.no_delay } }
         ensures value { nat_eq self.new.no_delay 0 ≡ enabled }

@@ -344,6 +344,7 @@ impl SendingHead {
     /// blocks (SACK): one that doesn't couldn't answer a probe, and is sent none. What was written stays. It is done
     /// once, before anything is sent; a second time begins with another peer, and the timer runs if something is in
     /// flight.
+    #[inline]
     pub fn open(
         &mut self,
         numbers: SentNumbers,
@@ -364,11 +365,13 @@ impl SendingHead {
     }
 
     /// Begins again without a peer: the timer stops, unless something is in flight. What was written stays.
+    #[inline]
     pub fn forget(&mut self, numbers: SentNumbers, first_timeout: Duration, now: Instant) {
         self.renew(numbers, first_timeout, false, now);
     }
 
     /// Begins with a timer that had no sample.
+    #[inline]
     fn renew(&mut self, numbers: SentNumbers, first_timeout: Duration, reports: bool, now: Instant) {
         self.timer = RetransmissionTimer::new(first_timeout, reports);
         if numbers.first_unacknowledged < numbers.sent {
@@ -379,6 +382,7 @@ impl SendingHead {
 
     /// Returns whether a SYN is to be sent now, the first one or one after a timeout, and starts the timer for the next.
     /// Ask it only until something is acknowledged, at which it doesn't look.
+    #[inline]
     pub fn is_opening_due(&mut self, bounds: TimeoutBounds, now: Instant) -> bool {
         let is_first = self.timer.expires_at().is_none();
         let has_expired = self.timer.expire(bounds, now).is_some();
@@ -646,12 +650,14 @@ impl SendingHead {
 
     /// Returns whether Nagle's rule is enabled.
     #[must_use]
+    #[inline]
     pub fn nagle_enabled(&self) -> bool {
         self.no_delay == 0
     }
 
     /// Returns the most bytes of a segment.
     #[must_use]
+    #[inline]
     pub fn segment_size(&self) -> usize {
         self.segment_size.max(1)
     }
@@ -660,6 +666,7 @@ impl SendingHead {
     /// than a whole segment waits by it, unless the stream is closed or the timer has ended. It is enabled at first, as
     /// in a socket of smoltcp: the RFC wants it so. Disable it where few bytes are written at a time, and none of them
     /// is to wait.
+    #[inline]
     pub fn set_nagle_enabled(&mut self, enabled: bool) {
         self.no_delay = if enabled { 0 } else { 1 };
     }
