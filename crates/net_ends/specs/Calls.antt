@@ -14,12 +14,14 @@ use Rattle.net_recovery.specs.LossRecovery.{is_active}
 use Rattle.net_recovery.specs.LossRecovery.{Recovery}
 use Rattle.net_tcp.specs.Retransmission.{has_ended, has_expired, new_timer}
 use Rattle.net_tcp.specs.Windows.{no_window}
-use Rattle.net_ends.specs.Acknowledgements.{reported_by, numbers_of, unsent_of, Recovers, expiry_of, after_wait, doubted}
+use Rattle.net_ends.specs.Acknowledgements.{reported_by, numbers_of, unsent_of, Recovers, expiry_of, after_wait}
+use Rattle.net_ends.specs.Acknowledgements.{doubted}
 use Rattle.net_ends.specs.Acknowledgements.{is_sought, after_segment, begins_by, loses_nothing}
 use Rattle.net_tcp.specs.declared.retransmission_timer.Expiry.{Expiry}
 use Rattle.net_tcp.specs.declared.retransmission_timer.Expiry.TheVariants as timer
 use Rattle.net_ends.specs.Ends.{End, first, end, is_acceptable, new_of, reports_of, begins_of, kept, is_overdue}
-use Rattle.net_ends.specs.Ends.{has_timed_out, timed_out, all_lost, after_event, Heard, Looked, Sent, Rested, asks, hurries}
+use Rattle.net_ends.specs.Ends.{has_timed_out, timed_out, all_lost, after_event, Heard, Looked, Sent, Rested, asks}
+use Rattle.net_ends.specs.Ends.{hurries}
 use Rattle.net_ends.specs.Ends.{AreHoles, open_to, found, due_of, range_of, IsProbed, probe_of, is_probe, is_worth}
 use Rattle.net_ends.specs.Ends.{may_send}
 use Rattle.net_ends.specs.declared.sending_end.Acknowledged.{Acknowledged}
@@ -28,8 +30,8 @@ use Rattle.net_ends.specs.declared.sending_end.Expired.{Expired}
 use Rattle.net_ends.specs.declared.sending_end.Expired.TheVariants.{No, Overdue, Probe, Lost}
 use Rattle.net_ends.specs.declared.sending_end.Outgoing.{Outgoing}
 
-pub record Hears (most_runs : ℕ) (e : End) (seq ack window : ℕ) (bs : List (ℕ × ℕ)) (empty : Bool) (now : ℤ) (said : Acknowledged)
-    (left : End) : Type 0 where
+pub record Hears (most_runs : ℕ) (e : End) (seq ack window : ℕ) (bs : List (ℕ × ℕ)) (empty : Bool) (now : ℤ)
+    (said : Acknowledged) (left : End) : Type 0 where
   pub refused : (said ≡ Refused) ↔ IsFalse (is_acceptable e ack)
   pub old : (said ≡ Old) ↔ (IsTrue (is_acceptable e ack) × IsFalse (accepts e.sender ack))
   pub new : IsTrue (accepts e.sender ack) → new_of said ≡ ack - first e
@@ -40,8 +42,8 @@ pub record Hears (most_runs : ℕ) (e : End) (seq ack window : ℕ) (bs : List (
   pub reports : IsTrue (accepts e.sender ack) →
       reports_of said ≡ (reported_by most_runs e.sender.sent e.reported ack bs).1
   pub recovery : IsTrue (accepts e.sender ack) →
-      Recovers most_runs e.size (numbers_of e.sender) (unsent_of e.sender e.reported e.recovery) e.reported e.recovery ack bs
-      (empty && (window == e.last)) (reports_of said) left.recovery (begins_of said)
+      Recovers most_runs e.size (numbers_of e.sender) (unsent_of e.sender e.reported e.recovery) e.reported e.recovery
+      ack bs (empty && (window == e.last)) (reports_of said) left.recovery (begins_of said)
   pub unchanged : IsFalse (is_acceptable e ack) → left ≡ e
   pub twice : IsTrue (is_acceptable e ack) → IsFalse (accepts e.sender ack) →
       left ≡ record e { recovery = doubted (numbers_of e.sender) ack bs e.recovery }

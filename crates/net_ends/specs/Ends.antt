@@ -32,7 +32,8 @@ use Rattle.std.specs.Int.{from_bool}
 use Rattle.std.specs.FinSet as set
 use Rattle.net_assembler.specs.Positions.{Positions, contains, with_range, nothing}
 use Rattle.net_recovery.specs.LossRecovery.{begun as begun_recovery, forgotten, new_recovery}
-use Rattle.net_ends.specs.Rules.{Known, queued_of, renewed_by, window_shut, asks_window, room_to, most_to, in_hurry, nagle_waits, enough}
+use Rattle.net_ends.specs.Rules.{Known, queued_of, renewed_by, window_shut, asks_window, room_to, most_to, in_hurry}
+use Rattle.net_ends.specs.Rules.{nagle_waits, enough}
 use Rattle.net_ends.specs.Rules.{worth_sending, due, HolesOf, next_of, due_part, ProbedOf, probe_part, is_probing}
 use Rattle.net_tcp.specs.Estimate.{Estimate}
 use Rattle.net_tcp.specs.Retransmission.{after_acknowledged, with_sample, after_expiry, after_sending, started}

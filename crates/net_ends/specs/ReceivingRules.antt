@@ -2,8 +2,8 @@
 --     room_of s      what the rules know of a receiver
 --     waiting h      what came twice, and waits to be reported
 --     receiving_of s h      an end
---     worth_at h room, field_at h room, promise_at h room      whether an update of the window is worth a segment; the window
---         that it announces now, and the right edge which that promises
+--     worth_at h room, field_at h room, promise_at h room      whether an update of the window is worth a segment; the
+--         window that it announces now, and the right edge which that promises
 use Rattle.std.specs.Prelude.{ℕ, ◌-◌, min, Bool, Option, None, Some, nat_le, nat_eq, if◌then◌else◌}
 use Rattle.net_tcp.specs.Windows.{announced, shift_count, worth, gain, field_for}
 use Rattle.net_receiver.specs.Finite.{FiniteState, acknowledged, is_complete}

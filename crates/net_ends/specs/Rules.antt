@@ -4,21 +4,24 @@
 --     window_shut k, asks_window k      whether a probe of the window may be sent, and is to be
 --     room_to k, most_to k      the end of what the window has room for, and of what may be sent
 --     in_hurry k, nagle_waits k      whether the timer asks for a segment; whether Nagle's rule has small ones wait
---     enough k from to, worth_sending k from to, due k from to      a range is all that is left or much; is worth a segment;
---         isn't held back
---     HolesOf k limit lost others, next_of k limit window lost others      the holes that the recovery looks at, and what it
---         sends next
+--     enough k from to, worth_sending k from to, due k from to      a range is all that is left or much; is worth a
+--         segment; isn't held back
+--     HolesOf k limit lost others, next_of k limit window lost others      the holes that the recovery looks at, and
+--         what it sends next
 --     due_part k r      a range, unless it is held back
---     ProbedOf k limit highest hole, probe_part k limit highest hole      what a probe for an answer looks at, and sends
+--     ProbedOf k limit highest hole, probe_part k limit highest hole      what a probe for an answer looks at, and
+--         sends
 --     is_probing k window lost others      whether the next segment is such a probe
 --     renewed_by at timeout reports now      the timer of an end that begins with a peer, or without one
 --     seeks k, nothing_lost k      whether what is overdue is sought; whether a timeout loses nothing
-use Rattle.std.specs.Prelude.{ℕ, ◌+◌, ◌-◌, ◌*◌, min, max, Option, Some, None, is_none, Bool, not, ◌&&◌, ◌||◌, nat_lt, nat_le}
+use Rattle.std.specs.Prelude.{ℕ, ◌+◌, ◌-◌, ◌*◌, min, max, Option, Some, None, is_none, Bool, not, ◌&&◌, ◌||◌, nat_lt}
+use Rattle.std.specs.Prelude.{nat_le}
 use Rattle.std.specs.Prelude.{nat_eq, if◌then◌else◌, List, [], ℤ}
 use Rattle.net_assembler.specs.Positions.{Positions}
 use Rattle.net_receiver.specs.Scoreboards.{IsEnd, IsHole, reported_by}
 use Rattle.net_receiver.specs.FiniteSender.{FiniteSenderState, first_number, numbers_end}
-use Rattle.net_recovery.specs.LossRecovery.{Recovery, recovery_of, next_segment, next_range, in_flight, resumed, gone_on}
+use Rattle.net_recovery.specs.LossRecovery.{Recovery, recovery_of, next_segment, next_range, in_flight, resumed}
+use Rattle.net_recovery.specs.LossRecovery.{gone_on}
 use Rattle.net_recovery.specs.LossRecovery.{next_probe}
 use Rattle.net_receiver.specs.declared.sent_numbers.SentNumbers.{SentNumbers}
 use Rattle.net_tcp.specs.Retransmission.{Timer, started, new_timer}

@@ -11,7 +11,8 @@ ghost use Rattle.net_ends.specs.Path.{LentIsWritten, EndsCarry};
 ghost use Rattle.net_receiver.specs.Finite.{no_end};
 ghost use Rattle.net_tcp.specs.Windows.{acknowledgement_number};
 ghost use Rattle.net_ends.specs.Receiving.{Receiving};
-ghost use Rattle.net_ends.specs.Pair.{Pair, Step, begun as begun_pair, after_steps, AreHonest, number, has_come, IsAnswerTaken};
+ghost use Rattle.net_ends.specs.Pair.{Pair, Step, begun as begun_pair, after_steps, AreHonest, number, has_come};
+ghost use Rattle.net_ends.specs.Pair.{IsAnswerTaken};
 
 /// States of every end and of every list of what happens to it, forged acknowledgements among it: that its sender is
 /// that of a list of the sender's own commands; that nothing is sent beyond the greatest edge that the peer gave, but a
@@ -69,13 +70,13 @@ pub fn small_segments()
         small_sends e vs ≤ expiries e vs }
 {}
 
-/// States that two ends hear one another, whatever honest path lies between them: one that loses, copies, delays and reorders
-/// what both send, and forges nothing. A connection begins with the window of the receiving end's SYN. Then, in every
-/// state that such a history reaches, an acknowledgement that the sending end sends has a number that the receiving
-/// one takes (`heard`): now, and whenever it arrives, unless what the sending end sent later for the first time has come
-/// before it, which itself acknowledges more (`later`). So no acknowledgement is refused for ever. And what
-/// takes an acknowledgement answers it by a number that isn't below what it acknowledges (`ends`): the end that sent
-/// it doesn't answer that again, unless more has come, by law `acknowledgements` of `net_tcp`.
+/// States that two ends hear one another, whatever honest path lies between them: one that loses, copies, delays and
+/// reorders what both send, and forges nothing. A connection begins with the window of the receiving end's SYN. Then,
+/// in every state that such a history reaches, an acknowledgement that the sending end sends has a number that the
+/// receiving one takes (`heard`): now, and whenever it arrives, unless what the sending end sent later for the first
+/// time has come before it, which itself acknowledges more (`later`). So no acknowledgement is refused for ever. And
+/// what takes an acknowledgement answers it by a number that isn't below what it acknowledges (`ends`): the end that
+/// sent it doesn't answer that again, unless more has come, by law `acknowledgements` of `net_tcp`.
 pub fn heard_ends()
     ensures heard { (most_runs : ℕ) (e : End) (r : Receiving) (scale seq size : ℕ)
         (reports : Bool) (now : ℤ) (vs : List Step) → first e ≡ e.sender.sent → first e < no_end →

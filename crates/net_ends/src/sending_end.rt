@@ -40,7 +40,8 @@ ghost use Rattle.net_receiver.specs.Scoreboards.{IsEnd, IsHole};
 ghost use Rattle.net_recovery.specs.LossRecovery.{next_probe};
 ghost use Rattle.net_ends.specs.Parts.{end_of, marked};
 ghost use Rattle.net_ends.specs.Calls.{Hears, Silent, TimesOut, Chooses};
-ghost use Rattle.net_ends.specs.Rules.{queued_of, known_of, known_by, low, high, window_shut, asks_window, room_to, most_to};
+ghost use Rattle.net_ends.specs.Rules.{queued_of, known_of, known_by, low, high, window_shut, asks_window, room_to};
+ghost use Rattle.net_ends.specs.Rules.{most_to};
 ghost use Rattle.net_ends.specs.Rules.{in_hurry, enough, worth_sending, due, HolesOf, next_of, due_part};
 ghost use Rattle.net_ends.specs.Rules.{ProbedOf, probe_part, is_probing, renewed_by};
 ghost use Rattle.net_ends.specs.Buffers.{board_of};
@@ -185,8 +186,8 @@ pub struct SendingHead {
     pub no_delay: usize,
     /// Not 0 once the peer has acknowledged anything, if only the own SYN.
     pub is_open: u64,
-    /// Not 0 if the timeout has passed and nothing was sent since then: nothing is held back, and if the window is shut,
-    /// the next segment is a probe of it.
+    /// Not 0 if the timeout has passed and nothing was sent since then: nothing is held back, and if the window is
+    /// shut, the next segment is a probe of it.
     pub is_window_probe_due: u64,
     /// Not 0 if the next segment is a probe for an answer, if nothing else may be sent.
     pub is_overdue: u64,
@@ -499,8 +500,8 @@ impl SendingHead {
         self.is_open = 0;
     }
 
-    /// Returns whether a SYN is to be sent now, the first one or one after a timeout, and starts the timer for the next.
-    /// Ask it only until something is acknowledged, at which it doesn't look.
+    /// Returns whether a SYN is to be sent now, the first one or one after a timeout, and starts the timer for the
+    /// next. Ask it only until something is acknowledged, at which it doesn't look.
     #[inline]
     pub fn is_opening_due(&mut self, bounds: TimeoutBounds, now: Instant) -> bool
         ensures value { result ≡ (has_expired (timer_of self.old.timer) now
@@ -535,8 +536,8 @@ impl SendingHead {
         ensures sound { IsSoundBoard self.new.buffer.scoreboard runs.new }
         ensures length { length runs.new ≡ length runs.old }
         ensures hears { (s : FiniteSenderState) (timeout : ℕ) → numbers_of s ≡ numbers →
-            Hears (length runs.old) (end_of s self.old runs.old timeout bounds) it.seq it.ack it.window blocks.now is_empty
-            now result
+            Hears (length runs.old) (end_of s self.old runs.old timeout bounds) it.seq it.ack
+            it.window blocks.now is_empty now result
             (end_of (sender_after_command s (Acknowledges it.ack)) self.new runs.new timeout bounds) }
     {
         if !is_acknowledgement(numbers, self.greatest_window, it.ack) {
@@ -674,8 +675,8 @@ impl SendingHead {
         }
     }
 
-    /// Takes notice that the timer's probe is due, and returns what that means. Finds what is overdue, unless the peer's
-    /// window is shut, or it reports nothing: then it is sent no probe.
+    /// Takes notice that the timer's probe is due, and returns what that means. Finds what is overdue, unless the
+    /// peer's window is shut, or it reports nothing: then it is sent no probe.
     #[inline]
     pub fn take_silence(&mut self, runs: &[Run], queued: Queued) -> Expired
         requires { IsSoundBoard self.old.buffer.scoreboard runs.now }
@@ -702,7 +703,8 @@ impl SendingHead {
         }
     }
 
-    /// Takes notice that the timeout has passed, and returns what that means. Loses all that was sent and isn't reported.
+    /// Takes notice that the timeout has passed, and returns what that means. Loses all that was sent and isn't
+    /// reported.
     #[inline]
     pub fn take_timeout(&mut self, queued: Queued) -> Expired
         ensures rest { self.new ≡ record self.old {
@@ -984,8 +986,8 @@ impl<S: Storage<u8>, const N: usize> SendingEndOver<S, N> {
         self.head.forget(numbers, self.first_timeout, now);
     }
 
-    /// Returns whether a SYN is to be sent now, the first one or one after a timeout, and starts the timer for the next.
-    /// Ask it only until something is acknowledged, at which it doesn't look.
+    /// Returns whether a SYN is to be sent now, the first one or one after a timeout, and starts the timer for the
+    /// next. Ask it only until something is acknowledged, at which it doesn't look.
     ///
     /// ```
     /// # use net_base::ends::SendingEnd;

@@ -91,8 +91,8 @@ impl ReceivingHead {
         self.advertised.announce(0, room.next, room.end)
     }
 
-    /// Takes notice of a segment at `pos`, which is the last one or not: what of it came before, how many runs were held
-    /// before it, and what the receiver said of it.
+    /// Takes notice of a segment at `pos`, which is the last one or not: what of it came before, how many runs were
+    /// held before it, and what the receiver said of it.
     pub fn take(
         &mut self,
         pos: u64,
@@ -262,8 +262,9 @@ impl<S: Storage<u8>, const N: usize> ReceivingEndOver<S, N> {
         self.head.open(room, first, scale)
     }
 
-    /// Returns what to do with a segment, as `net_tcp::classify` says, in the window that was announced. Its acknowledgement
-    /// is taken if it is of a peer that hears of what is announced here, whatever the path does: law `heard_ends`.
+    /// Returns what to do with a segment, as `net_tcp::classify` says, in the window that was announced. Its
+    /// acknowledgement is taken if it is of a peer that hears of what is announced here, whatever the path does: law
+    /// `heard_ends`.
     ///
     /// ```
     /// # use net_base::ends::ReceivingEnd;

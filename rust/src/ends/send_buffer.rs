@@ -569,8 +569,8 @@ impl<S: Storage<u8>, const N: usize> SendBufferOver<S, N> {
     }
 
     /// Returns what a probe for an answer sends below `limit`, whatever is in flight: in a recovery the first segment
-    /// that isn't reported, else a new one, and if the limit allows none, the last one. Of a `limit` above `numbers_end`
-    /// only what is below `numbers_end` counts.
+    /// that isn't reported, else a new one, and if the limit allows none, the last one. Of a `limit` above
+    /// `numbers_end` only what is below `numbers_end` counts.
     ///
     /// ```
     /// # use net_base::ends::{SendBuffer, Sending};

@@ -145,8 +145,8 @@ pub struct SendingHead {
     pub no_delay: usize,
     /// Not 0 once the peer has acknowledged anything, if only the own SYN.
     pub is_open: u64,
-    /// Not 0 if the timeout has passed and nothing was sent since then: nothing is held back, and if the window is shut,
-    /// the next segment is a probe of it.
+    /// Not 0 if the timeout has passed and nothing was sent since then: nothing is held back, and if the window is
+    /// shut, the next segment is a probe of it.
     pub is_window_probe_due: u64,
     /// Not 0 if the next segment is a probe for an answer, if nothing else may be sent.
     pub is_overdue: u64,
@@ -380,8 +380,8 @@ impl SendingHead {
         self.is_open = 0;
     }
 
-    /// Returns whether a SYN is to be sent now, the first one or one after a timeout, and starts the timer for the next.
-    /// Ask it only until something is acknowledged, at which it doesn't look.
+    /// Returns whether a SYN is to be sent now, the first one or one after a timeout, and starts the timer for the
+    /// next. Ask it only until something is acknowledged, at which it doesn't look.
     #[inline]
     pub fn is_opening_due(&mut self, bounds: TimeoutBounds, now: Instant) -> bool {
         let is_first = self.timer.expires_at().is_none();
@@ -491,8 +491,8 @@ impl SendingHead {
         }
     }
 
-    /// Takes notice that the timer's probe is due, and returns what that means. Finds what is overdue, unless the peer's
-    /// window is shut, or it reports nothing: then it is sent no probe.
+    /// Takes notice that the timer's probe is due, and returns what that means. Finds what is overdue, unless the
+    /// peer's window is shut, or it reports nothing: then it is sent no probe.
     #[inline]
     pub fn take_silence(&mut self, runs: &[Run], queued: Queued) -> Expired {
         self.is_window_probe_due = 0;
@@ -509,7 +509,8 @@ impl SendingHead {
         }
     }
 
-    /// Takes notice that the timeout has passed, and returns what that means. Loses all that was sent and isn't reported.
+    /// Takes notice that the timeout has passed, and returns what that means. Loses all that was sent and isn't
+    /// reported.
     #[inline]
     pub fn take_timeout(&mut self, queued: Queued) -> Expired {
         self.buffer.recovery.lose_all(queued.numbers);
@@ -700,8 +701,8 @@ impl<S: Storage<u8>, const N: usize> SendingEndOver<S, N> {
         self.head.forget(numbers, self.first_timeout, now);
     }
 
-    /// Returns whether a SYN is to be sent now, the first one or one after a timeout, and starts the timer for the next.
-    /// Ask it only until something is acknowledged, at which it doesn't look.
+    /// Returns whether a SYN is to be sent now, the first one or one after a timeout, and starts the timer for the
+    /// next. Ask it only until something is acknowledged, at which it doesn't look.
     ///
     /// ```
     /// # use net_base::ends::SendingEnd;
