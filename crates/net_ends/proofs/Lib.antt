@@ -1,6 +1,5 @@
 pub mod Ends
 pub mod Expiries
-pub mod Heads
 pub mod Loops
 pub mod PairLaws
 pub mod PathLaws

@@ -1,10 +1,20 @@
-use Rattle.std.proofs.Common.{sym, ap, ◌∙◌}
+use Rattle.std.proofs.Common.{◌≡◌, ℕ, ℤ, List, sym, ap, subst, ◌∙◌}
+use Rattle.std.specs.Prelude.{Bool}
 use Rattle.net_receiver.specs.FiniteSender.{FiniteSenderState}
 use Rattle.net_ends.specs.Acknowledgements.{numbers_of}
+use Rattle.net_ends.specs.Calls.{Hears}
 use Rattle.net_ends.specs.Ends.{End}
 use Rattle.net_ends.specs.Parts.{end_of}
-use Rattle.net_ends.proofs.Heads.{hears_of}
+use Rattle.net_ends.specs.declared.sending_end.Acknowledged.{Acknowledged}
 use Rattle.net_ends.proofs.sending_end.SendingEndOver.acknowledged.Goals as goal
+
+hears_of : (n m : ℕ) (d e left f : End) (seq ack window : ℕ) (bs : List (ℕ × ℕ)) (empty : Bool) (now : ℤ)
+    (said : Acknowledged) → n ≡ m → d ≡ e → f ≡ left → Hears n d seq ack window bs empty now said left →
+    Hears m e seq ack window bs empty now said f
+hears_of n m d e left f seq ack window bs empty now said many view stays hears =
+    subst (λ (x : ℕ). Hears x e seq ack window bs empty now said f) many
+    (subst (λ (x : End). Hears n x seq ack window bs empty now said f) view
+    (subst (λ (x : End). Hears n d seq ack window bs empty now said x) (sym stays) hears))
 
 -- What the head says, of the sender's state.
 pub returns : goal.returns

@@ -1,4 +1,4 @@
-use Rattle.std.proofs.Common.{refl, sym, ap, subst, ◌∙◌}
+use Rattle.std.proofs.Common.{◌≡◌, ℕ, ℤ, refl, sym, ap, subst, ◌∙◌}
 use Rattle.std.specs.Prelude.{Option}
 use Rattle.net_receiver.specs.FiniteSender.{FiniteSenderState}
 use Rattle.net_ends.specs.Calls.{Chooses}
@@ -6,8 +6,13 @@ use Rattle.net_ends.specs.Ends.{End}
 use Rattle.net_ends.specs.Parts.{end_of, marked}
 use Rattle.net_ends.specs.Rules.{queued_of}
 use Rattle.net_ends.specs.declared.sending_end.Outgoing.{Outgoing}
-use Rattle.net_ends.proofs.Heads.{chooses_of}
 use Rattle.net_ends.proofs.sending_end.SendingEndOver.next_segment.Goals as goal
+
+chooses_of : (d e left f : End) (window : ℕ) (now : ℤ) (said : Option Outgoing) → d ≡ e → f ≡ left →
+    Chooses d window now said left → Chooses e window now said f
+chooses_of d e left f window now said view stays chooses =
+    subst (λ (x : End). Chooses x window now said f) view
+    (subst (λ (x : End). Chooses d window now said x) (sym stays) chooses)
 
 -- What the head says, of the sender's state.
 pub returns-in_default : goal.returns-in_default
