@@ -56,8 +56,7 @@ CHANGES = [
      MARK + r"(?:is_empty|is_full|packet_capacity|payload_capacity|payload_bytes_count)\b)", "", 5),
     ("storage/assembler.rs", MARK + r"(?:peek_front|is_empty)\b)", "", 2),
     # One copy of the assembler's rule.
-    ("storage/assembler.rs", r"\bself\.add_counted\(offset, size, &mut Turns::new\(\)\)$",
-     "self.head.add(&mut self.runs, offset, size)", 1),
+    ("storage/assembler.rs", r"\bself\.add_counted\(offset, size\)$", "self.head.add(&mut self.runs, offset, size)", 1),
     # Where numbers of 64 bits take two registers, a call is less code than such a sum.
     ("time/instant.rs",
      r"^    #\[inline\]\n(?=    #\[must_use\]\n    pub fn saturating_(?:add|sub)\b|    fn sub\(self, rhs: Instant\))",

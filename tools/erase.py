@@ -18,12 +18,16 @@ The rules:
    crates' roots, whose constants have to stand in Rust's. Before the paths `crate`, `std` and those of crates there is
    the module where Rust has them, as `FOLDERS` and `MOVED` of `erase_list.py` say.
 3. An impl of `Drop` goes, since rustc drops fields by itself: the comparison finds a `drop` that does more. An impl of
-   `Model`, which has ghost members alone, goes too. An impl of `Clone` is one of the trait of this name in `rattle.rs`,
-   which Rust's `Clone` calls. A bound by `Drop` is one by `Sized`.
-4. A public function whose signature names a head or `Turns` becomes `pub(crate)`. An export loses `extern "C"` and its
+   `Model`, which has ghost members alone, goes too. A `clone` whose body is `Ok(..)` gives what that holds, and no
+   `Result`; no other one is erased. A bound by `Drop` is one by `Sized`.
+4. A public function whose signature names a head becomes `pub(crate)`. An export loses `extern "C"` and its
    documentation, and becomes `inline(always)`.
 5. `erase_list.py` has what else differs, with its files and how often: lifetimes, attributes, and types.
-6. A law goes that no text but laws names, and so does a function of `UNCALLED`: free functions, and methods whose names
+6. What does nothing goes, as `erase_ghosts.py` finds it: modules of laws; a function that gives nothing, and whose body
+   names places at most; a module with a type of snapshots alone; each parameter and argument of that type; and
+   statements, with the comment before them: a call of a law or of such a function, one that makes or is of such a
+   type, and `let _name` of a method that is lent `self` alone, to be read. What these are given are places. A name
+   that then only is what a block gives goes too. So does a function of `UNCALLED`: a free one, or a method whose name
    no trait has. From an import goes what only contracts name, unless it is a trait or std's, and so do a `pub use` of
    another crate, and names of `UNNAMED`. Rustc refuses a text that uses what this rule took out.
 7. Refused are imports of all names, attributes that aren't listed, the rest of a struct from an element, the order of
@@ -41,6 +45,7 @@ from pathlib import Path
 sys.dont_write_bytecode = True
 from parts import erase_list as given
 from parts import erase_says
+from parts.erase_ghosts import CALL, OF_TRAIT, PLACES, Ghosts, around, is_ghost
 from parts.erase_tokens import SPACE, Refused, Text, words
 
 REPOSITORY = Path(__file__).resolve().parent.parent
@@ -54,9 +59,6 @@ GHOST_DERIVES = {'Drop', 'Error'}
 PLAIN_ATTRIBUTES = {'cfg', 'default', 'derive', 'inline', 'must_use', 'non_exhaustive', 'repr', 'track_caller'}
 MODIFIERS = {'pub', 'const', 'extern'}
 GONE, NO_CLAUSE = '\0', '\1'                      # where a form, and where a clause, was
-OF_TRAIT = re.compile(r'\bfor\b|\btrait\b')
-# The type that an impl is of, or a trait's name.
-OWNER = re.compile(r'(?:.*?\b(?:for|trait) |impl(?:<(?:[^<>]|<(?:[^<>]|<[^<>]*>)*>)*>)? )(\w+)', re.S)
 # The name of what has an attribute, behind that.
 ITEM = re.compile(r'(?:\s*(?:#\[[^\]]*\]|///[^\n]*|pub|struct)(?=\s))*\s*(\w+)')
 # A bound of a `usize` that does something: it assigns, lends to be changed, or calls more than `most` and `len`.
@@ -71,9 +73,10 @@ class Eraser(Text):
     """One file of a crate. `new` has the text that is written for a token, where that is another one; `after` what is
     added behind one, by tools/parts/erase_says.py lines of documentation alone."""
 
-    def __init__(self, text, crate, omitted=(), file='', laws=None, traits=(), by_hand=()):
+    def __init__(self, text, crate, omitted=(), file='', ghosts=Ghosts(), traits=(), by_hand=()):
         super().__init__(text)
-        self.laws, self.traits = laws, traits     # of a module `laws` the names that stay; the names of all traits
+        self.ghosts, self.traits = ghosts, traits         # those of all sources, and the names of all traits
+        self.cut, self.counts = set(), set()              # what of a ghost went; a function's places that are ghosts
         self.crate, self.omitted, self.file, self.by_hand = crate, omitted, file, by_hand
         self.key = file.removeprefix('crates/').replace('/src/', '/', 1).removesuffix('.rt')
         self.uncalled, self.gone, self.imports = given.UNCALLED.get(self.key, ()), set(), []
@@ -126,10 +129,15 @@ class Eraser(Text):
         if (word, follows) == ('.', '.') and self.before(k) in (',', '{') and \
                 re.compile(r'\.\.\s*[\w(*&][^{};]*\[').match(self.text, at):
             self.refuse(at, 'the rest of a struct from an element, which Rattle may not read: name it before')
-        if kind != 'word':
+        if kind != 'word' or k in self.cut:
             return k + 1
         if word == 'fn':
             return self.function(k, head)
+        if self.before(k) in ('{', '}', ';') and (end := self.statement(k)):
+            return end
+        is_imported = self.imports and k < self.imports[-1][2]
+        if (word in self.counts or word in self.ghosts.types) and not is_imported:
+            return self.argument(k)
         if word in ('use', 'mod') and follows in ('thiserror', *self.omitted):
             return self.put(head, self.until(k, ';') + 1, GONE)
         if word == 'use':
@@ -141,8 +149,6 @@ class Eraser(Text):
             self.imports.append((head, k, self.until(k, ';'), is_public))
         if word == 'impl' and re.compile(r'impl\b[^{;]*?\b(?:Drop|Model) for\b').match(self.text, at):
             return self.put(head, self.group(self.until(k, '{')), GONE)
-        if word == 'Clone' and follows == 'for':
-            return self.put(k, k + 1, f'{RATTLE}::{word}')
         if word == 'Drop' and self.tokens[k - 1][1] != '::':
             return self.put(k, k + 1, 'Sized')
         before, is_member = self.before(k), self.tokens[k - 1][1] == '.' != self.tokens[k - 2][1]
@@ -163,21 +169,96 @@ class Eraser(Text):
         self.new.update({j: NO_CLAUSE for j in range(first, body) if self.tokens[j][0] == 'note'})
         if body != begin and self.tokens[body][1] not in ('{', ';'):
             self.refuse(self.tokens[body][2], 'no body after a contract')
-        impl = re.findall(r'^(?:impl|(?:pub )?trait)\b[^{]*', self.text[:self.tokens[k][2]], re.M)
-        owner = OWNER.match(impl[-1])[1] if impl and self.margin(head) else ''
+        impl, owner = around(self.text[:self.tokens[k][2]], self.margin(head))
         pub = next((j for j in range(head, k) if self.tokens[j][1] == 'pub' and self.tokens[j + 1][1] != '('), None)
         if pub is not None and self.crate != given.EXPORTS and not owner.endswith('Head'):
-            if re.search(r'Head\b|\bTurns\b', self.source(k, begin)):
+            if re.search(r'Head\b', self.source(k, begin)) or self.ghosts.types & {*words(self.source(k, begin))}:
                 self.put(pub, pub + 1, 'pub(crate)')
-        is_law = self.laws is not None and self.name(k) not in self.laws
-        if (is_law or self.name(k) in self.uncalled) and not (owner and OF_TRAIT.search(impl[-1])):
+        is_idle = (owner or Path(self.key).stem, self.name(k)) in self.ghosts.idle
+        if (is_idle or self.name(k) in self.uncalled) and not OF_TRAIT.search(impl):
             self.gone.add(self.name(k))
             return self.put(head, self.group(body), GONE)
         if pub is not None and pub not in self.new and 'track_caller' in self.source(head, k) and \
                 self.crate != given.EXPORTS:
             self.panics(head, k)
-        self.functions.append((owner, impl[-1] if owner else '', k, head, begin, body, pub))
+        self.functions.append((owner, impl, k, head, begin, body, pub))
+        self.counts = {self.parameter(j) for j in range(k, begin) if self.tokens[j][1] in self.ghosts.types}
+        if 'Clone for' in impl:
+            self.clone(k, begin, body)
         return k + 1
+
+    def parameter(self, k):
+        """Takes out the parameter whose type is named at k, and returns its name."""
+        colon = max(j for j in range(k) if self.tokens[j][1] == ':')
+        self.take_out(colon - 1, k + 1)
+        return self.tokens[colon - 1][1]
+
+    def take_out(self, start, end):
+        """Takes out one of some parameters or arguments, with a comma and the space on one side."""
+        before, after = start - 1, self.next(end)
+        while self.tokens[before][0] in SPACE:
+            before -= 1
+        if self.tokens[before][1] not in ('(', ',') or self.tokens[after][1] not in (')', ','):
+            self.refuse(self.tokens[start][2], 'a ghost that is no argument')
+        if self.tokens[after][1] == ',':
+            start, end = (before + 1, after + 1) if self.tokens[before][1] == ',' else (start, self.next(after + 1))
+        elif self.tokens[before][1] == ',':
+            start = before
+        self.cut |= {*range(start, end)}
+        return self.put(start, end, '')
+
+    def argument(self, k):
+        """Takes out an argument that is a ghost: `turns`, `&mut turns`, `&mut Turns::new()`."""
+        start, end = k, k + 1
+        while self.before(start) in ('mut', '&'):
+            start = max(j for j in range(start) if self.tokens[j][0] not in SPACE)
+        if self.tokens[end][1] == '::':
+            end = self.group(self.next(end + 2))
+        return self.take_out(start, end)
+
+    def statement(self, k):
+        """Takes out the statement at k, with the comment before it, if it calls what does nothing, makes or counts with
+        a ghost, or gives a name of no use to what a method returns that is lent `self` to be read. Returns its end."""
+        end = next(j for j in range(k, len(self.tokens)) if self.tokens[j][1] in (';', '{', '}', '')) + 1
+        called = CALL.fullmatch(self.plain(k, end).rstrip())
+        if not called:
+            return None
+        name, path, function, given = called.groups()
+        first, *_ = path = path.split() or [function]
+        of_self = self.functions[-1][0] if path == ['self', '.'] else ''
+        owner = of_self or (path[-2] if path[1:] else self.origin(function))
+        is_made, is_idle = owner in self.ghosts.types, (owner, function) in self.ghosts.idle or owner == 'laws'
+        is_read = (name or '').startswith('_') and path[-1] == '.' and (of_self, function) in self.ghosts.readers
+        if not (is_made if name else is_idle or first in self.counts) and not is_read:
+            return None
+        if not PLACES.fullmatch(given):
+            self.refuse(self.tokens[k][2], 'a ghost that is given more than places')
+        self.counts |= {name} if is_made else set()
+        start = k
+        while self.tokens[start - 2][0] == 'note' and self.tokens[start - 1][1].count('\n') == 1:
+            start -= 2
+        return self.put(start, end, GONE)
+
+    def origin(self, function):
+        """The module that a name is imported from, or this one."""
+        imported = (re.search(rf'(\w+)::(?:\{{[^{{}}]*)?\b{function}\b', self.source(k, end))
+                    for _, k, end, _ in self.imports)
+        return next((found[1] for found in imported if found), Path(self.key).stem)
+
+    def clone(self, k, begin, body):
+        """A `clone` that never is refused is one that returns no `Result`."""
+        end = self.group(body)
+        made = re.fullmatch(r'\{ Ok \((.*)\) \} ', self.plain(body, end))
+        result = [j for j in range(k, begin) if self.tokens[j][1] == 'Result']
+        if not made or not result:
+            self.refuse(self.tokens[k][2], 'a clone that may be refused')
+        opening = self.next(self.next(body + 1) + 1)
+        if self.next(self.group(opening)) != end - 1:
+            self.refuse(self.tokens[k][2], 'a clone that does more')
+        self.put(result[0], max(j for j in range(begin) if self.tokens[j][1] == '>') + 1, 'Self')
+        self.put(self.next(body + 1), opening + 1, '')
+        self.put(self.group(opening) - 1, self.group(opening), '')
+        self.cut |= {*range(result[0], begin)} | {self.next(body + 1)}
 
     def name(self, k):
         """The name after `fn`."""
@@ -214,7 +295,7 @@ class Eraser(Text):
             leaves = [j for j in named if self.tokens[self.next(j + 1)][1] in (',', ';', '}')]
             by_name = {j: self.tokens[named[at - 2]][1] for at, j in enumerate(named) if at > 1
                        and self.tokens[named[at - 1]][1] == 'as'}
-            gone = [j for j in leaves if self.tokens[j][1] == 'Model' or
+            gone = [j for j in leaves if self.tokens[j][1] in {'Model', 'AllocError'} - used or
                     self.tokens[named[0]][1] not in ('std', 'thiserror') and not kept(self.tokens[j][1])
                     and by_name.get(j) not in self.traits]
             if len(gone) == len(leaves):
@@ -226,12 +307,12 @@ class Eraser(Text):
                 self.put(brace, self.group(brace), self.tokens[min({*leaves} - {*gone})][1])
             else:
                 for j in gone:
-                    after = self.next(j + 1) + (self.tokens[self.next(j + 1)][1] == ',')
-                    self.put(j, after + (self.tokens[after][0] == 'space'), '')
-
-    def margin(self, k):
-        before = self.text[:self.tokens[k][2]]
-        return before[len(before.rstrip(' \t')):]
+                    comma = max(i for i in range(j) if self.tokens[i][1] in (',', '{'))
+                    if self.tokens[comma][1] == ',' and not any(i > j for i in {*leaves} - {*gone}):
+                        self.put(comma, j + 1, '')
+                    else:
+                        after = self.next(j + 1) + (self.tokens[self.next(j + 1)][1] == ',')
+                        self.put(j, after + (self.tokens[after][0] == 'space'), '')
 
     def attribute(self, k):
         bracket = k + 1 + (self.tokens[k + 1][1] == '!')
@@ -267,6 +348,7 @@ class Eraser(Text):
         out = re.sub(rf'\s*(?:{NO_CLAUSE}\s*)+(?={{)', ' ', out)
         out = re.sub(rf'\s*(?:{NO_CLAUSE}\s*)+(?=;)', '', out)
         out = re.sub(rf'(?m)^[ \t]*{GONE}[ \t{GONE}]*\n', '', out).replace(GONE, '')
+        out = re.sub(r'\blet (\w+) = ([^;]*);\s+\1(?=\s*\})', r'\2', out)        # what a ghost was called with
         out = re.sub(r'\{\n\n+', '{\n',
                      re.sub(r'\n\n+(\s*\})', r'\n\1', re.sub(r'\n{3,}', '\n\n', out))).strip('\n') + '\n'
         texts = ''.join(f'\n{RATTLE}::error_text!({name}, {", ".join(said)});\n' for name, said in self.errors.items())
@@ -280,8 +362,10 @@ def sources(crates=given.CRATES):
     for crate in crates:
         source = REPOSITORY / 'crates' / crate / 'src'
         for path in sorted(file.relative_to(source) for file in source.rglob('*.rt')):
-            if not any(f'{crate}/{path.with_suffix("")}' in names for names in given.UNERASED.values()):
-                yield crate, path, (source / path).read_text()
+            text = (source / path).read_text()
+            if not any(f'{crate}/{path.with_suffix("")}' in names for names in given.UNERASED.values()) and \
+                    not is_ghost(path, text):
+                yield crate, path, text
 
 
 def program():
@@ -294,7 +378,9 @@ def program():
 def omitted(crate, path):
     """The names of the modules in a file that aren't erased."""
     folder = Path(crate) if path.name == 'lib.rt' else crate / path.with_suffix('')
-    return {Path(name).name for names in given.UNERASED.values() for name in names if Path(name).parent == folder}
+    inside = (REPOSITORY / 'crates' / crate / 'src' / folder.relative_to(crate)).glob('*.rt')
+    return {Path(name).name for names in given.UNERASED.values() for name in names if Path(name).parent == folder} | \
+        {file.stem for file in inside if is_ghost(file, file.read_text())}
 
 
 def replaced(file, text):
@@ -307,36 +393,27 @@ def replaced(file, text):
     return text
 
 
-def called_laws():
-    """The laws that code names, by `laws::NAME`: of all sources that aren't laws, without contracts."""
-    called = set()
-    for crate, path, text in sources():
-        if path.stem != 'laws':
-            code = [word for kind, word, _ in Text(text).tokens if kind not in ('clause', 'ghost', *SPACE)]
-            called |= {name for laws, sign, name in zip(code, code[1:], code[2:]) if (laws, sign) == ('laws', '::')}
-    return called
+def all_ghosts():
+    """What of all sources is a ghost."""
+    return Ghosts((path, path.read_text()) for crate in [*given.CRATES, *given.PROGRAM]
+                  for path in sorted((REPOSITORY / 'crates' / crate / 'src').rglob('*.rt')))
 
 
 def erased(said):
     """Each file of the result, by its path, with its text; what is refused is appended to `said`."""
     files = {}
     left = {file for *_, found in given.REPLACED for file in found}
-    laws, of_crate, of_program, of_traits, gone = called_laws(), [*sources()], program(), set(), set()
+    of_crate, of_program, of_traits, gone = [*sources()], program(), set(), set()
+    ghosts = all_ghosts()
     traits = {name for *_, text in of_crate + of_program
               for name in re.findall(r'^ *(?:pub(?:\([^)]*\))? )?trait (\w+)', text, re.M)}
-    lawless = {Path(crate, path).parent for crate, path, text in of_crate
-               if path.stem == 'laws' and not laws & {*re.findall(r'^pub fn (\w+)', text, re.M)}}
     for out, by_hand, (crate, path, text) in [*((OUT, (), each) for each in of_crate),
                                               *((EXAMPLE, given.BY_HAND, each) for each in of_program)]:
         file = f'{crate}/{path.with_suffix("")}'
         left -= {file}
-        if path.stem == 'laws' and Path(crate, path).parent in lawless:
-            continue
         try:
-            folder = Path(crate, path).parent if path.name == 'lib.rt' else Path(crate, path).with_suffix('')
-            left_out = omitted(crate, path) | ({'laws'} if folder in lawless else set())
-            eraser = Eraser(replaced(file, text), crate, left_out, f'crates/{crate}/src/{path}',
-                            laws if path.stem == 'laws' else None, traits, by_hand)
+            eraser = Eraser(replaced(file, text), crate, omitted(crate, path), f'crates/{crate}/src/{path}', ghosts,
+                            traits, by_hand)
             text = eraser.run()
             if file not in given.ROOTS:
                 files[out / f'{placed(file)}.rs'] = relocated(text)

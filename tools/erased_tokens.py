@@ -1,10 +1,11 @@
 #!/usr/bin/env python3
 """Compares the erased text with Rattle's, token by token, by a reader of its own: what tools/erase.py takes out are
-contracts, ghosts, the functions and modules of tools/parts/erase_list.py, and names of imports; what it puts in the
-place of a token are that list's texts and the paths of the Cargo crate. So attributes, visibility, derives, defaults
-and the text of each error are Rattle's, but that `pub` may be `pub(crate)`. The status is 1 if a file has anything
-else, or if no file begins with the line that names a source.
+contracts, ghosts, what does nothing, the functions and modules of tools/parts/erase_list.py, and names of imports;
+what it puts in the place of a token are that list's texts and the paths of the Cargo crate. So attributes, visibility,
+derives, defaults and the text of each error are Rattle's, but that `pub` may be `pub(crate)`. The status is 1 if a file
+has anything else, or if no file begins with the line that names a source.
 """
+import collections
 import re
 import sys
 from pathlib import Path
@@ -17,6 +18,10 @@ TOKEN = re.compile(r'''//[^\n]*|b?"(?:\\.|[^"\\])*"|b?'(?:\\(?:x..|u\{[^}]*\}|.)
                    r'''\d\w*(?:\.\d\w*)?|::|->|=>|\s+|.''', re.S)
 GHOST = re.compile(r'(?:requires|ensures\*?)(?:\s+[a-z_]\w*)?\s*(?=\{)|ghost\s+(?:use\b[^;]*;|\w+\s*)')
 LOGIC = re.compile(r'\{-.*?-\}|--[^\n]*|"(?:\\.|[^"\\\n])*"|.', re.S)
+
+# A function that does nothing, one that is lent `self` alone, to be read, and a type of snapshots alone.
+IDLE = r'\bfn (\w+) \( [^()]*\) \{ (?:let _ = (?:& )?\w+ (?:\. \w+ )*; )*\} '
+READER, COUNT = r'\bfn (\w+) \( & self \) -> ', r'\bstruct (\w+) \{ (?:\w+ : Snapshot < \w+ > , )+\}'
 
 PRELUDE = 'use crate :: rattle :: prelude :: * ;'
 
@@ -48,6 +53,41 @@ def tokens(text, is_rattle):
             at += len(word)
             out += [word] if word.strip() and not word.startswith('//') else []
     return out
+
+
+def line(text):
+    """The tokens of a text of Rattle in a line, each with a space behind it and none in it."""
+    return ''.join(word.replace(' ', '\0') + ' ' for word in tokens(text, True))
+
+
+def kinds(text):
+    """The names that are functions without an effect, functions that only read, and types of snapshots alone: of
+    functions those of which all of the name are so."""
+    every, found = collections.Counter(re.findall(r'\bfn (\w+) ', text)), []
+    for pattern in (IDLE, READER):
+        found.append({name for name, count in collections.Counter(re.findall(pattern, text)).items()
+                      if count == every[name]})
+    return [*found, {*re.findall(COUNT, text)}]
+
+
+def without_ghosts(text, everywhere):
+    """The tokens of a file without what does nothing: calls of laws and of idle functions, these functions, what has a
+    type of snapshots alone, and a name of no use for what was read; with the value of a clone, which isn't refused."""
+    idle, readers, counts = ('|'.join(['-', *here, *there]) for here, there in zip(kinds(text), everywhere))
+    taken, made = rf'(\w+) : & (?:mut )?(?:{counts}) ', rf'let mut (\w+) = (?:{counts}) :: new \( \) ; '
+    places = '|'.join(['-', *re.findall(taken, text), *re.findall(made, text)])
+    given = rf'(?:\w+ : )?(?:& )?(?:mut )?(?:{places}|(?:{counts}) :: new \( \)|{counts}) '
+    for pattern, new in (
+            (rf'(?:# \[[^]]*\] )*(?:pub (?:\( crate \) )?)?fn (?:{idle}) \( [^()]*\) \{{ (?:let [^}}]*)?\}} ', ''),
+            (rf'(?<=[;{{}}] )(?:(?:\w+ :: )*laws :: \w+|(?:self \. )?(?:{idle})|(?:{places}) \. \w+) \( [^()]*\) ; ',
+             ''),
+            (rf'(?<=[;{{}}] )(?:{made}|let _\w+ = (?:\w+ \. )+(?:{readers}) \( \) ; )', ''),
+            (rf', {given}(?=[,)])', ''), (rf'(?<=\( ){given}(?:, |(?=\)))', ''),
+            (r'\blet (\w+) = ([^;]*); \1 (?=\})', r'\2'),
+            (r'(Clone for [^{]*\{ fn clone \( & self \) -> )Result < Self , AllocError > \{ Ok \( (.*?)\) \} \}',
+             r'\1Self { \2} }')):
+        text = re.sub(pattern, new, text)
+    return [word.replace('\0', ' ') for word in text.split()]
 
 
 def end_of(words, k, sign=None):
@@ -117,38 +157,37 @@ def rattle_path(crate, by_hand):
             return f'crate :: rattle :: {own}'
         if follows == '::' and is_first and own in given.CRATES + [crate]:
             return f'crate :: proved :: {own}'
-        if word == 'Clone' and follows == 'for':
-            return 'crate :: rattle :: Clone'
         return 'Sized' if word == 'Drop' and words[k - 1] != '::' else word
     return path
 
 
-def differences(crate, path, text, rust, by_hand):
+def differences(crate, path, text, rust, by_hand, every):
     """What the erased text of a file has otherwise."""
     file = f'{crate}/{path.with_suffix("")}'
     for old, new, files in given.REPLACED:
         text = text.replace(old, new) if file in files else text
     two, imports, texts = read(tokens(rust, False))
     two = ' '.join(two).replace('::', ' :: ').split()
-    defined = {name for fn, name in zip(two, two[1:]) if fn == 'fn'}
-    gone = lambda name: name in given.UNCALLED.get(file, ()) or path.stem == 'laws' and name not in defined
-    one, every, said = read(tokens(text, True), rattle_path(crate, by_hand), gone, crate == given.EXPORTS)
-    one, every = (' '.join(words).replace(' :: ', '::') for words in (one, every))
-    one, every = (erase.relocated(text).replace('::', ' :: ').split() for text in (one, every))
+    gone = lambda name: name in given.UNCALLED.get(file, ())
+    one = without_ghosts(line(text), every)
+    one, named, said = read(one, rattle_path(crate, by_hand), gone, crate == given.EXPORTS)
+    one, named = (' '.join(words).replace(' :: ', '::') for words in (one, named))
+    one, named = (erase.relocated(text).replace('::', ' :: ').split() for text in (one, named))
     for k, word in enumerate(one):
         if two[k:k + 4] == 'pub ( crate )'.split() and one[k:k + 2] != ['pub', '(']:
             del two[k + 1:k + 4]
         if two[k:k + 1] != [word]:
             near = slice(max(k - 8, 0), k + 12)
             return [f'{" ".join(one[near])} -> {" ".join(two[near])}']
-    left = iter(every)
+    left = iter(named)
     missing = [word for word in ' '.join(imports).replace(PRELUDE, '').split() if word not in left]
     return [f'more: {" ".join(two[len(one):])}'] * (len(two) > len(one)) + \
         [f'imports: {" ".join(imports)}'] * bool(missing) + [f'texts: {texts}'] * (said != texts)
 
 
 def main():
-    bad, count = [], 0
+    bad, count, every = [], 0, kinds(''.join(line(file.read_text()) for crate in (*given.CRATES, *given.PROGRAM)
+                                             for file in (erase.REPOSITORY / 'crates' / crate / 'src').rglob('*.rt')))
     for out, by_hand, sources in ((erase.OUT, [], erase.sources()), (erase.EXAMPLE, given.BY_HAND, erase.program())):
         written = {text.partition('\n')[0]: (file, text) for file in out.rglob('*.rs') for text in [file.read_text()]}
         for crate, path, text in sources:
@@ -157,8 +196,8 @@ def main():
                 file, rust = written[first]
                 count += 1
                 bad += [f'{file.relative_to(erase.REPOSITORY)}: {one}'
-                        for one in differences(crate, path, text, rust, by_hand)]
-            elif path.stem != 'laws' and f'{crate}/{path.with_suffix("")}' not in given.ROOTS:
+                        for one in differences(crate, path, text, rust, by_hand, every)]
+            elif f'{crate}/{path.with_suffix("")}' not in given.ROOTS:
                 bad.append(f'no file begins with {first}')
     print(*bad, sep='\n', end='\n' * bool(bad))
     print(f'{count} erased files, {len(bad)} differ from Rattle\'s text')

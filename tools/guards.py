@@ -91,9 +91,8 @@ def guarded():
             is_operator = 'ghost can_' in text[text.rfind(header, 0, eraser.tokens[k][2]):eraser.tokens[body][2]] \
                 if owner else False
             is_called = pub is not None or is_operator or header.startswith(('trait', 'pub trait'))
-            # Of heads, and of parts that have heads, callers test what is required; of `Turns` it is of counts that
-            # contracts alone see.
-            is_left = owner.endswith('Head') or owner == 'Turns' or pub and re.search(r'Head\b|Parts<', signature)
+            # Of heads, and of parts that have heads, callers test what is required.
+            is_left = owner.endswith('Head') or pub and re.search(r'Head\b|Parts<', signature)
             if not is_called or crate == given.EXPORTS or is_left:
                 continue
             asked = any(word[:1] == 'r' for kind, word, _ in eraser.tokens[begin:body] if kind == 'clause')

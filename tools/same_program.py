@@ -15,12 +15,13 @@ a store both have dropped the same values. Where ways meet, or a loop comes roun
 equal, and all else is a new symbol: a function is the same if no pair of places that is reached differs. A sum, a
 quotient, a shift, an element or a part that may panic in Rust is one that the prover's program has done by then.
 
-Not compared are the order of drops between events, and the ghosts of proofs (`Snapshot`); what is derived, but for
-orders and defaults; the text of a panic; types that a callee is given; and the functions of `LEFT`, which
-parts/same_names.txt has with reasons, beside names that the two have otherwise. What one side has alone is in `ALONE`.
-A form that isn't known is an error, and so is a line that another build would read otherwise, another compiler or kit,
-and an exception of this script, whatever it reads. The status is 1 if a function differs or isn't understood, 2 if
-there is no compiler.
+Not compared are the order of drops between events; the ghosts of proofs, which are types of snapshots alone, and calls
+of idle functions: these give nothing, write to their own places, and call none but such. A call that only reads, and
+that Rust lacks, gives what nothing of Rust's is equal to. Nor is compared what is derived, but for orders and defaults;
+the text of a panic; types that a callee is given; and the functions of `LEFT`, which parts/same_names.txt has with
+reasons, beside names that the two have otherwise. What one side has alone is in `ALONE`. A form that isn't known is an
+error, and so is a line that another build would read otherwise, another compiler or kit, and an exception of this
+script, whatever it reads. The status is 1 if a function differs or isn't understood, 2 if there is no compiler.
 
 Read parts/same_names.txt first: it has each form of term with an example. same_terms.py computes with them,
 same_side.py has events and places, same_proved.py and same_compiled.py the two programs, same_body.py a function of
@@ -46,8 +47,8 @@ from parts.same_terms import Broken, Differ, Unknown, reading
 
 REPOSITORY, SCHEDULE, PROGRAM = widths.REPOSITORY, given.SCHEDULE.replace('/', '::'), 'toolchain/mir.json'
 # What one side has alone: what is printed by hand, or by a macro, in Rust; a default of std's; modules that aren't
-# erased; what makes a variant; and what the eraser leaves out: of a law, and of a function of its list, rustc refuses a
-# call.
+# erased; what makes a variant; and what the eraser leaves out: of a law, an idle function, and one of its list, rustc
+# refuses a call.
 ALONE = re.compile('|'.join([
     r'.*::(?:(?:RingOver|PacketsOver|Assembler)Debug|\w*(?:Empty|Full|Error)Display)::fmt: .*',
     r'.*::(?:\w*IterIterator::size_hint|Assembler::new|Instant::from_(?:micros|millis|secs)): .*',
@@ -116,8 +117,8 @@ def compared(proved, rust, within):
         if there in rust.functions or there in rust.constants:
             how, reason = why(proved, rust, name, there)
             found[how].append((name, reason))
-        # a drop that only drops isn't erased
-        elif name not in proved.trivial and not ALONE.fullmatch(f'{name}: not compiled'):
+        # a drop that only drops isn't erased, nor what does nothing
+        elif name not in proved.trivial | proved.idle and not ALONE.fullmatch(f'{name}: not compiled'):
             found['differ'].append((name, 'not compiled'))
     own = {name for name in rust.functions if name.startswith(f'{within}::') and '{' not in name} - rust.derived
     found['differ'] += [(name, 'not proved')
@@ -179,7 +180,10 @@ def programs(arguments, temporary):
     mirs = {crate: kept(crate) for crate in (*given.CRATES, *given.PROGRAM)} | {given.EXPORTS: made / PROGRAM}
     of_example = [(within, example) for within in (SCHEDULE, *given.PROGRAM)]
     of_crates = [(crate, library) for crate in given.CRATES]
-    return {crate: Proved(json.loads(mir.read_text())) for crate, mir in mirs.items()}, of_crates + of_example
+    proved = {}
+    for crate, mir in mirs.items():                # each after those that it is over
+        proved[crate] = Proved(json.loads(mir.read_text()), [*proved.values()])
+    return proved, of_crates + of_example
 
 
 def main(arguments):

@@ -25,7 +25,7 @@ from parts import same_pair
 from parts.mir_text import tables
 from parts.same_body import CompiledSide
 from parts.same_compiled import Compiled
-from parts.same_proved import ProvedSide, tree_of
+from parts.same_proved import SNAPSHOT, ProvedSide, tree_of
 from parts.same_terms import cast, integer, negated, operation, put, sliced, take, term
 
 X, Y, LAST = term('par', 1), term('par', 2), term('f', 1)
@@ -139,12 +139,43 @@ def programs(programs, sides):
         for name, _ in same_program.compared(proved, rust, within)['same']:
             old = proved.all[proved.functions[name]]
             for new in (*(changed(proved, old, draw) for _ in range(2)), *drops(proved, name)):
-                if new in (None, old) or '::turns::' in name:                       # of proofs alone
+                if new in (None, old):
                     continue
                 other = copy.copy(proved)
                 other.all = {**proved.all, proved.functions[name]: new}
                 how = same_program.why(other, rust, name, same_program.place(proved, rust, name))
                 assert how[0] in ('differ', 'unknown'), (name, how, new['body'])
+                seen += 1
+    return seen
+
+
+def ghosts(programs, sides):
+    """Without what makes a ghost one there is none: an idle function with another call, or a store; its callers where
+    it isn't one; a type that has a number. Returns how many changes are seen."""
+    more = {'Call': [{'Fn': ['core::more', {'types': [], 'dicts': []}]}, [], {'local': 0, 'steps': []}]}
+    store = {'Assign': [{'local': 0, 'steps': [{'Deref': {'Int': 64}}]}, {'Opd': 'Unit'}]}
+    number, seen = {'Int': 64}, 0
+    for within, rust in sides:
+        proved = programs[within.split('::')[0]]
+        for name in sorted(proved.idle & proved.functions.keys()):
+            old, other = proved.all[proved.functions[name]], copy.copy(proved)
+            for step in (more, store, 'Loop'):
+                other.all = {**proved.all, proved.functions[name]: {**old, 'body': ['Seq', step, *old['body']]}}
+                assert not other.holds(ProvedSide.is_idle, name), (name, step)
+                seen += 1
+        for name, _ in same_program.compared(proved, rust, within)['same']:
+            old, there = proved.all[proved.functions[name]], same_program.place(proved, rust, name)
+            other, said = copy.copy(proved), json.dumps(old['body'])
+            other.idle = {idle for idle in proved.idle if f'"{idle}"' not in said}
+            if other.idle != proved.idle:
+                assert same_program.why(other, rust, name, there)[0] != 'same', name
+                seen += 1
+            side = ProvedSide(proved, name)
+            if side.parameters != old['params']:
+                types = [{**one, 'shape': {'Fields': [*one['shape']['Fields'], number]}}
+                         if 'Fields' in one['shape'] and one['name'] != SNAPSHOT else one for one in old['types']]
+                other.all = {**proved.all, proved.functions[name]: {**old, 'types': types}}
+                assert same_program.why(other, rust, name, there)[0] != 'same', name
                 seen += 1
     return seen
 
@@ -202,7 +233,7 @@ def main(arguments):
             return 0
         proved, sides = same_program.programs(folders, temporary)
         entries = lists(proved, sides)
-        seen = programs(proved, sides)
+        seen = programs(proved, sides) + ghosts(proved, sides)
         plants = planted(kit, temporary, proved)
     print(f'{len(EQUAL)} terms are one, {len(UNEQUAL)} are two; {count} pairs of bodies; {seen} changes of programs '
           f'and {plants} plants are found; each of {entries} entries is used')

@@ -4,7 +4,7 @@ they are so where it has 32:
 
     python3 tools/widths.py [FOLDER]
 
-The erased text, with the exports for C and its laws, has its bounds, `prove!(sum <= bound, "in any `usize`")`, and
+The erased text, with the exports for C, has its bounds, `prove!(sum <= bound, "in any `usize`")`, and
 rustc says what each operation is, by its types. A difference, a quotient, a rest, `min`, `max` or `saturating_sub` of
 numbers of a `usize` is one. Any other operation has a cover:
 
@@ -22,7 +22,6 @@ numbers of a `usize` is one. Any other operation has a cover:
     turn      one more than what a `for` over a range counts: at most the end of the range
     lesser    a sum or product that stops at the greatest `usize`, of which the lesser and another number is taken
     constant  a literal that has 32 bits
-    no bytes  a size that is compared with 0 when the text is compiled
     derived hash  a field that a derived `Hash` gives to a hasher, of which no clause says the bytes
 
 What isn't known is open: each value or call with a `usize` or an `isize` in its type, that is none of `FORMS` and
@@ -208,8 +207,6 @@ class Reader:
     def cover(self, at, kind):
         name, start, end = at
         file = self.file(name)
-        if kind.startswith('unknown core::mem::size_of::<') and re.match(r' == 0\)', file.code[end:]):
-            return 'no bytes'
         if kind.startswith('unknown <usize as core::hash::Hash>') and \
                 re.fullmatch(r'(?:pub )?\w+: usize', file.code[start:end]):
             return 'derived hash'                  # of a field: no clause says what a hasher is given

@@ -10,7 +10,6 @@ erased! {
     pub(crate) mod flags;
     pub(crate) mod held_runs;
     pub(crate) mod kept;
-    pub(crate) mod laws;
     pub(crate) mod loss_recovery;
     pub(crate) mod numbering;
     pub(crate) mod receiver;

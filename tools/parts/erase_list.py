@@ -30,7 +30,7 @@ UNERASED = {
     "Rust's tokens borrow their device, which Rattle's can't": [f'net_base/phy/{name}'
                                                                 for name in ('device', 'loopback', 'echo')],
     "in Rust it is core's": ['net_base/phy/non_zero'],
-    'only proofs want them': [*(f'net_base/phy/{name}' for name in ('frame_lists', 'laws')), 'net_bench_lib/laws'],
+    'only proofs want them': ['net_base/phy/frame_lists'],
     'the example `net_bench` alone has it': [SCHEDULE],
     "in the example `net_bench` the words are Rust's": ['net_bench_lib/arguments'],
 }
@@ -39,10 +39,10 @@ UNERASED = {
 UNCALLED = {
     'net_ring/ring_buffer': ['from_parts', 'into_parts'],
     'net_assembler/assembler': ['from_parts', 'into_parts', 'parts'],
-    'net_receiver/receiver': ['from_parts', 'is_sound'],
+    'net_receiver/receiver': ['from_parts'],
     'net_receiver/schedule': ['replay', 'replay_core'],
-    'net_receiver/finite_receiver': ['from_parts', 'into_parts', 'is_sound'],
     'net_receiver/scoreboard': ['is_sound'],
+    'net_receiver/finite_receiver': ['from_parts', 'into_parts', 'is_sound'],
     'net_receiver/finite_sender': ['from_parts', 'into_parts'],
     'net_base/storage/fragments': ['from_parts', 'into_parts'],
     'net_base/storage/fragments/head': ['exact'],

@@ -95,3 +95,19 @@ class Text:
 
     def source(self, start, end):
         return self.text[self.tokens[start][2]:self.tokens[end][2]]
+
+    def margin(self, k):
+        before = self.text[:self.tokens[k][2]].rpartition('\n')[2]
+        return before[:len(before) - len(before.lstrip())]
+
+    def plain(self, *spans):
+        """The tokens of some spans that run, with one space behind each."""
+        return ''.join(f'{word} ' for start, end in zip(spans[::2], spans[1::2])
+                       for kind, word, _ in self.tokens[start:end] if kind not in ('clause', 'ghost', *SPACE))
+
+    def function_ends(self, k):
+        """Where the signature ends of the function at k, and where its body begins and ends."""
+        begin = body = self.until(k, '{', ';')
+        while self.tokens[body][0] == 'clause':
+            body = self.next(body + 1)
+        return begin, body, self.group(body) if self.tokens[body][1] == '{' else body

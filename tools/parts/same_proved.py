@@ -17,6 +17,7 @@ WRAPPING = re.compile(r'([iu])(8|16|32|64|128|size)\.(wrapping_(?:add|sub|mul))(
 MADE = re.compile(r'.*(?:\+decl|\+(?:Fn|FnMut|FnOnce|Destruct)::\w+|::Destruct\+\+none::drop)')
 # A step with its parts, of which an `If` has two; and as one of a graph, with the node after it, or those of its arms.
 Tree, Node = namedtuple('Tree', 'tag rest parts'), namedtuple('Node', 'tag rest after', defaults=[None, None])
+SNAPSHOT = 'core::snapshot::Snapshot'
 PANICS = ('assertions.unreachable', 'assertions.panic', 'panicking.panic')
 
 
@@ -64,7 +65,7 @@ def tree_of(steps):
 class Proved:
     """The prover's program of a crate."""
 
-    def __init__(self, mir):
+    def __init__(self, mir, below=()):
         self.all, self.impls, self.order = dict(mir), {}, {}
         for name, function in self.all.items():
             with reading(name):
@@ -81,6 +82,23 @@ class Proved:
         while before != len(self.trivial):         # drops that only drop
             before = len(self.trivial)
             self.trivial |= {name for name in self.functions if name.endswith('::drop') and self.only_drops(name)}
+
+        # What does nothing, and what only reads, also of the programs that this one is over.
+        self.idle = {name for one in below for name in one.idle}
+        self.readers = {name for one in below for name in one.readers}
+        for found, is_one in ((self.idle, ProvedSide.is_idle), (self.readers, ProvedSide.is_reader)):
+            before = None
+            while before != len(found):
+                before = len(found)
+                found |= {name for name in self.functions.keys() - found if self.holds(is_one, name)}
+
+    def holds(self, is_one, name):
+        """Whether a function is understood, and is of this kind."""
+        try:
+            with reading(name):
+                return is_one(ProvedSide(self, name))
+        except Unknown:
+            return False
 
     def note_impl(self, name, of, methods):
         """Notes the methods of an impl: `a::SHash::hash` is S:Hash.hash."""
@@ -138,13 +156,19 @@ class ProvedSide(Side):
 
     def __init__(self, program, name):
         self.program, self.function = program, program.all[program.functions[name]]
-        self.parameters, self.gives_unit = self.function['params'], self.function['locals'][0]['ty'] == 'Unit'
         self.types = {one['name']: one for one in self.function['types']}
         self.locals, self.nodes = [local['ty'] for local in self.function['locals']], []
+        self.taken = [k for k in range(1, self.function['params'] + 1) if not self.is_ghost(self.locals[k])]
+        self.parameters, self.gives_unit = len(self.taken), self.locals[0] == 'Unit'
+        # Rust's clone gives what this one has in `Ok`.
+        self.is_clone = name.endswith('Clone::clone') and 'core::alloc::AllocError' in json.dumps(self.locals[0])
         steps = iter(self.function['body'])
         self.start = self.link(tree_of(steps), self.node('Return'), ())
         if next(steps, None) is not None:
             raise Unknown('steps that are in no tree')
+
+    def given(self):
+        return {(self.word, local): term('par', k) for k, local in enumerate(self.taken, 1)}
 
     def node(self, *parts):
         self.nodes.append(Node(*parts))
@@ -229,6 +253,56 @@ class ProvedSide(Side):
                 return {key: filled(value) for key, value in one.items()}
             return [filled(part) for part in one] if isinstance(one, list) else one
         return filled(self.types[name['name']]['shape'])
+
+    def is_ghost(self, kind):
+        """Whether a type is of snapshots alone, which has no bytes and isn't in Rust, or a reference to one."""
+        kind = (given_to(kind, 'Ref') or [kind])[-1]
+        if not given_to(kind, 'Named'):
+            return False
+        fields = self.shape(kind).get('Fields', ())
+        return kind['Named'][0]['name'] == SNAPSHOT or bool(fields) and \
+            all(given_to(one, 'Named') and self.is_ghost(one) for one in fields)
+
+    def steps(self):
+        """The steps, each with what is with it."""
+        return map(tagged, self.function['body'])
+
+    def is_own_place(self, place):
+        """Whether a place is in a local, or one that only proofs see."""
+        steps, kind = self.place(place)
+        return 'deref' not in steps or self.is_ghost(kind)
+
+    def is_idle(self):
+        """Whether it gives nothing, and does nothing that is seen: it writes to locals, and calls what does no more."""
+        return (self.gives_unit or self.is_ghost(self.locals[0])) and all(
+            self.is_own_place(rest[0]) if tag == 'Assign' else self.is_idle_call(*rest) if tag == 'Call' else
+            tag in ('Seq', 'If', 'Switch', 'Skip', 'LendStatic', 'Return') for tag, rest in self.steps())
+
+    def is_idle_call(self, head, operands, place):
+        """Whether a call does nothing that is seen: it is of what does nothing, or of ghosts alone."""
+        name, kinds = self.program.callee(head, self.function), [*map(self.kind_of, operands)]
+        if self.program.is_trivial(name):
+            return not any(map(self.needs_drop, kinds))
+        return name in self.program.idle or bool(kinds) and all(map(self.is_ghost, [*kinds, self.place(place)[1]]))
+
+    def is_reader(self):
+        """Whether it is lent all that it is given, to be read, and does no more on its one way than to call what does
+        that too."""
+        return self.parameters > 0 and all(map(self.is_shared, self.locals[1:self.parameters + 1])) and all(
+            self.is_own_place(rest[0]) if tag == 'Assign' else self.reads(rest[0], rest[1]) if tag == 'Call' else
+            tag in ('Seq', 'Skip', 'Return') for tag, rest in self.steps())
+
+    def reads(self, head, operands):
+        """Whether what is called is an own function that only reads, or a method of an own trait that is lent all to be
+        read."""
+        if 'Method' not in head:
+            return self.program.callee(head, self.function) in self.program.readers
+        bound = self.function['generics']['bounds'][head['Method'][0]['Given']] if 'Given' in head['Method'][0] else {}
+        return is_own(bound.get('of', '')) and all(map(self.is_shared, map(self.kind_of, operands)))
+
+    @staticmethod
+    def is_shared(kind):
+        return (given_to(kind, 'Ref') or ['', ''])[1] == 'Imm'
 
     def at_place(self, state, place):
         """Where a place of the program is."""
@@ -379,7 +453,8 @@ class ProvedSide(Side):
         for _ in range(2000):
             tag, rest, node = self.nodes[node]
             if tag == 'Return':
-                return Return(state.get((self.word, 0), UNIT))
+                value = state.get((self.word, 0), UNIT)
+                return Return(value.parts[0] if self.is_clone and value[:2] == ('agg', 0) else value)
             if tag == 'Unreachable':
                 return Never()
             if tag in ('If', 'Switch'):
@@ -400,6 +475,8 @@ class ProvedSide(Side):
 
     def step(self, state, tag, rest, after):
         """Does a step that is no branch. Returns its event, if it is one."""
+        if tag == 'Assign' and self.is_ghost(self.place(rest[0])[1]):
+            return None
         if tag == 'Assign':
             return self.write(state, self.at_place(state, rest[0]), self.compute(state, *rest), after)
         if tag == 'Call':
@@ -422,12 +499,13 @@ class ProvedSide(Side):
             return Panic()
         if name == 'literal.laid_out':
             raise Unknown('a width')
-        if self.program.is_trivial(name):
-            for one in operands if not name.startswith('Snapshot.') else []:
+        if self.program.is_trivial(name) or name in self.program.idle:
+            for one in operands if self.program.is_trivial(name) and not name.startswith('Snapshot.') else []:
                 self.drop(state, one['Copy']) if 'Copy' in one else None
             if not place['steps']:
                 state[self.word, place['local']] = UNIT
             return None
+        operands, reads = [one for one in operands if not self.is_ghost(self.kind_of(one))], self.reads(head, operands)
         arguments = [self.value(state, one) for one in operands]
         made = self.pure(name, function, arguments)
         if made:
@@ -437,7 +515,7 @@ class ProvedSide(Side):
         lent = self.functions_lent(head)
         if len(lent) == 1 and operands.count('Unit') == 1:                          # a function as a value
             arguments[operands.index('Unit')] = term('fn', *lent)
-        return Call(name, arguments, self.at_place(state, place), after)
+        return Call(name, arguments, self.at_place(state, place), after, reads)
 
     @staticmethod
     def pure(name, function, arguments):

@@ -9,12 +9,13 @@ Local = namedtuple('Local', 'number path', defaults=[()])
 Memory = namedtuple('Memory', 'pointer path', defaults=[()])
 Held = namedtuple('Held', 'value')
 # Events: `return`, a panic, and what is never reached. Of `s.m = a` it is Store(addr(par(4), (f(0),)), par(1), ..), of
-# `let c = go(a)` Call('go', [par(1)], Local(5), ..), each with the node after it, None if a call never returns.
+# `let c = go(a)` Call('go', [par(1)], Local(5), ..), each with the node after it, None if a call never returns; of a
+# call it also says whether what is called only reads.
 Return = namedtuple('Return', 'value')
 Panic = namedtuple('Panic', '')
 Never = namedtuple('Never', '')
 Store = namedtuple('Store', 'to value after')
-Call = namedtuple('Call', 'name arguments to after')
+Call = namedtuple('Call', 'name arguments to after reads', defaults=[False])
 # Of `if a < b` it is Branch(op('<', par(1), par(2)), {0: End(..)}, End(..)), whose last end is that of all other
 # numbers, or None. An end is the node that comes next, with what places have there.
 Branch = namedtuple('Branch', 'value ends other')
@@ -32,7 +33,11 @@ class Side:
     A state is a dict. It has, by the side's word and the local's number, what each local has, ('A', 1): par(1); what
     was dropped, ('A', 'drops'); what memory is after the last event that may change it, 'ver'; what may panic and was
     done by the prover's program, 'done', or is due in Rust's, 'due'; and what is known of terms, 'facts'."""
-    word = '?'
+    word, parameters = '?', 0
+
+    def given(self):
+        """What the parameters have at first."""
+        return {(self.word, k): term('par', k) for k in range(1, self.parameters + 1)}
 
     def find(self, state, local, steps):
         """The place of a local and steps: of _4, 'deref' and f(0) it is Memory(par(4), (f(0),))."""

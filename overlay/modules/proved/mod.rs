@@ -8,7 +8,6 @@ pub(crate) mod rattle;
 pub mod storage {
     pub mod assembler;
     pub mod error;
-    pub mod laws;
     pub mod managed;
     pub mod packet_buffer;
     pub mod packet_metadata;
@@ -20,7 +19,7 @@ pub mod storage {
     pub mod width;
 
     pub use self::assembler::{
-        Assembler, AssemblerHead, HoleIter, IterData, Run, RunIter, TooManyHolesError, Turns,
+        Assembler, AssemblerHead, HoleIter, IterData, Run, RunIter, TooManyHolesError,
     };
     pub use self::error::{Empty, Full};
     pub use self::managed::{ManagedSlice, Storage};

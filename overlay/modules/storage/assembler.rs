@@ -14,15 +14,6 @@ impl Assembler {
     }
 }
 
-impl<const N: usize> Clone for Runs<N> {
-    fn clone(&self) -> Self {
-        match crate::proved::rattle::Clone::clone(self) {
-            Ok(same) => same,
-            Err(_) => unreachable!(),
-        }
-    }
-}
-
 /// A hole and the data after it, as they are printed.
 #[derive(Debug)]
 struct Contig {

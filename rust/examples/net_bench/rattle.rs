@@ -191,11 +191,6 @@ pub mod net_receiver {
     pub use crate::schedule::*;
     pub use net_base::receiver::{self, Kept, Receiver};
     pub use receiver as kept;
-
-    pub mod laws {
-        /// A law, whose call tells contracts: nothing here.
-        pub fn schedules() {}
-    }
 }
 
 pub mod memchr {

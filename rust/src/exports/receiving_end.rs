@@ -86,7 +86,6 @@ impl ReceivingEnd {
         bytes: &[u8],
         is_last: bool,
     ) -> Result<KeptBytes, FiniteError> {
-        are_sixteen(self.runs);
         let end = pos.saturating_add(bytes.len() as u64);
         let part = self.receiver.receiver.duplicate_of(&self.runs, pos, end);
         let held = self.receiver.receiver.held.used;
@@ -122,11 +121,6 @@ impl ReceivingEnd {
             window,
         }
     }
-}
-
-#[inline(always)]
-pub(crate) fn are_sixteen(runs: [Run; RUNS]) {
-    let _ = runs;
 }
 
 fn in_front(

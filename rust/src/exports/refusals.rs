@@ -54,8 +54,6 @@ pub const NET_BASE_OLD: Status = 15;
 
 pub const NET_BASE_NOTHING: Status = 16;
 
-pub fn numbers() {}
-
 #[inline(always)]
 pub fn no_number() -> usize {
     most()

@@ -4,7 +4,6 @@
 // `is_sound`, which each call asks, looks at the sender and at what was reported, and at nothing else.
 
 use crate::exports::receiver::RUNS;
-use crate::exports::receiving_end::are_sixteen;
 use crate::exports::refusals::{
     AcknowledgedStatus, ExpiredStatus, NET_BASE_ANSWER, NET_BASE_DONE, NET_BASE_LOST,
     NET_BASE_NOTHING, NET_BASE_OLD, NET_BASE_OVERDUE, NET_BASE_PROBE, NET_BASE_REFUSED,
@@ -331,7 +330,6 @@ pub fn net_base_sending_end_acknowledged(
     if blocks.len() > BLOCKS || !is_sound(end, storage.len()) {
         return refused_taken_acknowledgement();
     }
-    are_sixteen(end.runs);
     let pairs = pairs_of(blocks);
     let numbers = numbers_from(&end.sender);
     let said = end.head.acknowledged(

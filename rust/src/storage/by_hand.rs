@@ -96,15 +96,6 @@ impl Assembler {
     }
 }
 
-impl<const N: usize> Clone for Assembler<N> {
-    fn clone(&self) -> Self {
-        match crate::rattle::Clone::clone(self) {
-            Ok(same) => same,
-            Err(_) => unreachable!(),
-        }
-    }
-}
-
 impl<const N: usize> Default for Assembler<N> {
     fn default() -> Self {
         Self::empty()

@@ -3,7 +3,7 @@
 
 use crate::rattle::prelude::*;
 use crate::time::Instant;
-use crate::storage::{Run, assembler};
+use crate::storage::Run;
 use crate::storage::{ManagedSlice, Storage};
 
 mod head;
@@ -309,7 +309,6 @@ impl<B: Storage<u8>, const N: usize> FragmentsOver<B, N> {
     /// ```
     #[must_use]
     pub fn get(&self, offset: usize, len: usize) -> Option<&[u8]> {
-        assembler::laws::first_missing();
         let count = self.bytes.count();
         if offset > count || len > count - offset {
             return None;

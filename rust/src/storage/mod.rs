@@ -10,7 +10,6 @@ erased! {
     pub(crate) mod assembler;
     pub(crate) mod error;
     pub(crate) mod fragments;
-    pub(crate) mod laws;
     pub(crate) mod managed;
     pub(crate) mod packet_buffer;
     pub(crate) mod packet_metadata;
@@ -39,7 +38,7 @@ pub use ring_head::Span;
 pub use split_counts::{SplitCounts, SplitSpan};
 
 // Names for other modules, and those for the exports alone.
-pub(crate) use assembler::{AssemblerHead, Run, Turns};
+pub(crate) use assembler::{AssemblerHead, Run};
 pub(crate) use by_hand::Listed;
 #[cfg(feature = "c")]
 pub(crate) use fragments::FragmentsHead;

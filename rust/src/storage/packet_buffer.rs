@@ -572,8 +572,6 @@ impl<H, M: Storage<PacketMetadata<H>>, B: Storage<u8>> PacketsOver<H, M, B> {
         if self.head.slots.length == 0 {
             return Err(Empty);
         }
-        // Called only for its clauses, by which the sum below does not wrap.
-        let _capacity = self.bytes.count();
         let slot = self.slots.element(self.head.slots.read_at);
         let from = self.head.bytes.read_at;
         match &slot.header {

@@ -197,8 +197,6 @@ impl<T, S: Storage<T>> RingOver<T, S> {
     /// smoltcp has no such call. It is for callers that write free elements before these are enqueued.
     #[inline]
     pub fn rewind_if_empty(&mut self) {
-        // Called only for its clause, by which `fits` is known.
-        let _capacity = self.capacity();
         self.head.rewind_if_empty();
     }
 }

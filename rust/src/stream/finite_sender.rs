@@ -3,7 +3,6 @@
 
 use crate::rattle::prelude::*;
 use crate::stream::finite_sender_head::FiniteSenderHead;
-use crate::stream::laws;
 use crate::stream::sent_numbers::SentNumbers;
 use crate::storage::{ManagedSlice, Storage};
 
@@ -119,7 +118,6 @@ impl<S: Storage<u8>> FiniteSenderOver<S> {
     /// ```
     #[must_use]
     pub fn sent_numbers(&self) -> SentNumbers {
-        self.is_sound();
         SentNumbers {
             first_unacknowledged: self.first_number(),
             sent: self.sent(),
@@ -195,7 +193,6 @@ impl<S: Storage<u8>> FiniteSenderOver<S> {
     /// which numbers it has.
     #[must_use]
     pub fn peek_at(&self, pos: u64, limit: u64) -> (&[u8], bool) {
-        laws::matches_stream();
         let lent = self.head.peek_at(self.storage.count(), pos, limit);
         let from = lent.0.from;
         (self.storage.part(from, from + lent.0.contiguous), lent.1)
@@ -216,7 +213,6 @@ impl<S: Storage<u8>> FiniteSenderOver<S> {
     /// assert_eq!(sender.sent(), 106);
     /// ```
     pub fn send_at(&mut self, pos: u64, limit: u64) -> (&[u8], bool) {
-        laws::matches_stream();
         let lent = self.head.send_at(self.storage.count(), pos, limit);
         let from = lent.0.from;
         (self.storage.part(from, from + lent.0.contiguous), lent.1)
@@ -270,10 +266,5 @@ impl<S: Storage<u8>> FiniteSenderOver<S> {
     #[must_use]
     pub fn is_closed_and_acknowledged(&self) -> bool {
         self.head.is_closed_and_acknowledged()
-    }
-
-    /// States what is true of every sender; it does nothing. Callers use `laws::is_sound_sent`.
-    pub(crate) fn is_sound(&self) {
-        let _ = &self.head;
     }
 }

@@ -4,7 +4,6 @@
 
 use crate::rattle::prelude::*;
 use crate::storage::RunIter;
-use crate::storage::assembler::Turns;
 
 /// An iterator over the held runs of a receiver, made by `held`.
 ///
@@ -102,11 +101,4 @@ pub(crate) fn remember(recent: &mut [u64], listed: &[HeldRun]) {
         let run = &listed[i];
         recent[i] = run.start;
     }
-}
-
-/// States that a loop over runs looked at no more of them than `most`. It does nothing.
-#[inline(always)]
-pub(crate) fn were_at_most(turns: &Turns, most: usize) {
-    let _ = turns;
-    let _ = most;
 }

@@ -178,7 +178,6 @@ impl ReceiverHead {
         prove!(ahead <= window as u64, "in any `usize`");
         let offset = ahead as usize;
         let kept = (len - skip).min(window - offset);
-        crate::storage::laws::is_usize(window);
         let queued = self.held.add_then_remove_front(runs, offset, kept)?;
         self.place.enqueue(capacity, queued);
         Ok(Admitted {

@@ -5,8 +5,7 @@ use crate::rattle::prelude::*;
 // Why: A scoreboard counts from the first position that wasn't reported. So an acknowledgement is never refused, and
 // offsets fit 32 bits.
 
-use crate::stream::held_runs::{HeldRunIter, were_at_most};
-use crate::storage::assembler::{Turns, laws};
+use crate::stream::held_runs::HeldRunIter;
 use crate::storage::{AssemblerHead, Run};
 use crate::storage::width::most;
 
@@ -158,7 +157,6 @@ impl ScoreboardHead {
     ///
     /// The scoreboard is sound with the runs.
     pub(crate) fn reported<'a>(&self, runs: &'a [Run]) -> HeldRunIter<'a> {
-        laws::maximal_runs();
         HeldRunIter::over(self.reported.iter_data(runs), self.base)
     }
 
@@ -217,22 +215,18 @@ impl ScoreboardHead {
         let most = (duplicates.saturating_sub(1) as u64).saturating_mul(segment_size as u64);
         let used = self.reported.used;
         let enough = duplicates.max(1);
-        let mut turns = Turns::new();
         let mut bytes = 0;
         // From the last run down, and no more of them than are enough.
         for above in 0..used.min(enough) {
-            turns.look();
             let Some((start, end)) = self.reported.run_at(runs, used - 1 - above) else {
                 return 0;
             };
             bytes += (end - start) as u64;
             prove!(above + 1 <= enough, "in any `usize`");
             if above + 1 == enough || bytes > most {
-                were_at_most(&turns, enough);
                 return self.base + start as u64;
             }
         }
-        were_at_most(&turns, enough);
         0
     }
 

@@ -11,7 +11,6 @@ use crate::lines::error::BenchError;
 use crate::lines::mode::{Mode, ModeKind, MostRuns};
 use crate::lines::ring::RingSession;
 use crate::lines::stream::StreamSession;
-use crate::rattle::net_receiver::laws;
 use crate::rattle::std::alloc::Allocator;
 use crate::rattle::std::io::{Read, Write};
 
@@ -58,7 +57,6 @@ fn run_stream<A: Allocator + Copy, R: Read, W: Write>(
     reader: &mut R,
     writer: &mut W,
 ) -> Result<(), BenchError> {
-    laws::schedules();
     let Ok(mut storage) = vec![in alloc; 0u8; capacity] else {
         return Err(BenchError::OutOfMemory);
     };

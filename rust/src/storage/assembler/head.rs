@@ -20,7 +20,6 @@ use crate::rattle::prelude::*;
 // `add_counted` holds, and on `add`, which is one call of it.
 
 use super::run::{Run, end_of, start_of};
-use super::turns::Turns;
 use super::{HoleIter, RunIter, TooManyHolesError};
 use crate::storage::width::most;
 
@@ -128,7 +127,7 @@ impl AssemblerHead {
         offset: usize,
         size: usize,
     ) -> Result<(), TooManyHolesError> {
-        self.add_counted(runs, offset, size, &mut Turns::new())
+        self.add_counted(runs, offset, size)
     }
 
     /// Adds a range as `add` does, and counts each iteration of a loop as `Assembler::add_counted`
@@ -144,12 +143,11 @@ impl AssemblerHead {
         runs: &mut [Run],
         offset: usize,
         size: usize,
-        turns: &mut Turns,
     ) -> Result<(), TooManyHolesError> {
         if self.starts_in_runs(runs, offset, size) {
-            return self.join_apart(runs, offset, size, turns);
+            return self.join_apart(runs, offset, size);
         }
-        self.add_last(runs, offset, size, turns)
+        self.add_last(runs, offset, size)
     }
 
     /// Adds a range as `add` does, with all of the rule inlined, and counts as `add_counted` does.
@@ -159,12 +157,11 @@ impl AssemblerHead {
         runs: &mut [Run],
         offset: usize,
         size: usize,
-        turns: &mut Turns,
     ) -> Result<(), TooManyHolesError> {
         if self.starts_in_runs(runs, offset, size) {
-            return self.join(runs, offset, size, turns);
+            return self.join(runs, offset, size);
         }
-        self.add_last(runs, offset, size, turns)
+        self.add_last(runs, offset, size)
     }
 
     /// Removes the run at position 0, counts all later positions from its end, and returns its
@@ -300,11 +297,8 @@ impl AssemblerHead {
         if position < self.first_start {
             return 0;
         }
-        let mut turns = Turns::new();
         let offset = position - self.first_start;
-        let count = runs_starting_by(runs, self.used, offset, &mut turns);
-        turns.were_a_search(runs);
-        count
+        runs_starting_by(runs, self.used, offset)
     }
 
     /// Returns the position after the last one that is present; 0 if none is.
@@ -349,22 +343,18 @@ impl AssemblerHead {
     ///
     /// The head is sound with the runs, as `is_sound` tests.
     pub fn count_between(&self, runs: &[Run], start: usize, end: usize) -> usize {
-        let mut turns = Turns::new();
         let from = start.saturating_sub(self.first_start);
         let to = end.saturating_sub(self.first_start);
         let first = self.runs_by(runs, start).saturating_sub(1);
         let mut count = 0;
         for k in first..self.used {
             let start = start_of(runs, k);
-            turns.step();
             if start >= to {
-                turns.were_a_pass(runs);
                 return count;
             }
             count += end_of(runs, k).min(to).saturating_sub(start.max(from));
             prove!(count <= most(), "in any `usize`");
         }
-        turns.were_a_pass(runs);
         count
     }
 
@@ -451,7 +441,6 @@ impl AssemblerHead {
         runs: &mut [Run],
         offset: usize,
         size: usize,
-        turns: &mut Turns,
     ) -> Result<(), TooManyHolesError> {
         if size == 0 {
             return Ok(());
@@ -498,9 +487,8 @@ impl AssemblerHead {
         runs: &mut [Run],
         offset: usize,
         size: usize,
-        turns: &mut Turns,
     ) -> Result<(), TooManyHolesError> {
-        self.join(runs, offset, size, turns)
+        self.join(runs, offset, size)
     }
 
     /// Joins a range that isn't empty, and starts before the last run, with the runs.
@@ -510,17 +498,16 @@ impl AssemblerHead {
         runs: &mut [Run],
         offset: usize,
         size: usize,
-        turns: &mut Turns,
     ) -> Result<(), TooManyHolesError> {
         let by = self.first_start.saturating_sub(offset);
         let start = offset.saturating_sub(self.first_start);
         let mut first = 0;
         let mut begin = by;
         if by == 0 {
-            first = runs_ending_before(runs, self.used, start, turns);
+            first = runs_ending_before(runs, self.used, start);
             begin = start_of(runs, first);
         }
-        self.join_here(runs, first, by, begin, start, size, turns)
+        self.join_here(runs, first, by, begin, start, size)
     }
 
     /// Joins a range with the runs that it meets or touches. `first` is the first run that doesn't end
@@ -538,7 +525,6 @@ impl AssemblerHead {
         begin: usize,
         start: usize,
         size: usize,
-        turns: &mut Turns,
     ) -> Result<(), TooManyHolesError> {
         let used = self.used;
         let end = start + size;
@@ -552,12 +538,12 @@ impl AssemblerHead {
             self.used = used + 1;
             prove!(self.used <= runs.len(), "in any `usize`");
             self.first_start -= by;
-            insert_run(runs, used, first, Run { start, end }, by, turns);
+            insert_run(runs, used, first, Run { start, end }, by);
             return Ok(());
         }
         //  |--- first ---|  ..  |--- next - 1 ---|    |--- next ---|
         //         |====== range ======|                                    they become one with it
-        let next = runs_met(runs, used, first + 1, end - by, turns);
+        let next = runs_met(runs, used, first + 1, end - by);
         let last_end = by + end_of(runs, next - 1);
         prove!(last_end <= most(), "in any `usize`");
         runs[first] = Run {
@@ -571,7 +557,7 @@ impl AssemblerHead {
         self.used = if next == used {
             first + 1
         } else {
-            take_out(runs, used, first + 1, next, by, turns)
+            take_out(runs, used, first + 1, next, by)
         };
         Ok(())
     }
@@ -619,10 +605,8 @@ impl AssemblerHead {
             end
         };
         self.first_start = start - end;
-        let mut turns = Turns::new();
         // A sum that wraps lowers their numbers.
-        self.used = take_out(runs, used, 0, count, start.wrapping_neg(), &mut turns);
-        turns.were_a_pass(runs);
+        self.used = take_out(runs, used, 0, count, start.wrapping_neg());
     }
 
     /// Returns the hole after the run `k`, if there is a run after it.
@@ -691,7 +675,7 @@ fn starts_by(runs: &[Run], k: usize, end: usize) -> bool {
 /// Returns how many of the `used` runs end before `offset`, which the last doesn't. The first is tested
 /// by itself.
 #[inline(always)]
-fn runs_ending_before(runs: &[Run], used: usize, offset: usize, turns: &mut Turns) -> usize {
+fn runs_ending_before(runs: &[Run], used: usize, offset: usize) -> usize {
     if !ends_before(runs, 0, offset) {
         return 0;
     }
@@ -706,14 +690,13 @@ fn runs_ending_before(runs: &[Run], used: usize, offset: usize, turns: &mut Turn
             high = middle;
         }
         prove!(low <= high, "in any `usize`");
-        turns.look();
     }
     low
 }
 
 /// Returns how many of the `used` runs start at or before `end`.
 #[inline(always)]
-fn runs_starting_by(runs: &[Run], used: usize, end: usize, turns: &mut Turns) -> usize {
+fn runs_starting_by(runs: &[Run], used: usize, end: usize) -> usize {
     let mut low = 0;
     let mut high = used;
     while low < high {
@@ -725,7 +708,6 @@ fn runs_starting_by(runs: &[Run], used: usize, end: usize, turns: &mut Turns) ->
             high = middle;
         }
         prove!(low <= high, "in any `usize`");
-        turns.look();
     }
     low
 }
@@ -734,12 +716,11 @@ fn runs_starting_by(runs: &[Run], used: usize, end: usize, turns: &mut Turns) ->
 /// in turn: mostly the first that it looks at starts after `end`. Each that starts by then is taken into a
 /// range that ends there, which counts as a move.
 #[inline(always)]
-fn runs_met(runs: &[Run], used: usize, from: usize, end: usize, turns: &mut Turns) -> usize {
+fn runs_met(runs: &[Run], used: usize, from: usize, end: usize) -> usize {
     let mut next = from;
     while next < used && start_of(runs, next) <= end {
         next += 1;
         prove!(next <= used, "in any `usize`");
-        turns.step();
     }
     next
 }
@@ -758,12 +739,11 @@ fn wrapped(runs: &[Run], k: usize, by: usize) -> Run {
 /// Makes `entry` the run with number `at`, and moves the later ones up by one, each counted `by`
 /// higher. There is room for one more.
 #[inline(always)]
-fn insert_run(runs: &mut [Run], used: usize, at: usize, entry: Run, by: usize, turns: &mut Turns) {
+fn insert_run(runs: &mut [Run], used: usize, at: usize, entry: Run, by: usize) {
     let mut k = used;
     while k > at {
         runs[k] = wrapped(runs, k - 1, by);
         k -= 1;
-        turns.step();
     }
     runs[at] = entry;
 }
@@ -777,14 +757,12 @@ fn take_out(
     at: usize,
     from: usize,
     by: usize,
-    turns: &mut Turns,
 ) -> usize {
     let mut to = at;
     for k in from..used.min(runs.len()) {
         runs[to] = wrapped(runs, k, by);
         to += 1;
         prove!(to <= used, "in any `usize`");
-        turns.step();
     }
     to
 }

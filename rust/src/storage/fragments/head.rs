@@ -3,7 +3,7 @@
 
 use crate::rattle::prelude::*;
 use super::FragmentError;
-use crate::storage::{AssemblerHead, Run, Turns, assembler};
+use crate::storage::{AssemblerHead, Run};
 
 /// What a buffer of fragments has besides its bytes and runs.
 ///
@@ -70,7 +70,6 @@ impl FragmentsHead {
 
     /// Returns whether all bytes that arrived are below `limit`.
     fn is_below(&self, runs: &[Run], limit: usize) -> bool {
-        assembler::laws::maximal_runs();
         let last = self.present.run_count().saturating_sub(1);
         match self.present.run_at(runs, last) {
             Some((_, end)) => end <= limit,
@@ -95,7 +94,6 @@ impl FragmentsHead {
         offset: usize,
         data: &[u8],
     ) -> Result<(), FragmentError> {
-        assembler::laws::members();
         let capacity = bytes.len();
         if ends_above(capacity, offset, data.len()) {
             return Err(FragmentError::TooLong);
@@ -103,7 +101,6 @@ impl FragmentsHead {
         if ends_above(self.limit(capacity), offset, data.len()) {
             return Err(FragmentError::OtherSize);
         }
-        crate::storage::laws::is_usize(capacity);
         let Ok(()) = self.present.add(runs, offset, data.len()) else {
             return Err(FragmentError::TooManyHoles);
         };
@@ -222,13 +219,9 @@ impl FragmentsHead {
     ///
     /// Head, bytes and runs are those of a buffer.
     pub fn differs(&self, bytes: &[u8], runs: &[Run], offset: usize, data: &[u8]) -> bool {
-        assembler::laws::maximal_runs();
-        let mut turns = Turns::new();
         // The runs before the last one that starts by `offset` end by then.
         let first = self.present.runs_by(runs, offset).saturating_sub(1);
         for k in first..self.present.run_count() {
-            turns.step();
-            turns.were_a_pass(runs);
             let Some((start, end)) = self.present.run_at(runs, k) else {
                 return false;
             };
@@ -249,7 +242,6 @@ impl FragmentsHead {
     ///
     /// The runs are sound.
     pub fn complete(&self, runs: &[Run]) -> Option<usize> {
-        assembler::laws::front();
         if self.has_total == 0 || self.present.peek_front(runs) < self.total {
             return None;
         }
