@@ -20,8 +20,9 @@ The rules:
 3. An impl of `Drop` goes, since rustc drops fields by itself: the comparison finds a `drop` that does more. An impl of
    `Model`, which has ghost members alone, goes too. A `clone` whose body is `Ok(..)` gives what that holds, and no
    `Result`; no other one is erased. A bound by `Drop` is one by `Sized`.
-4. A public function whose signature names a head becomes `pub(crate)`. An export loses `extern "C"` and its
-   documentation, and becomes `inline(always)`.
+4. A public item becomes `pub(crate)`, unless an import of a root by hand gives its name, or its module, to users or to
+   C's exports. So do functions whose signature names a head, or a type of snapshots alone, and all of a type that users
+   can't name. An export loses `extern "C"` and its documentation, and becomes `inline(always)`.
 5. `erase_list.py` has what else differs, with its files and how often: lifetimes, attributes, and types.
 6. What does nothing goes, as `erase_ghosts.py` finds it: modules of laws; a function that gives nothing, and whose body
    names places at most; a module with a type of snapshots alone; each parameter and argument of that type; and
@@ -58,6 +59,7 @@ PRELUDE = {'prove', 'slice_mut', 'Vec', 'ASSEMBLER_MAX_SEGMENT_COUNT'}, {'String
 GHOST_DERIVES = {'Drop', 'Error'}
 PLAIN_ATTRIBUTES = {'cfg', 'default', 'derive', 'inline', 'must_use', 'non_exhaustive', 'repr', 'track_caller'}
 MODIFIERS = {'pub', 'const', 'extern'}
+ITEMS = {'struct', 'enum', 'type', 'trait', 'static'}
 GONE, NO_CLAUSE = '\0', '\1'                      # where a form, and where a clause, was
 # The name of what has an attribute, behind that.
 ITEM = re.compile(r'(?:\s*(?:#\[[^\]]*\]|///[^\n]*|pub|struct)(?=\s))*\s*(\w+)')
@@ -73,9 +75,10 @@ class Eraser(Text):
     """One file of a crate. `new` has the text that is written for a token, where that is another one; `after` what is
     added behind one, by tools/parts/erase_says.py lines of documentation alone."""
 
-    def __init__(self, text, crate, omitted=(), file='', ghosts=Ghosts(), traits=(), by_hand=()):
+    def __init__(self, text, crate, omitted=(), file='', ghosts=Ghosts(), traits=(), by_hand=(), public=None):
         super().__init__(text)
         self.ghosts, self.traits = ghosts, traits         # those of all sources, and the names of all traits
+        self.public = public                              # whether a name is public here, and to whom; None if all are
         self.cut, self.counts = set(), set()              # what of a ghost went; a function's places that are ghosts
         self.crate, self.omitted, self.file, self.by_hand = crate, omitted, file, by_hand
         self.key = file.removeprefix('crates/').replace('/src/', '/', 1).removesuffix('.rt')
@@ -131,6 +134,8 @@ class Eraser(Text):
             self.refuse(at, 'the rest of a struct from an element, which Rattle may not read: name it before')
         if kind != 'word' or k in self.cut:
             return k + 1
+        if word in ITEMS and not self.margin(head):
+            self.close(head, k, [self.tokens[after][1]])
         if word == 'fn':
             return self.function(k, head)
         if self.before(k) in ('{', '}', ';') and (end := self.statement(k)):
@@ -143,6 +148,7 @@ class Eraser(Text):
         if word == 'use':
             if '*' in self.source(k, self.until(k, ';')):
                 self.refuse(at, 'an import of all names')
+            self.close(head, k, leaves(self.source(k, self.until(k, ';'))))
             is_public = re.search(r'\bpub(?!\()', self.source(head, k))
             if is_public and follows in given.CRATES:
                 return self.put(head, self.until(k, ';') + 1, GONE)
@@ -171,9 +177,12 @@ class Eraser(Text):
             self.refuse(self.tokens[body][2], 'no body after a contract')
         impl, owner = around(self.text[:self.tokens[k][2]], self.margin(head))
         pub = next((j for j in range(head, k) if self.tokens[j][1] == 'pub' and self.tokens[j + 1][1] != '('), None)
-        if pub is not None and self.crate != given.EXPORTS and not owner.endswith('Head'):
-            if re.search(r'Head\b', self.source(k, begin)) or self.ghosts.types & {*words(self.source(k, begin))}:
-                self.put(pub, pub + 1, 'pub(crate)')
+        signature = self.source(k, begin)
+        is_of_head = re.search(r'Head\b', signature) or owner and self.public and not self.public(owner, True)
+        if is_of_head or self.ghosts.types & {*words(signature)}:
+            self.close(head, k)
+        elif not owner:
+            self.close(head, k, [self.name(k)])
         is_idle = (owner or Path(self.key).stem, self.name(k)) in self.ghosts.idle
         if (is_idle or self.name(k) in self.uncalled) and not OF_TRAIT.search(impl):
             self.gone.add(self.name(k))
@@ -259,6 +268,12 @@ class Eraser(Text):
         self.put(self.next(body + 1), opening + 1, '')
         self.put(self.group(opening) - 1, self.group(opening), '')
         self.cut |= {*range(result[0], begin)} | {self.next(body + 1)}
+
+    def close(self, head, k, names=()):
+        """Makes an item `pub(crate)` if none of these names is public."""
+        pub = next((j for j in range(head, k) if self.tokens[j][1] == 'pub' and self.tokens[j + 1][1] != '('), None)
+        if pub is not None and self.public and self.crate != given.EXPORTS and not any(map(self.public, names)):
+            self.put(pub, pub + 1, 'pub(crate)')
 
     def name(self, k):
         """The name after `fn`."""
@@ -375,6 +390,26 @@ def program():
             (crate, Path(f'{module}.rt'), (REPOSITORY / 'crates' / crate / 'src' / f'{module}.rt').read_text())]
 
 
+def leaves(use):
+    """The names that an import has."""
+    said = words(use)
+    return [word for word, after in zip(said, [*said[1:], '}']) if after in (',', '}') and word.isidentifier()]
+
+
+def exported():
+    """What roots by hand say is public: names that users can write, names that C's exports have, and modules."""
+    names, of_exports, modules = set(), set(), set()
+    for file in OUT.rglob('*.rs'):
+        text = file.read_text()
+        if not text.startswith(WRITTEN):
+            path = [part for part in file.relative_to(OUT).with_suffix('').parts if part not in ('mod', 'lib')]
+            uses = re.findall(r'^pub use ([^;]*);', text, re.M)
+            (of_exports if path == ['exports'] else names).update(name for use in uses for name in leaves(use))
+            modules |= {'/'.join([*path, name]) for name in re.findall(r'^ *pub mod (\w+);', text, re.M)} | \
+                {'/'.join([*path, *module.split('::')]) for use in uses for module in re.findall('^(.*) as ', use)}
+    return names, of_exports, modules
+
+
 def omitted(crate, path):
     """The names of the modules in a file that aren't erased."""
     folder = Path(crate) if path.name == 'lib.rt' else crate / path.with_suffix('')
@@ -404,7 +439,7 @@ def erased(said):
     files = {}
     left = {file for *_, found in given.REPLACED for file in found}
     of_crate, of_program, of_traits, gone = [*sources()], program(), set(), set()
-    ghosts = all_ghosts()
+    ghosts, (names, of_exports, modules) = all_ghosts(), exported()
     traits = {name for *_, text in of_crate + of_program
               for name in re.findall(r'^ *(?:pub(?:\([^)]*\))? )?trait (\w+)', text, re.M)}
     for out, by_hand, (crate, path, text) in [*((OUT, (), each) for each in of_crate),
@@ -412,8 +447,10 @@ def erased(said):
         file = f'{crate}/{path.with_suffix("")}'
         left -= {file}
         try:
+            is_open = placed(file) in modules or file in given.ROOTS
+            public = lambda name, to_users=False: is_open or name in names or not to_users and name in of_exports
             eraser = Eraser(replaced(file, text), crate, omitted(crate, path), f'crates/{crate}/src/{path}', ghosts,
-                            traits, by_hand)
+                            traits, by_hand, public if out == OUT else None)
             text = eraser.run()
             if file not in given.ROOTS:
                 files[out / f'{placed(file)}.rs'] = relocated(text)

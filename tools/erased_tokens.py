@@ -180,7 +180,8 @@ def differences(crate, path, text, rust, by_hand, every):
             near = slice(max(k - 8, 0), k + 12)
             return [f'{" ".join(one[near])} -> {" ".join(two[near])}']
     left = iter(named)
-    missing = [word for word in ' '.join(imports).replace(PRELUDE, '').split() if word not in left]
+    own = ' '.join(imports).replace(PRELUDE, '').replace('pub ( crate ) use', 'pub use')
+    missing = [word for word in own.split() if word not in left]
     return [f'more: {" ".join(two[len(one):])}'] * (len(two) > len(one)) + \
         [f'imports: {" ".join(imports)}'] * bool(missing) + [f'texts: {texts}'] * (said != texts)
 

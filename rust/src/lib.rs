@@ -64,20 +64,20 @@ extern crate std;
 #[cfg(not(any(target_pointer_width = "32", target_pointer_width = "64")))]
 compile_error!("a `usize` has 32 or 64 bits");
 
-/// Declares modules that `tools/erase.py` writes, the proved text, which rustfmt leaves as it is. Which item is public
-/// in a crate of Rattle isn't which one is in this crate; a parameter may be for contracts alone; the other lints are
-/// of what Rattle has no other form for. Some calls and names are for two features alone.
+/// Declares modules that `tools/erase.py` writes, the proved text, which rustfmt leaves as it is. A parameter may be for
+/// contracts alone; the other lints are of what Rattle has no other form for. Some calls and names are for two features
+/// alone.
 macro_rules! erased {
     ($($visibility:vis mod $name:ident;)*) => {$(
-        #[allow(unreachable_pub, unused_variables)]
+        #[allow(unused_variables)]
         #[allow(clippy::int_plus_one, clippy::len_without_is_empty, clippy::manual_filter)]
         #[allow(clippy::manual_find, clippy::manual_map, clippy::needless_lifetimes)]
         #[allow(clippy::needless_range_loop, clippy::new_without_default, clippy::precedence)]
-        #[allow(clippy::question_mark, clippy::redundant_closure, clippy::single_match)]
+        #[allow(clippy::question_mark, clippy::redundant_closure)]
         #[allow(clippy::redundant_pattern_matching, clippy::too_many_arguments)]
         #[cfg_attr(
             not(all(feature = "c", feature = "segmentation-offload")),
-            allow(dead_code, unused_imports)
+            allow(dead_code, unreachable_pub, unused_imports)
         )]
         $visibility mod $name;
     )*};

@@ -70,7 +70,7 @@ pub struct ReceivingHead {
 
 impl ReceivingHead {
     /// Returns the rules of a stream that begins at position `first`, of which nothing was announced.
-    pub const fn new(first: u64, segment_size: u16) -> Self {
+    pub(crate) const fn new(first: u64, segment_size: u16) -> Self {
         ReceivingHead {
             advertised: AdvertisedWindow::new(first),
             newest: first,
@@ -85,7 +85,7 @@ impl ReceivingHead {
 
     /// Begins again with a stream that begins at position `first`, as `ReceivingEndOver::open` says. `room` is the
     /// receiver's then.
-    pub fn open(&mut self, room: Room, first: u64, scale: u8) -> u16 {
+    pub(crate) fn open(&mut self, room: Room, first: u64, scale: u8) -> u16 {
         *self = ReceivingHead::new(first, self.segment_size);
         self.scale = scale;
         self.advertised.announce(0, room.next, room.end)
@@ -93,7 +93,7 @@ impl ReceivingHead {
 
     /// Takes notice of a segment at `pos`, which is the last one or not: what of it came before, how many runs were
     /// held before it, and what the receiver said of it.
-    pub fn take(
+    pub(crate) fn take(
         &mut self,
         pos: u64,
         is_last: bool,
@@ -115,12 +115,12 @@ impl ReceivingHead {
     }
 
     /// Has an acknowledgement sent at once.
-    pub fn answer(&mut self) {
+    pub(crate) fn answer(&mut self) {
         self.unanswered = 2;
     }
 
     /// Returns whether an acknowledgement is to be sent at once.
-    pub fn is_due(&self) -> bool {
+    pub(crate) fn is_due(&self) -> bool {
         self.unanswered >= 2
     }
 
@@ -129,7 +129,7 @@ impl ReceivingHead {
     /// # Requires
     ///
     /// The room ends at or beyond its number.
-    pub fn is_wanted(&self, room: Room) -> bool {
+    pub(crate) fn is_wanted(&self, room: Room) -> bool {
         self.unanswered > 0 || self.is_update_due(room)
     }
 
@@ -146,7 +146,7 @@ impl ReceivingHead {
     }
 
     /// Returns what a segment with bytes of its own tells, as `ReceivingEndOver::announce` says.
-    pub fn announce(&mut self, room: Room) -> (u64, u16) {
+    pub(crate) fn announce(&mut self, room: Room) -> (u64, u16) {
         // What waits for an acknowledgement has it, unless one is due.
         if self.unanswered < 2 {
             self.unanswered = 0;
@@ -155,7 +155,7 @@ impl ReceivingHead {
     }
 
     /// Returns the number and the window of a segment without bytes, and takes notice that it tells them.
-    pub fn acknowledge(&mut self, room: Room) -> (u64, u16) {
+    pub(crate) fn acknowledge(&mut self, room: Room) -> (u64, u16) {
         self.unanswered = 0;
         self.promise(room)
     }
@@ -173,7 +173,7 @@ impl ReceivingHead {
     }
 
     /// Takes what came twice, if it is to be reported: an end in order lets go of what was held beyond it.
-    pub fn take_duplicate(&mut self, next: u64, is_complete: bool) -> Option<(u64, u64)> {
+    pub(crate) fn take_duplicate(&mut self, next: u64, is_complete: bool) -> Option<(u64, u64)> {
         let part = self.reported(next, is_complete);
         self.duplicate = HeldRun { start: 0, end: 0 };
         self.has_duplicate = 0;

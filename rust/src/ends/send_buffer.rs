@@ -241,7 +241,7 @@ impl<S: Storage<u8>, const N: usize> SendBufferOver<S, N> {
 
 impl BufferHead {
     /// Returns that nothing was reported of a stream that begins at position `first`, and nothing is lost.
-    pub const fn new_at(first: u64) -> Self {
+    pub(crate) const fn new_at(first: u64) -> Self {
         BufferHead {
             scoreboard: ScoreboardHead::new_at(first),
             recovery: LossRecovery::new(),
@@ -249,7 +249,7 @@ impl BufferHead {
     }
 
     /// Returns whether the scoreboard is sound with its runs. It looks at each used run.
-    pub fn is_sound(&self, runs: &[Run]) -> bool {
+    pub(crate) fn is_sound(&self, runs: &[Run]) -> bool {
         self.scoreboard.is_sound(runs)
     }
 
@@ -259,13 +259,13 @@ impl BufferHead {
     }
 
     /// Returns whether a position was reported.
-    pub fn contains(&self, runs: &[Run], pos: u64) -> bool {
+    pub(crate) fn contains(&self, runs: &[Run], pos: u64) -> bool {
         self.scoreboard.contains(runs, pos)
     }
 
     /// Takes an acknowledgement of all below `ack` that the sender takes, as `SendBufferOver::acknowledge` says.
     /// `numbers` are the sender's before that.
-    pub fn acknowledged(
+    pub(crate) fn acknowledged(
         &mut self,
         runs: &mut [Run],
         numbers: SentNumbers,
@@ -318,7 +318,7 @@ impl BufferHead {
     }
 
     /// Tells the recovery, if the first block reports what came twice.
-    pub fn note_duplicate(&mut self, numbers: SentNumbers, ack: u64, blocks: &[(u64, u64)]) {
+    pub(crate) fn note_duplicate(&mut self, numbers: SentNumbers, ack: u64, blocks: &[(u64, u64)]) {
         if is_duplicated(ack, blocks) {
             let (from, to) = blocks[0];
             self.recovery.came_twice(numbers, from..to);
@@ -326,19 +326,19 @@ impl BufferHead {
     }
 
     /// Returns whether the last recovery was for nothing, and ends it then.
-    pub fn take_back(&mut self, runs: &[Run], numbers: SentNumbers) -> bool {
+    pub(crate) fn take_back(&mut self, runs: &[Run], numbers: SentNumbers) -> bool {
         let board = self.board(runs);
         self.recovery.take_back(numbers, &board)
     }
 
     /// Finds what is overdue, where nothing was reported for two round trips, and returns whether a recovery begins.
-    pub fn find_overdue(&mut self, runs: &[Run], numbers: SentNumbers) -> bool {
+    pub(crate) fn find_overdue(&mut self, runs: &[Run], numbers: SentNumbers) -> bool {
         let board = self.board(runs);
         self.recovery.find_overdue(numbers, &board)
     }
 
     /// Returns what to send next below `limit`, as `SendBufferOver::next` says.
-    pub fn next(
+    pub(crate) fn next(
         &self,
         runs: &[Run],
         numbers: SentNumbers,
@@ -356,7 +356,7 @@ impl BufferHead {
     }
 
     /// Returns what a probe for an answer sends below `limit`, as `SendBufferOver::next_probe` says.
-    pub fn next_probe(
+    pub(crate) fn next_probe(
         &self,
         runs: &[Run],
         numbers: SentNumbers,
@@ -368,7 +368,7 @@ impl BufferHead {
     }
 
     /// Takes notice that a range is sent, as `SendBufferOver::mark` says. `numbers` are the sender's before that.
-    pub fn sent(&mut self, numbers: SentNumbers, from: u64, to: u64, sending: Sending) {
+    pub(crate) fn sent(&mut self, numbers: SentNumbers, from: u64, to: u64, sending: Sending) {
         match sending {
             Sending::Segment => self.recovery.sent(numbers, from..to),
             Sending::TailProbe => self.recovery.probed(numbers, from..to),

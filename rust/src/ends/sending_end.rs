@@ -325,7 +325,7 @@ impl<S: Storage<u8>, const N: usize> SendingEndOver<S, N> {
 
 impl SendingHead {
     /// Returns the rules of an end without a peer, of a stream that begins at position `first`.
-    pub const fn new_at(first: u64, first_timeout: Duration) -> Self {
+    pub(crate) const fn new_at(first: u64, first_timeout: Duration) -> Self {
         SendingHead {
             buffer: BufferHead::new_at(first),
             timer: RetransmissionTimer::new(first_timeout, false),
@@ -345,7 +345,7 @@ impl SendingHead {
     /// once, before anything is sent; a second time begins with another peer, and the timer runs if something is in
     /// flight.
     #[inline]
-    pub fn open(
+    pub(crate) fn open(
         &mut self,
         numbers: SentNumbers,
         first_timeout: Duration,
@@ -366,7 +366,7 @@ impl SendingHead {
 
     /// Begins again without a peer: the timer stops, unless something is in flight. What was written stays.
     #[inline]
-    pub fn forget(&mut self, numbers: SentNumbers, first_timeout: Duration, now: Instant) {
+    pub(crate) fn forget(&mut self, numbers: SentNumbers, first_timeout: Duration, now: Instant) {
         self.renew(numbers, first_timeout, false, now);
     }
 
@@ -383,7 +383,7 @@ impl SendingHead {
     /// Returns whether a SYN is to be sent now, the first one or one after a timeout, and starts the timer for the
     /// next. Ask it only until something is acknowledged, at which it doesn't look.
     #[inline]
-    pub fn is_opening_due(&mut self, bounds: TimeoutBounds, now: Instant) -> bool {
+    pub(crate) fn is_opening_due(&mut self, bounds: TimeoutBounds, now: Instant) -> bool {
         let is_first = self.timer.expires_at().is_none();
         let has_expired = self.timer.expire(bounds, now).is_some();
         self.timer.start(now);
@@ -396,7 +396,7 @@ impl SendingHead {
     /// A block counts that begins above the first number that isn't reported, has a number, and ends where something
     /// was sent and less than 2^32 above that one, if what is reported beyond that one is at most `N` runs then. Any
     /// other block says nothing.
-    pub fn acknowledged(
+    pub(crate) fn acknowledged(
         &mut self,
         runs: &mut [Run],
         numbers: SentNumbers,
@@ -494,7 +494,7 @@ impl SendingHead {
     /// Takes notice that the timer's probe is due, and returns what that means. Finds what is overdue, unless the
     /// peer's window is shut, or it reports nothing: then it is sent no probe.
     #[inline]
-    pub fn take_silence(&mut self, runs: &[Run], queued: Queued) -> Expired {
+    pub(crate) fn take_silence(&mut self, runs: &[Run], queued: Queued) -> Expired {
         self.is_window_probe_due = 0;
         self.is_overdue = 0;
         if self.buffer.recovery.is_blind() {
@@ -512,7 +512,7 @@ impl SendingHead {
     /// Takes notice that the timeout has passed, and returns what that means. Loses all that was sent and isn't
     /// reported.
     #[inline]
-    pub fn take_timeout(&mut self, queued: Queued) -> Expired {
+    pub(crate) fn take_timeout(&mut self, queued: Queued) -> Expired {
         self.buffer.recovery.lose_all(queued.numbers);
         self.is_window_probe_due = 1;
         self.is_overdue = 0;
@@ -613,7 +613,7 @@ impl SendingHead {
     /// it is all that is left, or half of the greatest window that the peer announced (RFC 9293, 3.8.6.2.1), and
     /// Nagle's rule doesn't have it wait. Once the timer has ended, the next segment isn't held back. While anything
     /// that was written isn't acknowledged, the timer runs.
-    pub fn next_segment(
+    pub(crate) fn next_segment(
         &mut self,
         runs: &[Run],
         queued: Queued,
@@ -642,7 +642,7 @@ impl SendingHead {
 
     /// Returns the smoothed time of a round trip, once there was a sample.
     #[must_use]
-    pub fn round_trip(&self) -> Option<Duration> {
+    pub(crate) fn round_trip(&self) -> Option<Duration> {
         match self.timer.rtt() {
             Some(estimate) => Some(estimate.srtt()),
             None => None,
@@ -652,14 +652,14 @@ impl SendingHead {
     /// Returns whether Nagle's rule is enabled.
     #[must_use]
     #[inline]
-    pub fn nagle_enabled(&self) -> bool {
+    pub(crate) fn nagle_enabled(&self) -> bool {
         self.no_delay == 0
     }
 
     /// Returns the most bytes of a segment.
     #[must_use]
     #[inline]
-    pub fn segment_size(&self) -> usize {
+    pub(crate) fn segment_size(&self) -> usize {
         self.segment_size.max(1)
     }
 
@@ -668,7 +668,7 @@ impl SendingHead {
     /// in a socket of smoltcp: the RFC wants it so. Disable it where few bytes are written at a time, and none of them
     /// is to wait.
     #[inline]
-    pub fn set_nagle_enabled(&mut self, enabled: bool) {
+    pub(crate) fn set_nagle_enabled(&mut self, enabled: bool) {
         self.no_delay = if enabled { 0 } else { 1 };
     }
 }

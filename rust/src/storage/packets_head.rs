@@ -59,7 +59,7 @@ pub struct FirstPacket {
 impl PacketsHead {
     /// Returns the head of a queue with no packets.
     #[inline]
-    pub const fn new() -> Self {
+    pub(crate) const fn new() -> Self {
         PacketsHead {
             slots: RingHead::new(),
             bytes: RingHead::new(),
@@ -68,7 +68,7 @@ impl PacketsHead {
 
     /// Returns whether the head is sound for `slot_count` slots and `capacity` bytes.
     #[inline]
-    pub fn is_sound(self, slot_count: usize, capacity: usize) -> bool {
+    pub(crate) fn is_sound(self, slot_count: usize, capacity: usize) -> bool {
         self.slots.is_sound(slot_count) && self.bytes.is_sound(capacity)
     }
 
@@ -147,7 +147,7 @@ impl PacketsHead {
     /// those of a ring of the slots and of one of the bytes; the packets and gaps of the slots in
     /// use take the bytes in use; each packet is contiguous; and a gap has bytes, ends at the
     /// storage's end and has a packet after it. It looks at each slot in use.
-    pub fn has_sound_slots(self, slots: &[PacketSlot], capacity: usize) -> bool {
+    pub(crate) fn has_sound_slots(self, slots: &[PacketSlot], capacity: usize) -> bool {
         if !self.is_sound(slots.len(), capacity) {
             return false;
         }
@@ -199,7 +199,7 @@ impl PacketsHead {
     /// Returns whether `first` can be the first slot in use: its bytes are used and contiguous, and
     /// a gap has some and ends at the storage's end.
     #[inline]
-    pub fn can_take(self, slot_count: usize, capacity: usize, first: &PacketSlot) -> bool {
+    pub(crate) fn can_take(self, slot_count: usize, capacity: usize, first: &PacketSlot) -> bool {
         let to_end = capacity - self.bytes.read_at;
         let fits = self.slots.length > 0 && first.size <= self.bytes.length && first.size <= to_end;
         fits && (first.is_gap == 0 || (first.size > 0 && first.size == to_end))
@@ -212,7 +212,7 @@ impl PacketsHead {
     ///
     /// The head is sound, and [`can_take`](PacketsHead::can_take) returns true.
     #[inline]
-    pub fn take_slot(&mut self, slot_count: usize, capacity: usize, first: &PacketSlot) -> usize {
+    pub(crate) fn take_slot(&mut self, slot_count: usize, capacity: usize, first: &PacketSlot) -> usize {
         self.take(slot_count, capacity, first.size)
     }
 
@@ -239,7 +239,7 @@ impl PacketsHead {
     /// Returns false, and changes nothing, if no slot is in use, if the last one is a gap's, or if
     /// its size is below `count` or above the number of bytes in use.
     #[inline]
-    pub fn shorten_last_in(
+    pub(crate) fn shorten_last_in(
         &mut self,
         slots: &mut [PacketSlot],
         capacity: usize,
@@ -258,7 +258,7 @@ impl PacketsHead {
 
     /// Appends a packet of `size` bytes as [`place`](PacketsHead::place) does, and writes its slots.
     #[inline]
-    pub fn enqueue(
+    pub(crate) fn enqueue(
         &mut self,
         slots: &mut [PacketSlot],
         capacity: usize,
@@ -274,7 +274,7 @@ impl PacketsHead {
     /// `None`, and nothing changes, if no slot is in use, or the first ones can't be those of a
     /// packet.
     #[inline]
-    pub fn dequeue(&mut self, slots: &[PacketSlot], capacity: usize) -> Option<FirstPacket> {
+    pub(crate) fn dequeue(&mut self, slots: &[PacketSlot], capacity: usize) -> Option<FirstPacket> {
         self.take_first(slots, capacity)
     }
 
@@ -282,7 +282,7 @@ impl PacketsHead {
     ///
     /// `None` if no slot is in use, or the first ones can't be those of a packet.
     #[inline]
-    pub fn peek(self, slots: &[PacketSlot], capacity: usize) -> Option<FirstPacket> {
+    pub(crate) fn peek(self, slots: &[PacketSlot], capacity: usize) -> Option<FirstPacket> {
         let mut head = self;
         head.dequeue(slots, capacity)
     }

@@ -39,7 +39,7 @@ pub struct Span {
 impl RingHead {
     /// Returns the head of an empty ring, which is sound for each storage.
     #[inline]
-    pub const fn new() -> Self {
+    pub(crate) const fn new() -> Self {
         RingHead {
             read_at: 0,
             length: 0,
@@ -49,7 +49,7 @@ impl RingHead {
     /// Returns whether the head is that of a ring of `capacity` elements: its read index is an
     /// index of the storage, or 0, and it has no more elements than the storage.
     #[inline]
-    pub fn is_sound(self, capacity: usize) -> bool {
+    pub(crate) fn is_sound(self, capacity: usize) -> bool {
         (self.read_at == 0 || self.read_at < capacity) && self.length <= capacity
     }
 
@@ -60,7 +60,7 @@ impl RingHead {
     ///
     /// The head is sound, and `offset` is at most `capacity`.
     #[inline]
-    pub fn index(self, capacity: usize, offset: usize) -> usize {
+    pub(crate) fn index(self, capacity: usize, offset: usize) -> usize {
         // Of seven elements, read from index 3 on, the offsets by index:
         // [ 4 5 6 0 1 2 3 ]
         let to_end = capacity - self.read_at;
@@ -98,20 +98,20 @@ impl RingHead {
     /// Returns where at most `size` free elements are, from the one at `offset` on; none if `offset`
     /// is past the free elements.
     #[inline]
-    pub fn unallocated(self, capacity: usize, offset: usize, size: usize) -> Span {
+    pub(crate) fn unallocated(self, capacity: usize, offset: usize, size: usize) -> Span {
         self.span(capacity, self.length, capacity - self.length, offset, size)
     }
 
     /// Returns where at most `size` elements of the queue are, from the one at `offset` on; none if
     /// `offset` is past the queue.
     #[inline]
-    pub fn allocated(self, capacity: usize, offset: usize, size: usize) -> Span {
+    pub(crate) fn allocated(self, capacity: usize, offset: usize, size: usize) -> Span {
         self.span(capacity, 0, self.length, offset, size)
     }
 
     /// Returns how many elements can be enqueued before the storage's end.
     #[inline]
-    pub fn contiguous_window(self, capacity: usize) -> usize {
+    pub(crate) fn contiguous_window(self, capacity: usize) -> usize {
         let to_end = capacity - self.read_at;
         if self.length < to_end {
             // The spare part wraps: [ . . a b c . . ], or begins at index 0: [ a b c . . . . ].
@@ -124,7 +124,7 @@ impl RingHead {
 
     /// Returns how many elements of the queue are contiguous, from the first one on.
     #[inline]
-    pub fn contiguous_queue(self, capacity: usize) -> usize {
+    pub(crate) fn contiguous_queue(self, capacity: usize) -> usize {
         self.length.min(capacity - self.read_at)
     }
 
@@ -136,7 +136,7 @@ impl RingHead {
     ///
     /// The head is sound, and `size` is at most `capacity`.
     #[inline]
-    pub fn last_dequeued_index(self, capacity: usize, size: usize) -> usize {
+    pub(crate) fn last_dequeued_index(self, capacity: usize, size: usize) -> usize {
         if size <= self.read_at {
             self.read_at - size
         } else {
@@ -156,7 +156,7 @@ impl RingHead {
     /// Moves the read index of an empty ring to the storage's beginning: then all its free elements
     /// are contiguous. Otherwise the head stays as it is.
     #[inline]
-    pub fn rewind_if_empty(&mut self) {
+    pub(crate) fn rewind_if_empty(&mut self) {
         if self.length == 0 {
             self.read_at = 0;
         }
@@ -168,7 +168,7 @@ impl RingHead {
     ///
     /// The head is sound, and `count` elements are free.
     #[inline]
-    pub fn enqueue(&mut self, capacity: usize, count: usize) {
+    pub(crate) fn enqueue(&mut self, capacity: usize, count: usize) {
         self.length += count;
         prove!(self.length <= capacity, "in any `usize`");
     }
@@ -179,7 +179,7 @@ impl RingHead {
     ///
     /// The head is sound, and `count` elements are queued.
     #[inline]
-    pub fn dequeue(&mut self, capacity: usize, count: usize) {
+    pub(crate) fn dequeue(&mut self, capacity: usize, count: usize) {
         self.read_at = self.index(capacity, count);
         self.length -= count;
     }
@@ -199,7 +199,7 @@ impl RingHead {
     ///
     /// `count` elements are queued.
     #[inline]
-    pub fn drop_last(&mut self, count: usize) {
+    pub(crate) fn drop_last(&mut self, count: usize) {
         self.length -= count;
     }
 
@@ -207,7 +207,7 @@ impl RingHead {
     ///
     /// An empty ring first moves its read index to the storage's beginning.
     #[inline]
-    pub fn enqueue_span(&mut self, capacity: usize, size: usize) -> Span {
+    pub(crate) fn enqueue_span(&mut self, capacity: usize, size: usize) -> Span {
         self.rewind_if_empty();
         let span = self.unallocated(capacity, 0, size);
         self.length += span.count;
@@ -235,7 +235,7 @@ impl RingHead {
 
     /// Dequeues as many elements as are queued, at most `size`, and returns where they are.
     #[inline]
-    pub fn dequeue_span(&mut self, capacity: usize, size: usize) -> Span {
+    pub(crate) fn dequeue_span(&mut self, capacity: usize, size: usize) -> Span {
         let span = self.allocated(capacity, 0, size);
         self.dequeue(capacity, span.count);
         span
@@ -263,7 +263,7 @@ impl RingHead {
     /// `offset` on, and returns how many; 0 if `offset` is past the free elements. Nothing is
     /// enqueued.
     #[inline]
-    pub fn write_unallocated<T: Copy>(self, storage: &mut [T], offset: usize, data: &[T]) -> usize {
+    pub(crate) fn write_unallocated<T: Copy>(self, storage: &mut [T], offset: usize, data: &[T]) -> usize {
         let span = self.unallocated(storage.len(), offset, data.len());
         write_span(storage, span, data);
         span.count
@@ -273,7 +273,7 @@ impl RingHead {
     /// the beginning of `into`, and returns how many; 0 if `offset` is past the queue. The rest of
     /// `into` stays as it is, and nothing is dequeued.
     #[inline]
-    pub fn read_allocated<T: Copy>(self, storage: &[T], offset: usize, into: &mut [T]) -> usize {
+    pub(crate) fn read_allocated<T: Copy>(self, storage: &[T], offset: usize, into: &mut [T]) -> usize {
         let span = self.allocated(storage.len(), offset, into.len());
         read_span(storage, span, into);
         span.count
@@ -284,7 +284,7 @@ impl RingHead {
     /// An empty ring first moves its read index to the storage's beginning, even if nothing is
     /// enqueued.
     #[inline]
-    pub fn enqueue_slice<T: Copy>(&mut self, storage: &mut [T], data: &[T]) -> usize {
+    pub(crate) fn enqueue_slice<T: Copy>(&mut self, storage: &mut [T], data: &[T]) -> usize {
         self.rewind_if_empty();
         let count = self.write_unallocated(storage, 0, data);
         self.enqueue(storage.len(), count);
@@ -294,7 +294,7 @@ impl RingHead {
     /// Dequeues as many elements as `into` has room for and are queued, copies them to the beginning
     /// of `into`, and returns how many. The rest of `into` stays as it is.
     #[inline]
-    pub fn dequeue_slice<T: Copy>(&mut self, storage: &[T], into: &mut [T]) -> usize {
+    pub(crate) fn dequeue_slice<T: Copy>(&mut self, storage: &[T], into: &mut [T]) -> usize {
         let count = self.read_allocated(storage, 0, into);
         self.dequeue(storage.len(), count);
         count

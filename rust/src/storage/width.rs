@@ -3,6 +3,6 @@
 
 /// Returns the greatest `usize`, which has at least 32 bits.
 #[inline(always)]
-pub const fn most() -> usize {
+pub(crate) const fn most() -> usize {
     usize::MAX
 }

@@ -171,7 +171,7 @@ impl FiniteReceiverHead {
     /// # Requires
     ///
     /// `first` is below `u64::MAX`: an end there would have no number after it.
-    pub const fn new(first: u64) -> Self {
+    pub(crate) const fn new(first: u64) -> Self {
         FiniteReceiverHead {
             receiver: ReceiverHead::new(first),
             after_end: 0,
@@ -181,7 +181,7 @@ impl FiniteReceiverHead {
     /// Returns whether this head, a storage of `capacity` bytes and runs are sound: they are those of
     /// a receiver, and the position after its last byte, held ones too, is at most the end, if that
     /// is known, and below 2^64 - 1. It looks at each held run, and at no byte.
-    pub fn is_sound(&self, capacity: usize, runs: &[Run]) -> bool {
+    pub(crate) fn is_sound(&self, capacity: usize, runs: &[Run]) -> bool {
         let end = end_or_max(self.after_end).min(NO_END - 1);
         self.receiver.is_sound(capacity, runs) && self.receiver.has_all_below(runs, end)
     }
@@ -192,7 +192,7 @@ impl FiniteReceiverHead {
     /// # Requires
     ///
     /// Head and runs are sound, as `is_sound` tests, with a storage of some length.
-    pub fn can_end(&self, runs: &[Run], pos: u64) -> bool {
+    pub(crate) fn can_end(&self, runs: &[Run], pos: u64) -> bool {
         can_end(&self.receiver, self.after_end, runs, pos)
     }
 
@@ -203,7 +203,7 @@ impl FiniteReceiverHead {
     ///
     /// Head, storage and runs are sound, as `is_sound` tests.
     #[inline]
-    pub fn keep(
+    pub(crate) fn keep(
         &mut self,
         storage: &mut [u8],
         runs: &mut [Run],
@@ -229,7 +229,7 @@ impl FiniteReceiverHead {
     /// The first missing position and the one after it fit 64 bits, as they do where head, storage
     /// and runs are sound.
     #[inline]
-    pub fn is_complete(&self) -> bool {
+    pub(crate) fn is_complete(&self) -> bool {
         self.receiver.next() == end_or_max(self.after_end)
     }
 
@@ -241,7 +241,7 @@ impl FiniteReceiverHead {
     /// The first missing position and the one after it fit 64 bits, as they do where head, storage
     /// and runs are sound.
     #[inline]
-    pub fn acknowledged(&self) -> u64 {
+    pub(crate) fn acknowledged(&self) -> u64 {
         acknowledged(self.receiver.next(), self.after_end)
     }
 
@@ -252,7 +252,7 @@ impl FiniteReceiverHead {
     /// The first missing position and the one after it fit 64 bits, as they do where head, storage
     /// and runs are sound.
     #[inline]
-    pub fn has_read_all(&self) -> bool {
+    pub(crate) fn has_read_all(&self) -> bool {
         self.receiver.first + self.receiver.count_read == end_or_max(self.after_end)
     }
 
@@ -265,7 +265,7 @@ impl FiniteReceiverHead {
     /// The first missing position and the one after it fit 64 bits, as they do where head, storage
     /// and runs are sound.
     #[inline]
-    pub fn window_end(&self, capacity: usize) -> Option<u64> {
+    pub(crate) fn window_end(&self, capacity: usize) -> Option<u64> {
         let end = self.receiver.window_end(capacity)?;
         Some(end.max(self.acknowledged()))
     }
@@ -278,7 +278,7 @@ impl FiniteReceiverHead {
     /// The queue is in the storage, and the first missing position fits 64 bits, as they do where
     /// head, storage and runs are sound.
     #[inline]
-    pub fn read(&mut self, storage: &[u8], into: &mut [u8]) -> usize {
+    pub(crate) fn read(&mut self, storage: &[u8], into: &mut [u8]) -> usize {
         self.receiver.read(storage, into)
     }
 
@@ -290,7 +290,7 @@ impl FiniteReceiverHead {
     /// The queue is in the storage, it has `count` bytes, and the first missing position fits 64
     /// bits, as they do where head, storage and runs are sound.
     #[inline]
-    pub fn remove(&mut self, capacity: usize, count: usize) {
+    pub(crate) fn remove(&mut self, capacity: usize, count: usize) {
         self.receiver.remove(capacity, count);
     }
 
@@ -303,7 +303,7 @@ impl FiniteReceiverHead {
     /// # Requires
     ///
     /// Head, storage and runs are sound, as `is_sound` tests.
-    pub fn count_new(&self, capacity: usize, runs: &[Run], position: u64, len: usize) -> usize {
+    pub(crate) fn count_new(&self, capacity: usize, runs: &[Run], position: u64, len: usize) -> usize {
         let count = count_below(self.after_end, position, len);
         self.receiver.count_part(capacity, runs, position, count)
     }

@@ -28,7 +28,7 @@ impl FiniteSenderHead {
     /// # Requires
     ///
     /// `first` is below `u64::MAX`: an end there would have no number after it.
-    pub const fn new(first: u64) -> Self {
+    pub(crate) const fn new(first: u64) -> Self {
         FiniteSenderHead {
             sender: SenderHead::new(first),
             closed: 0,
@@ -41,7 +41,7 @@ impl FiniteSenderHead {
     /// of a ring of as many; `closed` and `finished` are 0 or 1, and `finished` is 1 only if `closed`
     /// is and the queue is empty; and `sent` is from the first number that isn't acknowledged up to
     /// the number after the last one, which fits 64 bits.
-    pub fn is_sound(&self, capacity: usize) -> bool {
+    pub(crate) fn is_sound(&self, capacity: usize) -> bool {
         if !self.sender.is_sound(capacity) || self.closed > 1 || self.finished > self.closed {
             return false;
         }
@@ -62,7 +62,7 @@ impl FiniteSenderHead {
     ///
     /// It fits 64 bits, as it does where the head is sound.
     #[inline]
-    pub fn first_number(&self) -> u64 {
+    pub(crate) fn first_number(&self) -> u64 {
         self.sender.first_unacknowledged + self.finished
     }
 
@@ -72,7 +72,7 @@ impl FiniteSenderHead {
     ///
     /// It fits 64 bits, as it does where the head is sound.
     #[inline]
-    pub fn numbers_end(&self) -> u64 {
+    pub(crate) fn numbers_end(&self) -> u64 {
         self.sender.end() + self.closed
     }
 
@@ -83,7 +83,7 @@ impl FiniteSenderHead {
     ///
     /// The head is sound for a storage of `capacity` bytes, as in each call below that takes one.
     #[inline]
-    pub fn room(&self, capacity: usize) -> usize {
+    pub(crate) fn room(&self, capacity: usize) -> usize {
         if self.closed != 0 {
             return 0;
         }
@@ -94,7 +94,7 @@ impl FiniteSenderHead {
     /// Enqueues the first of these bytes, as many as `room` says, and returns how many. Unless the
     /// sender is closed, an empty queue is rewound before, also for no bytes.
     #[inline]
-    pub fn write(&mut self, storage: &mut [u8], bytes: &[u8]) -> usize {
+    pub(crate) fn write(&mut self, storage: &mut [u8], bytes: &[u8]) -> usize {
         if self.closed != 0 {
             return 0;
         }
@@ -104,7 +104,7 @@ impl FiniteSenderHead {
 
     /// Ends the stream after what was written. A second call changes nothing.
     #[inline]
-    pub fn close(&mut self) {
+    pub(crate) fn close(&mut self) {
         self.closed = 1;
     }
 
@@ -114,7 +114,7 @@ impl FiniteSenderHead {
     /// one, and `pos` plus the segment size another. A segment at `pos` without bytes that ends the
     /// stream is the end alone.
     #[inline]
-    pub fn peek_at(&self, capacity: usize, pos: u64, limit: u64) -> (Span, bool) {
+    pub(crate) fn peek_at(&self, capacity: usize, pos: u64, limit: u64) -> (Span, bool) {
         let room = limit
             .saturating_sub(pos)
             .min(self.sender.place.length as u64) as usize;
@@ -146,7 +146,7 @@ impl FiniteSenderHead {
     /// Notes that all numbers below `pos` were sent, the end's among them if `pos` is past it.
     /// Returns false, and changes nothing, if `pos` is above `numbers_end`.
     #[inline]
-    pub fn mark_sent(&mut self, capacity: usize, pos: u64) -> bool {
+    pub(crate) fn mark_sent(&mut self, capacity: usize, pos: u64) -> bool {
         if pos > self.numbers_end() {
             return false;
         }
@@ -157,7 +157,7 @@ impl FiniteSenderHead {
     /// Drops the bytes below `next`, and notes that the end is acknowledged if `next` is past it.
     /// Returns false, and changes nothing, if `next` is below `first_number` or above what was sent.
     #[inline]
-    pub fn acknowledge(&mut self, capacity: usize, next: u64) -> bool {
+    pub(crate) fn acknowledge(&mut self, capacity: usize, next: u64) -> bool {
         if next < self.first_number() || next > self.sent {
             return false;
         }
@@ -168,13 +168,13 @@ impl FiniteSenderHead {
 
     /// Returns whether the sender is closed.
     #[inline]
-    pub fn is_closed(&self) -> bool {
+    pub(crate) fn is_closed(&self) -> bool {
         self.closed == 1
     }
 
     /// Returns whether all bytes and the end are acknowledged. Once it is so it stays so.
     #[inline]
-    pub fn is_closed_and_acknowledged(&self) -> bool {
+    pub(crate) fn is_closed_and_acknowledged(&self) -> bool {
         self.finished == 1
     }
 }

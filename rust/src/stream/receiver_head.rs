@@ -34,7 +34,7 @@ pub struct ReceiverHead {
 impl ReceiverHead {
     /// Returns the head of a receiver of a stream that begins at position `first`; nothing is read,
     /// queued or held. It is sound with every storage and all runs.
-    pub const fn new(first: u64) -> Self {
+    pub(crate) const fn new(first: u64) -> Self {
         ReceiverHead {
             first,
             count_read: 0,
@@ -66,7 +66,7 @@ impl ReceiverHead {
     /// missing position fits 64 bits; `held` and the runs are those of an assembler without
     /// position 0; and each held position is in the free window, and the one after it fits 64 bits.
     /// It looks at each held run, and at no byte.
-    pub fn is_sound(&self, capacity: usize, runs: &[Run]) -> bool {
+    pub(crate) fn is_sound(&self, capacity: usize, runs: &[Run]) -> bool {
         if !self.place.is_sound(capacity) {
             return false;
         }
@@ -131,7 +131,7 @@ impl ReceiverHead {
     /// Head, storage and runs are sound, as `is_sound` tests, and the segment ends within 64 bits,
     /// as `ReceiverOver::fits` tests.
     #[inline(always)]
-    pub fn keep(
+    pub(crate) fn keep(
         &mut self,
         storage: &mut [u8],
         runs: &mut [Run],
@@ -195,7 +195,7 @@ impl ReceiverHead {
     /// The queue is in the storage, and the first missing position fits 64 bits, as they do where
     /// head, storage and runs are sound.
     #[inline]
-    pub fn read(&mut self, storage: &[u8], into: &mut [u8]) -> usize {
+    pub(crate) fn read(&mut self, storage: &[u8], into: &mut [u8]) -> usize {
         let count = self.place.dequeue_slice(storage, into);
         self.count_read += count as u64;
         count
@@ -250,7 +250,7 @@ impl ReceiverHead {
     /// The queue is in the storage, it has `count` bytes, and the first missing position fits 64
     /// bits.
     #[inline]
-    pub fn remove(&mut self, capacity: usize, count: usize) {
+    pub(crate) fn remove(&mut self, capacity: usize, count: usize) {
         self.place.dequeue(capacity, count);
         self.count_read += count as u64;
     }
@@ -262,7 +262,7 @@ impl ReceiverHead {
     ///
     /// The sum fits 64 bits, as it does where head, storage and runs are sound.
     #[inline(always)]
-    pub fn next(&self) -> u64 {
+    pub(crate) fn next(&self) -> u64 {
         self.first + self.count_read + self.place.length as u64
     }
 
@@ -279,14 +279,14 @@ impl ReceiverHead {
     ///
     /// No more is queued than the capacity, as is so where head, storage and runs are sound.
     #[inline(always)]
-    pub fn window(&self, capacity: usize) -> usize {
+    pub(crate) fn window(&self, capacity: usize) -> usize {
         capacity - self.place.length
     }
 
     /// Returns the end of the free window, where the storage has `capacity` bytes: the first
     /// position for which there is no room. `None` if it doesn't fit 64 bits.
     #[inline(always)]
-    pub fn window_end(&self, capacity: usize) -> Option<u64> {
+    pub(crate) fn window_end(&self, capacity: usize) -> Option<u64> {
         let read = self.first.checked_add(self.count_read)?;
         read.checked_add(capacity as u64)
     }
@@ -297,7 +297,7 @@ impl ReceiverHead {
     ///
     /// Head and runs are sound, as `is_sound` tests, with a storage of some length.
     #[inline(always)]
-    pub fn held<'a>(&self, runs: &'a [Run]) -> HeldRunIter<'a> {
+    pub(crate) fn held<'a>(&self, runs: &'a [Run]) -> HeldRunIter<'a> {
         HeldRunIter::over(self.held.iter_data(runs), self.next())
     }
 
@@ -321,7 +321,7 @@ impl ReceiverHead {
     /// # Requires
     ///
     /// Head and runs are sound, as `is_sound` tests, with a storage of some length.
-    pub fn newest_runs(
+    pub(crate) fn newest_runs(
         &self,
         runs: &[Run],
         position: u64,
@@ -394,7 +394,7 @@ impl ReceiverHead {
     /// # Requires
     ///
     /// Head and runs are sound, as `is_sound` tests, with a storage of some length.
-    pub fn duplicate_of(&self, runs: &[Run], pos: u64, end: u64) -> Option<(u64, u64)> {
+    pub(crate) fn duplicate_of(&self, runs: &[Run], pos: u64, end: u64) -> Option<(u64, u64)> {
         let next = self.next();
         let start = pos.max(self.first);
         let stop = end.min(next);

@@ -45,7 +45,7 @@ impl<const N: usize> Reported for Scoreboard<N> {
 }
 
 /// A scoreboard whose runs are lent, for reading.
-pub struct LentScoreboard<'a> {
+pub(crate) struct LentScoreboard<'a> {
     head: ScoreboardHead,
     runs: &'a [Run],
 }

@@ -41,7 +41,7 @@ pub struct ScoreboardHead {
 impl ScoreboardHead {
     /// Returns a scoreboard of a stream that begins at position `first`, to which nothing was reported,
     /// whatever its runs. All positions below `first` count as reported.
-    pub const fn new_at(first: u64) -> Self {
+    pub(crate) const fn new_at(first: u64) -> Self {
         ScoreboardHead {
             base: first,
             reported: AssemblerHead::new(),
@@ -62,7 +62,7 @@ impl ScoreboardHead {
     /// Returns whether the scoreboard is sound with these runs, for any numbers in both: `reported`
     /// and they are those of an assembler, `base` isn't reported, and each end fits 64 bits. It
     /// looks at each used run.
-    pub fn is_sound(&self, runs: &[Run]) -> bool {
+    pub(crate) fn is_sound(&self, runs: &[Run]) -> bool {
         if !self.reported.is_sound(runs) {
             return false;
         }
@@ -87,7 +87,7 @@ impl ScoreboardHead {
     /// # Requires
     ///
     /// The scoreboard is sound with the runs.
-    pub fn report(
+    pub(crate) fn report(
         &mut self,
         runs: &mut [Run],
         start: u64,
@@ -117,7 +117,7 @@ impl ScoreboardHead {
     /// # Requires
     ///
     /// The scoreboard is sound with the runs.
-    pub fn acknowledge(&mut self, runs: &mut [Run], next: u64) {
+    pub(crate) fn acknowledge(&mut self, runs: &mut [Run], next: u64) {
         if next <= self.base {
             return;
         }
@@ -129,7 +129,7 @@ impl ScoreboardHead {
     }
 
     /// Returns the first position that wasn't reported.
-    pub fn first_unreported(&self) -> u64 {
+    pub(crate) fn first_unreported(&self) -> u64 {
         self.base
     }
 
@@ -138,7 +138,7 @@ impl ScoreboardHead {
     /// # Requires
     ///
     /// The scoreboard is sound with the runs.
-    pub fn contains(&self, runs: &[Run], pos: u64) -> bool {
+    pub(crate) fn contains(&self, runs: &[Run], pos: u64) -> bool {
         if pos < self.base {
             return true;
         }
@@ -165,7 +165,7 @@ impl ScoreboardHead {
     /// # Requires
     ///
     /// The scoreboard is sound with the runs.
-    pub fn highest_reported(&self, runs: &[Run]) -> u64 {
+    pub(crate) fn highest_reported(&self, runs: &[Run]) -> u64 {
         self.base + self.reported.end(runs) as u64
     }
 
@@ -174,7 +174,7 @@ impl ScoreboardHead {
     /// # Requires
     ///
     /// The scoreboard is sound with the runs.
-    pub fn first_missing(&self, runs: &[Run], pos: u64) -> u64 {
+    pub(crate) fn first_missing(&self, runs: &[Run], pos: u64) -> u64 {
         let from = pos.max(self.base);
         let missing = self.reported.first_missing(runs, self.offset_of(from));
         from.max(self.base + missing as u64)
@@ -186,7 +186,7 @@ impl ScoreboardHead {
     /// # Requires
     ///
     /// The scoreboard is sound with the runs.
-    pub fn missing_between(&self, runs: &[Run], start: u64, end: u64) -> u64 {
+    pub(crate) fn missing_between(&self, runs: &[Run], start: u64, end: u64) -> u64 {
         let from = start.max(self.base);
         let reported = self
             .reported
@@ -211,7 +211,7 @@ impl ScoreboardHead {
     /// # Requires
     ///
     /// The scoreboard is sound with the runs.
-    pub fn lost_below(&self, runs: &[Run], duplicates: usize, segment_size: usize) -> u64 {
+    pub(crate) fn lost_below(&self, runs: &[Run], duplicates: usize, segment_size: usize) -> u64 {
         let most = (duplicates.saturating_sub(1) as u64).saturating_mul(segment_size as u64);
         let used = self.reported.used;
         let enough = duplicates.max(1);
@@ -238,7 +238,7 @@ impl ScoreboardHead {
     /// # Requires
     ///
     /// The scoreboard is sound with the runs.
-    pub fn next_hole(&self, runs: &[Run], pos: u64, limit: u64) -> (u64, u64) {
+    pub(crate) fn next_hole(&self, runs: &[Run], pos: u64, limit: u64) -> (u64, u64) {
         let from = pos.max(self.base);
         let (start, end) = self.reported.next_hole(runs, self.offset_of(from));
         let start = from.max(self.base + start as u64).min(limit);

@@ -49,7 +49,7 @@ pub struct AssemblerHead {
 
 impl AssemblerHead {
     /// Returns the head of an assembler with no position, whatever its runs.
-    pub const fn new() -> Self {
+    pub(crate) const fn new() -> Self {
         AssemblerHead {
             used: 0,
             first_start: 0,
@@ -59,7 +59,7 @@ impl AssemblerHead {
     /// Returns whether the head is sound with these runs, for any numbers in both: there are `used`
     /// runs, which rise, with a hole between neighbours; the first starts at 0; and each end is a
     /// `usize` with `first_start` added, too. It looks at each used run.
-    pub fn is_sound(&self, runs: &[Run]) -> bool {
+    pub(crate) fn is_sound(&self, runs: &[Run]) -> bool {
         if self.used > runs.len() {
             return false;
         }
@@ -85,7 +85,7 @@ impl AssemblerHead {
     ///
     /// The head is sound with the runs, as `is_sound` tests.
     #[inline(always)]
-    pub fn peek_front(&self, runs: &[Run]) -> usize {
+    pub(crate) fn peek_front(&self, runs: &[Run]) -> usize {
         if self.first_start != 0 {
             return 0;
         }
@@ -94,19 +94,19 @@ impl AssemblerHead {
 
     /// Returns whether no position is present.
     #[inline]
-    pub fn is_empty(&self) -> bool {
+    pub(crate) fn is_empty(&self) -> bool {
         self.used == 0
     }
 
     /// Returns how many maximal runs there are: `used`.
     #[inline]
-    pub fn run_count(&self) -> usize {
+    pub(crate) fn run_count(&self) -> usize {
         self.used
     }
 
     /// Returns whether `offset + size` fits `usize`, which all calls that add a range require.
     #[inline]
-    pub fn fits(offset: usize, size: usize) -> bool {
+    pub(crate) fn fits(offset: usize, size: usize) -> bool {
         offset <= most() && size <= most() - offset
     }
 
@@ -121,7 +121,7 @@ impl AssemblerHead {
     /// The head is sound with the runs, as `is_sound` tests, and the range ends at a `usize`, as
     /// `fits` tests.
     #[inline(never)]
-    pub fn add(
+    pub(crate) fn add(
         &mut self,
         runs: &mut [Run],
         offset: usize,
@@ -173,7 +173,7 @@ impl AssemblerHead {
     ///
     /// The head is sound with the runs, as `is_sound` tests.
     #[inline(always)]
-    pub fn remove_front(&mut self, runs: &mut [Run]) -> usize {
+    pub(crate) fn remove_front(&mut self, runs: &mut [Run]) -> usize {
         if self.first_start != 0 || self.used == 0 {
             return 0;
         }
@@ -188,7 +188,7 @@ impl AssemblerHead {
     /// # Requires
     ///
     /// The head is sound with the runs, as `is_sound` tests.
-    pub fn shift(&mut self, runs: &mut [Run], count: usize) {
+    pub(crate) fn shift(&mut self, runs: &mut [Run], count: usize) {
         // All runs are at or after `count`.
         if count <= self.first_start {
             self.first_start -= count;
@@ -222,7 +222,7 @@ impl AssemblerHead {
     /// The head is sound with the runs, as `is_sound` tests, and the range ends at a `usize`, as
     /// `fits` tests.
     #[inline(always)]
-    pub fn add_then_remove_front(
+    pub(crate) fn add_then_remove_front(
         &mut self,
         runs: &mut [Run],
         offset: usize,
@@ -255,7 +255,7 @@ impl AssemblerHead {
     ///
     /// The head is sound with the runs, as `is_sound` tests.
     #[inline]
-    pub fn iter_data<'a>(&self, runs: &'a [Run]) -> RunIter<'a> {
+    pub(crate) fn iter_data<'a>(&self, runs: &'a [Run]) -> RunIter<'a> {
         RunIter::over(&runs[..self.used], self.first_start)
     }
 
@@ -266,7 +266,7 @@ impl AssemblerHead {
     ///
     /// The head is sound with the runs, as `is_sound` tests.
     #[inline]
-    pub fn run_at(&self, runs: &[Run], k: usize) -> Option<(usize, usize)> {
+    pub(crate) fn run_at(&self, runs: &[Run], k: usize) -> Option<(usize, usize)> {
         if k < self.used {
             let start = self.first_start + start_of(runs, k);
             let end = self.first_start + end_of(runs, k);
@@ -283,7 +283,7 @@ impl AssemblerHead {
     /// # Requires
     ///
     /// The head is sound with the runs, as `is_sound` tests.
-    pub fn contains(&self, runs: &[Run], position: usize) -> bool {
+    pub(crate) fn contains(&self, runs: &[Run], position: usize) -> bool {
         position < self.end_of_first(runs, self.runs_by(runs, position))
     }
 
@@ -293,7 +293,7 @@ impl AssemblerHead {
     /// # Requires
     ///
     /// The head is sound with the runs, as `is_sound` tests.
-    pub fn runs_by(&self, runs: &[Run], position: usize) -> usize {
+    pub(crate) fn runs_by(&self, runs: &[Run], position: usize) -> usize {
         if position < self.first_start {
             return 0;
         }
@@ -306,7 +306,7 @@ impl AssemblerHead {
     /// # Requires
     ///
     /// The head is sound with the runs, as `is_sound` tests.
-    pub fn end(&self, runs: &[Run]) -> usize {
+    pub(crate) fn end(&self, runs: &[Run]) -> usize {
         self.end_of_first(runs, self.used)
     }
 
@@ -315,7 +315,7 @@ impl AssemblerHead {
     /// # Requires
     ///
     /// The head is sound with the runs, as `is_sound` tests.
-    pub fn first_missing(&self, runs: &[Run], position: usize) -> usize {
+    pub(crate) fn first_missing(&self, runs: &[Run], position: usize) -> usize {
         position.max(self.end_of_first(runs, self.runs_by(runs, position)))
     }
 
@@ -325,7 +325,7 @@ impl AssemblerHead {
     /// # Requires
     ///
     /// The head is sound with the runs, as `is_sound` tests.
-    pub fn next_hole(&self, runs: &[Run], position: usize) -> (usize, Option<usize>) {
+    pub(crate) fn next_hole(&self, runs: &[Run], position: usize) -> (usize, Option<usize>) {
         let count = self.runs_by(runs, position);
         let start = position.max(self.end_of_first(runs, count));
         if count == self.used {
@@ -342,7 +342,7 @@ impl AssemblerHead {
     /// # Requires
     ///
     /// The head is sound with the runs, as `is_sound` tests.
-    pub fn count_between(&self, runs: &[Run], start: usize, end: usize) -> usize {
+    pub(crate) fn count_between(&self, runs: &[Run], start: usize, end: usize) -> usize {
         let from = start.saturating_sub(self.first_start);
         let to = end.saturating_sub(self.first_start);
         let first = self.runs_by(runs, start).saturating_sub(1);
@@ -394,7 +394,7 @@ impl AssemblerHead {
     /// # Requires
     ///
     /// The head is sound with the runs, as `is_sound` tests.
-    pub fn hole_at(&self, runs: &[Run], k: usize) -> Option<(usize, usize)> {
+    pub(crate) fn hole_at(&self, runs: &[Run], k: usize) -> Option<(usize, usize)> {
         if self.first_start == 0 {
             return self.hole_after(runs, k);
         }
@@ -413,7 +413,7 @@ impl AssemblerHead {
     /// # Requires
     ///
     /// Both heads are sound with their runs, as `is_sound` tests.
-    pub fn is_same(&self, runs: &[Run], other: &AssemblerHead, other_runs: &[Run]) -> bool {
+    pub(crate) fn is_same(&self, runs: &[Run], other: &AssemblerHead, other_runs: &[Run]) -> bool {
         if self.used == 0 {
             return other.used == 0;
         }

@@ -34,7 +34,7 @@ pub struct FragmentsHead {
 impl FragmentsHead {
     /// Returns the head of an empty buffer, whose packet is waited for up to `expires_at`, in
     /// microseconds. It is sound for any memory.
-    pub const fn new(expires_at: i64) -> Self {
+    pub(crate) const fn new(expires_at: i64) -> Self {
         FragmentsHead {
             present: AssemblerHead::new(),
             has_total: 0,
@@ -51,7 +51,7 @@ impl FragmentsHead {
     /// Returns whether head and runs are those of a buffer of `capacity` bytes, for any numbers: `present` and the runs
     /// are those of an assembler, which end at `capacity` or below, and at a known size or below, which is at most
     /// `capacity`. It looks at each used run.
-    pub fn is_sound(&self, capacity: usize, runs: &[Run]) -> bool {
+    pub(crate) fn is_sound(&self, capacity: usize, runs: &[Run]) -> bool {
         let limit = self.limit(capacity);
         if limit > capacity || !self.present.is_sound(runs) {
             return false;
@@ -87,7 +87,7 @@ impl FragmentsHead {
     /// # Requires
     ///
     /// Head, bytes and runs are those of a buffer.
-    pub fn add(
+    pub(crate) fn add(
         &mut self,
         bytes: &mut [u8],
         runs: &mut [Run],
@@ -170,7 +170,7 @@ impl FragmentsHead {
     /// # Requires
     ///
     /// The runs are sound.
-    pub fn set_total_size(
+    pub(crate) fn set_total_size(
         &mut self,
         capacity: usize,
         runs: &[Run],
@@ -201,7 +201,7 @@ impl FragmentsHead {
     /// # Requires
     ///
     /// The runs are sound.
-    pub fn overlaps(&self, runs: &[Run], offset: usize, len: usize) -> bool {
+    pub(crate) fn overlaps(&self, runs: &[Run], offset: usize, len: usize) -> bool {
         let (missing, end) = self.present.next_hole(runs, offset);
         if offset < missing {
             return len > 0;
@@ -218,7 +218,7 @@ impl FragmentsHead {
     /// # Requires
     ///
     /// Head, bytes and runs are those of a buffer.
-    pub fn differs(&self, bytes: &[u8], runs: &[Run], offset: usize, data: &[u8]) -> bool {
+    pub(crate) fn differs(&self, bytes: &[u8], runs: &[Run], offset: usize, data: &[u8]) -> bool {
         // The runs before the last one that starts by `offset` end by then.
         let first = self.present.runs_by(runs, offset).saturating_sub(1);
         for k in first..self.present.run_count() {
@@ -241,7 +241,7 @@ impl FragmentsHead {
     /// # Requires
     ///
     /// The runs are sound.
-    pub fn complete(&self, runs: &[Run]) -> Option<usize> {
+    pub(crate) fn complete(&self, runs: &[Run]) -> Option<usize> {
         if self.has_total == 0 || self.present.peek_front(runs) < self.total {
             return None;
         }
@@ -249,7 +249,7 @@ impl FragmentsHead {
     }
 
     /// Returns whether `now` is after the last moment at which the packet is waited for.
-    pub fn is_expired(&self, now: i64) -> bool {
+    pub(crate) fn is_expired(&self, now: i64) -> bool {
         self.expires_at < now
     }
 }
