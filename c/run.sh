@@ -64,7 +64,7 @@ echo "header: $(wc -l < "$out/declared") exports"
 at="layouts: a field of a struct isn't where Rust has it"
 "$compiler" -I "$here" "$out/layouts.c" -o "$out/layouts"
 "$out/layouts" > "$out/layouts.rs"
-crate=$(ls -t "$target"/release/deps/libnet_base-*.rlib | head -n 1)
+crate=$(ls -t "$target"/release/deps/libnet_base_exports-*.rlib | head -n 1)
 rustc --edition 2024 --crate-type rlib --emit metadata -C panic=abort --extern "proved=$crate" \
     "$out/layouts.rs" -o "$out/layouts.rmeta"
 echo "layouts: $(grep -c 'offset_of!(' "$out/layouts.rs") fields of $(grep -c 'size_of::' "$out/layouts.rs") structs"

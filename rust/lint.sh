@@ -1,16 +1,21 @@
 #!/bin/sh
 # No difference by rustfmt and no warning of rustc or clippy, with each set of features; of clippy's pedantic lints
-# those about `must_use`. So nothing of the erased text is dead where the exports for C are there: what `UNCALLED` of
-# tools/parts/erase_list.py lacks is named here. Of the program the example is looked at, and its test.
+# those about `must_use`. So nothing of the erased text is dead where the exports for C are there, in the crate
+# `exports`: what `UNCALLED` of tools/parts/erase_list.py lacks is named here. Of the program the example is looked at,
+# and its test.
 set -eu
 cd "$(dirname "$0")"
-for folder in . ../c ../compare; do
+for folder in . exports ../c ../compare; do
     (cd "$folder" && cargo fmt --check)
 done
 (cd ../tools/growth && cargo fmt --check -- --config-path ../../rust)
 for features in "" "--no-default-features" "--no-default-features --features alloc" "--all-features"; do
     # shellcheck disable=SC2086
     cargo clippy --offline --quiet --all-targets $features -- -D warnings
+done
+for features in "" "--features segmentation-offload,std"; do
+    # shellcheck disable=SC2086
+    cargo clippy --offline --quiet --package net-base-exports $features -- -D warnings
 done
 cargo clippy --offline --quiet --features segmentation-offload -- -D warnings \
     -D clippy::must_use_candidate -D clippy::return_self_not_must_use

@@ -1,7 +1,7 @@
 #!/bin/sh
 # Packs the crate, and builds and tests it from the archive, where each file that README links or names has to be: the
 # library's own tests, its examples, those of the documentation, and what must not compile. Then the folder `tests`, which
-# the archive lacks, is laid into it, with the manifest as it is here.
+# the archive lacks, is laid into it, with the manifest as it is here, without the workspace's other crate.
 set -eu
 cd "$(dirname "$0")"
 here=$PWD
@@ -11,6 +11,7 @@ cargo package --offline --quiet --allow-dirty --no-verify --target-dir "$out/tar
 # As new files: an archive's have one time, by which cargo would take what it built of an earlier text.
 tar -xmzf "$out"/target/package/net-base-*.crate -C "$out"
 cd "$out"/net-base-*
+[ -z "$(find . -name '*exports*')" ] || { echo "package: the archive has exports for C" >&2; exit 1; }
 names=$(sed -n 's/.*--example \([a-z]*\).*/examples\/\1*/p; s/.*`sh \(examples[^ `]*\).*/\1/p' README.md)
 links=$(grep -oh '](\([^)#:]*\)' README.md CHANGELOG.md | cut -c3-)
 for file in $names $links; do
@@ -36,5 +37,5 @@ for example in stream quic_stream transfer reassembly bridge interrupt split_rin
 done
 sh "$here/examples/net_bench/run.sh" "$CARGO_TARGET_DIR/debug/examples/net_bench"
 cp -r "$here/tests" .
-mv Cargo.toml.orig Cargo.toml
+sed '/^members/d' Cargo.toml.orig > Cargo.toml
 cargo test --offline --quiet --tests

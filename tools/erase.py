@@ -402,7 +402,8 @@ def exported():
     for file in OUT.rglob('*.rs'):
         text = file.read_text()
         if not text.startswith(WRITTEN):
-            path = [part for part in file.relative_to(OUT).with_suffix('').parts if part not in ('mod', 'lib')]
+            path = [part for part in file.relative_to(OUT).with_suffix('').parts
+                    if part not in ('mod', 'lib', 'with_exports')]
             uses = re.findall(r'^pub use ([^;]*);', text, re.M)
             (of_exports if path == ['exports'] else names).update(name for use in uses for name in leaves(use))
             modules |= {'/'.join([*path, name]) for name in re.findall(r'^ *pub mod (\w+);', text, re.M)} | \

@@ -71,7 +71,7 @@ def erased(crate, found):
             (out / f'{name}.rs').write_text(erase.relocated(eraser.run()))
         except erase.Refused as refused:
             found[name] = f'eraser: {refused}'
-    library = crate / 'src/lib.rs'
+    library = crate / 'src/with_exports.rs'
     library.write_text(library.read_text() + '\nerased! {\n    pub(crate) mod planted;\n}\n')
     return out
 
@@ -92,12 +92,12 @@ def compiled(crate, kit, target, out, found):
 
 def runs(crate, target, names):
     """Which of the texts do in Rust what was proved."""
-    library = crate / 'src/lib.rs'
+    library = crate / 'src/with_exports.rs'
     library.write_text(library.read_text() + '\n#[cfg(test)]\n#[allow(warnings)]\nmod planted_texts {\n' + ''.join(
         f'    #[test]\n    fn {name}() {{\n        use crate::planted::{name}::*;\n        assert!({value});\n    }}\n'
         for name, value, *_ in TEXTS if name in names) + '}\n')
-    ran = subprocess.run(['cargo', 'test', '--offline', '--lib', '--features', 'segmentation-offload,c',
-                          'planted_texts'],
+    ran = subprocess.run(['cargo', 'test', '--offline', '--lib', '--package', 'net-base-exports', '--features',
+                          'segmentation-offload,std', 'planted_texts'],
                          cwd=crate, env=os.environ | {'CARGO_TARGET_DIR': str(target)}, capture_output=True, text=True)
     told = dict(re.findall(r'test planted_texts::(\w+) \.\.\. (\w+)', ran.stdout))
     if told.keys() != set(names):

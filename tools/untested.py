@@ -38,7 +38,7 @@ def public(folder):
             of |= {k: ("", False) for k in inner["items"]}
     for it in index.values():
         subject, is_own = of.get(it["id"], ("", it["visibility"] == "public"))
-        if "function" in it["inner"] and is_own and it["span"] and "src/exports/" not in it["span"]["filename"]:
+        if "function" in it["inner"] and is_own and it["span"]:
             yield f"{subject}::{it['name']}", it["span"]["filename"], it["span"]["begin"][0] - 1, it["docs"] or ""
 
 

@@ -521,8 +521,10 @@ def kit_of(folders, temporary):
 def rustc(crate, kit, target, what='--lib', **options):
     """Compiles an erased crate, with its exports for C, or an example of it."""
     environment = dict(os.environ, RUSTC=str(kit / 'rustc'), RUSTC_BOOTSTRAP='1', CARGO_TARGET_DIR=str(target))
-    words = ['cargo', 'rustc', '--offline', '--quiet', what, '--features', 'segmentation-offload,c', '--', *FLAGS]
-    return subprocess.run(words, cwd=crate, env=environment, **options)
+    package, named = (['--package', 'net-base-exports'], ['--remap-path-prefix=exports/../src=src']) \
+        if what == '--lib' else ([], [])
+    words = ['cargo', 'rustc', '--offline', '--quiet', what, *package, '--features', 'segmentation-offload,std']
+    return subprocess.run([*words, '--', *FLAGS, *named], cwd=crate, env=environment, **options)
 
 
 def mir_of(target, folder='deps'):

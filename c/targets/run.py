@@ -214,7 +214,7 @@ class Library:
         if status:
             raise Failed(f"cargo: {said[:1500]}")
         self.path = built / way.target / profile / "libnet_base.a"
-        self.crate = next((self.path.parent / "deps").glob("libnet_base-*.rlib"))
+        self.crate = next((self.path.parent / "deps").glob("libnet_base_exports-*.rlib"))
         members = [it for it in shell([way.tool("ar"), "t", self.path])[1].split() if it.startswith("net_base")]
         if len(members) != 1:
             raise Failed(f"the library has {len(members)} objects of its own")

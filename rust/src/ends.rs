@@ -23,13 +23,13 @@ pub use receiving_end::{Acknowledgement, ReceivingEnd, ReceivingEndOver};
 pub use send_buffer::{AckKind, SendBuffer, SendBufferOver, Sending, TakenAck};
 pub use sending_end::{Acknowledged, Expired, Outgoing, SendingEnd, SendingEndOver};
 
-// Names for the exports alone.
-#[cfg(feature = "c")]
-pub(crate) use receiving_end::{ReceivingHead, Room};
-#[cfg(feature = "c")]
-pub(crate) use send_buffer::Queued;
-#[cfg(feature = "c")]
-pub(crate) use sending_end::SendingHead;
+// Names for the exports for C alone.
+#[allow(unused_imports)]
+pub(crate) use {
+    receiving_end::{ReceivingHead, Room},
+    send_buffer::Queued,
+    sending_end::SendingHead,
+};
 
 impl<'a, const N: usize> SendBuffer<'a, N> {
     /// Returns what `over_at` does.

@@ -1,4 +1,4 @@
-//! The exports for C, over references and slices, and their structs: for the crate in `c` alone.
+//! The exports for C, over references and slices, and their structs.
 erased! {
     pub mod answer_limit;
     pub mod finite_receiver;

@@ -65,8 +65,8 @@ extern crate std;
 compile_error!("a `usize` has 32 or 64 bits");
 
 /// Declares modules that `tools/erase.py` writes, the proved text, which rustfmt leaves as it is. A parameter may be for
-/// contracts alone; the other lints are of what Rattle has no other form for. Some calls and names are for two features
-/// alone.
+/// contracts alone; the other lints are of what Rattle has no other form for. Some calls and names are for the exports
+/// for C alone, which are no part of this crate: what `with_exports.rs` lacks of these three lints holds.
 macro_rules! erased {
     ($($visibility:vis mod $name:ident;)*) => {$(
         #[allow(unused_variables)]
@@ -75,10 +75,7 @@ macro_rules! erased {
         #[allow(clippy::needless_range_loop, clippy::new_without_default, clippy::precedence)]
         #[allow(clippy::question_mark, clippy::redundant_closure)]
         #[allow(clippy::redundant_pattern_matching, clippy::too_many_arguments)]
-        #[cfg_attr(
-            not(all(feature = "c", feature = "segmentation-offload")),
-            allow(dead_code, unreachable_pub, unused_imports)
-        )]
+        #[allow(dead_code, unreachable_pub, unused_imports)]
         $visibility mod $name;
     )*};
 }
@@ -103,11 +100,6 @@ pub mod time;
 erased! {
     pub mod rand;
 }
-
-#[cfg(feature = "c")]
-#[doc(hidden)]
-#[allow(missing_docs)]
-pub mod exports;
 
 #[cfg(doctest)]
 #[doc = include_str!("refused.txt")]

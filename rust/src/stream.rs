@@ -37,14 +37,14 @@ pub use scoreboard_head::ReportError;
 pub use sent_numbers::SentNumbers;
 pub use sequence_number::SequenceNumber;
 
-// Names for other modules, and those for the exports alone.
-#[cfg(feature = "c")]
-pub(crate) use finite_receiver_head::FiniteReceiverHead;
-#[cfg(feature = "c")]
-pub(crate) use finite_sender_head::FiniteSenderHead;
+// Names for other modules.
 pub(crate) use flags::flag_of;
 pub(crate) use held_runs::HeldRun;
-#[cfg(feature = "c")]
-pub(crate) use receiver_head::ReceiverHead;
 pub(crate) use reported::LentScoreboard;
 pub(crate) use scoreboard_head::ScoreboardHead;
+// Names for the exports for C alone.
+#[allow(unused_imports)]
+pub(crate) use {
+    finite_receiver_head::FiniteReceiverHead, finite_sender_head::FiniteSenderHead,
+    receiver_head::ReceiverHead,
+};

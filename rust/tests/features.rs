@@ -6,7 +6,7 @@ use net_base::storage::{Assembler, FragmentBuffer};
 use net_base::time::Instant;
 
 const FEATURES: &str = "
-    default alloc std c segmentation-offload assembler-max-segment-count-1 assembler-max-segment-count-2
+    default alloc std segmentation-offload assembler-max-segment-count-1 assembler-max-segment-count-2
     assembler-max-segment-count-3 assembler-max-segment-count-4 assembler-max-segment-count-8
     assembler-max-segment-count-16 assembler-max-segment-count-32 packetmeta-id medium-ethernet medium-ip
     proto-ipv4-fragmentation proto-ipv4 proto-ipv6";

@@ -51,7 +51,7 @@ UNCALLED = {
 # Names that a `pub use` gives to other crates of Rattle, and that nothing of Rust has.
 UNNAMED = {'net_base/time': ['earlier']}
 
-# The exports for C, which the shim of `c` calls: they are compiled with the feature `c` alone, and have no
+# The exports for C, which the shim of `c` calls: only the crate in rust/exports has them, and they have no
 # documentation.
 EXPORTS = 'net_ffi'
 

@@ -37,14 +37,15 @@ pub use ring_buffer::{Iter, RingBuffer, RingOver};
 pub use ring_head::Span;
 pub use split_counts::{SplitCounts, SplitSpan};
 
-// Names for other modules, and those for the exports alone.
+// Names for other modules.
 pub(crate) use assembler::{AssemblerHead, Run};
 pub(crate) use by_hand::Listed;
-#[cfg(feature = "c")]
-pub(crate) use fragments::FragmentsHead;
 pub(crate) use managed::ManagedSlice;
-#[cfg(feature = "c")]
-pub(crate) use packet_slot::PacketSlot;
-#[cfg(feature = "c")]
-pub(crate) use packets_head::{FirstPacket, PacketPlace, PacketsHead};
 pub(crate) use ring_head::RingHead;
+// Names for the exports for C alone.
+#[allow(unused_imports)]
+pub(crate) use {
+    fragments::FragmentsHead,
+    packet_slot::PacketSlot,
+    packets_head::{FirstPacket, PacketPlace, PacketsHead},
+};
