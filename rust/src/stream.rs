@@ -1,8 +1,6 @@
 //! A stream of bytes: what receives it, what sends it, and what is lost on the way. Public are [`crate::receiver`],
 //! [`crate::finite`], [`crate::scoreboard`] and [`crate::sequence_number`], and loss recovery in [`crate::tcp`].
 erased! {
-    pub(crate) mod duplicate_block;
-    pub(crate) mod equal_acknowledgement;
     pub(crate) mod finite_receiver;
     pub(crate) mod finite_receiver_head;
     pub(crate) mod finite_sender;
@@ -10,11 +8,9 @@ erased! {
     pub(crate) mod flags;
     pub(crate) mod held_runs;
     pub(crate) mod kept;
-    pub(crate) mod loss_recovery;
     pub(crate) mod numbering;
     pub(crate) mod receiver;
     pub(crate) mod receiver_head;
-    pub(crate) mod reported;
     pub(crate) mod scoreboard;
     pub(crate) mod scoreboard_head;
     pub(crate) mod sender_head;
@@ -22,16 +18,12 @@ erased! {
     pub(crate) mod sequence_number;
 }
 
-pub use duplicate_block::is_duplicate_block;
-pub use equal_acknowledgement::is_equal_acknowledgement;
 pub use finite_receiver::{FiniteReceiver, FiniteReceiverOver};
 pub use finite_sender::{FiniteSender, FiniteSenderOver};
 pub use held_runs::{HeldRunIter, HeldRuns, NewestRunIter};
 pub use kept::{FiniteError, Kept, KeptBytes, SegmentParts};
-pub use loss_recovery::{Answer, LossRecovery};
 pub use numbering::Numbering;
 pub use receiver::{Receiver, ReceiverOver};
-pub use reported::Reported;
 pub use scoreboard::Scoreboard;
 pub use scoreboard_head::ReportError;
 pub use sent_numbers::SentNumbers;
@@ -40,7 +32,6 @@ pub use sequence_number::SequenceNumber;
 // Names for other modules.
 pub(crate) use flags::flag_of;
 pub(crate) use held_runs::HeldRun;
-pub(crate) use reported::LentScoreboard;
 pub(crate) use scoreboard_head::ScoreboardHead;
 // Names for the exports for C alone.
 #[allow(unused_imports)]

@@ -54,15 +54,18 @@
 //! assert_eq!(timer.expires_at(), Some(Instant::from_millis(1_000)));
 //! assert_eq!(timer.timeouts(), 1);
 //! ```
-pub use crate::stream::{is_duplicate_block, is_equal_acknowledgement, Answer, LossRecovery};
-pub use crate::stream::{Reported, SentNumbers};
+pub use crate::stream::SentNumbers;
 
 erased! {
     pub(crate) mod advertised_window;
     pub(crate) mod answer_limit;
     pub(crate) mod arriving;
+    pub(crate) mod duplicate_block;
+    pub(crate) mod equal_acknowledgement;
     pub(crate) mod internet_sum;
+    pub(crate) mod loss_recovery;
     pub(crate) mod peer_window;
+    pub(crate) mod reported;
     pub(crate) mod retransmission;
     pub(crate) mod retransmission_timer;
 }
@@ -70,10 +73,16 @@ erased! {
 pub use advertised_window::{scale_for, AdvertisedWindow, MAX_SCALE};
 pub use answer_limit::AnswerLimit;
 pub use arriving::{classify, is_acceptable, is_acknowledgement, Arrival, Segment};
+pub use duplicate_block::is_duplicate_block;
+pub use equal_acknowledgement::is_equal_acknowledgement;
 pub use internet_sum::{checksum, is_valid, updated_checksum, PartsSum};
+pub use loss_recovery::{Answer, LossRecovery};
 pub use peer_window::{scaled, Announcement, PeerWindow};
+pub use reported::Reported;
 pub use retransmission::{RetransmissionTimeout, RttEstimate, TimeoutBounds, Transmission};
 pub use retransmission_timer::{Expiry, RetransmissionTimer, TimedSegment};
+
+pub(crate) use reported::LentScoreboard;
 
 use crate::time::Duration;
 

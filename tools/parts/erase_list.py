@@ -9,7 +9,7 @@ BY_HAND = ['net_ring', 'net_assembler', 'net_receiver', 'arrayvec', 'hex', 'memc
 # rust/examples/net_bench.
 FOLDERS = {
     'net_ring': 'storage', 'net_packets': 'storage', 'net_assembler': 'storage', 'net_receiver': 'stream',
-    'net_base': '', 'net_tcp': 'tcp', 'net_recovery': 'stream', 'net_ends': 'ends', 'net_ffi': 'exports',
+    'net_base': '', 'net_tcp': 'tcp', 'net_ends': 'ends', 'net_ffi': 'exports',
     'net_bench_lib': 'lines',
 }
 CRATES = [crate for crate in FOLDERS if crate not in PROGRAM]

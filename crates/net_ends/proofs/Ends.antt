@@ -10,7 +10,7 @@ use Rattle.std.proofs.lemmas.List.{length-drop}
 use Rattle.std.proofs.lemmas.Bool.Decides.{nat_tests}
 use Rattle.net_receiver.specs.SenderState.{end_of}
 use Rattle.net_assembler.specs.Positions.{Positions}
-use Rattle.net_recovery.specs.LossRecovery.{Recovery as LossRecovery}
+use Rattle.net_tcp.specs.LossRecovery.{Recovery as LossRecovery}
 use Rattle.net_receiver.specs.FiniteSender.{FiniteSenderState, first_number, acknowledged_below, accepts, SenderCommand}
 use Rattle.net_receiver.specs.FiniteSender.{sender_after_commands, sender_after_command, numbers_end, IsSoundSent}
 use Rattle.net_receiver.specs.FiniteSender.{Marks}

@@ -6,7 +6,7 @@ use Rattle.std.specs.Prelude.{if◌then◌else◌}
 use Rattle.std.proofs.lemmas.Grind.{common_steps}
 use Rattle.std.proofs.lemmas.Int.{ints}
 use Rattle.net_receiver.specs.Scoreboards.{IsEnd}
-use Rattle.net_recovery.specs.LossRecovery.{Recovery as LossRecovery}
+use Rattle.net_tcp.specs.LossRecovery.{Recovery as LossRecovery}
 use Rattle.net_tcp.specs.Retransmission.{has_expired, has_ended, expiry, after_expiry, is_due, expires_from}
 use Rattle.net_tcp.specs.declared.retransmission_timer.Expiry.TheVariants.{Probe, Timeout}
 use Rattle.net_tcp.specs.Retransmission.{Timer as RetransmissionTimer}

@@ -4,8 +4,8 @@ use Rattle.std.specs.Prelude.{Bool, IsTrue, IsFalse, IfSome, Option, Some, None,
 use Rattle.std.specs.Prelude.{if◌then◌else◌}
 use Rattle.std.proofs.lemmas.Bool.Decides.{nat_tests}
 use Rattle.net_receiver.specs.FiniteSender.{FiniteSenderState, first_number, numbers_end, sender_after_command, Marks}
-use Rattle.net_recovery.specs.LossRecovery.{is_active, after_sending, was_sent_again, with_mark}
-use Rattle.net_recovery.specs.LossRecovery.{Recovery as LossRecovery}
+use Rattle.net_tcp.specs.LossRecovery.{is_active, after_sending, was_sent_again, with_mark}
+use Rattle.net_tcp.specs.LossRecovery.{Recovery as LossRecovery}
 use Rattle.net_assembler.specs.Positions.{contains}
 use Rattle.net_receiver.specs.declared.sent_numbers.SentNumbers.{SentNumbers}
 use Rattle.net_ends.specs.Acknowledgements.{after_segment, numbers_of}

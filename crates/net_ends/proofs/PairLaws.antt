@@ -32,7 +32,7 @@ use Rattle.net_receiver.specs.SenderState.{with_written}
 use Rattle.net_receiver.specs.FiniteSender.{FiniteSenderState, first_number, accepts, acknowledged_below, Marks}
 use Rattle.net_receiver.specs.FiniteSender.{sender_after_command}
 use Rattle.net_assembler.specs.Positions.{Positions}
-use Rattle.net_recovery.specs.LossRecovery.{Recovery as LossRecovery}
+use Rattle.net_tcp.specs.LossRecovery.{Recovery as LossRecovery}
 use Rattle.net_ends.specs.Ends as sending
 use Rattle.net_ends.specs.Ends.{End, Opened, Forgot, Enabled, Opening, Wrote, Shut, Heard, Looked, Sent, Rested, first}
 use Rattle.net_ends.specs.Ends.{Resumed}

@@ -4,7 +4,7 @@ use Rattle.std.specs.Prelude.{Bool, IsTrue, IsFalse, ◌||◌, ◌&&◌}
 use Rattle.std.specs.Prelude.{nat_lt, nat_le}
 use Rattle.std.proofs.lemmas.Bool.Decides.{nat_tests}
 use Rattle.net_receiver.specs.FiniteSender.{accepts, sender_after_command, Marks}
-use Rattle.net_recovery.specs.LossRecovery.{Recovery as LossRecovery}
+use Rattle.net_tcp.specs.LossRecovery.{Recovery as LossRecovery}
 use Rattle.net_tcp.specs.Retransmission.{after_sending}
 use Rattle.net_assembler.specs.Positions.{Positions, contains}
 use Rattle.net_assembler.proofs.Sets.{contains-with_range, contains-nothing}

@@ -21,12 +21,12 @@ use Rattle.net_assembler.specs.Assembler.{makes_too_many_runs}
 use Rattle.net_assembler.specs.Positions.{Positions, first_missing, front, with_range}
 use Rattle.net_receiver.specs.declared.sent_numbers.SentNumbers.{SentNumbers}
 use Rattle.net_receiver.specs.Scoreboards.{beyond, IsLossBound, IsEnd}
-use Rattle.net_recovery.specs.LossRecovery.{is_active, unsent_lost, is_equal_acknowledgement, is_duplicate_block}
-use Rattle.net_recovery.specs.LossRecovery.{after_answer, after_report, after_silence, blind_lost}
-use Rattle.net_recovery.specs.LossRecovery.{found, begun, after_copies, after_probe}
-use Rattle.net_recovery.specs.LossRecovery.{after_sending, forgotten}
-use Rattle.net_recovery.specs.declared.loss_recovery.Answer.{Answer}
-use Rattle.net_recovery.specs.LossRecovery.{Recovery as LossRecovery}
+use Rattle.net_tcp.specs.LossRecovery.{is_active, unsent_lost, is_equal_acknowledgement, is_duplicate_block}
+use Rattle.net_tcp.specs.LossRecovery.{after_answer, after_report, after_silence, blind_lost}
+use Rattle.net_tcp.specs.LossRecovery.{found, begun, after_copies, after_probe}
+use Rattle.net_tcp.specs.LossRecovery.{after_sending, forgotten}
+use Rattle.net_tcp.specs.declared.loss_recovery.Answer.{Answer}
+use Rattle.net_tcp.specs.LossRecovery.{Recovery as LossRecovery}
 use Rattle.net_tcp.specs.Retransmission.{has_ended}
 use Rattle.net_ends.specs.declared.sending_end.Expired.{Expired}
 use Rattle.net_ends.specs.declared.sending_end.Expired.TheVariants.{No, Overdue, Probe, Lost}

@@ -12,7 +12,7 @@ use Rattle.net_receiver.specs.declared.sent_numbers.SentNumbers.{SentNumbers}
 use Rattle.net_receiver.specs.FiniteSender.{FiniteSenderState, fresh_finite_sender, numbers_end}
 use Rattle.net_receiver.specs.FiniteSender.{sender_after_command, Marks, Acknowledges, first_number}
 use Rattle.net_receiver.specs.Scoreboards.{reported_by as reported_of}
-use Rattle.net_recovery.specs.LossRecovery.{new_recovery, recovery_of, Recovery}
+use Rattle.net_tcp.specs.LossRecovery.{new_recovery, recovery_of, Recovery}
 use Rattle.net_ends.specs.Ends.{kept}
 use Rattle.net_ends.specs.Acknowledgements.{after_segment, numbers_of, unsent_of, reported_by, Recovers}
 use Rattle.net_ends.specs.declared.send_buffer.BufferHead.{BufferHead}

@@ -10,8 +10,8 @@ use Rattle.std.specs.Option.{option_or}
 use Rattle.net_assembler.specs.Positions.{contains}
 use Rattle.net_receiver.specs.FiniteSender.{finite_sender_of, IsSoundFiniteSender, accepts}
 use Rattle.net_receiver.specs.Scoreboards.{reported_by as reported_of, IsSoundBoard, IsEnd}
-use Rattle.net_recovery.specs.LossRecovery.{is_active}
-use Rattle.net_recovery.specs.LossRecovery.{Recovery}
+use Rattle.net_tcp.specs.LossRecovery.{is_active}
+use Rattle.net_tcp.specs.LossRecovery.{Recovery}
 use Rattle.net_tcp.specs.Retransmission.{has_ended, has_expired, new_timer}
 use Rattle.net_tcp.specs.Windows.{no_window}
 use Rattle.net_ends.specs.Acknowledgements.{reported_by, numbers_of, unsent_of, Recovers, expiry_of, after_wait}

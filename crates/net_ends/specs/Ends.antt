@@ -31,7 +31,7 @@ use Rattle.std.specs.Coded.{Coded, coded_ℕ}
 use Rattle.std.specs.Int.{from_bool}
 use Rattle.std.specs.FinSet as set
 use Rattle.net_assembler.specs.Positions.{Positions, contains, with_range, nothing}
-use Rattle.net_recovery.specs.LossRecovery.{begun as begun_recovery, forgotten, new_recovery}
+use Rattle.net_tcp.specs.LossRecovery.{begun as begun_recovery, forgotten, new_recovery}
 use Rattle.net_ends.specs.Rules.{Known, queued_of, renewed_by, window_shut, asks_window, room_to, most_to, in_hurry}
 use Rattle.net_ends.specs.Rules.{nagle_waits, enough}
 use Rattle.net_ends.specs.Rules.{worth_sending, due, HolesOf, next_of, due_part, ProbedOf, probe_part, is_probing}
@@ -43,7 +43,7 @@ use Rattle.net_tcp.specs.declared.peer_window.PeerWindow.{PeerWindow}
 use Rattle.net_tcp.specs.declared.retransmission.TimeoutBounds.{TimeoutBounds}
 use Rattle.net_tcp.specs.declared.retransmission_timer.TimedSegment.{TimedSegment}
 use Rattle.net_tcp.specs.Retransmission.{Timer as RetransmissionTimer}
-use Rattle.net_recovery.specs.LossRecovery.{Recovery as LossRecovery}
+use Rattle.net_tcp.specs.LossRecovery.{Recovery as LossRecovery}
 use Rattle.net_ends.specs.declared.sending_end.Outgoing.{Outgoing}
 use Rattle.net_ends.specs.declared.sending_end.Acknowledged.{Acknowledged}
 use Rattle.net_ends.specs.declared.sending_end.Acknowledged.TheVariants.{Refused, Old, Taken}

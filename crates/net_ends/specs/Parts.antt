@@ -3,7 +3,7 @@
 --     marked s said      the sender after what is said of a segment
 use Rattle.std.specs.Prelude.{ℕ, List, max, not, nat_eq, Option, Some, None}
 use Rattle.net_receiver.specs.FiniteSender.{FiniteSenderState, sender_after_command, Marks}
-use Rattle.net_recovery.specs.LossRecovery.{recovery_of}
+use Rattle.net_tcp.specs.LossRecovery.{recovery_of}
 use Rattle.net_tcp.specs.Retransmission.{timer_of}
 use Rattle.net_tcp.specs.declared.retransmission.TimeoutBounds.{TimeoutBounds}
 use Rattle.net_ends.specs.Buffers.{board_of}

@@ -20,9 +20,9 @@ use Rattle.std.specs.Prelude.{nat_eq, if◌then◌else◌, List, [], ℤ}
 use Rattle.net_assembler.specs.Positions.{Positions}
 use Rattle.net_receiver.specs.Scoreboards.{IsEnd, IsHole, reported_by}
 use Rattle.net_receiver.specs.FiniteSender.{FiniteSenderState, first_number, numbers_end}
-use Rattle.net_recovery.specs.LossRecovery.{Recovery, recovery_of, next_segment, next_range, in_flight, resumed}
-use Rattle.net_recovery.specs.LossRecovery.{gone_on}
-use Rattle.net_recovery.specs.LossRecovery.{next_probe}
+use Rattle.net_tcp.specs.LossRecovery.{Recovery, recovery_of, next_segment, next_range, in_flight, resumed}
+use Rattle.net_tcp.specs.LossRecovery.{gone_on}
+use Rattle.net_tcp.specs.LossRecovery.{next_probe}
 use Rattle.net_receiver.specs.declared.sent_numbers.SentNumbers.{SentNumbers}
 use Rattle.net_tcp.specs.Retransmission.{Timer, started, new_timer}
 use Rattle.net_tcp.specs.declared.peer_window.PeerWindow.{PeerWindow}

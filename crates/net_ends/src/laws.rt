@@ -1,7 +1,7 @@
 //! Laws of the sending end, and of both ends. No function here changes anything: its contract is the law.
 ghost use Rattle.std.specs.Prelude.{◌≡◌, ℕ, ℤ, ◌+◌, ◌-◌, ◌<◌, ◌≤◌, List, All, Bool, IsTrue, IsFalse};
 ghost use Rattle.net_assembler.specs.Positions.{Positions};
-ghost use Rattle.net_recovery.specs.LossRecovery.{Recovery as LossRecovery};
+ghost use Rattle.net_tcp.specs.LossRecovery.{Recovery as LossRecovery};
 ghost use Rattle.net_receiver.specs.FiniteSender.{sender_after_commands, accepts, IsSoundSent};
 ghost use Rattle.net_ends.specs.Ends.{End, Event, after_event, after_events, commands, run, begun, IsAllowed};
 ghost use Rattle.net_ends.specs.Ends.{first, rest};

@@ -2,17 +2,17 @@
 ghost use Rattle.std.specs.Prelude.{◌≡◌, ◌-◌, ◌+◌, ◌<◌, ◌≤◌, ◌&&◌, ◌==◌, ℕ, Option, Some, IsTrue, IsFalse, min, max};
 ghost use Rattle.std.specs.Prelude.{IfSome, IfNone, is_some, ◌++◌, not, true, false, length, nat_le};
 ghost use Rattle.net_assembler.specs.Positions.{contains};
-ghost use Rattle.net_recovery.specs.LossRecovery.{is_wrong, taken_back, was_sent_again};
-ghost use Rattle.net_recovery.specs.LossRecovery.{is_active, in_flight, begun, forgotten, next_segment, next_range};
-ghost use Rattle.net_recovery.specs.LossRecovery.{resumed, recovery_of};
-ghost use Rattle.net_recovery.specs.LossRecovery.{gone_on, begins_at, next_probe};
+ghost use Rattle.net_tcp.specs.LossRecovery.{is_wrong, taken_back, was_sent_again};
+ghost use Rattle.net_tcp.specs.LossRecovery.{is_active, in_flight, begun, forgotten, next_segment, next_range};
+ghost use Rattle.net_tcp.specs.LossRecovery.{resumed, recovery_of};
+ghost use Rattle.net_tcp.specs.LossRecovery.{gone_on, begins_at, next_probe};
 ghost use Rattle.net_receiver.specs.FiniteSender.{sender_after_command, Writes, Closes, Marks, Acknowledges, accepts};
 ghost use Rattle.net_receiver.specs.FiniteSender.{finite_room, first_number, numbers_end};
 ghost use Rattle.net_receiver.specs.Finite.{no_end};
 ghost use Rattle.net_receiver.specs.Scoreboards.{IsEnd, IsHole, IsSoundBoard};
 ghost use Rattle.net_receiver.specs.Scoreboards.{reported_by as reported_to};
 ghost use Rattle.net_assembler.specs.Positions.{with_range, nothing};
-ghost use Rattle.net_recovery.specs.LossRecovery.{new_recovery, no_loss};
+ghost use Rattle.net_tcp.specs.LossRecovery.{new_recovery, no_loss};
 ghost use Rattle.net_receiver.specs.NewHeads.{scoreboard_head};
 ghost use Rattle.std.specs.Prelude.{◌↔◌, List};
 ghost use Rattle.net_ends.specs.Ends.{IsSegment, kept, has_dropped};
@@ -25,10 +25,8 @@ ghost use Rattle.net_ends.specs.Acknowledgements.{after_segment, after_wait};
 
 use net_assembler::Run;
 use net_receiver::{FiniteSenderOver, ScoreboardHead, SentNumbers};
-use net_recovery::{
-    Answer, LentScoreboard, LossRecovery, is_duplicate_block, is_equal_acknowledgement,
-};
 use net_ring::{ManagedSlice, Storage};
+use net_tcp::{Answer, LentScoreboard, LossRecovery, is_duplicate_block, is_equal_acknowledgement};
 use std::marker::Model;
 use std::ops::Range;
 

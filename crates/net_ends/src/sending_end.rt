@@ -23,7 +23,7 @@ ghost use Rattle.std.specs.Prelude.{◌≡◌, ◌↔◌, ◌-◌, ◌+◌, ◌<
 ghost use Rattle.std.specs.Prelude.{IfSome, IfNone, is_some, is_none, ◌||◌, ◌++◌, not, nat_lt, false};
 ghost use Rattle.std.specs.Prelude.{length, Bool};
 ghost use Rattle.net_assembler.specs.Positions.{contains};
-ghost use Rattle.net_recovery.specs.LossRecovery.{is_active, is_wrong, taken_back};
+ghost use Rattle.net_tcp.specs.LossRecovery.{is_active, is_wrong, taken_back};
 ghost use Rattle.net_receiver.specs.FiniteSender.{sender_after_command, Acknowledges, accepts, finite_room};
 ghost use Rattle.net_receiver.specs.Finite.{no_end};
 ghost use Rattle.net_ends.specs.Ends.{new_end, first, end, is_acceptable, greatest_of, is_shut, asks, told};
@@ -37,7 +37,7 @@ ghost use Rattle.net_ends.specs.Acknowledgements.{numbers_of, unsent_of, unsent_
 ghost use Rattle.net_ends.specs.Acknowledgements.{is_sought, after_segment, after_wait};
 ghost use Rattle.net_ends.specs.Acknowledgements.{expiry_of};
 ghost use Rattle.net_receiver.specs.Scoreboards.{IsEnd, IsHole};
-ghost use Rattle.net_recovery.specs.LossRecovery.{next_probe};
+ghost use Rattle.net_tcp.specs.LossRecovery.{next_probe};
 ghost use Rattle.net_ends.specs.Parts.{end_of, marked};
 ghost use Rattle.net_ends.specs.Calls.{Hears, Silent, TimesOut, Chooses};
 ghost use Rattle.net_ends.specs.Rules.{queued_of, known_of, known_by, low, high, window_shut, asks_window, room_to};
@@ -48,7 +48,7 @@ ghost use Rattle.net_ends.specs.Buffers.{board_of};
 ghost use Rattle.net_receiver.specs.FiniteSender.{FiniteSenderState};
 ghost use Rattle.net_receiver.specs.Scoreboards.{IsSoundBoard};
 ghost use Rattle.net_assembler.specs.Positions.{with_range, nothing};
-ghost use Rattle.net_recovery.specs.LossRecovery.{new_recovery, no_loss, recovery_of};
+ghost use Rattle.net_tcp.specs.LossRecovery.{new_recovery, no_loss, recovery_of};
 ghost use Rattle.net_tcp.specs.Retransmission.{new_timer, new_fields, started};
 ghost use Rattle.net_receiver.specs.NewHeads.{scoreboard_head};
 ghost use Rattle.net_tcp.specs.Windows.{no_window, window_from};

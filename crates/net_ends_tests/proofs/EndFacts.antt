@@ -11,7 +11,7 @@ use Rattle.std.proofs.lemmas.List.Elements.{All-nil, All-cons}
 use Rattle.net_receiver.specs.Finite.{Arrives, Reads, MatchesFinite, CommandMatches, bytes_taken}
 use Rattle.net_tcp.specs.Retransmission.{expires_from}
 use Rattle.net_tcp.specs.Retransmission.{Timer as RetransmissionTimer}
-use Rattle.net_recovery.specs.LossRecovery.{is_active}
+use Rattle.net_tcp.specs.LossRecovery.{is_active}
 use Rattle.net_ends.specs.Ends.{End, end, first, timed_out}
 use Rattle.net_ends.specs.declared.sending_end.Outgoing.{Outgoing}
 use Rattle.net_ends.specs.Receiving.{Receiving, after_arrival}

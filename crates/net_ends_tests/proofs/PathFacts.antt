@@ -18,7 +18,7 @@ use Rattle.net_receiver.specs.ReceiverState.{ReceiverState, receiver_after_comma
 use Rattle.net_examples.specs.AnyPath.{IsReading}
 use Rattle.net_receiver.specs.OneStream.{MatchesStream, MatchesLonger, SegmentReadsNothing}
 use Rattle.net_assembler.specs.Positions.{Positions}
-use Rattle.net_recovery.specs.LossRecovery.{Recovery as LossRecovery}
+use Rattle.net_tcp.specs.LossRecovery.{Recovery as LossRecovery}
 use Rattle.net_ends.specs.Ends.{End, Event, after_event, after_events, commands, IsSegment, may_send, first, limit}
 use Rattle.net_ends.specs.Ends.{is_due}
 use Rattle.net_ends.specs.Ends.{Sent, Heard}

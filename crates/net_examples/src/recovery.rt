@@ -1,10 +1,10 @@
 //! What laws say of loss recovery: small functions, each with a contract that is by a law.
 ghost use Rattle.std.specs.Prelude.{◌<◌, ◌≤◌, ℕ, min, IsTrue, IsFalse};
-ghost use Rattle.net_recovery.specs.LossRecovery.{is_active, is_answered, was_sent_again, after_answer, recovery_of};
+ghost use Rattle.net_tcp.specs.LossRecovery.{is_active, is_answered, was_sent_again, after_answer, recovery_of};
 ghost use Rattle.net_receiver.specs.Scoreboards.{IsLossBound, IsEnd};
 
 use net_receiver::{Scoreboard, SentNumbers};
-use net_recovery::{Answer, LossRecovery};
+use net_tcp::{Answer, LossRecovery};
 
 /// Notes that what is lost is sent again: its positions count as sent again.
 pub fn send_again(recovery: &mut LossRecovery, numbers: SentNumbers, start: u64, end: u64)
@@ -12,7 +12,7 @@ pub fn send_again(recovery: &mut LossRecovery, numbers: SentNumbers, start: u64,
         start < min numbers.sent end → p < end →
         IsTrue (was_sent_again (recovery_of recovery.new) numbers.first_unacknowledged p) }
 {
-    net_recovery::laws::passes();
+    net_tcp::laws::passes();
     recovery.sent(numbers, start..end);
 }
 
@@ -27,7 +27,7 @@ pub fn send_again_and_ask(
     ensures { IsTrue (is_active (recovery_of recovery.old) numbers.first_unacknowledged) →
         start < min numbers.sent end → IsFalse result }
 {
-    net_recovery::laws::take_backs();
+    net_tcp::laws::take_backs();
     recovery.sent(numbers, start..end);
     recovery.take_back(numbers, scoreboard)
 }
@@ -48,6 +48,6 @@ pub fn find_losses(
         IsFalse r.is_blind → IsTrue (is_answered scoreboard.now r.probe) →
         r.asked ≤ (recovery_of recovery.new).lost }
 {
-    net_recovery::laws::arrivals();
+    net_tcp::laws::arrivals();
     recovery.find_losses(numbers, scoreboard, segment_size, answer)
 }

@@ -8,7 +8,7 @@ use Rattle.std.specs.Prelude.{ℕ, ◌≤◌, Option, Some, None, List, length, 
 use Rattle.net_receiver.specs.FiniteSender.{finite_sender_of, IsSoundFiniteSender}
 use Rattle.net_receiver.specs.NewHeads.{finite_sender_head, scoreboard_head}
 use Rattle.net_receiver.specs.Scoreboards.{IsSoundBoard}
-use Rattle.net_recovery.specs.LossRecovery.{no_loss}
+use Rattle.net_tcp.specs.LossRecovery.{no_loss}
 use Rattle.net_tcp.specs.Retransmission.{new_fields}
 use Rattle.net_tcp.specs.Windows.{no_window}
 use Rattle.net_ends.specs.Ends.{End}

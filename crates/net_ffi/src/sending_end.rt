@@ -24,7 +24,7 @@ ghost use Rattle.std.specs.Prelude.{Option, Some, None};
 ghost use Rattle.std.specs.Prelude.{true, false};
 ghost use Rattle.net_receiver.specs.Finite.{no_end};
 ghost use Rattle.net_receiver.specs.FiniteSender.{IsSoundFiniteSender, finite_room};
-ghost use Rattle.net_recovery.specs.LossRecovery.{is_active, is_wrong, taken_back};
+ghost use Rattle.net_tcp.specs.LossRecovery.{is_active, is_wrong, taken_back};
 ghost use Rattle.net_tcp.specs.Retransmission.{expires_at, has_expired};
 ghost use Rattle.net_tcp.specs.Windows.{acknowledgement_number};
 ghost use Rattle.net_ends.specs.Ends.{new_end, after_event, Opened, Forgot, Enabled, Opening, Wrote, Shut, IsSegment};

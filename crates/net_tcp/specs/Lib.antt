@@ -3,3 +3,4 @@ pub mod InternetChecksum
 pub mod Windows
 pub mod Estimate
 pub mod Retransmission
+pub mod LossRecovery

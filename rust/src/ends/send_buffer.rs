@@ -4,10 +4,8 @@
 use crate::rattle::prelude::*;
 use crate::storage::Run;
 use crate::stream::{FiniteSenderOver, ScoreboardHead, SentNumbers};
-use crate::stream::{
-    Answer, LentScoreboard, LossRecovery, is_duplicate_block, is_equal_acknowledgement,
-};
 use crate::storage::{ManagedSlice, Storage};
+use crate::tcp::{Answer, LentScoreboard, LossRecovery, is_duplicate_block, is_equal_acknowledgement};
 use crate::rattle::std::ops::Range;
 
 /// What a sender has sent, and what is queued, in numbers.

@@ -2,8 +2,8 @@ use Rattle.std.proofs.Common.{◌≡◌, ℕ, sym, subst, ◌∙◌}
 use Rattle.std.specs.Prelude.{Bool, IsFalse, not, ◌&&◌, nat_lt}
 use Rattle.net_assembler.specs.Positions.{Positions}
 use Rattle.net_receiver.specs.Scoreboards.{IsEnd, IsLossBound, reported_by}
-use Rattle.net_recovery.specs.LossRecovery.{Recovery, recovery_of, after_report, found, is_active}
-use Rattle.net_recovery.specs.declared.loss_recovery.Answer.{Answer}
+use Rattle.net_tcp.specs.LossRecovery.{Recovery, recovery_of, after_report, found, is_active}
+use Rattle.net_tcp.specs.declared.loss_recovery.Answer.{Answer}
 use Rattle.net_ends.specs.Acknowledgements.{answered, lost_by}
 use Rattle.net_ends.specs.Ends.{has_dropped}
 use Rattle.net_ends.proofs.send_buffer.find_losses.Goals as goal

@@ -1,7 +1,7 @@
 use Rattle.std.proofs.Common.{◌≤◌, subst, sym}
 use Rattle.std.specs.Prelude.{max}
-use Rattle.net_recovery.specs.LossRecovery.{after_answer, blind_lost, recovery_of}
-use Rattle.net_recovery.specs.LossRecovery.{Recovery as LossRecovery}
+use Rattle.net_tcp.specs.LossRecovery.{after_answer, blind_lost, recovery_of}
+use Rattle.net_tcp.specs.LossRecovery.{Recovery as LossRecovery}
 use Rattle.net_examples.proofs.recovery.find_losses.Goals as goal
 
 pub returns : goal.returns

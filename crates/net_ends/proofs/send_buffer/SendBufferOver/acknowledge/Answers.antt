@@ -2,7 +2,7 @@ use Rattle.std.proofs.Common.{ℕ, ap, ◌∙◌}
 use Rattle.net_assembler.specs.Positions.{Positions}
 use Rattle.net_receiver.specs.FiniteSender.{FiniteSenderState, sender_after_command, Acknowledges, first_number}
 use Rattle.net_receiver.specs.declared.sent_numbers.SentNumbers.{SentNumbers}
-use Rattle.net_recovery.specs.LossRecovery.{recovery_of}
+use Rattle.net_tcp.specs.LossRecovery.{recovery_of}
 use Rattle.net_ends.specs.Acknowledgements.{reported_by}
 use Rattle.net_ends.specs.Buffers.{Buffer, board_of}
 use Rattle.net_ends.specs.Ends.{kept}

@@ -3,7 +3,7 @@ use Rattle.std.proofs.Common.{ap, ◌∙◌}
 use Rattle.std.specs.Prelude.{nat_eq}
 use Rattle.net_assembler.specs.Positions.{Positions, with_range, nothing}
 use Rattle.net_receiver.specs.FiniteSender.{FiniteSenderState, fresh_finite_sender}
-use Rattle.net_recovery.specs.LossRecovery.{Recovery, recovery_of, new_recovery}
+use Rattle.net_tcp.specs.LossRecovery.{Recovery, recovery_of, new_recovery}
 use Rattle.net_tcp.specs.Retransmission.{Timer, timer_of}
 use Rattle.net_ends.specs.Buffers.{board_of}
 use Rattle.net_ends.specs.Ends.{End, new_end}

@@ -5,7 +5,7 @@ use Rattle.std.proofs.lemmas.Bool.Decides.{nat_tests}
 use Rattle.net_assembler.specs.Positions.{Positions, contains}
 use Rattle.net_receiver.specs.FiniteSender.{FiniteSenderState, accepts, sender_after_command, Acknowledges, acknowledged_below}
 use Rattle.net_receiver.specs.declared.sent_numbers.SentNumbers.{SentNumbers}
-use Rattle.net_recovery.specs.LossRecovery.{recovery_of}
+use Rattle.net_tcp.specs.LossRecovery.{recovery_of}
 use Rattle.net_tcp.specs.Retransmission.{Timer}
 use Rattle.net_ends.specs.Acknowledgements.{reported_by, numbers_of}
 use Rattle.net_ends.specs.Buffers.{board_of}

@@ -5,7 +5,7 @@ use Rattle.net_assembler.specs.Positions.{Positions}
 use Rattle.net_receiver.specs.FiniteSender.{sender_after_command, Marks}
 use Rattle.net_receiver.specs.Scoreboards.{reported_by}
 use Rattle.net_receiver.specs.declared.scoreboard_head.ScoreboardHead.{ScoreboardHead}
-use Rattle.net_recovery.specs.LossRecovery.{recovery_of}
+use Rattle.net_tcp.specs.LossRecovery.{recovery_of}
 use Rattle.net_tcp.specs.Retransmission.{Timer, timer_of}
 use Rattle.net_ends.specs.Acknowledgements.{numbers_of, after_segment}
 use Rattle.net_ends.specs.Buffers.{board_of, is_tail_probe}

@@ -3,7 +3,7 @@ use Rattle.std.proofs.Common.{◌≡◌, false, true, refl, sym, ap, subst, ◌�
 use Rattle.std.specs.Prelude.{Bool, not, ◌&&◌}
 use Rattle.net_receiver.specs.Scoreboards.{reported_by}
 use Rattle.net_receiver.specs.declared.scoreboard_head.ScoreboardHead.{ScoreboardHead}
-use Rattle.net_recovery.specs.LossRecovery.{recovery_of}
+use Rattle.net_tcp.specs.LossRecovery.{recovery_of}
 use Rattle.net_ends.specs.Acknowledgements.{is_sought, numbers_of, after_wait, begins_by}
 use Rattle.net_ends.specs.Parts.{end_of}
 use Rattle.net_ends.specs.Rules.{known_by, window_shut}

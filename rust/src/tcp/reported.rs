@@ -1,4 +1,4 @@
-// Written by tools/erase.py from crates/net_recovery/src/reported.rt: a change here would be lost.
+// Written by tools/erase.py from crates/net_tcp/src/reported.rt: a change here would be lost.
 //! What was reported, as a recovery reads it.
 
 use crate::storage::Run;

@@ -4,10 +4,10 @@ use Rattle.std.proofs.lemmas.Bool.Decides.{nat_tests}
 use Rattle.std.proofs.lemmas.Bool.{cases_Bool}
 use Rattle.std.specs.Prelude.{Bool, not, if◌then◌else◌, ◌*◌, ◌⊎◌, ◌&&◌, ◌-◌, nat_lt, nat_eq, min, IsTrue, IsFalse}
 use Rattle.net_assembler.specs.Positions.{Positions, missing_count}
-use Rattle.net_recovery.specs.LossRecovery.{is_active, was_sent_again, after_sending, after_report, after_silence}
-use Rattle.net_recovery.specs.LossRecovery.{is_answered, overtaken, begun, after_duplicate, after_answer}
-use Rattle.net_recovery.specs.LossRecovery.{after_copy, after_hearing, withdrawn, unsent_lost}
-use Rattle.net_recovery.specs.LossRecovery.{Recovery}
+use Rattle.net_tcp.specs.LossRecovery.{is_active, was_sent_again, after_sending, after_report, after_silence}
+use Rattle.net_tcp.specs.LossRecovery.{is_answered, overtaken, begun, after_duplicate, after_answer}
+use Rattle.net_tcp.specs.LossRecovery.{after_copy, after_hearing, withdrawn, unsent_lost}
+use Rattle.net_tcp.specs.LossRecovery.{Recovery}
 
 pub sent_again : (r : Recovery) (first sent start end p : ℕ) → IsTrue (is_active r first) → start < min sent end →
     p < end → IsTrue (was_sent_again (after_sending first sent start end r) first p)

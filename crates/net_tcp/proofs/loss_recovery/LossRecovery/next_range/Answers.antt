@@ -1,8 +1,8 @@
 use Rattle.std.proofs.Common.{◌≡◌, ◌∙◌, ap, arith, inl, inr}
 use Rattle.net_assembler.specs.Positions.{contains}
-use Rattle.net_recovery.specs.LossRecovery.{recovery_of}
-use Rattle.net_recovery.proofs.Missing.{hole_from, in_hole, not_again, not_again-is, none_at, at_first, at_rest}
-use Rattle.net_recovery.proofs.loss_recovery.LossRecovery.next_range.Goals as goal
+use Rattle.net_tcp.specs.LossRecovery.{recovery_of}
+use Rattle.net_tcp.proofs.Missing.{hole_from, in_hole, not_again, not_again-is, none_at, at_first, at_rest}
+use Rattle.net_tcp.proofs.loss_recovery.LossRecovery.next_range.Goals as goal
 
 pub returns-in-Some-clause-once : goal.returns-in-Some-clause-once
 returns-in-Some-clause-once g c = λ p low high old.

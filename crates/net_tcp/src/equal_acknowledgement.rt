@@ -1,7 +1,8 @@
-// Written by tools/erase.py from crates/net_recovery/src/equal_acknowledgement.rt: a change here would be lost.
 //! Equal acknowledgements.
+ghost use Rattle.std.specs.Prelude.{◌≡◌};
+ghost use Rattle.net_tcp.specs.LossRecovery.{is_equal_acknowledgement};
 
-use crate::stream::SentNumbers;
+use net_receiver::SentNumbers;
 
 /// Returns whether an acknowledgement of all below `next` is an equal one (RFC 5681, section 2): it says again what was
 /// acknowledged, while something isn't; its segment `is_bare`, that is, it has no byte, no SYN, no FIN and no block;
@@ -21,7 +22,10 @@ pub fn is_equal_acknowledgement(
     next: u64,
     is_bare: bool,
     is_same: bool,
-) -> bool {
+) -> bool
+    ensures { result ≡ is_equal_acknowledgement numbers.first_unacknowledged numbers.sent next
+        is_bare is_same }
+{
     next == numbers.first_unacknowledged
         && numbers.first_unacknowledged < numbers.sent
         && is_bare

@@ -1,8 +1,7 @@
+// Written by tools/erase.py from crates/net_tcp/src/equal_acknowledgement.rt: a change here would be lost.
 //! Equal acknowledgements.
-ghost use Rattle.std.specs.Prelude.{◌≡◌};
-ghost use Rattle.net_recovery.specs.LossRecovery.{is_equal_acknowledgement};
 
-use net_receiver::SentNumbers;
+use crate::stream::SentNumbers;
 
 /// Returns whether an acknowledgement of all below `next` is an equal one (RFC 5681, section 2): it says again what was
 /// acknowledged, while something isn't; its segment `is_bare`, that is, it has no byte, no SYN, no FIN and no block;
@@ -22,10 +21,7 @@ pub fn is_equal_acknowledgement(
     next: u64,
     is_bare: bool,
     is_same: bool,
-) -> bool
-    ensures { result ≡ is_equal_acknowledgement numbers.first_unacknowledged numbers.sent next
-        is_bare is_same }
-{
+) -> bool {
     next == numbers.first_unacknowledged
         && numbers.first_unacknowledged < numbers.sent
         && is_bare

@@ -1,10 +1,10 @@
 use Rattle.std.proofs.Common.{ap, ◌∙◌, not, subst}
 use Rattle.std.specs.Prelude.{◌&&◌, nat_lt, max}
-use Rattle.net_recovery.specs.LossRecovery.{recovery_of, after_report, found, is_active, blind_lost}
+use Rattle.net_tcp.specs.LossRecovery.{recovery_of, after_report, found, is_active, blind_lost}
 use Rattle.net_receiver.specs.Scoreboards.{IsLossBound}
 use Rattle.net_receiver.proofs.Scoreboards.{one_bound}
-use Rattle.net_recovery.proofs.Missing.{one_end}
-use Rattle.net_recovery.proofs.loss_recovery.LossRecovery.find.Goals as goal
+use Rattle.net_tcp.proofs.Missing.{one_end}
+use Rattle.net_tcp.proofs.loss_recovery.LossRecovery.find.Goals as goal
 
 pub returns-clause-state : goal.returns-clause-state
 returns-clause-state g c = λ lost highest bound end.

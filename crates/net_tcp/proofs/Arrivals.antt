@@ -3,9 +3,9 @@ use Rattle.std.proofs.Common.{◌≡◌, ℕ, ◌<◌, ◌≤◌, ◌+◌, ◌*�
 use Rattle.std.proofs.lemmas.Bool.Decides.{nat_tests}
 use Rattle.std.specs.Prelude.{IsTrue, IsFalse}
 use Rattle.net_assembler.specs.Positions.{Positions}
-use Rattle.net_recovery.specs.LossRecovery.{is_active, after_report, is_answered, withdrawn, unsent_lost, blind_lost}
-use Rattle.net_recovery.specs.LossRecovery.{after_hearing}
-use Rattle.net_recovery.specs.LossRecovery.{Recovery}
+use Rattle.net_tcp.specs.LossRecovery.{is_active, after_report, is_answered, withdrawn, unsent_lost, blind_lost}
+use Rattle.net_tcp.specs.LossRecovery.{after_hearing}
+use Rattle.net_tcp.specs.LossRecovery.{Recovery}
 
 pub answered_loses : (size first sent : ℕ) (s : Positions) (lost highest : ℕ) (r : Recovery) →
     IsTrue (is_active r first) → IsFalse r.is_blind → IsTrue (is_answered s r.probe) →

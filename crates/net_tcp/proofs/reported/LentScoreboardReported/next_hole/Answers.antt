@@ -1,7 +1,7 @@
 use Rattle.std.proofs.Common.{subst}
 use Rattle.net_receiver.specs.Scoreboards.{IsNextHole}
 use Rattle.net_receiver.proofs.Scoreboards.{no_hole}
-use Rattle.net_recovery.proofs.reported.LentScoreboardReported.next_hole.Goals as goal
+use Rattle.net_tcp.proofs.reported.LentScoreboardReported.next_hole.Goals as goal
 
 pub returns-else-start-end : goal.returns-else-start-end
 returns-else-start-end c =

@@ -1,8 +1,8 @@
 use Rattle.std.proofs.Common.{◌≡◌, ◌∙◌, true, arith}
 use Rattle.std.proofs.lemmas.Bool.Decides.{nat_tests}
-use Rattle.net_recovery.specs.LossRecovery.{recovery_of, is_active}
-use Rattle.net_recovery.proofs.Flight.{flight}
-use Rattle.net_recovery.proofs.loss_recovery.LossRecovery.in_flight.Goals as goal
+use Rattle.net_tcp.specs.LossRecovery.{recovery_of, is_active}
+use Rattle.net_tcp.proofs.Flight.{flight}
+use Rattle.net_tcp.proofs.loss_recovery.LossRecovery.in_flight.Goals as goal
 
 pub returns-then-lost-numbers : goal.returns-then-lost-numbers
 returns-then-lost-numbers g c =

@@ -1,4 +1,3 @@
-// Written by tools/erase.py from crates/net_recovery/src/loss_recovery.rt: a change here would be lost.
 //! What a sender sends next where segments are lost.
 //!
 //! Of a recovery, with the numbers' names in RFC 6675 and RFC 8985:
@@ -18,9 +17,25 @@
 // Why: A range can't be lost while one before it isn't. Whether a probe repaired a loss itself (RFC 8985, section
 // 7.4) isn't decided: peers that report no copies answer alike where it did and where it didn't.
 
-use crate::stream::reported::Reported;
-use crate::stream::SentNumbers;
-use crate::rattle::std::ops::Range;
+ghost use Rattle.std.specs.Prelude.{◌≡◌, ℕ, ◌+◌, ◌<◌, ◌≤◌, ◌-◌, ◌&&◌, min, max, Option, IfSome, not, nat_lt};
+ghost use Rattle.std.specs.Prelude.{IsTrue, IsFalse, is_some, if◌then◌else◌};
+ghost use Rattle.net_receiver.specs.Scoreboards.{IsHole, IsLossBound, IsEnd};
+ghost use Rattle.net_assembler.specs.Positions.{contains};
+ghost use Rattle.std.specs.Prelude.{None, nat_eq};
+ghost use Rattle.net_tcp.specs.LossRecovery.{recovery_of, new_recovery, no_loss, forgotten, begun};
+ghost use Rattle.net_tcp.specs.LossRecovery.{is_active, is_answered};
+ghost use Rattle.net_tcp.specs.LossRecovery.{with_pass, with_mark, later, after_pass, after_losses};
+ghost use Rattle.net_tcp.specs.LossRecovery.{after_report, found, after_silence};
+ghost use Rattle.net_tcp.specs.LossRecovery.{after_sending, after_duplicate, was_sent_again, in_flight};
+ghost use Rattle.net_tcp.specs.LossRecovery.{unsent_lost, after_hearing, blind_lost};
+ghost use Rattle.net_tcp.specs.LossRecovery.{most_later, heard_of, after_answer};
+ghost use Rattle.net_tcp.specs.LossRecovery.{unsent, next_range, next_segment, resumed, gone_on, begins_at};
+ghost use Rattle.net_tcp.specs.LossRecovery.{next_probe, after_copies, with_copies, is_wrong, taken_back};
+ghost use Rattle.net_tcp.specs.LossRecovery.{after_probe};
+
+use crate::reported::Reported;
+use net_receiver::{SentNumbers, flag_of};
+use std::ops::Range;
 
 /// How many segments above a position tell that it is lost, as long as nothing came twice (RFC 6675's DupThresh).
 const DUPLICATES: usize = 3;
@@ -128,7 +143,10 @@ pub struct LossRecovery {
 impl LossRecovery {
     /// Returns that no recovery is active, and nothing came twice.
     #[must_use]
-    pub const fn new() -> Self {
+    pub const fn new() -> Self
+        ensures state { recovery_of result ≡ new_recovery }
+        ensures numbers { result ≡ no_loss }
+    {
         LossRecovery {
             until: 0,
             lost: 0,
@@ -152,13 +170,17 @@ impl LossRecovery {
 
     /// Returns whether a recovery lasts: not all is acknowledged that was sent when it began.
     #[must_use]
-    pub fn is_active(&self, numbers: SentNumbers) -> bool {
+    pub fn is_active(&self, numbers: SentNumbers) -> bool
+        ensures { result ≡ is_active (recovery_of self.now) numbers.first_unacknowledged }
+    {
         numbers.first_unacknowledged < self.until
     }
 
     /// Returns how many segments above a position tell that it is lost: 3 at first.
     #[must_use]
-    pub fn duplicates(&self) -> usize {
+    pub fn duplicates(&self) -> usize
+        ensures { result ≡ (recovery_of self.now).duplicates }
+    {
         if self.has_duplicates == 0 {
             DUPLICATES
         } else {
@@ -167,7 +189,9 @@ impl LossRecovery {
     }
 
     /// Sets how many segments above a position tell that it is lost.
-    fn set_duplicates(&mut self, duplicates: usize) {
+    fn set_duplicates(&mut self, duplicates: usize)
+        ensures { recovery_of self.new ≡ record (recovery_of self.old) { duplicates = duplicates } }
+    {
         self.duplicates = duplicates;
         self.has_duplicates = 1;
     }
@@ -175,7 +199,9 @@ impl LossRecovery {
     /// Takes notice that something was sent again for nothing, as `came_twice` does where the peer says what. From now
     /// on four times as many segments above a position tell that it is lost, up to 1024. Once that has happened, nothing
     /// changes until all is acknowledged that was sent by then: a round trip makes it four times as many once.
-    pub fn duplicated(&mut self, numbers: SentNumbers) {
+    pub fn duplicated(&mut self, numbers: SentNumbers)
+        ensures { recovery_of self.new ≡ after_duplicate numbers.first_unacknowledged numbers.sent (recovery_of self.old) }
+    {
         if numbers.first_unacknowledged < self.round {
             return;
         }
@@ -188,7 +214,10 @@ impl LossRecovery {
     /// an old one too (RFC 2883). If they are at or above the first position that wasn't acknowledged when the last
     /// recovery began, and not above what was sent again in it, so many of its copies were for nothing, and it is as if
     /// `duplicated` was called. Else nothing changes: the path has doubled them, or a probe has.
-    pub fn came_twice(&mut self, numbers: SentNumbers, positions: Range<u64>) {
+    pub fn came_twice(&mut self, numbers: SentNumbers, positions: Range<u64>)
+        ensures { recovery_of self.new ≡ after_copies numbers.first_unacknowledged numbers.sent
+            positions.start positions.end (recovery_of self.old) }
+    {
         if self.since <= positions.start && positions.end <= self.again.max(self.resume) {
             let count = positions.end.saturating_sub(positions.start);
             self.copies = self.copies.saturating_sub(count);
@@ -197,7 +226,9 @@ impl LossRecovery {
     }
 
     /// Counts what is sent again.
-    fn copy(&mut self, numbers: SentNumbers, positions: Range<u64>) {
+    fn copy(&mut self, numbers: SentNumbers, positions: Range<u64>)
+        ensures { recovery_of self.new ≡ with_copies numbers.sent positions.start positions.end (recovery_of self.old) }
+    {
         let count = positions
             .end
             .min(numbers.sent)
@@ -210,7 +241,11 @@ impl LossRecovery {
     /// it was when the recovery began. Ask it after each acknowledgement, an old one too, once `find_losses` has it.
     /// It is true once: not before another recovery begins.
     #[must_use]
-    pub fn take_back<B: Reported>(&mut self, numbers: SentNumbers, scoreboard: &B) -> bool {
+    pub fn take_back<B: Reported>(&mut self, numbers: SentNumbers, scoreboard: &B) -> bool
+        ensures value { result ≡ is_wrong (recovery_of self.old) numbers.first_unacknowledged (B.set scoreboard.now) }
+        ensures state { recovery_of self.new ≡ taken_back numbers.first_unacknowledged (B.set scoreboard.now)
+            (recovery_of self.old) }
+    {
         let is_wrong = self.until > 0 && self.copies == 0 && self.unsent(numbers, scoreboard) == 0;
         if is_wrong {
             self.until = 0;
@@ -220,26 +255,35 @@ impl LossRecovery {
 
     /// Takes notice whether the peer reports what arrives, as its SYN says: until it does, or an equal acknowledgement
     /// reports nothing.
-    pub fn expect_reports(&mut self, reports: bool) {
+    pub fn expect_reports(&mut self, reports: bool)
+        ensures { recovery_of self.new ≡ record (recovery_of self.old) { is_blind = not reports; unknown = 0 } }
+    {
         self.set_blind(!reports);
         self.unknown = 0;
     }
 
     /// Returns whether the peer reports nothing: then no probe is answered, and none is to be sent.
     #[must_use]
-    pub fn is_blind(&self) -> bool {
+    pub fn is_blind(&self) -> bool
+        ensures { result ≡ (recovery_of self.now).is_blind }
+    {
         self.is_blind != 0
     }
 
     /// Sets whether the peer reports nothing.
-    fn set_blind(&mut self, is_blind: bool) {
+    fn set_blind(&mut self, is_blind: bool)
+        ensures { recovery_of self.new ≡ record (recovery_of self.old) { is_blind = is_blind } }
+    {
         self.is_blind = if is_blind { 1 } else { 0 };
     }
 
     /// Returns how many positions are lost and weren't sent again. `find_losses` wants it as it was before the
     /// acknowledgement.
     #[must_use]
-    pub fn unsent<B: Reported>(&self, numbers: SentNumbers, scoreboard: &B) -> u64 {
+    pub fn unsent<B: Reported>(&self, numbers: SentNumbers, scoreboard: &B) -> u64
+        ensures { result ≡ (if is_active (recovery_of self.now) numbers.first_unacknowledged
+            then unsent_lost (recovery_of self.now) numbers.first_unacknowledged (B.set scoreboard.now) else 0) }
+    {
         if self.is_active(numbers) {
             self.unsent_lost(numbers, scoreboard)
         } else {
@@ -247,7 +291,9 @@ impl LossRecovery {
         }
     }
 
-    fn unsent_lost<B: Reported>(&self, numbers: SentNumbers, scoreboard: &B) -> u64 {
+    fn unsent_lost<B: Reported>(&self, numbers: SentNumbers, scoreboard: &B) -> u64
+        ensures { result ≡ unsent_lost (recovery_of self.now) numbers.first_unacknowledged (B.set scoreboard.now) }
+    {
         let from = self.again.max(numbers.first_unacknowledged);
         let of_pass = scoreboard.missing_between(from, self.turn.min(self.lost));
         let others = scoreboard.missing_between(from.max(self.resume), self.lost);
@@ -273,7 +319,24 @@ impl LossRecovery {
         scoreboard: &B,
         segment_size: usize,
         answer: Answer,
-    ) -> bool {
+    ) -> bool
+        ensures state { (lost highest : ℕ) → let r = after_answer segment_size answer.first
+            numbers.first_unacknowledged numbers.sent answer.reports answer.is_equal answer.unsent
+            (B.set scoreboard.now) (recovery_of self.old) in
+            IsLossBound r.duplicates segment_size (B.set scoreboard.now) lost →
+            IsEnd (B.set scoreboard.now) highest → recovery_of self.new ≡ after_report segment_size
+            numbers.first_unacknowledged numbers.sent (B.set scoreboard.now)
+            (max lost (blind_lost segment_size answer.first numbers.first_unacknowledged
+            numbers.sent r)) highest r }
+        ensures begins { (lost highest : ℕ) → let r = after_answer segment_size answer.first
+            numbers.first_unacknowledged numbers.sent answer.reports answer.is_equal answer.unsent
+            (B.set scoreboard.now) (recovery_of self.old) in
+            IsLossBound r.duplicates segment_size (B.set scoreboard.now) lost →
+            IsEnd (B.set scoreboard.now) highest → result ≡ (not (is_active r numbers.first_unacknowledged)
+            && nat_lt numbers.first_unacknowledged (found (B.set scoreboard.now)
+            (max lost (blind_lost segment_size answer.first numbers.first_unacknowledged
+            numbers.sent r)) highest r)) }
+    {
         self.note_answer(numbers, scoreboard, segment_size, answer);
         self.find(numbers, scoreboard, segment_size, answer.first)
     }
@@ -285,7 +348,11 @@ impl LossRecovery {
         scoreboard: &B,
         segment_size: usize,
         answer: Answer,
-    ) {
+    )
+        ensures { recovery_of self.new ≡ after_answer segment_size answer.first
+            numbers.first_unacknowledged numbers.sent
+            answer.reports answer.is_equal answer.unsent (B.set scoreboard.now) (recovery_of self.old) }
+    {
         // An equal acknowledgement of all that was sent before a recovery answers a copy.
         if answer.is_equal && !answer.reports && numbers.first_unacknowledged == self.until {
             self.duplicated(numbers);
@@ -303,7 +370,11 @@ impl LossRecovery {
     }
 
     /// Takes notice whether the peer reports, and of what has arrived that it doesn't.
-    fn count_unreported(&mut self, numbers: SentNumbers, segment_size: usize, answer: Answer) {
+    fn count_unreported(&mut self, numbers: SentNumbers, segment_size: usize, answer: Answer)
+        ensures { recovery_of self.new ≡ after_hearing segment_size answer.first
+            numbers.first_unacknowledged numbers.sent
+            answer.reports answer.is_equal (recovery_of self.old) }
+    {
         let size = segment_size as u64;
         let first = numbers.first_unacknowledged;
         let end = if self.is_active(numbers) {
@@ -324,7 +395,9 @@ impl LossRecovery {
     }
 
     /// Returns how many positions have arrived that the peer doesn't report, after an acknowledgement that answers them.
-    fn unreported_after(&self, size: u64, reports: bool, is_equal: bool) -> u64 {
+    fn unreported_after(&self, size: u64, reports: bool, is_equal: bool) -> u64
+        ensures { result ≡ heard_of size reports is_equal (recovery_of self.now) }
+    {
         if reports {
             0
         } else if is_equal {
@@ -342,7 +415,21 @@ impl LossRecovery {
         scoreboard: &B,
         segment_size: usize,
         before: u64,
-    ) -> bool {
+    ) -> bool
+        ensures state { (lost highest : ℕ) →
+            IsLossBound (recovery_of self.old).duplicates segment_size (B.set scoreboard.now) lost →
+            IsEnd (B.set scoreboard.now) highest → recovery_of self.new ≡ after_report segment_size
+            numbers.first_unacknowledged numbers.sent (B.set scoreboard.now)
+            (max lost (blind_lost segment_size before numbers.first_unacknowledged numbers.sent
+            (recovery_of self.old))) highest (recovery_of self.old) }
+        ensures begins { (lost highest : ℕ) →
+            IsLossBound (recovery_of self.old).duplicates segment_size (B.set scoreboard.now) lost →
+            IsEnd (B.set scoreboard.now) highest → result
+            ≡ (not (is_active (recovery_of self.old) numbers.first_unacknowledged)
+            && nat_lt numbers.first_unacknowledged (found (B.set scoreboard.now)
+            (max lost (blind_lost segment_size before numbers.first_unacknowledged numbers.sent
+            (recovery_of self.old))) highest (recovery_of self.old))) }
+    {
         let highest = scoreboard.highest_reported();
         let lost = scoreboard.lost_below(self.duplicates(), segment_size);
         let blind = self.blind_lost(numbers, segment_size, before);
@@ -350,7 +437,10 @@ impl LossRecovery {
     }
 
     /// Returns below which position all is lost, if the peer reports nothing.
-    fn blind_lost(&self, numbers: SentNumbers, segment_size: usize, before: u64) -> u64 {
+    fn blind_lost(&self, numbers: SentNumbers, segment_size: usize, before: u64) -> u64
+        ensures { result ≡ blind_lost segment_size before numbers.first_unacknowledged
+            numbers.sent (recovery_of self.now) }
+    {
         let first = numbers.first_unacknowledged;
         let is_lost = if self.is_active(numbers) {
             before < first
@@ -365,7 +455,9 @@ impl LossRecovery {
     }
 
     /// Returns how much of what was sent later may have arrived before something is lost.
-    fn most_later(&self, segment_size: usize) -> u64 {
+    fn most_later(&self, segment_size: usize) -> u64
+        ensures { result ≡ most_later segment_size (recovery_of self.now) }
+    {
         (self.duplicates().saturating_sub(1) as u64).saturating_mul(segment_size as u64)
     }
 
@@ -377,7 +469,12 @@ impl LossRecovery {
         segment_size: usize,
         lost: u64,
         highest: u64,
-    ) -> bool {
+    ) -> bool
+        ensures state { recovery_of self.new ≡ after_report segment_size
+            numbers.first_unacknowledged numbers.sent (B.set scoreboard.now) lost highest (recovery_of self.old) }
+        ensures begins { result ≡ (not (is_active (recovery_of self.old) numbers.first_unacknowledged)
+            && nat_lt numbers.first_unacknowledged (found (B.set scoreboard.now) lost highest (recovery_of self.old))) }
+    {
         if self.has_probe != 0 && scoreboard.contains(self.probe) {
             self.probe = 0;
             self.has_probe = 0;
@@ -401,7 +498,12 @@ impl LossRecovery {
         segment_size: usize,
         lost: u64,
         is_answered: bool,
-    ) -> bool {
+    ) -> bool
+        ensures state { recovery_of self.new ≡ after_losses segment_size
+            numbers.first_unacknowledged numbers.sent (B.set scoreboard.now) lost is_answered (recovery_of self.old) }
+        ensures begins { result ≡ (not (is_active (recovery_of self.old) numbers.first_unacknowledged)
+            && nat_lt numbers.first_unacknowledged lost) }
+    {
         if self.is_active(numbers) {
             self.lost = self.lost.max(lost);
             self.end_pass(numbers, scoreboard, segment_size, is_answered);
@@ -421,7 +523,10 @@ impl LossRecovery {
         scoreboard: &B,
         segment_size: usize,
         is_answered: bool,
-    ) {
+    )
+        ensures { recovery_of self.new ≡ after_pass segment_size
+            numbers.first_unacknowledged numbers.sent (B.set scoreboard.now) is_answered (recovery_of self.old) }
+    {
         if is_answered {
             self.pass(numbers, self.again.max(self.resume));
         } else if scoreboard.missing_between(numbers.first_unacknowledged, self.resume) == 0 {
@@ -436,7 +541,9 @@ impl LossRecovery {
     }
 
     /// Returns how many positions are reported of what was sent after a pass.
-    fn reported_later<B: Reported>(&self, numbers: SentNumbers, scoreboard: &B) -> u64 {
+    fn reported_later<B: Reported>(&self, numbers: SentNumbers, scoreboard: &B) -> u64
+        ensures { result ≡ later (B.set scoreboard.now) numbers.sent (recovery_of self.now) }
+    {
         let again = scoreboard.missing_between(self.resume, self.again);
         let first = scoreboard.missing_between(self.sent, numbers.sent);
         let all = self
@@ -446,14 +553,18 @@ impl LossRecovery {
     }
 
     /// Begins a pass up to a position: what was sent again from there on stays sent again.
-    fn pass(&mut self, numbers: SentNumbers, turn: u64) {
+    fn pass(&mut self, numbers: SentNumbers, turn: u64)
+        ensures { recovery_of self.new ≡ with_pass numbers.first_unacknowledged numbers.sent turn (recovery_of self.old) }
+    {
         self.turn = turn;
         self.mark(numbers);
         self.again = numbers.first_unacknowledged;
     }
 
     /// Counts what is sent from now on as sent later than all that was sent again.
-    fn mark(&mut self, numbers: SentNumbers) {
+    fn mark(&mut self, numbers: SentNumbers)
+        ensures { recovery_of self.new ≡ with_mark numbers.sent (recovery_of self.old) }
+    {
         self.resume = self.again.max(self.resume);
         self.sent = numbers.sent;
         self.later = 0;
@@ -463,7 +574,13 @@ impl LossRecovery {
     /// nothing was for two round trips. Then send as `next_segment` says; if that sends nothing, `next_probe`.
     ///
     /// Returns whether this call begins a recovery: then halve the congestion window.
-    pub fn find_overdue<B: Reported>(&mut self, numbers: SentNumbers, scoreboard: &B) -> bool {
+    pub fn find_overdue<B: Reported>(&mut self, numbers: SentNumbers, scoreboard: &B) -> bool
+        ensures state { (highest : ℕ) → IsEnd (B.set scoreboard.now) highest →
+            recovery_of self.new ≡ after_silence numbers.first_unacknowledged numbers.sent highest (recovery_of self.old) }
+        ensures begins { (highest : ℕ) → IsEnd (B.set scoreboard.now) highest →
+            result ≡ (not (is_active (recovery_of self.old) numbers.first_unacknowledged)
+            && nat_lt numbers.first_unacknowledged highest) }
+    {
         let lost = scoreboard.highest_reported();
         if self.is_active(numbers) {
             self.lost = self.lost.max(lost);
@@ -487,7 +604,23 @@ impl LossRecovery {
         scoreboard: &B,
         limit: u64,
         segment_size: usize,
-    ) -> Option<(u64, u64)> {
+    ) -> Option<(u64, u64)>
+        ensures value { (highest : ℕ) (hole : Option (ℕ × ℕ)) →
+            let first = numbers.first_unacknowledged in
+            IsEnd (B.set scoreboard.now) highest →
+            IsHole (B.set scoreboard.now) first (min numbers.sent limit) hole →
+            result ≡ next_probe (recovery_of self.now) (max 1 segment_size) first numbers.sent limit highest
+            hole }
+        ensures progress { numbers.first_unacknowledged < min numbers.sent limit →
+            IsFalse (contains (B.set scoreboard.now) numbers.first_unacknowledged) →
+            IsTrue (is_some result) }
+        ensures within { IfSome result (λ g. (g.0 < g.1) × (g.1 ≤ limit)
+            × (g.1 ≤ g.0 + max 1 segment_size)) }
+        ensures unreported { IfSome result (λ g. (p : ℕ) → g.0 ≤ p → p < g.1 → p < numbers.sent →
+            IsFalse (contains (B.set scoreboard.now) p)) }
+        ensures after { numbers.first_unacknowledged ≤ numbers.sent →
+            IfSome result (λ g. numbers.first_unacknowledged ≤ g.0) }
+    {
         let size = segment_size.max(1) as u64;
         let (first, sent) = (numbers.first_unacknowledged, numbers.sent);
         let highest = scoreboard.highest_reported();
@@ -508,7 +641,9 @@ impl LossRecovery {
     }
 
     /// Takes notice that a probe of these positions is sent. `numbers` are the sender's before that.
-    pub fn probed(&mut self, numbers: SentNumbers, positions: Range<u64>) {
+    pub fn probed(&mut self, numbers: SentNumbers, positions: Range<u64>)
+        ensures { recovery_of self.new ≡ after_probe numbers.sent positions.start positions.end (recovery_of self.old) }
+    {
         self.probe = positions.start;
         self.has_probe = 1;
         self.asked = numbers.sent;
@@ -520,7 +655,12 @@ impl LossRecovery {
     /// scoreboard begins again.
     ///
     /// Returns whether none lasted: then halve the congestion window.
-    pub fn lose_dropped<B: Reported>(&mut self, numbers: SentNumbers, scoreboard: &B) -> bool {
+    pub fn lose_dropped<B: Reported>(&mut self, numbers: SentNumbers, scoreboard: &B) -> bool
+        ensures state { (highest : ℕ) → IsEnd (B.set scoreboard.now) highest →
+            recovery_of self.new ≡ begun numbers.first_unacknowledged
+            numbers.sent (max (recovery_of self.old).lost highest) (recovery_of self.old) }
+        ensures begins { result ≡ not (is_active (recovery_of self.old) numbers.first_unacknowledged) }
+    {
         let begins = !self.is_active(numbers);
         let lost = self.lost.max(scoreboard.highest_reported());
         self.begin(numbers, lost);
@@ -529,13 +669,18 @@ impl LossRecovery {
 
     /// Begins a recovery in which all that was sent and isn't reported is lost, as when the timer has expired. Three
     /// segments above a position tell again that it is lost.
-    pub fn lose_all(&mut self, numbers: SentNumbers) {
+    pub fn lose_all(&mut self, numbers: SentNumbers)
+        ensures { recovery_of self.new ≡ begun numbers.first_unacknowledged numbers.sent numbers.sent
+            (forgotten (recovery_of self.old)) }
+    {
         self.set_duplicates(DUPLICATES);
         self.unknown = 0;
         self.begin(numbers, numbers.sent);
     }
 
-    fn begin(&mut self, numbers: SentNumbers, lost: u64) {
+    fn begin(&mut self, numbers: SentNumbers, lost: u64)
+        ensures { recovery_of self.new ≡ begun numbers.first_unacknowledged numbers.sent lost (recovery_of self.old) }
+    {
         if !self.is_active(numbers) {
             self.since = numbers.first_unacknowledged;
             self.copies = 0;
@@ -555,7 +700,10 @@ impl LossRecovery {
     /// Returns how many positions may be in flight: of those which were sent and aren't reported, the ones that
     /// aren't lost or were sent again, less those that have arrived and the peer doesn't report.
     #[must_use]
-    pub fn in_flight<B: Reported>(&self, numbers: SentNumbers, scoreboard: &B) -> u64 {
+    pub fn in_flight<B: Reported>(&self, numbers: SentNumbers, scoreboard: &B) -> u64
+        ensures { result ≡ in_flight (recovery_of self.now) numbers.first_unacknowledged numbers.sent
+            (B.set scoreboard.now) }
+    {
         let first = numbers.first_unacknowledged;
         if !self.is_active(numbers) {
             let all = scoreboard.missing_between(first, numbers.sent);
@@ -586,10 +734,6 @@ impl LossRecovery {
     ///
     /// `None` if there is nothing to send, or if with a whole segment more than `window` positions, the
     /// congestion window, would be in flight. The first unacknowledged number is sent whatever is in flight.
-    ///
-    /// # [Guarantees](crate#guarantees)
-    ///
-    /// - on `Some(segment)`: `segment.0 < segment.1` and `segment.1 <= limit` and `segment.1 <= segment.0 + max(1, segment_size)`
     #[must_use]
     pub fn next_segment<B: Reported>(
         &self,
@@ -598,7 +742,36 @@ impl LossRecovery {
         limit: u64,
         window: u64,
         segment_size: usize,
-    ) -> Option<(u64, u64)> {
+    ) -> Option<(u64, u64)>
+        ensures next { (lost others : Option (ℕ × ℕ)) → let first = numbers.first_unacknowledged in
+            IsHole (B.set scoreboard.now) (resumed (recovery_of self.now) first)
+            (min (min (recovery_of self.now).turn (recovery_of self.now).lost) limit) lost →
+            IsHole (B.set scoreboard.now) (gone_on (recovery_of self.now) first) (min (recovery_of self.now).lost limit) others →
+            result ≡ next_segment first
+            (in_flight (recovery_of self.now) first numbers.sent (B.set scoreboard.now)) window
+            (max 1 segment_size) (next_range (recovery_of self.now) first numbers.sent limit lost others) }
+        // Guarantee.
+        ensures within { IfSome result (λ segment. (segment.0 < segment.1) × (segment.1 ≤ limit)
+            × (segment.1 ≤ segment.0 + max 1 segment_size)) }
+        ensures room { IfSome result (λ segment. numbers.first_unacknowledged < segment.0 →
+            in_flight (recovery_of self.now) numbers.first_unacknowledged numbers.sent (B.set scoreboard.now)
+            + (segment.1 - segment.0) ≤ window) }
+        ensures once { IfSome result (λ segment. (p : ℕ) → segment.0 ≤ p → p < segment.1 →
+            p < numbers.sent →
+            IsFalse (contains (B.set scoreboard.now) p)
+            × IsFalse (was_sent_again (recovery_of self.now) numbers.first_unacknowledged p)) }
+        ensures progress { let first = numbers.first_unacknowledged in
+            IsTrue (is_active (recovery_of self.now) first) →
+            IsFalse (was_sent_again (recovery_of self.now) first first) → first < min (recovery_of self.now).lost limit →
+            IsFalse (contains (B.set scoreboard.now) first) → IsTrue (begins_at first result) }
+        ensures begins { let first = numbers.first_unacknowledged in
+            IsFalse (is_active (recovery_of self.now) first) →
+            first ≡ numbers.sent → first < limit → IsTrue (begins_at first result) }
+        ensures after { numbers.first_unacknowledged ≤ numbers.sent →
+            IfSome result (λ segment. numbers.first_unacknowledged ≤ segment.0) }
+        ensures fresh { IsFalse (is_active (recovery_of self.now) numbers.first_unacknowledged) →
+            IfSome result (λ segment. segment.0 ≡ numbers.sent) }
+    {
         let Some((start, end)) = self.next_range(numbers, scoreboard, limit) else {
             return None;
         };
@@ -618,7 +791,29 @@ impl LossRecovery {
         numbers: SentNumbers,
         scoreboard: &B,
         limit: u64,
-    ) -> Option<(u64, u64)> {
+    ) -> Option<(u64, u64)>
+        ensures next { (lost others : Option (ℕ × ℕ)) → let first = numbers.first_unacknowledged in
+            IsHole (B.set scoreboard.now) (resumed (recovery_of self.now) first)
+            (min (min (recovery_of self.now).turn (recovery_of self.now).lost) limit) lost →
+            IsHole (B.set scoreboard.now) (gone_on (recovery_of self.now) first) (min (recovery_of self.now).lost limit) others →
+            result ≡ next_range (recovery_of self.now) first numbers.sent limit lost others }
+        ensures within { IfSome result (λ range. (range.0 < range.1) × (range.1 ≤ limit)) }
+        ensures once { IfSome result (λ range. (p : ℕ) → range.0 ≤ p → p < range.1 →
+            p < numbers.sent →
+            IsFalse (contains (B.set scoreboard.now) p)
+            × IsFalse (was_sent_again (recovery_of self.now) numbers.first_unacknowledged p)) }
+        ensures progress { let first = numbers.first_unacknowledged in
+            IsTrue (is_active (recovery_of self.now) first) →
+            IsFalse (was_sent_again (recovery_of self.now) first first) → first < min (recovery_of self.now).lost limit →
+            IsFalse (contains (B.set scoreboard.now) first) → IsTrue (begins_at first result) }
+        ensures begins { let first = numbers.first_unacknowledged in
+            IsFalse (is_active (recovery_of self.now) first) →
+            first ≡ numbers.sent → first < limit → IsTrue (begins_at first result) }
+        ensures after { numbers.first_unacknowledged ≤ numbers.sent →
+            IfSome result (λ range. numbers.first_unacknowledged ≤ range.0) }
+        ensures fresh { IsFalse (is_active (recovery_of self.now) numbers.first_unacknowledged) →
+            IfSome result (λ range. range.0 ≡ numbers.sent) }
+    {
         if !self.is_active(numbers) {
             return unsent(numbers.sent, limit);
         }
@@ -635,7 +830,10 @@ impl LossRecovery {
     /// Takes notice that these positions are sent now: those of `next_segment`, or fewer from its start on. All
     /// that is lost below their end then counts as sent again. `numbers` are the sender's before that. Nothing
     /// changes outside of a recovery, or if none of them was sent before.
-    pub fn sent(&mut self, numbers: SentNumbers, positions: Range<u64>) {
+    pub fn sent(&mut self, numbers: SentNumbers, positions: Range<u64>)
+        ensures { recovery_of self.new ≡ after_sending numbers.first_unacknowledged numbers.sent positions.start
+            positions.end (recovery_of self.old) }
+    {
         if self.is_active(numbers) && positions.start < positions.end.min(numbers.sent) {
             let Range { start, end } = positions;
             self.copy(numbers, start..end);
@@ -650,7 +848,9 @@ impl LossRecovery {
 }
 
 /// Returns what was never sent, up to a limit.
-fn unsent(sent: u64, limit: u64) -> Option<(u64, u64)> {
+fn unsent(sent: u64, limit: u64) -> Option<(u64, u64)>
+    ensures { result ≡ unsent sent limit }
+{
     if sent < limit {
         Some((sent, limit))
     } else {

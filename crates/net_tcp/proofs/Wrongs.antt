@@ -4,8 +4,8 @@ use Rattle.std.proofs.lemmas.Bool.Decides.{nat_tests}
 use Rattle.std.specs.Prelude.{IsTrue, IsFalse, min, not}
 use Rattle.std.specs.Int.{from_bool}
 use Rattle.net_assembler.specs.Positions.{Positions, contains, missing_count}
-use Rattle.net_recovery.specs.LossRecovery.{is_active, is_wrong, taken_back, begun, after_sending, after_copies}
-use Rattle.net_recovery.specs.LossRecovery.{Recovery as LossRecovery}
+use Rattle.net_tcp.specs.LossRecovery.{is_active, is_wrong, taken_back, begun, after_sending, after_copies}
+use Rattle.net_tcp.specs.LossRecovery.{Recovery as LossRecovery}
 
 -- what lacks its first position misses something
 lacks_some : (s : Positions) (p n : ℕ) → 0 < n → IsFalse (contains s p) → 0 < missing_count s p n

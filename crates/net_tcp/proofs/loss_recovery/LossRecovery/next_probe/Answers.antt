@@ -1,7 +1,7 @@
 use Rattle.std.proofs.Common.{◌∙◌, sym, arith}
 use Rattle.std.proofs.lemmas.Bool.{false≢true}
-use Rattle.net_recovery.proofs.Missing.{hole_from, none_has}
-use Rattle.net_recovery.proofs.loss_recovery.LossRecovery.next_probe.Goals as goal
+use Rattle.net_tcp.proofs.Missing.{hole_from, none_has}
+use Rattle.net_tcp.proofs.loss_recovery.LossRecovery.next_probe.Goals as goal
 
 pub returns-in-None-clause-progress : goal.returns-in-None-clause-progress
 returns-in-None-clause-progress g c = λ some misses.
