@@ -1,8 +1,7 @@
 //! Laws of the machines. No function here changes anything: its contract is the law.
-ghost use Rattle.std.specs.Prelude.{◌≡◌, ℕ, ◌+◌, ◌-◌, ◌*◌, ◌^◌, ◌<◌, ◌≤◌, ◌⊎◌, IfSome, IsTrue, IsFalse, min, max};
+ghost use Rattle.std.specs.Prelude.{◌≡◌, ℕ, ◌+◌, ◌-◌, ◌*◌, ◌^◌, ◌<◌, ◌≤◌, ◌⊎◌, IsTrue, IsFalse, min, max};
 ghost use Rattle.std.specs.Prelude.{◌/◌, List, [], ◌∷◌, ◌++◌, All, Some, Bool, ℤ, false, true};
 ghost use Rattle.std.specs.Fn.{iterate};
-ghost use Rattle.net_base.specs.Time.{IsLength};
 ghost use Rattle.net_tcp.specs.InternetChecksum.{carried_sum, folded, internet_checksum, word_bytes, word_sum};
 ghost use Rattle.net_tcp.specs.InternetChecksum.{updated as updated_word, IsEven};
 ghost use Rattle.net_tcp.specs.Windows.{IsAcceptable, IsInTable, IsScaleFor, announced, field_for, gain, worth};
@@ -10,8 +9,7 @@ ghost use Rattle.net_tcp.specs.Windows.{IsBehind, IsHeard, IsTaken};
 ghost use Rattle.net_tcp.specs.Windows.{window_from, with_segment, no_window, BothEnds, acknowledgement_number};
 ghost use Rattle.net_tcp.specs.Windows.{Announcement, Heard, acknowledged, updated, heard, heard_all, IsNoLater};
 ghost use Rattle.net_tcp.specs.Windows.{IsNoNewer, IsFromNoNewer};
-ghost use Rattle.net_tcp.specs.Estimate.{Estimate, IsSmall};
-ghost use Rattle.net_tcp.specs.Retransmission.{timer_of};
+ghost use Rattle.net_tcp.specs.Estimate.{Estimate};
 ghost use Rattle.net_tcp.specs.Retransmission.{next_estimate, distance, doubled, IsSettled, Event, Connection};
 ghost use Rattle.net_tcp.specs.Retransmission.{opened, after_event, after_events, runs, sends_over, IsNoStart};
 ghost use Rattle.net_tcp.specs.Retransmission.{IsNoStop, IsUnacknowledged, IsEnd, IsMove, IsUntil, expires_at, expiry};
@@ -25,9 +23,6 @@ ghost use Rattle.net_tcp.specs.LossRecovery.{after_silence, is_answered, overtak
 ghost use Rattle.net_tcp.specs.LossRecovery.{after_hearing, after_answer, withdrawn, unsent_lost, blind_lost};
 ghost use Rattle.net_tcp.specs.LossRecovery.{is_wrong, taken_back, after_copies};
 ghost use Rattle.net_tcp.specs.LossRecovery.{Recovery};
-
-use crate::retransmission::{RetransmissionTimeout, RttEstimate};
-use crate::retransmission_timer::RetransmissionTimer;
 
 /// States what the folded sum is: that of RFC 1071, which adds each carry at the low end; and that
 /// neither cuts at even offsets nor where a part is folded changes it.
@@ -131,42 +126,6 @@ pub fn peer_windows()
     ensures zeros { (seq ack window : ℕ) →
         with_segment no_window seq ack window ≡ window_from seq ack window }
 {}
-
-/// States what is true of every estimate, so that no sum of it leaves 64 bits.
-pub fn is_sound_estimate(estimate: &RttEstimate)
-    ensures { IsSmall estimate.now }
-{
-    let _numbers = estimate.scaled();
-}
-
-/// States what is true of every timeout: of its estimate, if there is one, what is true of each, and that it
-/// is a length of time.
-pub fn is_sound_timeout(timeout: &RetransmissionTimeout)
-    ensures estimate { IfSome timeout.now.estimate IsSmall }
-    ensures timeout { IsLength timeout.now.timeout }
-{
-    is_small(timeout.rtt());
-    let _micros = timeout.timeout().total_micros();
-}
-
-/// States of every timer what is true of its timeout.
-pub fn is_sound_timer(timer: &RetransmissionTimer)
-    ensures estimate { IfSome (timer_of timer.now).timeout.estimate IsSmall }
-    ensures timeout { IsLength (timer_of timer.now).timeout.timeout }
-{
-    is_small(timer.rtt());
-    let _micros = timer.timeout().total_micros();
-}
-
-/// States what is true of an estimate, if there is one.
-fn is_small(estimate: Option<RttEstimate>)
-    ensures { IfSome estimate IsSmall }
-{
-    match estimate {
-        Some(estimate) => is_sound_estimate(&estimate),
-        None => {}
-    }
-}
 
 /// States what estimates and timeouts do: an estimate follows the formulas of RFC 6298, (7 / 8) * SRTT + R / 8
 /// and (3 / 4) * RTTVAR + |SRTT - R| / 4, but for less than the eighth or quarter of a microsecond that is
