@@ -1220,7 +1220,8 @@ void net_base_parts_sum_add(
     size_t part_length) NET_BASE_LINK(parts_sum_add);
 
 /** Returns the checksum of the bytes that were added. It is a number: in a message its high byte
- * comes first.
+ * comes first. UDP sends 65535 in place of 0, which says there that there is none (RFC 768): a
+ * message with either is valid.
  */
 uint16_t net_base_parts_sum_checksum(
     const struct net_base_parts_sum *sum) NET_BASE_LINK(parts_sum_checksum);

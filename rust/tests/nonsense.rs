@@ -162,7 +162,7 @@ fn windows_and_timers() {
             5 => {
                 let _field = advertised.announce(scale, seq, ack);
                 let _field = advertised.announce_in_steps(scale, seq, ack, len, sent as u16);
-                assert!(advertised.edge() >= seq && peer.usable(ack) <= peer.edge());
+                assert!(advertised.edge() >= seq && peer.send_limit(ack) <= peer.edge());
             }
             6 => timer.sent(bounds, seq..ack, numbers, draw.instant()),
             7 => timer.acknowledged(bounds, numbers, ack, draw.instant()),

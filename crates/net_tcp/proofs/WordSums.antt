@@ -1,14 +1,14 @@
 -- Sums of words, and what folding keeps of them: the number modulo 65535, and whether it is 0.
 use Rattle.std.proofs.Common.{◌≡◌, ℕ, zero, suc, ◌+◌, ◌-◌, ◌*◌, ◌/◌, ◌%◌, ◌^◌, ◌<◌, ◌≤◌, List, [], ◌∷◌, ◌++◌, length}
 use Rattle.std.proofs.Common.{take, drop, refl, sym, ap, ◌∙◌, inl, inr, subst, arith, length-append, append-nil, All}
-use Rattle.std.proofs.Common.{true, false, cond, Bool, not, nat_eq}
-use Rattle.std.specs.Prelude.{◌⊎◌, Option, Some, None}
+use Rattle.std.proofs.Common.{true, false, cond, Bool, nat_eq}
+use Rattle.std.specs.Prelude.{◌⊎◌, Option, Some, None, if◌then◌else◌}
 use Rattle.std.specs.List.{slice_get}
 use Rattle.std.specs.Int.{w16, w32, w64, from_le_bytes}
 use Rattle.std.proofs.lemmas.List.{take-append-drop}
 use Rattle.std.proofs.lemmas.Bool.{cases_lt, cond_both, eqb-true, eqb-false}
 use Rattle.net_tcp.specs.InternetChecksum.{word_sum, folded, internet_checksum, updated, word_bytes, IsEven}
-use Rattle.net_tcp.specs.InternetChecksum.{add_words, carried_sum, Sums, sum_with, sum_joined}
+use Rattle.net_tcp.specs.InternetChecksum.{add_words, carried_sum, Sums, sum_with}
 use Rattle.net_tcp.specs.declared.internet_sum.PartsSum.{PartsSum}
 
 -- ---- folding
@@ -333,20 +333,6 @@ after_odd : (xs ys : List ℕ) → length xs % 2 ≡ 1 → word_sum (xs ++ ys) �
 after_odd xs [] h = ap word_sum (append-nil xs) ∙ omega arith
 after_odd xs (y ∷ ys) h = word_sum-append_odd xs y ys h ∙ omega arith
 
--- such a sum is 256 times the sum of the same bytes from a high byte on
-turned_sum : (ys : List ℕ) → (k : ℕ) × (256 * word_sum ys ≡ low_sum ys + 65535 * k) × (low_sum ys ≡ 0 → k ≡ 0)
-turned_sum [] = (0, omega arith, λ z. refl)
-turned_sum (y ∷ []) = (y, omega arith, λ z. omega arith)
-turned_sum (y ∷ z ∷ ys) =
-    let more = turned_sum ys in let cut = high_then_low z ys in
-    (y + more.0, omega (arith, more.1, cut), λ none. omega (arith, cut, more.2 (omega (arith, cut))))
-
-turned : (ys : List ℕ) → folded (256 * word_sum ys) ≡ folded (low_sum ys)
-turned ys = let t = turned_sum ys in folded_same _ _ t.0 t.1 t.2
-
-swap_is : (w : ℕ) → folded (w % 256 * 256 + w / 256) ≡ folded (256 * w)
-swap_is w = sym (folded_same (256 * w) (w % 256 * 256 + w / 256) (w / 256) (omega arith) (λ z. omega arith))
-
 -- ---- one part after another
 -- a folded sum is folded
 folded_twice : (n : ℕ) → folded (folded n) ≡ folded n
@@ -368,14 +354,6 @@ sum_of s xs sums = ap folded sums.0 ∙ folded_twice (word_sum xs)
 -- the parity of one count, and its other
 same_parity : (a b : ℕ) → a % 2 ≡ b % 2 → nat_eq (a % 2) 1 ≡ nat_eq (b % 2) 1
 same_parity a b e = ap (λ k. nat_eq k 1) e
-
-turned_parity : (a b : ℕ) → a % 2 + b % 2 ≡ 1 → not (nat_eq (a % 2) 1) ≡ nat_eq (b % 2) 1
-turned_parity a b e = by (a % 2) (b % 2) e
-  where
-    by : (m n : ℕ) → m + n ≡ 1 → not (nat_eq m 1) ≡ nat_eq n 1
-    by zero n h = ap (λ k. nat_eq k 1) (let is : 1 ≡ n = omega (arith, h) in is)
-    by (suc zero) n h = ap (λ k. nat_eq k 1) (let is : 0 ≡ n = omega (arith, h) in is)
-    by (suc (suc m)) n h = absurd (omega (arith, h))
 
 low_part : (ys : List ℕ) → word_sum (0 ∷ ys) ≡ low_sum ys
 low_part ys = high_then_low 0 ys ∙ omega arith
@@ -399,52 +377,16 @@ with_is s xs ys sums =
 pub with_sums : (s r : PartsSum) (xs ys : List ℕ) → r ≡ sum_with s ys → Sums s xs → Sums r (xs ++ ys)
 with_sums s r xs ys is sums = subst (λ r. Sums r (xs ++ ys)) (sym is) (with_is s xs ys sums)
 
-joined_is : (s t : PartsSum) (xs ys : List ℕ) → Sums s xs → Sums t ys → Sums (sum_joined s t) (xs ++ ys)
-joined_is s t xs ys sums after =
-    cond_both s.odd (record { sum = folded (s.sum + 256 * t.sum); odd = not t.odd })
-    (record { sum = folded (s.sum + t.sum); odd = t.odd })
-    (λ r. Sums r (xs ++ ys))
-    (λ odd. (let at = odd_of s xs sums odd in (
-      folded_both (256 * t.sum) (low_sum ys) (sym (times t.sum) ∙ ap (λ n. folded (256 * n)) (sum_of t ys after)
-          ∙ times (word_sum ys) ∙ turned ys)
-          ∙ ap folded (sym (after_odd xs ys at)),
-      ap not after.1 ∙ turned_parity (length ys) (length (xs ++ ys)) (omega (arith, length-append xs ys, at)),
-    )))
-    (λ even. (let at = even_of s xs sums even in (
-      folded_both t.sum (word_sum ys) (sum_of t ys after) ∙ ap folded (sym (groups_add xs ys at)),
-      after.1 ∙ same_parity (length ys) (length (xs ++ ys)) (omega (arith, length-append xs ys, at)),
-    )))
-  where
-    folded_both : (a b : ℕ) → folded a ≡ folded b → folded (s.sum + a) ≡ folded (word_sum xs + b)
-    folded_both a b e =
-        folded_more s.sum (word_sum xs) a (sum_of s xs sums) ∙ sym (folds_add (word_sum xs) a)
-        ∙ ap (λ n. folded (word_sum xs + n)) e ∙ folds_add (word_sum xs) b
-
-pub joined_sums : (s t r : PartsSum) (xs ys : List ℕ) → r ≡ sum_joined s t → Sums s xs → Sums t ys → Sums r (xs ++ ys)
-joined_sums s t r xs ys is sums after = subst (λ r. Sums r (xs ++ ys)) (sym is) (joined_is s t xs ys sums after)
-
--- a word with its bytes exchanged, in place of 256 times the word
-pub swapped_joins : (s t : ℕ) → folded (s + (t % 256 * 256 + t / 256)) ≡ folded (s + 256 * t)
-swapped_joins s t =
-    let w = t % 256 * 256 + t / 256 in
-    sym (folds_add s w) ∙ ap (λ n. folded (s + n)) (swap_is t) ∙ folds_add s (256 * t)
-
 -- a word as a part
-word_is : (w : ℕ) → word_sum (word_bytes w) ≡ w
-word_is w = omega arith
-
-pub word_sums : (w : ℕ) → w ≤ 65535 → Sums (record { sum = w; odd = false }) (word_bytes w)
-word_sums w h = (sym (ap folded (word_is w) ∙ folded_small w h), refl)
-
-pub word_joins : (s w : ℕ) (odd : Bool) → sum_joined (record { sum = s; odd = odd }) (record { sum = w; odd = false }) ≡
+pub word_joins : (s w : ℕ) (odd : Bool) →
+    record { sum = folded (s + (if odd then w % 256 * 256 + w / 256 else w)); odd = odd } ≡
     sum_with (record { sum = s; odd = odd }) (word_bytes w)
 word_joins s w true =
     let e : s + (w % 256 * 256 + w / 256) ≡ s + word_sum (0 ∷ word_bytes w) = omega arith in
-    let sum : folded (s + 256 * w) ≡ folded (s + word_sum (0 ∷ word_bytes w)) = sym (swapped_joins s w) ∙ ap folded e in
-    λ i. record { sum = sum i; odd = true }
+    λ i. record { sum = folded (e i); odd = true }
 word_joins s w false =
-    let sum : folded (s + w) ≡ folded (s + word_sum (word_bytes w)) = ap (λ n. folded (s + n)) (sym (word_is w)) in
-    λ i. record { sum = sum i; odd = false }
+    let e : s + w ≡ s + word_sum (word_bytes w) = omega arith in
+    λ i. record { sum = folded (e i); odd = false }
 
 -- a part whose first byte is a low one
 pub low_first : (s r : PartsSum) (part words : List ℕ) (low : ℕ) → s.odd ≡ true → part ≡ low ∷ words →

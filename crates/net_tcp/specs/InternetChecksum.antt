@@ -4,9 +4,9 @@
 --     internet_checksum xs, updated c m n      the checksum, and c after a word m became n
 --     add_words, carried_sum      the sum as RFC 1071 describes it, carry by carry
 --     is_odd xs      an odd number of bytes
---     sum_with s xs, sum_joined s t      the running sum s after bytes xs, or after those of which t is the sum
+--     sum_with s xs      the running sum s after bytes xs
 --     Sums s xs      the running sum s is that of the bytes xs
-use Rattle.std.specs.Prelude.{◌≡◌, ℕ, zero, suc, ◌+◌, ◌-◌, ◌*◌, ◌/◌, ◌%◌, ◌^◌, List, [], ◌∷◌, length, Bool, not}
+use Rattle.std.specs.Prelude.{◌≡◌, ℕ, zero, suc, ◌+◌, ◌-◌, ◌*◌, ◌/◌, ◌%◌, ◌^◌, List, [], ◌∷◌, length, Bool}
 use Rattle.std.specs.Prelude.{nat_eq, if◌then◌else◌}
 use Rattle.net_tcp.specs.declared.internet_sum.PartsSum.{PartsSum}
 
@@ -48,12 +48,6 @@ is_odd xs = nat_eq (length xs % 2) 1
 -- the sum after them
 abbrev pub sum_with : PartsSum → List ℕ → PartsSum
 sum_with s xs = record { sum = folded (s.sum + word_sum (from_high s xs)); odd = is_odd (from_high s xs) }
-
--- the sum after the bytes of which t is the sum; from a low byte on they sum to 256 times as much
-abbrev pub sum_joined : PartsSum → PartsSum → PartsSum
-sum_joined s t =
-    if s.odd then record { sum = folded (s.sum + 256 * t.sum); odd = not t.odd }
-    else record { sum = folded (s.sum + t.sum); odd = t.odd }
 
 -- s is the sum of the bytes xs, so far
 abbrev pub Sums : PartsSum → List ℕ → Type 0

@@ -6,9 +6,9 @@
 #![tactic(auto, using(crate::proofs::WordSums::parts))]
 
 ghost use Rattle.std.specs.Prelude.{◌≡◌, ◌↔◌, ℕ, ◌+◌, ◌-◌, ◌*◌, ◌%◌, ◌^◌, ◌<◌, ◌≤◌, List, [], ◌++◌, ◌/◌};
-ghost use Rattle.std.specs.Prelude.{◌⊎◌, length, nat_eq, if◌then◌else◌, IsTrue, IsFalse};
+ghost use Rattle.std.specs.Prelude.{length, IsTrue, IsFalse};
 ghost use Rattle.net_tcp.specs.InternetChecksum.{folded, word_sum, internet_checksum, updated, Sums, is_odd};
-ghost use Rattle.net_tcp.specs.InternetChecksum.{sum_joined, sum_with, word_bytes};
+ghost use Rattle.net_tcp.specs.InternetChecksum.{sum_with, word_bytes};
 
 use net_ring::width::most;
 
@@ -81,63 +81,22 @@ impl PartsSum {
         ensures value { result ≡ sum_with self (word_bytes word) }
         ensures bytes { (xs : List ℕ) → Sums self xs → Sums result (xs ++ word_bytes word) }
     {
-        self.joined(PartsSum {
-            sum: word,
-            odd: false,
-        })
-    }
-
-    /// Returns the sum of the bytes that were added, and of those of which `after` is the sum.
-    #[must_use]
-    pub fn joined(self, after: PartsSum) -> Self
-        ensures value { result ≡ sum_joined self after }
-        ensures bytes { (xs ys : List ℕ) → Sums self xs → Sums after ys → Sums result (xs ++ ys) }
-    {
-        if self.odd {
-            PartsSum {
-                sum: folded_sum(self.sum, swapped(after.sum)),
-                odd: !after.odd,
-            }
-        } else {
-            PartsSum {
-                sum: folded_sum(self.sum, after.sum),
-                odd: after.odd,
-            }
+        let word = if self.odd { swapped(word) } else { word };
+        PartsSum {
+            sum: fold(u32::from(self.sum) + u32::from(word)),
+            odd: self.odd,
         }
     }
 
     /// Returns the checksum of the bytes that were added. It is a number: in a message its high byte comes
-    /// first.
+    /// first. UDP sends 65535 in place of 0, which says there that there is none (RFC 768): a message with either is
+    /// valid.
     #[must_use]
     pub fn checksum(&self) -> u16
         ensures value { result ≡ 65535 - self.now.sum }
         ensures bytes { (xs : List ℕ) → Sums self.now xs → result ≡ internet_checksum xs }
     {
         u16::MAX - self.sum
-    }
-
-    /// Returns the checksum of the bytes that were added as UDP sends it: 65535 in place of 0, which says
-    /// that there is none (RFC 768). A message with either is valid.
-    ///
-    /// ```
-    /// # use net_base::checksum::PartsSum;
-    /// let sum = PartsSum::new().with(&[0xff, 0xff]);
-    /// assert_eq!((sum.checksum(), sum.udp_checksum()), (0, 0xffff));
-    /// ```
-    #[must_use]
-    pub fn udp_checksum(&self) -> u16
-        ensures value { result ≡ (if nat_eq self.now.sum 65535 then 65535
-            else 65535 - self.now.sum) }
-        // Guarantee.
-        ensures some { 0 < result }
-        ensures bytes { (xs : List ℕ) → Sums self.now xs → (result ≡ internet_checksum xs)
-            ⊎ ((result ≡ 65535) × (internet_checksum xs ≡ 0)) }
-    {
-        if self.sum == u16::MAX {
-            u16::MAX
-        } else {
-            u16::MAX - self.sum
-        }
     }
 
     /// Returns whether the bytes that were added, with a checksum among them at an even offset, are
@@ -329,14 +288,6 @@ fn turned(sum: u32) -> u16
     ensures { result ≡ folded (256 * sum) }
 {
     swapped(fold(sum))
-}
-
-/// Adds two words, and folds their sum.
-#[inline]
-fn folded_sum(a: u16, b: u16) -> u16
-    ensures { result ≡ folded (a + b) }
-{
-    fold(u32::from(a) + u32::from(b))
 }
 
 /// Returns a word with its bytes exchanged.

@@ -176,7 +176,7 @@ impl LossRecovery {
         numbers.first_unacknowledged < self.until
     }
 
-    /// Returns how many segments above a position tell that it is lost: 3 at first.
+    /// Returns how many segments above a position tell that it is lost: 3 at first. `Scoreboard::lost_below` takes it.
     #[must_use]
     pub fn duplicates(&self) -> usize
         ensures { result ≡ (recovery_of self.now).duplicates }
@@ -196,9 +196,10 @@ impl LossRecovery {
         self.has_duplicates = 1;
     }
 
-    /// Takes notice that something was sent again for nothing, as `came_twice` does where the peer says what. From now
-    /// on four times as many segments above a position tell that it is lost, up to 1024. Once that has happened, nothing
-    /// changes until all is acknowledged that was sent by then: a round trip makes it four times as many once.
+    /// Takes notice that something was sent again for nothing, as the timestamps of TCP may tell (RFC 3522). Where the
+    /// peer says what, `came_twice` does so. From now on four times as many segments above a position tell that it is
+    /// lost, up to 1024. Once that has happened, nothing changes until all is acknowledged that was sent by then: a
+    /// round trip makes it four times as many once.
     pub fn duplicated(&mut self, numbers: SentNumbers)
         ensures { recovery_of self.new ≡ after_duplicate numbers.first_unacknowledged numbers.sent (recovery_of self.old) }
     {
@@ -698,7 +699,8 @@ impl LossRecovery {
     }
 
     /// Returns how many positions may be in flight: of those which were sent and aren't reported, the ones that
-    /// aren't lost or were sent again, less those that have arrived and the peer doesn't report.
+    /// aren't lost or were sent again, less those that have arrived and the peer doesn't report. Half of it is the new
+    /// congestion window where a recovery begins (RFC 5681's FlightSize).
     #[must_use]
     pub fn in_flight<B: Reported>(&self, numbers: SentNumbers, scoreboard: &B) -> u64
         ensures { result ≡ in_flight (recovery_of self.now) numbers.first_unacknowledged numbers.sent

@@ -63,54 +63,19 @@ impl PartsSum {
     /// ```
     #[must_use]
     pub fn with_word(self, word: u16) -> Self {
-        self.joined(PartsSum {
-            sum: word,
-            odd: false,
-        })
-    }
-
-    /// Returns the sum of the bytes that were added, and of those of which `after` is the sum.
-    #[must_use]
-    pub fn joined(self, after: PartsSum) -> Self {
-        if self.odd {
-            PartsSum {
-                sum: folded_sum(self.sum, swapped(after.sum)),
-                odd: !after.odd,
-            }
-        } else {
-            PartsSum {
-                sum: folded_sum(self.sum, after.sum),
-                odd: after.odd,
-            }
+        let word = if self.odd { swapped(word) } else { word };
+        PartsSum {
+            sum: fold(u32::from(self.sum) + u32::from(word)),
+            odd: self.odd,
         }
     }
 
     /// Returns the checksum of the bytes that were added. It is a number: in a message its high byte comes
-    /// first.
+    /// first. UDP sends 65535 in place of 0, which says there that there is none (RFC 768): a message with either is
+    /// valid.
     #[must_use]
     pub fn checksum(&self) -> u16 {
         u16::MAX - self.sum
-    }
-
-    /// Returns the checksum of the bytes that were added as UDP sends it: 65535 in place of 0, which says
-    /// that there is none (RFC 768). A message with either is valid.
-    ///
-    /// ```
-    /// # use net_base::checksum::PartsSum;
-    /// let sum = PartsSum::new().with(&[0xff, 0xff]);
-    /// assert_eq!((sum.checksum(), sum.udp_checksum()), (0, 0xffff));
-    /// ```
-    ///
-    /// # [Guarantees](crate#guarantees)
-    ///
-    /// - `0 < result`
-    #[must_use]
-    pub fn udp_checksum(&self) -> u16 {
-        if self.sum == u16::MAX {
-            u16::MAX
-        } else {
-            u16::MAX - self.sum
-        }
     }
 
     /// Returns whether the bytes that were added, with a checksum among them at an even offset, are
@@ -253,12 +218,6 @@ fn sum_byte(start: u32, bytes: &[u8]) -> u32 {
 #[inline]
 fn turned(sum: u32) -> u16 {
     swapped(fold(sum))
-}
-
-/// Adds two words, and folds their sum.
-#[inline]
-fn folded_sum(a: u16, b: u16) -> u16 {
-    fold(u32::from(a) + u32::from(b))
 }
 
 /// Returns a word with its bytes exchanged.

@@ -149,17 +149,6 @@ impl PeerWindow {
         self.ack < ack || self.seq < seq || self.seq == seq && self.ack <= ack
     }
 
-    /// Returns how many bytes from `pos` on may be sent: none if the edge is at or below it, as it
-    /// may be after the window shrank.
-    ///
-    /// # [Guarantees](crate#guarantees)
-    ///
-    /// - `result == self.edge().saturating_sub(pos)`
-    #[must_use]
-    pub fn usable(&self, pos: u64) -> u64 {
-        self.edge.saturating_sub(pos)
-    }
-
     /// Returns the end of what may be sent of the bytes below `end`.
     ///
     /// ```

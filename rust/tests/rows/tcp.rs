@@ -28,10 +28,7 @@ impl Subject for Tcp {
             "scale_for" => scale_for(one).to_string(),
             "announce" | "announce_in_steps" | "is_update_due" => announce(call),
             "peer_update" => peer_update(call),
-            "peer_room" => {
-                let peer = peer_window(one);
-                format!("{} {}", peer.usable(two), truth(peer.is_probe_allowed(two, three)))
-            }
+            "is_probe_allowed" => truth(peer_window(one).is_probe_allowed(two, three)).to_string(),
             "acknowledgement_number" => {
                 peer_window(one).acknowledgement_number(sent_numbers(two, three)).to_string()
             }
@@ -120,8 +117,8 @@ fn sent_numbers(first_unacknowledged: u64, sent: u64) -> SentNumbers {
 fn parts(bytes: &[u8], one: usize, other: usize) -> String {
     let mut sum = PartsSum::new();
     sum.add(&bytes[..one]);
-    let after = PartsSum::new().with(&bytes[one..other]).with(&bytes[other..]);
-    sum.joined(after).checksum().to_string()
+    let sum = sum.with(&bytes[one..other]).with(&bytes[other..]);
+    sum.checksum().to_string()
 }
 
 fn estimate(estimate: RttEstimate) -> String {

@@ -26,7 +26,8 @@ pub extern "C" fn net_base_parts_sum_add(sum: &mut PartsSum, part: &[u8])
 }
 
 /// Returns the checksum of the bytes that were added. It is a number: in a message its high byte
-/// comes first.
+/// comes first. UDP sends 65535 in place of 0, which says there that there is none (RFC 768): a
+/// message with either is valid.
 #[unsafe(no_mangle)]
 pub extern "C" fn net_base_parts_sum_checksum(sum: &PartsSum) -> u16
     ensures value { result ≡ 65535 - sum.now.sum }

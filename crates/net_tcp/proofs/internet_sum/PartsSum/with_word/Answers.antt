@@ -1,6 +1,7 @@
-use Rattle.std.proofs.Common.{arith}
-use Rattle.net_tcp.proofs.WordSums.{word_sums}
+use Rattle.std.proofs.Common.{rules}
+use Rattle.net_tcp.proofs.WordSums.{with_sums, word_joins}
 use Rattle.net_tcp.proofs.internet_sum.PartsSum.with_word.Goals as goal
 
 pub returns-clause-bytes : goal.returns-clause-bytes
-returns-clause-bytes c xs sums = c.joined.ensures.bytes xs _ sums (word_sums c.args.word (omega arith))
+returns-clause-bytes c xs sums =
+    with_sums c.args.self (record { sum = c.fold.result; odd = c.args.self.odd }) xs _ (search (rules, word_joins)) sums
