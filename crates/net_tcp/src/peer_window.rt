@@ -1,6 +1,6 @@
 //! The window that the peer announced.
 ghost use Rattle.std.specs.Prelude.{◌≡◌, ◌↔◌, ◌-◌, ◌*◌, ◌^◌, ◌<◌, ◌≤◌, IsTrue, IsFalse, min, max};
-ghost use Rattle.net_tcp.specs.Windows.{shift_count, Replaces, replaces, window_from, after_update};
+ghost use Rattle.net_tcp.specs.Windows.{shift_count, Replaces, window_from, after_update};
 ghost use Rattle.net_tcp.specs.Windows.{acknowledgement_number, no_window};
 
 use crate::advertised_window::MAX_SCALE;
@@ -148,21 +148,12 @@ impl PeerWindow {
             numbers.first_unacknowledged numbers.sent it.seq it.ack it.window }
     {
         let is_possible = numbers.first_unacknowledged <= it.ack && it.ack <= numbers.sent;
-        if !is_possible || !self.is_replaced_by(it.seq, it.ack) {
-            return false;
+        let is_later = self.seq < it.seq || self.seq == it.seq && self.ack <= it.ack;
+        let is_taken = is_possible && (self.ack < it.ack || is_later);
+        if is_taken {
+            *self = PeerWindow::of(it);
         }
-        *self = PeerWindow::of(it);
-        true
-    }
-
-    /// Returns whether the segment of these numbers acknowledges more than the one that the window is
-    /// from, or is not older.
-    #[inline]
-    fn is_replaced_by(&self, seq: u64, ack: u64) -> bool
-        ensures value { result ≡ replaces self.now seq ack }
-        ensures replaces { IsTrue result ↔ Replaces self.now seq ack }
-    {
-        self.ack < ack || self.seq < seq || self.seq == seq && self.ack <= ack
+        is_taken
     }
 
     /// Returns the end of what may be sent of the bytes below `end`.

@@ -135,18 +135,12 @@ impl PeerWindow {
     /// - `result` exactly if `numbers.first_unacknowledged <= it.ack` and `it.ack <= numbers.sent` and `Replaces(old(self), it.seq, it.ack)`
     pub fn update(&mut self, numbers: SentNumbers, it: Announcement) -> bool {
         let is_possible = numbers.first_unacknowledged <= it.ack && it.ack <= numbers.sent;
-        if !is_possible || !self.is_replaced_by(it.seq, it.ack) {
-            return false;
+        let is_later = self.seq < it.seq || self.seq == it.seq && self.ack <= it.ack;
+        let is_taken = is_possible && (self.ack < it.ack || is_later);
+        if is_taken {
+            *self = PeerWindow::of(it);
         }
-        *self = PeerWindow::of(it);
-        true
-    }
-
-    /// Returns whether the segment of these numbers acknowledges more than the one that the window is
-    /// from, or is not older.
-    #[inline]
-    fn is_replaced_by(&self, seq: u64, ack: u64) -> bool {
-        self.ack < ack || self.seq < seq || self.seq == seq && self.ack <= ack
+        is_taken
     }
 
     /// Returns the end of what may be sent of the bytes below `end`.
