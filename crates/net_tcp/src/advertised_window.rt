@@ -1,5 +1,5 @@
 //! The window that a receiver announces.
-ghost use Rattle.std.specs.Prelude.{◌≡◌, ◌↔◌, ℕ, ◌+◌, ◌-◌, ◌^◌, ◌<◌, ◌≤◌, ◌⊎◌, IsTrue, min, max};
+ghost use Rattle.std.specs.Prelude.{◌≡◌, ◌↔◌, ℕ, ◌+◌, ◌-◌, ◌<◌, ◌≤◌, ◌⊎◌, IsTrue, min, max};
 ghost use Rattle.net_tcp.specs.Windows.{shift_count, field_for, announced, IsScaleFor, worth, gain, IsArrival};
 
 use crate::arriving::{Arrival, Segment, classify};
@@ -104,9 +104,6 @@ impl AdvertisedWindow {
         // Guarantee.
         ensures most { (f : ℕ) → f ≤ 65535 →
             announced next (shift_count scale) f ≤ max next window_end → f ≤ result }
-        ensures lost { self.old.edge ≤ max next window_end →
-            self.old.edge ≤ announced next (shift_count scale) 65535 →
-            self.old.edge < announced next (shift_count scale) result + 2 ^ shift_count scale }
     {
         let shift = scale.min(MAX_SCALE);
         let field = field(shift, next, window_end);

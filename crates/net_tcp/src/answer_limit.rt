@@ -2,7 +2,7 @@
 
 // Why: It is a type of its own, since it needs a clock, which a receiving end has not.
 
-ghost use Rattle.std.specs.Prelude.{◌≡◌, ◌≤◌, ◌^◌, pos, negsuc, ◌-◌, IsTrue, IsFalse};
+ghost use Rattle.std.specs.Prelude.{◌≡◌, ◌≤◌, ◌^◌, negsuc, ◌-◌, IsTrue, IsFalse};
 ghost use Rattle.net_tcp.specs.AnswerLimit.{allows, after_question, is_limited};
 
 use crate::arriving::Segment;

@@ -1,5 +1,5 @@
 //! The time until a retransmission.
-ghost use Rattle.std.specs.Prelude.{◌≡◌, ◌≤◌, ◌/◌, min, max};
+ghost use Rattle.std.specs.Prelude.{◌≡◌, ◌/◌, min, max};
 ghost use Rattle.net_tcp.specs.Retransmission.{sample, first_estimate, next_estimate, within, timeout_of, doubled};
 ghost use Rattle.net_tcp.specs.Retransmission.{after_acknowledgement, after_sample, before_samples};
 
@@ -142,10 +142,7 @@ impl RttEstimate {
     /// Returns the timeout that it gives: at least the smoothed time, but for the greatest timeout.
     #[must_use]
     pub fn timeout(self, bounds: TimeoutBounds) -> Duration
-        ensures value { result ≡ timeout_of bounds self }
-        ensures least { bounds.least ≤ result }
-        ensures most { bounds.least ≤ bounds.most → result ≤ bounds.most }
-        ensures long { min bounds.most (self.srtt_8 / 8) ≤ result }
+        ensures { result ≡ timeout_of bounds self }
     {
         let variation = bounds.tick.total_micros().max(self.rttvar_4);
         let time = (self.srtt_8 >> 3).saturating_add(variation);
