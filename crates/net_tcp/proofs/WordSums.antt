@@ -174,18 +174,14 @@ both_parts n rest part after parts =
 pub halves_32 : (n : ℕ) → folded (n / 2 ^ 32 + n % 2 ^ 32) ≡ folded n
 halves_32 n = sym (folded_same n (n / 2 ^ 32 + n % 2 ^ 32) (65537 * (n / 2 ^ 32)) (omega arith) (λ z. omega arith))
 
-pub eight_more : (low high word : ℕ) (rest part after : List ℕ) → word ≡ from_le_bytes w64 part →
+pub eight_more : (x word : ℕ) (rest part after : List ℕ) → word ≡ from_le_bytes w64 part →
     (part ≡ take 8 rest) × (after ≡ drop 8 rest) × (length after + 8 ≡ length rest) →
-    folded (256 * (low + word % 2 ^ 32 + (high + word / 2 ^ 32)) + word_sum after)
-    ≡ folded (256 * (low + high) + word_sum rest)
-eight_more low high word rest part after is parts =
+    folded (256 * (x + (word / 2 ^ 32 + word % 2 ^ 32)) + word_sum after) ≡ folded (256 * x + word_sum rest)
+eight_more x word rest part after is parts =
     let at = both_parts 8 rest part after parts in
-    let e : low + word % 2 ^ 32 + (high + word / 2 ^ 32) ≡ (low + high)
-    + (word / 2 ^ 32 + word % 2 ^ 32) = omega arith in
-    ap (λ n. folded (256 * n + word_sum after)) e
-    ∙ part_more (low + high) (word / 2 ^ 32 + word % 2 ^ 32) part after (omega (arith, at.1))
+    part_more x (word / 2 ^ 32 + word % 2 ^ 32) part after (omega (arith, at.1))
     (halves_32 word ∙ ap folded (is ∙ le_8 part at.1))
-    ∙ ap (λ l. folded (256 * (low + high) + word_sum l)) at.0
+    ∙ ap (λ l. folded (256 * x + word_sum l)) at.0
 
 -- a word that is added as any number that folds as it does
 pub four_more : (x w word : ℕ) (rest part after : List ℕ) → folded w ≡ folded word → word ≡ from_le_bytes w32 part →

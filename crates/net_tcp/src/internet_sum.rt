@@ -196,16 +196,14 @@ fn sum_eights(start: u32, bytes: &[u8]) -> u32
     requires few { length bytes.now ≤ BLOCK }
     ensures { folded (256 * result) ≡ folded (256 * start + word_sum bytes.now) }
 {
-    let mut low = u64::from(start);
-    let mut high = 0;
+    let mut sum = u64::from(start);
     let mut rest = bytes;
     while let Some((eight, after)) = rest.split_first_chunk::<8>() {
         let word = u64::from_le_bytes(*eight);
-        low += word % (1 << 32);
-        high += word / (1 << 32);
+        sum += word / (1 << 32) + word % (1 << 32);
         rest = after;
     }
-    sum_few(halved(low + high), rest)
+    sum_few(halved(sum), rest)
 }
 
 /// Returns a number of 18 bits that folds as a sum does. A function of its own, since its proof is of a sum alone.

@@ -4,8 +4,7 @@ use Rattle.net_tcp.proofs.internet_sum.sum_eights.Goals as goal
 
 pub loop-eight-preserved : goal.loop-eight-preserved
 loop-eight-preserved c = let parts = c.in-Some.ensures.cases.2 in record {
-  same = eight_more c.loop-eight.low c.loop-eight.high c.from_le_bytes-word.result _ _ _ c.from_le_bytes-word.ensures
+  same = eight_more c.loop-eight.sum c.from_le_bytes-word.result _ _ _ c.from_le_bytes-word.ensures
       c.in-Some.ensures.cases ∙ c.loop-eight.invariant.same;
-  low = omega (arith, parts);
-  high = omega (arith, parts, c.from_le_bytes-word.type_inv);
+  room = omega (arith, parts, c.from_le_bytes-word.type_inv);
 }

@@ -4,9 +4,8 @@ use Rattle.net_tcp.proofs.internet_sum.sum_eights.Given as goal
 
 abbrev pub invariant-loop-eight : goal.invariant-loop-eight
 invariant-loop-eight l = record {
-  same : folded (256 * (l.low + l.high) + word_sum l.rest) ≡ folded (256 * l.start + word_sum l.bytes);
-  low : l.low + length l.rest * 2 ^ 29 ≤ 2 ^ 32 + length l.bytes * 2 ^ 29;
-  high : l.high + length l.rest * 2 ^ 29 ≤ length l.bytes * 2 ^ 29;
+  same : folded (256 * l.sum + word_sum l.rest) ≡ folded (256 * l.start + word_sum l.bytes);
+  room : l.sum + length l.rest * 2 ^ 30 ≤ l.start + length l.bytes * 2 ^ 30;
 }
 
 abbrev pub decreases-loop-eight : goal.decreases-loop-eight
