@@ -6,13 +6,14 @@
 --     doubled b t      the timeout after it passed
 --     after_acknowledgement b sent now t      what an acknowledgement leaves
 --     IsSettled r e      SRTT is the sample r, and RTTVAR less than a microsecond
---     first_wait e, allowance delay alone prompt      how long the first probe waits, and how much longer if a segment is alone
+--     first_wait e, allowance delay alone prompt      how long the first probe waits, and how much longer if a segment
+--         is alone
 --     prompt_wait delay e      how long it does then if none is expected to be late
 --     prompt_after delay r t      how many samples in a row weren't late, after one more
 --     Timer, timer_of t      what a timer knows, and what its numbers say
 --     IsCanonicalTimer t      its numbers are the only ones that say so, but for a timeout of 1 second
---     restarted delay alone now t, waiting now t, started now t, stopped t      it runs from now on; so without a probe; that
---         unless it runs; it doesn't run
+--     restarted delay alone now t, waiting now t, started now t, stopped t      it runs from now on; so without a
+--         probe; that unless it runs; it doesn't run
 --     running delay alone new now t, hastened now t      what sending leaves; a probe is due two round trips from now
 --     times t from to      whether a segment is timed whose position is from `from` on and below `to`
 --     untimed t      none is
@@ -22,8 +23,8 @@
 --     Event, Connection, after_event, after_events      what happens to a connection, and what that leaves
 --     arms c e      whether that sets the moment at which the timeout passes
 use Rattle.std.specs.Prelude.{◌⊎◌, ◌≡◌, ℕ, ℤ, ◌+◌, ◌-◌, ◌*◌, ◌/◌, ◌^◌, ◌<◌, ◌≤◌, min, max, Option, Some, None, is_none}
-use Rattle.std.specs.Prelude.{is_some, Bool, true, false, ◌&&◌, ◌||◌, not, nat_eq, nat_lt, nat_le, int_le, int_lt, IsTrue, if◌then◌else◌, List}
-use Rattle.std.specs.Prelude.{[], ◌∷◌, filter, map, pos as whole}
+use Rattle.std.specs.Prelude.{is_some, Bool, true, false, ◌&&◌, ◌||◌, not, nat_eq, nat_lt, nat_le, int_le, int_lt}
+use Rattle.std.specs.Prelude.{IsTrue, if◌then◌else◌, List, [], ◌∷◌, filter, map, pos as whole}
 use Rattle.net_base.specs.Time.{elapsed, moment_after}
 use Rattle.net_tcp.specs.Estimate.{Estimate}
 use Rattle.net_tcp.specs.declared.retransmission.TimeoutBounds.{TimeoutBounds}
@@ -93,7 +94,8 @@ abbrev pub first_wait : Option Estimate → ℕ
 first_wait None = no_wait
 first_wait (Some e) = max (min (2 * (e.srtt_8 / 8)) (2 ^ 64 - 1)) 2000
 
--- how long the acknowledgement of one segment alone is expected to be delayed: less if eight samples in a row weren't late
+-- how long the acknowledgement of one segment alone is expected to be delayed: less if eight samples in a row weren't
+-- late
 abbrev pub allowance : ℕ → Bool → ℕ → ℕ
 allowance delay alone prompt = if alone then (if nat_lt prompt 8 then delay else delay / 4) else 0
 
@@ -178,10 +180,12 @@ new_fields t reports = record {
   prompt = 0;
 }
 
--- a sample of one segment alone is late if a probe comes before it that doesn't expect that; another one changes nothing
+-- a sample of one segment alone is late if a probe comes before it that doesn't expect that; another one changes
+-- nothing
 abbrev pub prompt_after : ℕ → ℕ → Timer → ℕ
 prompt_after delay r t =
-    if t.is_alone then (if nat_le r (prompt_wait delay t.timeout.estimate) then min (t.prompt + 1) 8 else 0) else t.prompt
+    if t.is_alone then (if nat_le r (prompt_wait delay t.timeout.estimate) then min (t.prompt + 1) 8 else 0)
+    else t.prompt
 
 -- the timeout from now on it ends; a probe is due two round trips from now on, and later if one segment is alone
 abbrev pub restarted : ℕ → Bool → ℤ → Timer → Timer
@@ -235,7 +239,8 @@ untimed t = record t { timed = None }
 abbrev pub timed_after : ℕ → ℕ → ℕ → ℤ → Timer → Timer
 timed_after pos end sent now t =
     if times t pos end then untimed t
-    else (if is_none t.timed && nat_le sent pos then record t { timed = Some (record { pos = pos; since = now }) } else t)
+    else (if is_none t.timed && nat_le sent pos then record t { timed = Some (record { pos = pos; since = now }) }
+    else t)
 
 -- where the last segment begins that has something new
 abbrev pub lasting : Bool → ℕ → Timer → Timer
@@ -269,8 +274,8 @@ sampled_below b next now t = if times t 0 next then with_sample b now t else t
 abbrev pub answered : Timer → Timer
 answered t = record t { timeouts = 0 }
 
--- anything new is acknowledged, (5.2): if all that was sent is, the timer is stopped; (5.3): else it is started again; one
--- segment is alone if no later one had something new
+-- anything new is acknowledged, (5.2): if all that was sent is, the timer is stopped; (5.3): else it is started again;
+-- one segment is alone if no later one had something new
 abbrev pub after_news : ℕ → ℕ → ℕ → ℤ → Timer → Timer
 after_news delay sent next now t =
     if nat_le sent next then stopped (answered t) else restarted delay (nat_le t.last next) now (answered t)

@@ -198,8 +198,8 @@ pub record IsNoLater (s t : Announcement) : Type 0 where
   pub ack : s.ack ≤ t.ack
   pub same : s.seq ≡ t.seq → s.ack ≡ t.ack → s.window ≡ t.window
 
--- as far as its numbers say, s was sent no later than t: it acknowledges less, whatever its number is, as a copy of what
--- was lost; or as much, its number is not above that of t, and it says nothing else if both numbers are the same
+-- as far as its numbers say, s was sent no later than t: it acknowledges less, whatever its number is, as a copy of
+-- what was lost; or as much, its number is not above that of t, and it says nothing else if both numbers are the same
 abbrev pub IsNoNewer : Announcement → Announcement → Type 0
 IsNoNewer s t = (s.ack < t.ack)
     ⊎ ((s.ack ≡ t.ack) × (s.seq ≤ t.seq) × (s.seq ≡ t.seq → s.window ≡ t.window))

@@ -187,19 +187,19 @@ pub fn agreement()
         peer_edge ≤ edge → next < seq + len → IsAcceptable next (edge - next) seq len }
 {}
 
-/// States that a segment without positions, whose number is that of `PeerWindow::acknowledgement_number`, is taken by the
-/// peer, or what it acknowledges is (`heard`): whatever window is known here, and whatever the peer has kept. It needs that the
-/// edge known was promised, that no more is acknowledged than was promised, that the peer has kept nothing that wasn't
-/// sent, and that no more is on the way than the greatest window, or one position if that is 0. So it is of both ends
-/// of any path, by `heard_ends` of `net_ends`. No lower number is taken than such an end may have (`exact`), and
-/// the number is not below what was acknowledged: the peer that acknowledged it finds it at its first missing position or
-/// above, unless more has come since, and doesn't answer it (`ends`).
+/// States that a segment without positions, whose number is that of `PeerWindow::acknowledgement_number`, is taken by
+/// the peer, or what it acknowledges is (`heard`): whatever window is known here, and whatever the peer has kept. It
+/// needs that the edge known was promised, that no more is acknowledged than was promised, that the peer has kept
+/// nothing that wasn't sent, and that no more is on the way than the greatest window, or one position if that is 0. So
+/// it is of both ends of any path, by `heard_ends` of `net_ends`. No lower number is taken than such an end may have
+/// (`exact`), and the number is not below what was acknowledged: the peer that acknowledged it finds it at its first
+/// missing position or above, unless more has come since, and doesn't answer it (`ends`).
 ///
 /// It also states when the number is in the table of RFC 9293, so that a peer of other rules takes it: where the window
-/// known here is shut, unless the peer has kept a probe (`shut`); where the peer promised more since, unless it has kept
-/// what is beyond the window known here (`later`); and where it didn't, unless all of the window was sent and some of
-/// it is missing: then the number is the edge (`known`). The number after a probe is not in the table at a shut window
-/// (`next_number`).
+/// known here is shut, unless the peer has kept a probe (`shut`); where the peer promised more since, unless it has
+/// kept what is beyond the window known here (`later`); and where it didn't, unless all of the window was sent and some
+/// of it is missing: then the number is the edge (`known`). The number after a probe is not in the table at a shut
+/// window (`next_number`).
 pub fn acknowledgements()
     ensures heard { (w : PeerWindow) (first sent next edge most : ℕ) →
         BothEnds w first sent next edge most →

@@ -8,8 +8,8 @@
 //!              first           again        turn                resume        lost        sent
 //! ```
 //!
-//! Each of these may be at or above the next one, where that part has no number. `first` is SND.UNA, `sent` HighData + 1,
-//! and `again` HighRxt + 1. The recovery lasts while `first` is below `until`, the RecoveryPoint. `duplicates` is
+//! Each of these may be at or above the next one, where that part has no number. `first` is SND.UNA, `sent` HighData +
+//! 1, and `again` HighRxt + 1. The recovery lasts while `first` is below `until`, the RecoveryPoint. `duplicates` is
 //! DupThresh, and `round` RACK.dsack_round, up to which it stays. `probe` is a tail loss probe's first number, and
 //! `asked` TLP.end_seq. Only what isn't reported is sent again: the parts above are of the numbers that the scoreboard
 //! lacks.
@@ -21,7 +21,7 @@ ghost use Rattle.std.specs.Prelude.{◌≡◌, ℕ, ◌+◌, ◌<◌, ◌≤◌,
 ghost use Rattle.std.specs.Prelude.{IsTrue, IsFalse, is_some, if◌then◌else◌};
 ghost use Rattle.net_receiver.specs.Scoreboards.{IsHole, IsLossBound, IsEnd};
 ghost use Rattle.net_assembler.specs.Positions.{contains};
-ghost use Rattle.std.specs.Prelude.{None, nat_eq};
+ghost use Rattle.std.specs.Prelude.{None};
 ghost use Rattle.net_tcp.specs.LossRecovery.{recovery_of, new_recovery, no_loss, forgotten, begun};
 ghost use Rattle.net_tcp.specs.LossRecovery.{is_active, is_answered};
 ghost use Rattle.net_tcp.specs.LossRecovery.{with_pass, with_mark, later, after_pass, after_losses};
@@ -99,8 +99,8 @@ pub struct Answer {
 /// assert_eq!(recovery.next_probe(numbers, &scoreboard, 800, 100), Some((0, 100)));
 /// ```
 ///
-/// It is numbers alone, so that C has it as it is: a flag is not 0 where it holds, and what there may be has one beside it.
-/// One of zeros is new.
+/// It is numbers alone, so that C has it as it is: a flag is not 0 where it holds, and what there may be has one beside
+/// it. One of zeros is new.
 #[repr(C)]
 #[derive(Copy, Clone, Debug, PartialEq, Eq, Hash)]
 pub struct LossRecovery {
@@ -201,7 +201,8 @@ impl LossRecovery {
     /// lost, up to 1024. Once that has happened, nothing changes until all is acknowledged that was sent by then: a
     /// round trip makes it four times as many once.
     pub fn duplicated(&mut self, numbers: SentNumbers)
-        ensures { recovery_of self.new ≡ after_duplicate numbers.first_unacknowledged numbers.sent (recovery_of self.old) }
+        ensures { recovery_of self.new ≡ after_duplicate numbers.first_unacknowledged numbers.sent
+            (recovery_of self.old) }
     {
         if numbers.first_unacknowledged < self.round {
             return;
@@ -211,10 +212,10 @@ impl LossRecovery {
         self.round = numbers.sent;
     }
 
-    /// Takes notice that the peer reports that these positions came twice, as the first block of an acknowledgement may,
-    /// an old one too (RFC 2883). If they are at or above the first position that wasn't acknowledged when the last
-    /// recovery began, and not above what was sent again in it, so many of its copies were for nothing, and it is as if
-    /// `duplicated` was called. Else nothing changes: the path has doubled them, or a probe has.
+    /// Takes notice that the peer reports that these positions came twice, as the first block of an acknowledgement
+    /// may, an old one too (RFC 2883). If they are at or above the first position that wasn't acknowledged when the
+    /// last recovery began, and not above what was sent again in it, so many of its copies were for nothing, and it is
+    /// as if `duplicated` was called. Else nothing changes: the path has doubled them, or a probe has.
     pub fn came_twice(&mut self, numbers: SentNumbers, positions: Range<u64>)
         ensures { recovery_of self.new ≡ after_copies numbers.first_unacknowledged numbers.sent
             positions.start positions.end (recovery_of self.old) }
@@ -228,7 +229,8 @@ impl LossRecovery {
 
     /// Counts what is sent again.
     fn copy(&mut self, numbers: SentNumbers, positions: Range<u64>)
-        ensures { recovery_of self.new ≡ with_copies numbers.sent positions.start positions.end (recovery_of self.old) }
+        ensures { recovery_of self.new ≡ with_copies numbers.sent positions.start positions.end
+            (recovery_of self.old) }
     {
         let count = positions
             .end
@@ -395,7 +397,8 @@ impl LossRecovery {
         self.set_blind(!answer.reports && (answer.is_equal || is_blind));
     }
 
-    /// Returns how many positions have arrived that the peer doesn't report, after an acknowledgement that answers them.
+    /// Returns how many positions have arrived that the peer doesn't report, after an acknowledgement that answers
+    /// them.
     fn unreported_after(&self, size: u64, reports: bool, is_equal: bool) -> u64
         ensures { result ≡ heard_of size reports is_equal (recovery_of self.now) }
     {
@@ -408,8 +411,8 @@ impl LossRecovery {
         }
     }
 
-    /// Finds what is lost by what was reported, or has arrived unreported. A function of its own, since its proof is over
-    /// the recovery that `note_answer` leaves.
+    /// Finds what is lost by what was reported, or has arrived unreported. A function of its own, since its proof is
+    /// over the recovery that `note_answer` leaves.
     fn find<B: Reported>(
         &mut self,
         numbers: SentNumbers,
@@ -555,7 +558,8 @@ impl LossRecovery {
 
     /// Begins a pass up to a position: what was sent again from there on stays sent again.
     fn pass(&mut self, numbers: SentNumbers, turn: u64)
-        ensures { recovery_of self.new ≡ with_pass numbers.first_unacknowledged numbers.sent turn (recovery_of self.old) }
+        ensures { recovery_of self.new ≡ with_pass numbers.first_unacknowledged numbers.sent turn
+            (recovery_of self.old) }
     {
         self.turn = turn;
         self.mark(numbers);
@@ -577,7 +581,8 @@ impl LossRecovery {
     /// Returns whether this call begins a recovery: then halve the congestion window.
     pub fn find_overdue<B: Reported>(&mut self, numbers: SentNumbers, scoreboard: &B) -> bool
         ensures state { (highest : ℕ) → IsEnd (B.set scoreboard.now) highest →
-            recovery_of self.new ≡ after_silence numbers.first_unacknowledged numbers.sent highest (recovery_of self.old) }
+            recovery_of self.new ≡ after_silence numbers.first_unacknowledged numbers.sent highest
+            (recovery_of self.old) }
         ensures begins { (highest : ℕ) → IsEnd (B.set scoreboard.now) highest →
             result ≡ (not (is_active (recovery_of self.old) numbers.first_unacknowledged)
             && nat_lt numbers.first_unacknowledged highest) }
@@ -643,7 +648,8 @@ impl LossRecovery {
 
     /// Takes notice that a probe of these positions is sent. `numbers` are the sender's before that.
     pub fn probed(&mut self, numbers: SentNumbers, positions: Range<u64>)
-        ensures { recovery_of self.new ≡ after_probe numbers.sent positions.start positions.end (recovery_of self.old) }
+        ensures { recovery_of self.new ≡ after_probe numbers.sent positions.start positions.end
+            (recovery_of self.old) }
     {
         self.probe = positions.start;
         self.has_probe = 1;
@@ -748,7 +754,8 @@ impl LossRecovery {
         ensures next { (lost others : Option (ℕ × ℕ)) → let first = numbers.first_unacknowledged in
             IsHole (B.set scoreboard.now) (resumed (recovery_of self.now) first)
             (min (min (recovery_of self.now).turn (recovery_of self.now).lost) limit) lost →
-            IsHole (B.set scoreboard.now) (gone_on (recovery_of self.now) first) (min (recovery_of self.now).lost limit) others →
+            IsHole (B.set scoreboard.now) (gone_on (recovery_of self.now) first)
+            (min (recovery_of self.now).lost limit) others →
             result ≡ next_segment first
             (in_flight (recovery_of self.now) first numbers.sent (B.set scoreboard.now)) window
             (max 1 segment_size) (next_range (recovery_of self.now) first numbers.sent limit lost others) }
@@ -764,7 +771,8 @@ impl LossRecovery {
             × IsFalse (was_sent_again (recovery_of self.now) numbers.first_unacknowledged p)) }
         ensures progress { let first = numbers.first_unacknowledged in
             IsTrue (is_active (recovery_of self.now) first) →
-            IsFalse (was_sent_again (recovery_of self.now) first first) → first < min (recovery_of self.now).lost limit →
+            IsFalse (was_sent_again (recovery_of self.now) first first) →
+            first < min (recovery_of self.now).lost limit →
             IsFalse (contains (B.set scoreboard.now) first) → IsTrue (begins_at first result) }
         ensures begins { let first = numbers.first_unacknowledged in
             IsFalse (is_active (recovery_of self.now) first) →
@@ -797,7 +805,8 @@ impl LossRecovery {
         ensures next { (lost others : Option (ℕ × ℕ)) → let first = numbers.first_unacknowledged in
             IsHole (B.set scoreboard.now) (resumed (recovery_of self.now) first)
             (min (min (recovery_of self.now).turn (recovery_of self.now).lost) limit) lost →
-            IsHole (B.set scoreboard.now) (gone_on (recovery_of self.now) first) (min (recovery_of self.now).lost limit) others →
+            IsHole (B.set scoreboard.now) (gone_on (recovery_of self.now) first)
+            (min (recovery_of self.now).lost limit) others →
             result ≡ next_range (recovery_of self.now) first numbers.sent limit lost others }
         ensures within { IfSome result (λ range. (range.0 < range.1) × (range.1 ≤ limit)) }
         ensures once { IfSome result (λ range. (p : ℕ) → range.0 ≤ p → p < range.1 →
@@ -806,7 +815,8 @@ impl LossRecovery {
             × IsFalse (was_sent_again (recovery_of self.now) numbers.first_unacknowledged p)) }
         ensures progress { let first = numbers.first_unacknowledged in
             IsTrue (is_active (recovery_of self.now) first) →
-            IsFalse (was_sent_again (recovery_of self.now) first first) → first < min (recovery_of self.now).lost limit →
+            IsFalse (was_sent_again (recovery_of self.now) first first) →
+            first < min (recovery_of self.now).lost limit →
             IsFalse (contains (B.set scoreboard.now) first) → IsTrue (begins_at first result) }
         ensures begins { let first = numbers.first_unacknowledged in
             IsFalse (is_active (recovery_of self.now) first) →

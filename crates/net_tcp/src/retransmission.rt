@@ -58,8 +58,8 @@ pub struct TimeoutBounds {
     pub most: Duration,
     /// The time between two ticks of the clock.
     pub tick: Duration,
-    /// The longest time for which the peer delays the acknowledgement of one segment: 200 ms for TCP (RFC 8985, 7.2), and
-    /// 25 ms for QUIC, unless its peer says another.
+    /// The longest time for which the peer delays the acknowledgement of one segment: 200 ms for TCP (RFC 8985, 7.2),
+    /// and 25 ms for QUIC, unless its peer says another.
     pub ack_delay: Duration,
 }
 

@@ -8,9 +8,10 @@ ghost use Rattle.std.specs.Prelude.{◌≡◌};
 ghost use Rattle.net_tcp.specs.Retransmission.{new_timer, restarted, started, stopped, times, timed_after};
 ghost use Rattle.net_tcp.specs.Retransmission.{after_sending, with_sample, after_acknowledged, has_expired};
 ghost use Rattle.net_tcp.specs.Retransmission.{after_report, after_expiry, expiry, expires_at, first_wait, allowance};
-ghost use Rattle.std.specs.Prelude.{IsFalse, not, nat_eq, Some, if◌then◌else◌};
+ghost use Rattle.std.specs.Prelude.{IsFalse, Some};
 ghost use Rattle.net_base.specs.Time.{moment_after};
-ghost use Rattle.net_tcp.specs.Retransmission.{IsCanonicalTimer, new_fields, timer_of, untimed, running, probed, timed_out, waiting, after_news};
+ghost use Rattle.net_tcp.specs.Retransmission.{IsCanonicalTimer, new_fields, timer_of, untimed, running, probed};
+ghost use Rattle.net_tcp.specs.Retransmission.{timed_out, waiting, after_news};
 ghost use Rattle.net_tcp.specs.Retransmission.{prompt_after};
 
 use crate::retransmission::{RetransmissionTimeout, RttEstimate, TimeoutBounds};
@@ -73,19 +74,19 @@ pub struct TimedSegment {
 /// It has two deadlines. The timeout passes where nothing new was acknowledged or reported for its length, whatever
 /// probes are sent. A probe is due before that or not at all: where nothing new was acknowledged or reported for two
 /// round trips (RFC 8985, section 7), and again after twice that time (RFC 9002, section 6.2). Before the first sample
-/// there is none, nor after a timeout until something new is acknowledged or reported, nor if the peer reports no blocks:
-/// it couldn't answer. Where at most one segment is on the way, its acknowledgement may be delayed, and a probe waits
-/// longer by `ack_delay`, until a second segment is sent. If 8 samples in a row of one segment alone weren't late, it waits
-/// longer by a quarter of that: a sample is late if such a probe would have come before it. A late one ends that, and after
-/// a probe one more that isn't late is wanted.
+/// there is none, nor after a timeout until something new is acknowledged or reported, nor if the peer reports no
+/// blocks: it couldn't answer. Where at most one segment is on the way, its acknowledgement may be delayed, and a probe
+/// waits longer by `ack_delay`, until a second segment is sent. If 8 samples in a row of one segment alone weren't
+/// late, it waits longer by a quarter of that: a sample is late if such a probe would have come before it. A late one
+/// ends that, and after a probe one more that isn't late is wanted.
 ///
 /// Positions and calls are those of a sender. The timer runs while something that was sent isn't
 /// acknowledged; `start` also starts it where something else is waited for, as a window that opens. Then it
 /// runs until `stop`, or until all that was sent is acknowledged, if some of it wasn't before. What is sent where
 /// nothing is on the way starts it anew: its time isn't that of what was waited for.
 ///
-/// It is numbers alone, so that C has it as it is: a flag is not 0 where it holds, and what there may be has one beside it.
-/// One of zeros is new, with a timeout of 1 second, of a peer that reports no blocks.
+/// It is numbers alone, so that C has it as it is: a flag is not 0 where it holds, and what there may be has one beside
+/// it. One of zeros is new, with a timeout of 1 second, of a peer that reports no blocks.
 ///
 /// ```
 /// use net_base::tcp::{RetransmissionTimer, SentNumbers, TimeoutBounds};
@@ -140,8 +141,8 @@ pub struct RetransmissionTimer {
 }
 
 impl RetransmissionTimer {
-    /// Returns a timer that doesn't run, with a timeout before any sample, which the RFC has as 1 second. `reports` says
-    /// whether the peer reports blocks (SACK): if not, no probe is ever due.
+    /// Returns a timer that doesn't run, with a timeout before any sample, which the RFC has as 1 second. `reports`
+    /// says whether the peer reports blocks (SACK): if not, no probe is ever due.
     #[must_use]
     pub const fn new(timeout: Duration, reports: bool) -> Self
         ensures state { timer_of result ≡ new_timer timeout reports }
@@ -224,7 +225,8 @@ impl RetransmissionTimer {
     }
 
     /// Returns how often the timeout has passed in a row, without anything new that was acknowledged or reported in
-    /// between: enough of them, and the peer is gone. Those at a window that is shut count too, though each is answered.
+    /// between: enough of them, and the peer is gone. Those at a window that is shut count too, though each is
+    /// answered.
     #[must_use]
     pub fn timeouts(&self) -> u64
         ensures { result ≡ (timer_of self.now).timeouts }
@@ -258,8 +260,8 @@ impl RetransmissionTimer {
     /// If no segment is timed, one of which nothing was sent before is then. One that was timed is no
     /// longer if it is sent again: which of the copies an acknowledgement is for is not known (Karn).
     ///
-    /// Where nothing else is on the way, the probe waits longer by `ack_delay`, or by a quarter of it. The second segment that
-    /// has something new brings it to two round trips from `now`.
+    /// Where nothing else is on the way, the probe waits longer by `ack_delay`, or by a quarter of it. The second
+    /// segment that has something new brings it to two round trips from `now`.
     pub fn sent(
         &mut self,
         bounds: TimeoutBounds,
@@ -283,8 +285,8 @@ impl RetransmissionTimer {
         self.time(positions.start, positions.end, numbers.sent, now);
     }
 
-    /// Starts the timer if it doesn't run, or one segment `is_alone`: what it ran for is no longer waited for. Otherwise
-    /// a second segment that `is_new` brings the probe of one that was alone.
+    /// Starts the timer if it doesn't run, or one segment `is_alone`: what it ran for is no longer waited for.
+    /// Otherwise a second segment that `is_new` brings the probe of one that was alone.
     fn run(&mut self, ack_delay: Duration, is_alone: bool, is_new: bool, now: Instant)
         ensures state { timer_of self.new ≡ running ack_delay is_alone is_new now (timer_of self.old) }
         ensures canonical { IsCanonicalTimer self.old → IsCanonicalTimer self.new }
@@ -425,8 +427,8 @@ impl RetransmissionTimer {
         }
     }
 
-    /// Takes notice that a block has reported what wasn't known: a timer that runs is started again. A peer that reports
-    /// delays no acknowledgement.
+    /// Takes notice that a block has reported what wasn't known: a timer that runs is started again. A peer that
+    /// reports delays no acknowledgement.
     pub fn reported(&mut self, now: Instant)
         ensures state { timer_of self.new ≡ after_report now (timer_of self.old) }
         ensures canonical { IsCanonicalTimer self.old → IsCanonicalTimer self.new }
@@ -439,9 +441,9 @@ impl RetransmissionTimer {
 
     /// If the timer has expired, returns what is due; otherwise nothing changes.
     ///
-    /// After a probe the next one waits twice as long, and the timeout passes when it would have passed. After the timeout
-    /// that is doubled within the bounds, and the timer starts again; no segment is timed any longer, and no probe is due
-    /// until something new is acknowledged or reported.
+    /// After a probe the next one waits twice as long, and the timeout passes when it would have passed. After the
+    /// timeout that is doubled within the bounds, and the timer starts again; no segment is timed any longer, and no
+    /// probe is due until something new is acknowledged or reported.
     pub fn expire(&mut self, bounds: TimeoutBounds, now: Instant) -> Option<Expiry>
         ensures result { result ≡ expiry (timer_of self.old) now }
         ensures state { timer_of self.new ≡ after_expiry bounds now (timer_of self.old) }
@@ -479,8 +481,8 @@ impl RetransmissionTimer {
         self.untime();
     }
 
-    /// Has the next probe wait twice as long, and one more sample be wanted that isn't late. A function of its own, since
-    /// the search doesn't find what `expire` leaves with this in it.
+    /// Has the next probe wait twice as long, and one more sample be wanted that isn't late. A function of its own,
+    /// since the search doesn't find what `expire` leaves with this in it.
     fn probe(&mut self, now: Instant)
         ensures state { timer_of self.new ≡ probed now (timer_of self.old) }
         ensures canonical { IsCanonicalTimer self.old → IsCanonicalTimer self.new }

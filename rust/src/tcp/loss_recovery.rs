@@ -9,8 +9,8 @@
 //!              first           again        turn                resume        lost        sent
 //! ```
 //!
-//! Each of these may be at or above the next one, where that part has no number. `first` is SND.UNA, `sent` HighData + 1,
-//! and `again` HighRxt + 1. The recovery lasts while `first` is below `until`, the RecoveryPoint. `duplicates` is
+//! Each of these may be at or above the next one, where that part has no number. `first` is SND.UNA, `sent` HighData +
+//! 1, and `again` HighRxt + 1. The recovery lasts while `first` is below `until`, the RecoveryPoint. `duplicates` is
 //! DupThresh, and `round` RACK.dsack_round, up to which it stays. `probe` is a tail loss probe's first number, and
 //! `asked` TLP.end_seq. Only what isn't reported is sent again: the parts above are of the numbers that the scoreboard
 //! lacks.
@@ -84,8 +84,8 @@ pub struct Answer {
 /// assert_eq!(recovery.next_probe(numbers, &scoreboard, 800, 100), Some((0, 100)));
 /// ```
 ///
-/// It is numbers alone, so that C has it as it is: a flag is not 0 where it holds, and what there may be has one beside it.
-/// One of zeros is new.
+/// It is numbers alone, so that C has it as it is: a flag is not 0 where it holds, and what there may be has one beside
+/// it. One of zeros is new.
 #[repr(C)]
 #[derive(Copy, Clone, Debug, PartialEq, Eq, Hash)]
 pub struct LossRecovery {
@@ -185,10 +185,10 @@ impl LossRecovery {
         self.round = numbers.sent;
     }
 
-    /// Takes notice that the peer reports that these positions came twice, as the first block of an acknowledgement may,
-    /// an old one too (RFC 2883). If they are at or above the first position that wasn't acknowledged when the last
-    /// recovery began, and not above what was sent again in it, so many of its copies were for nothing, and it is as if
-    /// `duplicated` was called. Else nothing changes: the path has doubled them, or a probe has.
+    /// Takes notice that the peer reports that these positions came twice, as the first block of an acknowledgement
+    /// may, an old one too (RFC 2883). If they are at or above the first position that wasn't acknowledged when the
+    /// last recovery began, and not above what was sent again in it, so many of its copies were for nothing, and it is
+    /// as if `duplicated` was called. Else nothing changes: the path has doubled them, or a probe has.
     pub fn came_twice(&mut self, numbers: SentNumbers, positions: Range<u64>) {
         if self.since <= positions.start && positions.end <= self.again.max(self.resume) {
             let count = positions.end.saturating_sub(positions.start);
@@ -324,7 +324,8 @@ impl LossRecovery {
         self.set_blind(!answer.reports && (answer.is_equal || is_blind));
     }
 
-    /// Returns how many positions have arrived that the peer doesn't report, after an acknowledgement that answers them.
+    /// Returns how many positions have arrived that the peer doesn't report, after an acknowledgement that answers
+    /// them.
     fn unreported_after(&self, size: u64, reports: bool, is_equal: bool) -> u64 {
         if reports {
             0
@@ -335,8 +336,8 @@ impl LossRecovery {
         }
     }
 
-    /// Finds what is lost by what was reported, or has arrived unreported. A function of its own, since its proof is over
-    /// the recovery that `note_answer` leaves.
+    /// Finds what is lost by what was reported, or has arrived unreported. A function of its own, since its proof is
+    /// over the recovery that `note_answer` leaves.
     fn find<B: Reported>(
         &mut self,
         numbers: SentNumbers,

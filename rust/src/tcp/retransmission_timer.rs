@@ -65,19 +65,19 @@ pub struct TimedSegment {
 /// It has two deadlines. The timeout passes where nothing new was acknowledged or reported for its length, whatever
 /// probes are sent. A probe is due before that or not at all: where nothing new was acknowledged or reported for two
 /// round trips (RFC 8985, section 7), and again after twice that time (RFC 9002, section 6.2). Before the first sample
-/// there is none, nor after a timeout until something new is acknowledged or reported, nor if the peer reports no blocks:
-/// it couldn't answer. Where at most one segment is on the way, its acknowledgement may be delayed, and a probe waits
-/// longer by `ack_delay`, until a second segment is sent. If 8 samples in a row of one segment alone weren't late, it waits
-/// longer by a quarter of that: a sample is late if such a probe would have come before it. A late one ends that, and after
-/// a probe one more that isn't late is wanted.
+/// there is none, nor after a timeout until something new is acknowledged or reported, nor if the peer reports no
+/// blocks: it couldn't answer. Where at most one segment is on the way, its acknowledgement may be delayed, and a probe
+/// waits longer by `ack_delay`, until a second segment is sent. If 8 samples in a row of one segment alone weren't
+/// late, it waits longer by a quarter of that: a sample is late if such a probe would have come before it. A late one
+/// ends that, and after a probe one more that isn't late is wanted.
 ///
 /// Positions and calls are those of a sender. The timer runs while something that was sent isn't
 /// acknowledged; `start` also starts it where something else is waited for, as a window that opens. Then it
 /// runs until `stop`, or until all that was sent is acknowledged, if some of it wasn't before. What is sent where
 /// nothing is on the way starts it anew: its time isn't that of what was waited for.
 ///
-/// It is numbers alone, so that C has it as it is: a flag is not 0 where it holds, and what there may be has one beside it.
-/// One of zeros is new, with a timeout of 1 second, of a peer that reports no blocks.
+/// It is numbers alone, so that C has it as it is: a flag is not 0 where it holds, and what there may be has one beside
+/// it. One of zeros is new, with a timeout of 1 second, of a peer that reports no blocks.
 ///
 /// ```
 /// use net_base::tcp::{RetransmissionTimer, SentNumbers, TimeoutBounds};
@@ -132,8 +132,8 @@ pub struct RetransmissionTimer {
 }
 
 impl RetransmissionTimer {
-    /// Returns a timer that doesn't run, with a timeout before any sample, which the RFC has as 1 second. `reports` says
-    /// whether the peer reports blocks (SACK): if not, no probe is ever due.
+    /// Returns a timer that doesn't run, with a timeout before any sample, which the RFC has as 1 second. `reports`
+    /// says whether the peer reports blocks (SACK): if not, no probe is ever due.
     #[must_use]
     pub const fn new(timeout: Duration, reports: bool) -> Self {
         RetransmissionTimer {
@@ -204,7 +204,8 @@ impl RetransmissionTimer {
     }
 
     /// Returns how often the timeout has passed in a row, without anything new that was acknowledged or reported in
-    /// between: enough of them, and the peer is gone. Those at a window that is shut count too, though each is answered.
+    /// between: enough of them, and the peer is gone. Those at a window that is shut count too, though each is
+    /// answered.
     #[must_use]
     pub fn timeouts(&self) -> u64 {
         self.timeouts
@@ -230,8 +231,8 @@ impl RetransmissionTimer {
     /// If no segment is timed, one of which nothing was sent before is then. One that was timed is no
     /// longer if it is sent again: which of the copies an acknowledgement is for is not known (Karn).
     ///
-    /// Where nothing else is on the way, the probe waits longer by `ack_delay`, or by a quarter of it. The second segment that
-    /// has something new brings it to two round trips from `now`.
+    /// Where nothing else is on the way, the probe waits longer by `ack_delay`, or by a quarter of it. The second
+    /// segment that has something new brings it to two round trips from `now`.
     pub fn sent(
         &mut self,
         bounds: TimeoutBounds,
@@ -251,8 +252,8 @@ impl RetransmissionTimer {
         self.time(positions.start, positions.end, numbers.sent, now);
     }
 
-    /// Starts the timer if it doesn't run, or one segment `is_alone`: what it ran for is no longer waited for. Otherwise
-    /// a second segment that `is_new` brings the probe of one that was alone.
+    /// Starts the timer if it doesn't run, or one segment `is_alone`: what it ran for is no longer waited for.
+    /// Otherwise a second segment that `is_new` brings the probe of one that was alone.
     fn run(&mut self, ack_delay: Duration, is_alone: bool, is_new: bool, now: Instant) {
         if self.is_running == 0 || is_alone {
             self.restart(ack_delay, is_alone, now);
@@ -369,8 +370,8 @@ impl RetransmissionTimer {
         }
     }
 
-    /// Takes notice that a block has reported what wasn't known: a timer that runs is started again. A peer that reports
-    /// delays no acknowledgement.
+    /// Takes notice that a block has reported what wasn't known: a timer that runs is started again. A peer that
+    /// reports delays no acknowledgement.
     pub fn reported(&mut self, now: Instant) {
         self.timeouts = 0;
         if self.is_running != 0 {
@@ -380,9 +381,9 @@ impl RetransmissionTimer {
 
     /// If the timer has expired, returns what is due; otherwise nothing changes.
     ///
-    /// After a probe the next one waits twice as long, and the timeout passes when it would have passed. After the timeout
-    /// that is doubled within the bounds, and the timer starts again; no segment is timed any longer, and no probe is due
-    /// until something new is acknowledged or reported.
+    /// After a probe the next one waits twice as long, and the timeout passes when it would have passed. After the
+    /// timeout that is doubled within the bounds, and the timer starts again; no segment is timed any longer, and no
+    /// probe is due until something new is acknowledged or reported.
     pub fn expire(&mut self, bounds: TimeoutBounds, now: Instant) -> Option<Expiry> {
         if self.is_running == 0 {
             return None;
@@ -412,8 +413,8 @@ impl RetransmissionTimer {
         self.untime();
     }
 
-    /// Has the next probe wait twice as long, and one more sample be wanted that isn't late. A function of its own, since
-    /// the search doesn't find what `expire` leaves with this in it.
+    /// Has the next probe wait twice as long, and one more sample be wanted that isn't late. A function of its own,
+    /// since the search doesn't find what `expire` leaves with this in it.
     fn probe(&mut self, now: Instant) {
         self.prompt = self.prompt.min(PROMPT - 1);
         self.wait = self.wait.saturating_mul(2);
