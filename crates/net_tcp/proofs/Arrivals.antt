@@ -4,7 +4,7 @@ use Rattle.std.proofs.lemmas.Bool.Decides.{nat_tests}
 use Rattle.std.specs.Prelude.{IsTrue, IsFalse}
 use Rattle.net_assembler.specs.Positions.{Positions}
 use Rattle.net_tcp.specs.LossRecovery.{is_active, after_report, is_answered, withdrawn, unsent_lost, blind_lost}
-use Rattle.net_tcp.specs.LossRecovery.{after_hearing}
+use Rattle.net_tcp.specs.LossRecovery.{after_hearing, answers_copy}
 use Rattle.net_tcp.specs.LossRecovery.{Recovery}
 
 pub answered_loses : (size first sent : ℕ) (s : Positions) (lost highest : ℕ) (r : Recovery) →
@@ -15,13 +15,14 @@ answered_loses size first sent s lost highest r active sees answered = grind (ar
 pub none_unsent : (first : ℕ) (s : Positions) (r : Recovery) → unsent_lost (withdrawn r) first s ≡ 0
 none_unsent first s r = grind (arith, nat_tests)
 
-pub third_loses : (size first sent : ℕ) (r : Recovery) → r.until < first → r.duplicates ≡ 3 → r.unknown ≡ 0 →
+pub third_loses : (size first sent : ℕ) (r : Recovery) → IsFalse (is_active r first) →
+    IsFalse (answers_copy first r) → r.duplicates ≡ 3 → r.unknown ≡ 0 →
     0 < size → first + 4 * size ≤ sent → sent < 2 ^ 64 →
     let one = after_hearing size first first sent false true r in
     let two = after_hearing size first first sent false true one in
     let three = after_hearing size first first sent false true two in
     (blind_lost size first first sent two ≡ 0) × (blind_lost size first first sent three ≡ first + size)
-third_loses size first sent r over three none some room fits = (grind (arith, nat_tests), grind (arith, nat_tests))
+third_loses size first sent r over new three none some room fits = (grind (arith, nat_tests), grind (arith, nat_tests))
 
 pub partial_loses : (size before first sent : ℕ) (r : Recovery) → IsTrue (is_active r first) → IsTrue r.is_blind →
     before < first → first < sent → sent < 2 ^ 64 → 0 < size → first < blind_lost size before first sent r

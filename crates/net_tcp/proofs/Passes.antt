@@ -6,7 +6,7 @@ use Rattle.std.specs.Prelude.{Bool, not, if◌then◌else◌, ◌*◌, ◌⊎◌
 use Rattle.net_assembler.specs.Positions.{Positions, missing_count}
 use Rattle.net_tcp.specs.LossRecovery.{is_active, was_sent_again, after_sending, after_report, after_silence}
 use Rattle.net_tcp.specs.LossRecovery.{is_answered, overtaken, begun, after_duplicate, after_answer}
-use Rattle.net_tcp.specs.LossRecovery.{after_copy, after_hearing, withdrawn, unsent_lost}
+use Rattle.net_tcp.specs.LossRecovery.{after_copy, answers_copy, after_hearing, withdrawn, unsent_lost}
 use Rattle.net_tcp.specs.LossRecovery.{Recovery}
 
 pub sent_again : (r : Recovery) (first sent start end p : ℕ) → IsTrue (is_active r first) → start < min sent end →
@@ -49,7 +49,7 @@ pub answer_keeps : (size before first sent : ℕ) (reports equal : Bool) (unsent
     IsTrue (was_sent_again (after_answer size before first sent reports equal unsent s r) first p)
 answer_keeps size before first sent reports equal unsent s r p again =
     let c = after_copy first sent reports equal r in
-    let kept = if_keeps (equal && (not reports && nat_eq first r.until)) (after_duplicate first sent r) r first p
+    let kept = if_keeps (equal && (not reports && answers_copy first r)) (after_duplicate first sent r) r first p
     (duplicate_keeps r first sent p again) again in
     let h = after_hearing size before first sent reports equal c in
     if_keeps (not h.is_blind && nat_lt (unsent_lost h first s) unsent)

@@ -20,7 +20,7 @@ ghost use Rattle.net_tcp.specs.declared.retransmission_timer.Expiry.TheVariants.
 ghost use Rattle.net_assembler.specs.Positions.{Positions, contains};
 ghost use Rattle.net_tcp.specs.LossRecovery.{is_active, was_sent_again, after_sending, after_report};
 ghost use Rattle.net_tcp.specs.LossRecovery.{after_silence, is_answered, overtaken, begun};
-ghost use Rattle.net_tcp.specs.LossRecovery.{after_hearing, after_answer, withdrawn, unsent_lost, blind_lost};
+ghost use Rattle.net_tcp.specs.LossRecovery.{after_hearing, after_answer, answers_copy, withdrawn, unsent_lost, blind_lost};
 ghost use Rattle.net_tcp.specs.LossRecovery.{is_wrong, taken_back, after_copies};
 ghost use Rattle.net_tcp.specs.LossRecovery.{Recovery};
 
@@ -253,7 +253,7 @@ pub fn passes()
 
 /// States what arrives tells: where the peer reports, all is lost that was sent before a probe which is answered; and
 /// where finding something lost was wrong, nothing is lost any more that wasn't sent again. Where it doesn't, outside
-/// of a recovery the third equal acknowledgement loses the first segment, and the second doesn't; and in a recovery an
+/// of a recovery, and of its end, the third equal acknowledgement loses the first segment, and the second doesn't; and in a recovery an
 /// acknowledgement of something new loses what follows.
 #[tactic(auto, using(crate::proofs::Arrivals::arrivals))]
 pub fn arrivals()
@@ -262,8 +262,8 @@ pub fn arrivals()
         r.asked ≤ (after_report size first sent s lost highest r).lost }
     ensures wrong { (first : ℕ) (s : Positions) (r : Recovery) →
         unsent_lost (withdrawn r) first s ≡ 0 }
-    ensures third { (size first sent : ℕ) (r : Recovery) → r.until < first →
-        r.duplicates ≡ 3 → r.unknown ≡ 0 →
+    ensures third { (size first sent : ℕ) (r : Recovery) → IsFalse (is_active r first) →
+        IsFalse (answers_copy first r) → r.duplicates ≡ 3 → r.unknown ≡ 0 →
         0 < size → first + 4 * size ≤ sent → sent < 2 ^ 64 →
         let one = after_hearing size first first sent false true r in
         let two = after_hearing size first first sent false true one in

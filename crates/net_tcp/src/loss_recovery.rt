@@ -28,7 +28,7 @@ ghost use Rattle.net_tcp.specs.LossRecovery.{with_pass, with_mark, later, after_
 ghost use Rattle.net_tcp.specs.LossRecovery.{after_report, found, after_silence};
 ghost use Rattle.net_tcp.specs.LossRecovery.{after_sending, after_duplicate, was_sent_again, in_flight};
 ghost use Rattle.net_tcp.specs.LossRecovery.{unsent_lost, after_hearing, blind_lost};
-ghost use Rattle.net_tcp.specs.LossRecovery.{most_later, heard_of, after_answer};
+ghost use Rattle.net_tcp.specs.LossRecovery.{most_later, heard_of, after_answer, answers_copy};
 ghost use Rattle.net_tcp.specs.LossRecovery.{unsent, next_range, next_segment, resumed, gone_on, begins_at};
 ghost use Rattle.net_tcp.specs.LossRecovery.{next_probe, after_copies, with_copies, is_wrong, taken_back};
 ghost use Rattle.net_tcp.specs.LossRecovery.{after_probe};
@@ -356,8 +356,7 @@ impl LossRecovery {
             numbers.first_unacknowledged numbers.sent
             answer.reports answer.is_equal answer.unsent (B.set scoreboard.now) (recovery_of self.old) }
     {
-        // An equal acknowledgement of all that was sent before a recovery answers a copy.
-        if answer.is_equal && !answer.reports && numbers.first_unacknowledged == self.until {
+        if answer.is_equal && !answer.reports && self.answers_copy(numbers.first_unacknowledged) {
             self.duplicated(numbers);
         }
         self.count_unreported(numbers, segment_size, answer);
@@ -370,6 +369,14 @@ impl LossRecovery {
             self.lost = self.lost.min(self.again.max(self.resume));
             self.duplicated(numbers);
         }
+    }
+
+    /// Returns whether an equal acknowledgement of this number answers a copy: it is of all that was sent before a
+    /// recovery, if there was one.
+    fn answers_copy(&self, first: u64) -> bool
+        ensures { result ≡ answers_copy first (recovery_of self.now) }
+    {
+        self.until > 0 && first == self.until
     }
 
     /// Takes notice whether the peer reports, and of what has arrived that it doesn't.
@@ -390,7 +397,7 @@ impl LossRecovery {
         let unknown = self.unreported_after(
             size,
             answer.reports,
-            answer.is_equal && first != self.until,
+            answer.is_equal && !self.answers_copy(first),
         );
         self.unknown = unknown.saturating_sub(known).min(most);
         let is_blind = self.is_blind();

@@ -287,8 +287,7 @@ impl LossRecovery {
         segment_size: usize,
         answer: Answer,
     ) {
-        // An equal acknowledgement of all that was sent before a recovery answers a copy.
-        if answer.is_equal && !answer.reports && numbers.first_unacknowledged == self.until {
+        if answer.is_equal && !answer.reports && self.answers_copy(numbers.first_unacknowledged) {
             self.duplicated(numbers);
         }
         self.count_unreported(numbers, segment_size, answer);
@@ -301,6 +300,12 @@ impl LossRecovery {
             self.lost = self.lost.min(self.again.max(self.resume));
             self.duplicated(numbers);
         }
+    }
+
+    /// Returns whether an equal acknowledgement of this number answers a copy: it is of all that was sent before a
+    /// recovery, if there was one.
+    fn answers_copy(&self, first: u64) -> bool {
+        self.until > 0 && first == self.until
     }
 
     /// Takes notice whether the peer reports, and of what has arrived that it doesn't.
@@ -317,7 +322,7 @@ impl LossRecovery {
         let unknown = self.unreported_after(
             size,
             answer.reports,
-            answer.is_equal && first != self.until,
+            answer.is_equal && !self.answers_copy(first),
         );
         self.unknown = unknown.saturating_sub(known).min(most);
         let is_blind = self.is_blind();
