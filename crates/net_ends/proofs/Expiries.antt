@@ -12,7 +12,7 @@ use Rattle.net_tcp.specs.declared.retransmission_timer.Expiry.TheVariants.{Probe
 use Rattle.net_tcp.specs.Retransmission.{Timer as RetransmissionTimer}
 use Rattle.net_ends.specs.Ends.{End, Looked, after_event, all_lost, is_overdue, is_shut, timed_out}
 use Rattle.net_ends.specs.Acknowledgements.{is_sought, begins_by, after_wait, numbers_of, loses_nothing, expiry_of}
-use Rattle.net_ends.specs.Calls.{Silent, TimesOut, Takes}
+use Rattle.net_ends.specs.Calls.{Silent, Takes}
 use Rattle.net_tcp.specs.declared.retransmission_timer.Expiry.{Expiry}
 use Rattle.net_ends.specs.declared.sending_end.Expired.{Expired}
 use Rattle.net_ends.specs.declared.sending_end.Expired.TheVariants.{No, Overdue, Lost}
@@ -189,7 +189,7 @@ late t now None is = is
 late t now (Some end) is =
     due (t.reports && int_lt t.probe_at end) t.probe_at end now (λ on. both t.reports (int_lt t.probe_at end) on) is
 
-ends_late : (t : RetransmissionTimer) (now : ℤ) → has_ended t now ≡ true → has_expired t now ≡ true
+pub ends_late : (t : RetransmissionTimer) (now : ℤ) → has_ended t now ≡ true → has_expired t now ≡ true
 ends_late t now is = late t now t.ends_at is
 
 pub none_left : (e left : End) (now : ℤ) → expiry e.timer now ≡ None → IsTrue (has_ended e.timer now) →

@@ -7,6 +7,7 @@ pub mod Progress
 pub mod Ranges
 pub mod Receiving
 pub mod ReceivingLaws
+pub mod RoundLaws
 pub mod Segments
 pub mod Small
 pub mod Steps

@@ -405,16 +405,24 @@ sender_goes p (Resumed r) edge capacity honest all is =
     record { near = near_as p.sender _ edge capacity is refl refl refl refl; sent = omega arith }
 
 -- ---- both ends
-record Agree (p : Pair) : Type 0 where
-  sound : IsSoundReceiving p.receiver
+pub record Agree (p : Pair) : Type 0 where
+  pub sound : IsSoundReceiving p.receiver
   kept : IsBelow p.receiver.receiver p.sender.sender.sent
   near : IsNear p.sender p.receiver.edge p.receiver.receiver.receiver.capacity
   told : AllPromised p.receiver.edge p.receiver.receiver.receiver.capacity p.told
 
-record Later (p q : Pair) : Type 0 where
-  edge : p.receiver.edge ≤ q.receiver.edge
+pub record Later (p q : Pair) : Type 0 where
+  pub edge : p.receiver.edge ≤ q.receiver.edge
   capacity : q.receiver.receiver.receiver.capacity ≡ p.receiver.receiver.receiver.capacity
-  agree : Agree q
+  pub agree : Agree q
+
+-- what has come was sent, and what was said was promised
+pub come_sent : (p : Pair) → Agree p → has_come p ≤ p.sender.sender.sent
+come_sent p is = number_below p.receiver.receiver p.sender.sender.sent is.sound.end is.kept
+
+pub said_promised : (p : Pair) (ack window : ℕ) → Agree p → WasTold p.told ack window →
+    ack + window ≤ p.receiver.edge
+said_promised p ack window is was = (was_promised _ _ p.told ack window is.told was).0
 
 kept_more : (s : FiniteState) (m more : ℕ) → m ≤ more → IsBelow s m → IsBelow s more
 kept_more s m more grows is = let a = is.bytes in record {
@@ -462,7 +470,7 @@ module _ (sound : SoundEndStays) (grows : AcknowledgedGrows) (limits : LimitGrow
         capacity = refl;
       }
 
-  goes : (n : ℕ) (p : Pair) (v : Step) → IsHonest p v → Agree p → Later p (after_step n p v)
+  pub goes : (n : ℕ) (p : Pair) (v : Step) → IsHonest p v → Agree p → Later p (after_step n p v)
   goes n p (AtSender v) honest is =
       let edge = p.receiver.edge in
       let on = sender_goes p v edge p.receiver.receiver.receiver.capacity honest is.told is.near in record {
@@ -503,7 +511,7 @@ module _ (sound : SoundEndStays) (grows : AcknowledgedGrows) (limits : LimitGrow
       }
 
   -- ---- how they begin
-  begins : FreshEndIsSound → (e : End) (r : Receiving) (scale seq size : ℕ) (reports : Bool) (now : ℤ) →
+  pub begins : FreshEndIsSound → (e : End) (r : Receiving) (scale seq size : ℕ) (reports : Bool) (now : ℤ) →
       first e ≡ e.sender.sent → first e < no_end → Agree (begun e r scale seq size reports now)
   begins fresh e r scale seq size reports now none fits =
       let capacity = r.receiver.receiver.capacity in

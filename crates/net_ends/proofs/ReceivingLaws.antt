@@ -48,7 +48,7 @@ acknowledged_fits s is = let low = is.below in let high = is.number in grind (ar
 pub free_after : (s : FiniteState) → IsSoundEnd s → acknowledged s ≤ free_end s
 free_after s is = let fits = acknowledged_fits s is in grind (arith, nat_tests, fits)
 
-free_fits : (s : FiniteState) → IsSoundEnd s → free_end s ≤ no_end
+pub free_fits : (s : FiniteState) → IsSoundEnd s → free_end s ≤ no_end
 free_fits s is = let fits = acknowledged_fits s is in grind (arith, nat_tests, fits)
 
 free_grows : (s t : FiniteState) → IsSoundEnd s → limit_of s.receiver ≤ limit_of t.receiver →

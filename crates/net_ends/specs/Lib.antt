@@ -6,5 +6,6 @@ pub mod Parts
 pub mod Path
 pub mod Receiving
 pub mod ReceivingRules
+pub mod Rounds
 pub mod Rules
 pub mod Calls

@@ -1,18 +1,22 @@
 //! Laws of the sending end, and of both ends. No function here changes anything: its contract is the law.
-ghost use Rattle.std.specs.Prelude.{◌≡◌, ℕ, ℤ, ◌+◌, ◌-◌, ◌<◌, ◌≤◌, List, All, Bool, IsTrue, IsFalse};
+ghost use Rattle.std.specs.Prelude.{◌≡◌, ℕ, ℤ, ◌+◌, ◌-◌, ◌<◌, ◌≤◌, ◌⊎◌, ◌∷◌, List, All, Bool, IsTrue, IsFalse};
+ghost use Rattle.std.specs.Prelude.{length, max, ◌^◌};
 ghost use Rattle.net_assembler.specs.Positions.{Positions};
 ghost use Rattle.net_tcp.specs.LossRecovery.{Recovery as LossRecovery};
 ghost use Rattle.net_receiver.specs.FiniteSender.{sender_after_commands, accepts, IsSoundSent};
 ghost use Rattle.net_ends.specs.Ends.{End, Event, after_event, after_events, commands, run, begun, IsAllowed};
 ghost use Rattle.net_ends.specs.Ends.{first, rest};
 ghost use Rattle.net_ends.specs.Ends.{IsUnacknowledged, runs, Heard, Rested, end, news, IsNoWrite, hurries};
-ghost use Rattle.net_ends.specs.Ends.{small_sends, expiries};
+ghost use Rattle.net_ends.specs.Ends.{small_sends, expiries, may_send, asks, Looked};
 ghost use Rattle.net_ends.specs.Path.{LentIsWritten, EndsCarry};
-ghost use Rattle.net_receiver.specs.Finite.{no_end};
-ghost use Rattle.net_tcp.specs.Windows.{acknowledgement_number};
-ghost use Rattle.net_ends.specs.Receiving.{Receiving};
+ghost use Rattle.net_receiver.specs.Finite.{no_end, acknowledged, is_complete};
+ghost use Rattle.net_receiver.specs.ReceiverState.{limit_of};
+ghost use Rattle.net_tcp.specs.Retransmission.{has_ended};
+ghost use Rattle.net_tcp.specs.Windows.{acknowledgement_number, IsScaleFor};
+ghost use Rattle.net_ends.specs.Receiving.{Receiving, promise};
 ghost use Rattle.net_ends.specs.Pair.{Pair, Step, begun as begun_pair, after_steps, AreHonest, number, has_come};
-ghost use Rattle.net_ends.specs.Pair.{IsAnswerTaken};
+ghost use Rattle.net_ends.specs.Pair.{IsAnswerTaken, Told, AtSender, after_step};
+ghost use Rattle.net_ends.specs.Rounds.{IsReached, KnowsWindow, Round, steps, AreCarried, AreRounds};
 
 /// States of every end and of every list of what happens to it, forged acknowledgements among it: that its sender is
 /// that of a list of the sender's own commands; that nothing is sent beyond the greatest edge that the peer gave, but a
@@ -95,5 +99,50 @@ pub fn heard_ends()
         ack ≤ acknowledgement_number f.peer (first f) f.sender.sent }
 {
     net_receiver::laws::numbers();
+    net_receiver::laws::finite_receivers();
+}
+
+/// States what a sending end knows of its peer's window in the end, on any honest path that carries one stream. The
+/// acknowledgement that the receiving end said last tells where the promised window ends, but for less than a unit of
+/// the scale (`latest`). It needs to acknowledge something new, or to have a number that isn't below that of the
+/// window known. Else the next round brings one that acknowledges something new, by law `rounds`. Once the timeout has
+/// passed, the first number that isn't acknowledged may be sent, whatever window is known (`asks`). At a shut window
+/// it is asked for, so `next_segment` sends it. A receiving end that has a capacity and the scale for it, and whose
+/// program has read all that came, promises a window whenever it says anything (`opens`).
+pub fn windows()
+    ensures latest { (most_runs f : ℕ) (x : List ℕ) (p : Pair) (t : Told) (older : List Told)
+        (s : Positions) (r : LossRecovery) (says : Bool) (seq : ℕ) (now : ℤ) →
+        IsReached most_runs f x p → p.told ≡ t ∷ older →
+        (first p.sender < t.ack) ⊎ (p.sender.peer.seq ≤ seq) →
+        KnowsWindow (after_step most_runs p (AtSender (Heard s r says seq t.ack t.window now))) }
+    ensures asks { (e : End) (r : LossRecovery) (now : ℤ) → first e < end e →
+        IsTrue (has_ended e.timer now) →
+        let f = after_event e (Looked r now) in
+        IsTrue (may_send f (first e) (first e + 1)) × (e.peer.edge ≤ first e → IsTrue (asks f)) }
+    ensures opens { (r : Receiving) →
+        IsScaleFor r.receiver.receiver.capacity r.scale → 0 < r.receiver.receiver.capacity →
+        r.size ≤ 65535 → IsFalse (is_complete r.receiver) →
+        length r.receiver.receiver.queue ≡ 0 → limit_of r.receiver.receiver < 2 ^ 64 →
+        acknowledged r.receiver < max r.edge (promise r) }
+{
+    net_receiver::laws::numbers();
+    net_receiver::laws::completion();
+    net_receiver::laws::finite_receivers();
+}
+
+/// States that two ends progress, from every state that an honest history reaches. In a round a segment comes that has
+/// the first number which isn't acknowledged, and the promised window has room for it. Then an acknowledgement is
+/// heard that was said after that. Whatever else happens meanwhile, each round has one more number acknowledged, and
+/// what is acknowledged has come (`arrives`). So all comes that was written, in as many rounds as it has numbers. By
+/// law `windows` such a segment may be sent once the timeout has passed, and a program that reads makes room. That a
+/// round comes is no law.
+pub fn rounds()
+    ensures arrives { (most_runs f : ℕ) (x : List ℕ) (p : Pair) (us : List Round) →
+        IsReached most_runs f x p → AreCarried most_runs f x p (steps us) →
+        AreRounds most_runs p us → let q = after_steps most_runs p (steps us) in
+        (first p.sender + length us ≤ first q.sender) × (first q.sender ≤ has_come q) }
+{
+    net_receiver::laws::numbers();
+    net_receiver::laws::completion();
     net_receiver::laws::finite_receivers();
 }

@@ -1,10 +1,13 @@
-//! Whether a receiving end takes what a sending end acknowledges: in every state that both reach, whatever honest path
-//! lies between them.
-ghost use Rattle.std.specs.Prelude.{◌≡◌, ◌<◌, ◌⊎◌, ℕ, ℤ, Bool, List};
+//! What two ends know of one another, in every state that both reach, whatever honest path lies between them.
+ghost use Rattle.std.specs.Prelude.{◌≡◌, ◌+◌, ◌^◌, ◌<◌, ◌≤◌, ◌⊎◌, ℕ, ℤ, Bool, IsTrue, List, ◌∷◌, length};
+ghost use Rattle.net_assembler.specs.Positions.{Positions};
+ghost use Rattle.net_tcp.specs.LossRecovery.{Recovery as LossRecovery};
+ghost use Rattle.net_tcp.specs.Windows.{shift_count};
 ghost use Rattle.net_receiver.specs.Finite.{no_end};
-ghost use Rattle.net_ends.specs.Ends.{End, first};
+ghost use Rattle.net_ends.specs.Ends.{End, first, Heard};
 ghost use Rattle.net_ends.specs.Receiving.{Receiving};
-ghost use Rattle.net_ends.specs.Pair.{Step, begun, after_steps, AreHonest};
+ghost use Rattle.net_ends.specs.Pair.{AtSender, Pair, Step, Told, begun, after_step, after_steps, AreHonest};
+ghost use Rattle.net_ends.specs.Rounds.{AreCarried, AreRounds, IsReached, Round, steps};
 
 use net_ends::{ReceivingEnd, SendingEnd, laws};
 use net_tcp::{Arrival, Segment};
@@ -25,4 +28,28 @@ pub fn hear(sender: &SendingEnd<'_, 4>, receiver: &ReceivingEnd<'_, 4>) -> Arriv
         ack: true,
         rst: false,
     })
+}
+
+/// Returns the number after the promised window, as far as a sending end knows it that has sent all of that.
+pub fn promised_end(sender: &SendingEnd<'_, 4>) -> u64
+    ensures { (f : ℕ) (x : List ℕ) (p : Pair) (t : Told) (older : List Told) (s : Positions)
+        (r : LossRecovery) (says : Bool) (seq : ℕ) (now : ℤ) → IsReached 4 f x p →
+        p.told ≡ t ∷ older → (first p.sender < t.ack) ⊎ (p.sender.peer.seq ≤ seq) →
+        let q = after_step 4 p (AtSender (Heard s r says seq t.ack t.window now)) in
+        q.sender ≡ sender.now → q.receiver.edge ≤ q.sender.sender.sent →
+        q.receiver.edge < result + 2 ^ shift_count q.receiver.scale }
+{
+    laws::windows();
+    sender.acknowledgement_number()
+}
+
+/// Returns whether all numbers below one have come at the receiving end.
+pub fn have_come(receiver: &ReceivingEnd<'_, 4>, number: u64) -> bool
+    ensures { (f : ℕ) (x : List ℕ) (p : Pair) (us : List Round) → IsReached 4 f x p →
+        AreCarried 4 f x p (steps us) → AreRounds 4 p us →
+        (after_steps 4 p (steps us)).receiver ≡ receiver.now →
+        number ≤ first p.sender + length us → IsTrue result }
+{
+    laws::rounds();
+    number <= receiver.receiver().acknowledged()
 }

@@ -1,0 +1,12 @@
+-- By the laws of receivers of a stream that ends.
+use Rattle.net_ends.proofs.RoundLaws.{latest_knows, asks_then, opens_then}
+use Rattle.net_ends.proofs.laws.windows.Goals as goal
+
+pub returns : goal.returns
+returns c =
+    let r = c.finite_receivers.ensures in record {
+      latest = latest_knows r.sound r.acknowledged c.numbers.ensures.limit r.fresh r.segment r.in_order c.completion.ensures.in_order r.reads
+          (λ f x s n is. (r.read f x s n is).0);
+      asks = asks_then;
+      opens = opens_then;
+    }
