@@ -1,3 +1,4 @@
+pub mod ChainLaws
 pub mod Ends
 pub mod Expiries
 pub mod Loops

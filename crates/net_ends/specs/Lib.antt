@@ -1,5 +1,6 @@
 pub mod Acknowledgements
 pub mod Buffers
+pub mod Chains
 pub mod Ends
 pub mod Pair
 pub mod Parts

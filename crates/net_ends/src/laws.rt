@@ -1,6 +1,6 @@
 //! Laws of the sending end, and of both ends. No function here changes anything: its contract is the law.
 ghost use Rattle.std.specs.Prelude.{◌≡◌, ℕ, ℤ, ◌+◌, ◌-◌, ◌<◌, ◌≤◌, ◌⊎◌, ◌∷◌, List, All, Bool, IsTrue, IsFalse};
-ghost use Rattle.std.specs.Prelude.{length, max, ◌^◌};
+ghost use Rattle.std.specs.Prelude.{length, max, pos, ◌*◌, ◌^◌, ◌≤ℤ◌, ◌+ℤ◌, ◌-ℤ◌};
 ghost use Rattle.net_assembler.specs.Positions.{Positions};
 ghost use Rattle.net_tcp.specs.LossRecovery.{Recovery as LossRecovery};
 ghost use Rattle.net_receiver.specs.FiniteSender.{sender_after_commands, accepts, IsSoundSent};
@@ -16,6 +16,10 @@ ghost use Rattle.net_tcp.specs.Windows.{acknowledgement_number, IsScaleFor};
 ghost use Rattle.net_ends.specs.Receiving.{Receiving, promise};
 ghost use Rattle.net_ends.specs.Pair.{Pair, Step, begun as begun_pair, after_steps, AreHonest, number, has_come};
 ghost use Rattle.net_ends.specs.Pair.{IsAnswerTaken, Told, AtSender, after_step};
+ghost use Rattle.net_ends.specs.Receiving.{IsSoundReceiving};
+ghost use Rattle.net_ends.specs.Chains.{Host, Turn, AreTurns, new_numbers, AreWithin, answered};
+ghost use Rattle.net_tcp.specs.declared.answer_limit.AnswerLimit.{AnswerLimit};
+ghost use Rattle.net_tcp.specs.declared.arriving.Segment.{Segment};
 ghost use Rattle.net_ends.specs.Rounds.{IsReached, KnowsWindow, Round, steps, AreCarried, AreRounds};
 
 /// States of every end and of every list of what happens to it, forged acknowledgements among it: that its sender is
@@ -144,5 +148,23 @@ pub fn rounds()
 {
     net_receiver::laws::numbers();
     net_receiver::laws::completion();
+    net_receiver::laws::finite_receivers();
+}
+
+/// States that no two ends answer one another without end. An acknowledgement is answered if its number is below the
+/// first one that is missing; so is the answer, and so on, whatever else happens at both hosts meanwhile. Each accepts
+/// what the other acknowledges. Then there are at most as many answers as numbers come at both meanwhile, and one
+/// (`few`): where none comes, no answer is answered. Of what isn't taken, from whomever, an `AnswerLimit` counts
+/// segments without positions and SYNs. At moments that don't fall it allows one answer to them, and one more for each
+/// half second (`limited`).
+pub fn answers()
+    ensures few { (most_runs : ℕ) (near far : Host) (ts : List Turn) →
+        IsSoundReceiving near.receiver → IsSoundReceiving far.receiver →
+        AreTurns most_runs near far ts → length ts ≤ 1 + new_numbers most_runs near far ts }
+    ensures limited { (l : AnswerLimit) (from to : ℤ) (qs : List (Segment × ℤ)) →
+        AreWithin from to qs → (to +ℤ pos 500000) ≤ℤ pos (2 ^ 63 - 1) →
+        pos (500000 * answered l qs) ≤ℤ ((to -ℤ from) +ℤ pos 500000) }
+{
+    net_receiver::laws::numbers();
     net_receiver::laws::finite_receivers();
 }

@@ -1,11 +1,12 @@
 //! What two ends know of one another, in every state that both reach, whatever honest path lies between them.
-ghost use Rattle.std.specs.Prelude.{◌≡◌, ◌+◌, ◌^◌, ◌<◌, ◌≤◌, ◌⊎◌, ℕ, ℤ, Bool, IsTrue, List, ◌∷◌, length};
+ghost use Rattle.std.specs.Prelude.{◌≡◌, ◌+◌, ◌^◌, ◌<◌, ◌≤◌, ◌⊎◌, ℕ, ℤ, Bool, IsTrue, List, [], ◌∷◌, length};
 ghost use Rattle.net_assembler.specs.Positions.{Positions};
 ghost use Rattle.net_tcp.specs.LossRecovery.{Recovery as LossRecovery};
 ghost use Rattle.net_tcp.specs.Windows.{shift_count};
 ghost use Rattle.net_receiver.specs.Finite.{no_end};
+ghost use Rattle.net_ends.specs.Chains.{AreTurns, Host, Turn, new_numbers};
 ghost use Rattle.net_ends.specs.Ends.{End, first, Heard};
-ghost use Rattle.net_ends.specs.Receiving.{Receiving};
+ghost use Rattle.net_ends.specs.Receiving.{IsSoundReceiving, Receiving};
 ghost use Rattle.net_ends.specs.Pair.{AtSender, Pair, Step, Told, begun, after_step, after_steps, AreHonest};
 ghost use Rattle.net_ends.specs.Rounds.{AreCarried, AreRounds, IsReached, Round, steps};
 
@@ -52,4 +53,13 @@ pub fn have_come(receiver: &ReceivingEnd<'_, 4>, number: u64) -> bool
 {
     laws::rounds();
     number <= receiver.receiver().acknowledged()
+}
+
+/// States that an answer is answered only where something new has come at one of the hosts.
+pub fn answer_of_answer()
+    ensures { (near far : Host) (t u : Turn) → IsSoundReceiving near.receiver →
+        IsSoundReceiving far.receiver → AreTurns 4 near far (t ∷ u ∷ []) →
+        0 < new_numbers 4 near far (t ∷ u ∷ []) }
+{
+    laws::answers();
 }
