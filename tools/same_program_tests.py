@@ -150,8 +150,8 @@ def programs(programs, sides):
 
 
 def ghosts(programs, sides):
-    """Without what makes a ghost one there is none: an idle function with another call, or a store; its callers where
-    it isn't one; a type that has a number. Returns how many changes are seen."""
+    """Without what makes a ghost one there is none: an idle function with another call, a store or a loop; its callers
+    where it isn't one; a type that has a number. Returns how many changes are seen."""
     more = {'Call': [{'Fn': ['core::more', {'types': [], 'dicts': []}]}, [], {'local': 0, 'steps': []}]}
     store = {'Assign': [{'local': 0, 'steps': [{'Deref': {'Int': 64}}]}, {'Opd': 'Unit'}]}
     number, seen = {'Int': 64}, 0
@@ -159,9 +159,9 @@ def ghosts(programs, sides):
         proved = programs[within.split('::')[0]]
         for name in sorted(proved.idle & proved.functions.keys()):
             old, other = proved.all[proved.functions[name]], copy.copy(proved)
-            for step in (more, store, 'Loop'):
-                other.all = {**proved.all, proved.functions[name]: {**old, 'body': ['Seq', step, *old['body']]}}
-                assert not other.holds(ProvedSide.is_idle, name), (name, step)
+            for begin in (['Seq', more], ['Seq', store], ['Loop']):
+                other.all = {**proved.all, proved.functions[name]: {**old, 'body': [*begin, *old['body']]}}
+                assert not other.holds(ProvedSide.is_idle, name), (name, begin)
                 seen += 1
         for name, _ in same_program.compared(proved, rust, within)['same']:
             old, there = proved.all[proved.functions[name]], same_program.place(proved, rust, name)
