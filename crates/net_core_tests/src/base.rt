@@ -1,6 +1,4 @@
 //! The tests of `net_base`, each through its public calls, and a device that is no loopback.
 
-mod fragments;
 mod phy;
-mod refused;
 mod two_lists;

@@ -16,6 +16,4 @@ mod receiver;
 #[cfg(test)]
 mod storage;
 #[cfg(test)]
-mod tcp;
-#[cfg(test)]
 mod worked;

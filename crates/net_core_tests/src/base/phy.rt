@@ -5,9 +5,6 @@ ghost use Rattle.std.specs.Prelude.{◌≡◌, [], ◌∷◌, ◌++◌, OnOk, On
 mod device_capabilities;
 mod echo;
 mod loopback;
-mod non_zero_u16;
-mod non_zero_usize;
-mod rx_token;
 
 use net_base::phy::{Device, Loopback, RxToken};
 use net_base::time::Instant;

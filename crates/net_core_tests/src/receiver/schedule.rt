@@ -7,7 +7,6 @@ use net_receiver::{Command, Receiver, Reply, execute, replay};
 use net_ring::ManagedSlice;
 use net_testing::Refusing;
 use std::alloc::{AllocError, Allocator, Global};
-use std::process::Abort;
 
 /// A command, with the reply that it must have.
 #[derive(Clone, Copy, Drop)]
@@ -167,50 +166,6 @@ fn a_long_schedule(rt: HostRuntime) -> Result<(), AllocError> {
     Ok(())
 }
 
-/// Returns whether a receiver of a megabyte takes these bytes as its second half and as its first,
-/// and reads both, each by one call of `execute`.
-fn executes_long(alloc: Global, bytes: &[u8]) -> Result<bool, AllocError> {
-    let storage = vec![in alloc; 0u8; 1_000_000]?;
-    let mut receiver = Receiver::<4>::new(ManagedSlice::Owned(storage));
-    let steps = [
-        Step::Keeps(500_000, bytes, 500_000, 0, &[(500_000, 1_000_000)]),
-        Step::Keeps(0, bytes, 500_000, 1_000_000, &[]),
-        Step::Reads(500_000, bytes),
-        Step::Reads(u64::MAX, bytes),
-    ];
-    let mut right = true;
-    for step in &steps {
-        let command = command_of(alloc, step)?;
-        let reply = execute(alloc, &mut receiver, &command)?;
-        right = right && is_reply(step, &reply);
-    }
-    Ok(right)
-}
-
-/// Returns whether `replay` does the same.
-fn replays_long(alloc: Global, bytes: &[u8]) -> Result<bool, AllocError> {
-    let steps = [
-        Step::Keeps(500_000, bytes, 500_000, 0, &[(500_000, 1_000_000)]),
-        Step::Keeps(0, bytes, 500_000, 1_000_000, &[]),
-        Step::Reads(500_000, bytes),
-        Step::Reads(u64::MAX, bytes),
-        Step::Shows(1_000_000, 0, 1_000_000, &[]),
-    ];
-    runs_as(alloc, &(1_000_000, 0, &steps))
-}
-
-/// Segments and reads of half a megabyte, by `replay` and by `execute`.
-#[test]
-fn commands_of_a_megabyte(rt: HostRuntime) -> Result<(), AllocError> {
-    let mut bytes = Vec::with_capacity(rt.alloc(), 500_000)?;
-    for index in 0..500_000usize {
-        bytes.push((index % 251) as u8)?;
-    }
-    assert_holds(&rt, replays_long(rt.alloc(), &bytes)?, ("replay", 0));
-    assert_holds(&rt, executes_long(rt.alloc(), &bytes)?, ("execute", 0));
-    Ok(())
-}
-
 /// The first missing position, how many bytes are queued, and the first two held runs.
 type State = (u64, usize, [Option<(u64, u64)>; 2]);
 
@@ -317,55 +272,6 @@ fn each_refusal_of_memory_leaves_the_first_commands(rt: HostRuntime) -> Result<(
     Ok(())
 }
 
-/// Executes the steps above. Returns whether the bytes of reads and the lists of shows are in memory of `replay`'s
-/// own, and the list of replies is in that of the list: four requests for 16 + 3 + 1 + 16 bytes, and three.
-fn parts_memory<'m>(
-    own: &'m Refusing,
-    list: &'m Refusing,
-    commands: &[Command<&'m Refusing>],
-) -> bool
-    requires { All CommandFits commands.now }
-{
-    let mut replies: Vec<Reply<&'m Refusing>, &'m Refusing> = Vec::new(list);
-    let mut buffer = [0u8; 16];
-    let mut receiver = Receiver::<4>::new(ManagedSlice::Borrowed(&mut buffer));
-    let whole = replay(own, &mut receiver, commands, &mut replies).is_ok();
-    whole
-        && are_replies(&STEPS_THAT_ASK, &replies)
-        && own.requests() == 4
-        && own.bytes() == 36
-        && list.requests() == 3
-}
-
-#[test]
-fn replies_and_their_list_are_in_memory_of_their_own(rt: HostRuntime) -> Result<(), AllocError> {
-    let granting = Refusing::new(rt.alloc(), usize::MAX);
-    let own = Refusing::new(rt.alloc(), usize::MAX);
-    let list = Refusing::new(rt.alloc(), usize::MAX);
-    let commands = commands_of(&granting, &STEPS_THAT_ASK)?;
-    assert_holds(&rt, parts_memory(&own, &list, &commands), ("replies", 9));
-    assert_count(&rt, own.live(), 0, ("bytes", 0));
-    assert_count(&rt, list.live(), 0, ("bytes", 1));
-    Ok(())
-}
-
-/// Forty reads, each of which finds nothing.
-static FORTY_READS: [Step<'static>; 40] = [Step::Reads(9, b""); 40];
-
-/// A read that finds nothing asks for no bytes, and the list of replies grows by doubling: no more than 128
-/// places in all, each of less than 128 bytes. All of it is given back.
-#[test]
-fn many_replies_ask_for_little(rt: HostRuntime) -> Result<(), AllocError> {
-    let granting = Refusing::new(rt.alloc(), usize::MAX);
-    let refusing = Refusing::new(rt.alloc(), usize::MAX);
-    let commands = commands_of(&granting, &FORTY_READS)?;
-    let ending = replay_in(&refusing, &commands, &FORTY_READS);
-    assert_holds(&rt, ending.whole && ending.right, ("replies", 40));
-    assert_holds(&rt, ending.bytes <= 128 * 128, ("bytes", ending.bytes));
-    assert_count(&rt, refusing.live(), 0, ("bytes", 0));
-    Ok(())
-}
-
 /// Executes a step's command by `execute`, and returns whether its reply is right, or `None` if it
 /// fails.
 fn execute_step(
@@ -444,68 +350,5 @@ fn a_segment_asks_for_nothing(rt: HostRuntime) -> Result<(), AllocError> {
     let ending = execute_refused(rt.alloc(), 0, &[Step::Keeps(0, &long, 16, 16, &[])])?;
     assert_holds(&rt, ending.whole && ending.right, ("segment", 0));
     assert_count(&rt, ending.bytes, 0, ("bytes", 0));
-    Ok(())
-}
-
-/// Holds thirty-two runs of one byte each.
-fn hold_all(alloc: Global, receiver: &mut Receiver<'_, 32>) -> Result<(), AllocError> {
-    for index in 0..32u64 {
-        let command = segment(alloc, 2 * index + 1, &[1])?;
-        execute(alloc, receiver, &command)?;
-    }
-    Ok(())
-}
-
-/// Returns whether these are those runs.
-fn are_all(held: &[(u64, u64)]) -> bool {
-    for index in 0..held.len() {
-        let start = (index as u64).wrapping_mul(2).wrapping_add(1);
-        if held[index] != (start, start.wrapping_add(1)) {
-            return false;
-        }
-    }
-    held.len() == 32
-}
-
-#[test]
-fn all_runs_are_shown(rt: HostRuntime) -> Result<(), AllocError> {
-    let mut buffer = [0u8; 80];
-    let mut receiver = Receiver::<32>::new(ManagedSlice::Borrowed(&mut buffer));
-    hold_all(rt.alloc(), &mut receiver)?;
-    let memory = Refusing::new(rt.alloc(), usize::MAX);
-    assert_holds(&rt, shows_all(&memory, &mut receiver), ("runs", 32));
-    assert_holds(
-        &rt,
-        memory.bytes() == 32 * 16 && memory.live() == 0,
-        ("bytes", memory.bytes()),
-    );
-    Ok(())
-}
-
-/// Returns whether all runs are shown, in this memory.
-fn shows_all(memory: &Refusing, receiver: &mut Receiver<'_, 32>) -> bool {
-    match execute(memory, receiver, &Command::Show) {
-        Ok(Reply::Show { held, .. }) => are_all(&held),
-        _ => false,
-    }
-}
-
-/// Returns whether a read of 100 bytes, which are there, asks for these and gives them back.
-fn reads_a_hundred(memory: &Refusing, receiver: &mut Receiver<'_, 4>) -> bool {
-    match execute(memory, receiver, &Command::Read(100)) {
-        Ok(Reply::Read(bytes)) => bytes.len() == 100 && memory.bytes() == 100,
-        _ => false,
-    }
-}
-
-#[test]
-fn a_read_asks_for_its_bytes_alone(rt: HostRuntime) -> Result<(), AllocError> {
-    let mut buffer = [0u8; 200];
-    let mut receiver = Receiver::<4>::new(ManagedSlice::Borrowed(&mut buffer));
-    let command = segment(rt.alloc(), 0, &[7; 200])?;
-    execute(rt.alloc(), &mut receiver, &command)?;
-    let memory = Refusing::new(rt.alloc(), usize::MAX);
-    assert_holds(&rt, reads_a_hundred(&memory, &mut receiver), ("bytes", 100));
-    assert_count(&rt, memory.live(), 0, ("bytes", 0));
     Ok(())
 }

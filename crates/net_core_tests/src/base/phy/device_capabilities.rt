@@ -1,7 +1,6 @@
 //! Sizes of packets and fragments that a device's capabilities allow.
 use crate::assertions::assert_holds;
-use net_base::phy::{ChecksumCapabilities, DeviceCapabilities, Medium};
-use std::alloc::AllocError;
+use net_base::phy::{DeviceCapabilities, Medium};
 
 /// Returns capabilities with this medium and this greatest size of a frame, and otherwise the
 /// default ones.
@@ -61,38 +60,4 @@ fn sizes_that_do_not_fit(rt: HostRuntime) {
         !by_default.has_ip_mtu() && !by_default.fits_ip_header(0),
         ("step", 3),
     );
-}
-
-/// Returns whether a checksum of each kind is handled, in and out.
-fn handles(checksum: &ChecksumCapabilities) -> bool {
-    checksum.udp.rx() && checksum.udp.tx() && checksum.icmpv6.rx() && checksum.icmpv6.tx()
-}
-
-/// Returns whether none of them is.
-fn ignores(checksum: &ChecksumCapabilities) -> bool {
-    !checksum.udp.rx() && !checksum.udp.tx() && !checksum.icmpv6.rx() && !checksum.icmpv6.tx()
-}
-
-#[test]
-fn handles_all_checksums_or_none(rt: HostRuntime) {
-    let all = handles(&DeviceCapabilities::default().checksum);
-    assert_holds(
-        &rt,
-        all && ignores(&ChecksumCapabilities::ignored()),
-        ("step", 1),
-    );
-}
-
-/// Returns whether a copy was made, and has this greatest size of a frame.
-fn is_copy(made: Result<DeviceCapabilities, AllocError>, size: usize) -> bool {
-    match made {
-        Ok(copy) => copy.max_transmission_unit == size,
-        Err(_) => false,
-    }
-}
-
-#[test]
-fn clones(rt: HostRuntime) {
-    let capabilities = with_size(Medium::Ethernet, 1514);
-    assert_holds(&rt, is_copy(capabilities.clone(), 1514), ("step", 1));
 }

@@ -1,17 +1,12 @@
 //! Frames that are sent back, with memory and without.
 ghost use Rattle.std.specs.Prelude.{◌≡◌, ◌∷◌, ◌++◌, [], List, ℕ, Ok, true};
-ghost use Rattle.net_base.specs.Phy.{default_capabilities};
 
 use super::{is_over, next_has_length, next_is, sends, write_length};
 use crate::assertions::assert_holds;
-use net_base::phy::{
-    Device, DeviceCapabilities, Loopback, Medium, RxToken, TxToken, echo_once, loopback,
-};
+use net_base::phy::{Device, Loopback, Medium, echo_once};
 use net_base::time::Instant;
 use net_testing::Refusing;
 use std::alloc::{AllocError, Allocator, Global};
-use std::marker::Model;
-use std::process::Abort;
 
 /// Moves the first frame of a loopback device after the others, at that moment.
 fn rotate_at(device: &mut Loopback, timestamp: Instant) -> Result<bool, AllocError>
@@ -62,50 +57,6 @@ fn sends_length(device: &mut Loopback, length: usize) -> bool {
     device.send(token, length, write_length).is_ok()
 }
 
-/// Sends a frame of that length, sends it back, and returns whether it then arrives.
-fn comes_back(device: &mut Loopback, length: usize) -> bool {
-    sends_length(device, length) && rotates_at(device, 0) && next_has_length(device, length)
-}
-
-/// Checks that a frame of that length comes back.
-fn check_length(rt: &impl Abort, device: &mut Loopback, length: usize) {
-    assert_holds(rt, comes_back(device, length), ("bytes", length));
-}
-
-#[test]
-fn echoes_at_any_moment(rt: HostRuntime) {
-    let mut device = Loopback::new(rt.alloc(), Medium::Ethernet);
-    assert_holds(&rt, sends(&mut device, b"ab"), ("step", 1));
-    for micros in [i64::MIN, -1, 1, 1_000_000, i64::MAX] {
-        assert_holds(
-            &rt,
-            rotates_at(&mut device, micros),
-            ("at", micros.unsigned_abs() as usize),
-        );
-    }
-    assert_holds(
-        &rt,
-        next_is(&mut device, b"ab") && is_over(&mut device),
-        ("step", 3),
-    );
-}
-
-#[test]
-fn frames_of_many_lengths_are_sent_and_sent_back(rt: HostRuntime) {
-    let mut device = Loopback::new(rt.alloc(), Medium::Ethernet);
-    for length in 0..2_100 {
-        check_length(&rt, &mut device, length);
-    }
-    for length in (2_100..=70_000).step_by(97) {
-        check_length(&rt, &mut device, length);
-    }
-    for power in [4_096, 8_192, 16_384, 32_768, 65_536, 131_072, 1_000_000] {
-        check_length(&rt, &mut device, power - 1);
-        check_length(&rt, &mut device, power);
-        check_length(&rt, &mut device, power + 1);
-    }
-}
-
 #[test]
 fn a_thousand_frames_at_a_time_keep_their_order(rt: HostRuntime) {
     let mut device = Loopback::new(rt.alloc(), Medium::Ethernet);
@@ -119,80 +70,6 @@ fn a_thousand_frames_at_a_time_keep_their_order(rt: HostRuntime) {
         assert_holds(&rt, next_has_length(&mut device, length), ("bytes", length));
     }
     assert_holds(&rt, is_over(&mut device), ("step", 4));
-}
-
-/// A device without frames, which stores the moment at which it was last asked for one.
-#[derive(Drop)]
-struct Asked {
-    at: Instant,
-}
-
-impl Model for Asked {
-    ghost Value = { Unit {0} };
-
-    ghost view = { λ _. tt };
-}
-
-impl Device for Asked {
-    type RxToken = loopback::RxToken;
-
-    type TxToken = loopback::TxToken;
-
-    ghost taken = { λ _ _ _. ⊥ };
-
-    ghost sent = { λ _ _ _. ⊥ };
-
-    ghost abilities = { λ _. default_capabilities };
-
-    fn receive(&mut self, timestamp: Instant) -> Option<(loopback::RxToken, loopback::TxToken)> {
-        self.at = timestamp;
-        None
-    }
-
-    fn transmit(&mut self, _timestamp: Instant) -> Option<loopback::TxToken> {
-        None
-    }
-
-    fn capabilities(&self) -> DeviceCapabilities {
-        DeviceCapabilities::default()
-    }
-
-    fn send<R, F: FnOnce(&mut [u8]) -> R + Drop>(
-        &mut self,
-        _token: loopback::TxToken,
-        _len: usize,
-        _f: F,
-    ) -> Result<R, AllocError> {
-        Err(AllocError)
-    }
-}
-
-/// Returns whether an echo at `micros` microseconds asks for a frame then, and there is none.
-fn is_asked_at(device: &mut Asked, micros: i64) -> bool {
-    let found = echo_once(device, Instant::from_micros(micros));
-    found == Ok(false) && device.at.total_micros() == micros
-}
-
-#[test]
-fn asks_at_the_moment_that_it_was_given(rt: HostRuntime) {
-    let mut device = Asked { at: Instant::ZERO };
-    for micros in [
-        i64::MIN,
-        -1_000,
-        -1,
-        0,
-        1,
-        12_345_678,
-        250_000_001,
-        1_700_000_000_123_456,
-        i64::MAX,
-    ] {
-        assert_holds(
-            &rt,
-            is_asked_at(&mut device, micros),
-            ("at", micros.unsigned_abs() as usize),
-        );
-    }
 }
 
 /// The results of an echo, one of whose requests for memory was refused.

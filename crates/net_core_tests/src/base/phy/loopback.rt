@@ -3,8 +3,7 @@ ghost use Rattle.std.specs.Prelude.{◌≡◌, List, ℕ, [], ◌∷◌, ◌++�
 
 use super::{is_over, next_is, sends};
 use crate::assertions::assert_holds;
-use net_base::phy::loopback::{Loopback, RxToken, TxToken};
-use net_base::phy::{Device, Medium, PacketMeta, RxToken as _, TxToken as _};
+use net_base::phy::{Device, Loopback, Medium, RxToken};
 use net_base::time::Instant;
 use net_testing::Refusing;
 use std::alloc::{AllocError, Allocator, Global};
@@ -80,85 +79,6 @@ fn sends_frames_beyond_its_longest(rt: HostRuntime) {
     for length in [65_536, 70_001, 100_000, 1_000_000] {
         let passed = sends_zeros(&mut device, length) && consumes_length(&mut device, length);
         assert_holds(&rt, passed, ("bytes", length));
-    }
-}
-
-/// Returns metadata with this identifier and nothing else.
-fn marked(id: u32) -> PacketMeta {
-    let mut meta = PacketMeta::default();
-    meta.id = id;
-    meta
-}
-
-/// Takes the next frame off, gives metadata to the token to send with, and returns whether there
-/// was a frame, and it has no metadata.
-fn comes_unmarked(device: &mut Loopback) -> bool {
-    match device.receive(Instant::ZERO) {
-        Some((frame, mut token)) => {
-            token.set_meta(marked(7));
-            frame.meta() == PacketMeta::default()
-        }
-        None => false,
-    }
-}
-
-#[test]
-fn its_tokens_have_no_metadata(rt: HostRuntime) {
-    let mut device = Loopback::new(rt.alloc(), Medium::Ip);
-    for frame in [
-        b"".as_slice(),
-        b"ab",
-        b"abc",
-        &[7; 60],
-        &[7; 1_514],
-        &[7; 70_000],
-    ] {
-        let sent = sends(&mut device, frame);
-        assert_holds(
-            &rt,
-            sent && comes_unmarked(&mut device),
-            ("bytes", frame.len()),
-        );
-    }
-}
-
-/// Sends `count` frames, each five bytes longer than the one before it. Returns whether there was memory
-/// for all.
-fn sends_many<A: Allocator + Copy>(device: &mut Loopback<A>, count: usize) -> bool {
-    let bytes = [7u8; 1_000];
-    for number in 0..count.min(200) {
-        if !sends(device, &bytes[..5 * number]) {
-            return false;
-        }
-    }
-    true
-}
-
-/// Returns whether `count` frames are sent and queued by at most this many requests more than there
-/// are frames with bytes, with at most 128 bytes of the queue for each frame.
-fn asks_for_little(memory: &Refusing, count: usize, growths: usize) -> bool {
-    let mut device = Loopback::new(memory, Medium::Ip);
-    let is_sent = sends_many(&mut device, count);
-    let bytes = count.saturating_mul(count).saturating_mul(5) / 2;
-    let queue = count.saturating_add(4).saturating_mul(128);
-    is_sent
-        && memory.requests() <= count.saturating_add(growths)
-        && memory.bytes() <= bytes.saturating_add(queue)
-        && memory.live() > 0
-}
-
-/// The queue has room for 4 frames, 8, 16, .., and all memory is given back with it, that of the queued frames
-/// too.
-#[test]
-fn a_queue_grows_by_doubling_and_gives_all_back(rt: HostRuntime) {
-    for (count, growths) in [(20usize, 4usize), (200, 7)] {
-        let memory = Refusing::new(rt.alloc(), usize::MAX);
-        assert_holds(
-            &rt,
-            asks_for_little(&memory, count, growths),
-            ("frames", count),
-        );
-        assert_holds(&rt, memory.live() == 0, ("frames", count));
     }
 }
 
@@ -287,80 +207,4 @@ fn a_frame_beyond_all_memory_is_refused(rt: HostRuntime) {
         refused && next_is(&mut device, b"ab") && is_over(&mut device),
         ("step", 1),
     );
-}
-
-/// Sends a frame of `length` bytes, and returns whether there was memory for it.
-fn sends_length<A: Allocator + Copy>(device: &mut Loopback<A>, length: usize) -> bool {
-    let token = device.transmit(Instant::ZERO).unwrap();
-    device.send(token, length, |buffer| buffer.fill(1)).is_ok()
-}
-
-/// Sends a frame while another one waits, and returns how many bytes are asked for.
-fn asked_for(alloc: Global, length: usize) -> usize {
-    let memory = Refusing::new(alloc, usize::MAX);
-    let mut device = Loopback::new(&memory, Medium::Ip);
-    let sent = sends_length(&mut device, 1);
-    let before = memory.bytes();
-    if sent && sends_length(&mut device, length) {
-        memory.bytes().saturating_sub(before)
-    } else {
-        0
-    }
-}
-
-#[test]
-fn a_frame_asks_for_as_many_bytes_as_it_has(rt: HostRuntime) {
-    for length in [1, 2, 200, 300, 301, 1_514, 65_536, 1_000_000] {
-        assert_holds(
-            &rt,
-            asked_for(rt.alloc(), length) == length,
-            ("bytes", length),
-        );
-    }
-}
-
-/// Sends and takes a frame, asks for another one twice, and sends again. Returns how many requests that makes.
-fn requests_after_idling(alloc: Global) -> Option<usize> {
-    let memory = Refusing::new(alloc, usize::MAX);
-    let mut device = Loopback::new(&memory, Medium::Ip);
-    let idles = sends(&mut device, b"ab") && next_is(&mut device, b"ab") && is_over(&mut device);
-    let again = is_over(&mut device) && sends(&mut device, b"cd") && next_is(&mut device, b"cd");
-    (idles && again).then_some(memory.requests())
-}
-
-/// The room of the queue is asked for once: three requests, with those for two frames.
-#[test]
-fn a_device_without_frames_keeps_its_room(rt: HostRuntime) {
-    assert_holds(
-        &rt,
-        requests_after_idling(rt.alloc()) == Some(3),
-        ("step", 1),
-    );
-}
-
-/// Takes one frame off and drops it, and consumes another. Returns whether both were there.
-fn takes_two<A: Allocator + Copy>(device: &mut Loopback<A>, length: usize) -> bool {
-    let first = device.receive(Instant::ZERO).is_some();
-    first
-        && match device.receive(Instant::ZERO) {
-            Some((frame, _token)) => frame.consume(|bytes| bytes.len()) == length,
-            None => false,
-        }
-}
-
-/// Returns whether the bytes of two frames that were taken off are given back, all except the queue's room.
-fn gives_back(alloc: Global, length: usize) -> bool {
-    let memory = Refusing::new(alloc, usize::MAX);
-    let mut device = Loopback::new(&memory, Medium::Ip);
-    let sent = sends_length(&mut device, length) && sends_length(&mut device, length);
-    let before = memory.live();
-    sent && takes_two(&mut device, length)
-        && before.saturating_sub(memory.live()) == length.saturating_mul(2)
-}
-
-#[test]
-fn a_frame_that_is_taken_gives_its_bytes_back(rt: HostRuntime) {
-    for length in [1, 3, 1_514, 70_000] {
-        assert_holds(&rt, gives_back(rt.alloc(), length), ("bytes", length));
-    }
 }

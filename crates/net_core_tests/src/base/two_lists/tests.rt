@@ -67,23 +67,6 @@ fn echoes_over_two_lists(rt: HostRuntime) {
     assert_holds(&rt, is_sent_back(&mut device, 8, false), ("step", 2));
 }
 
-/// A frame of 1,514 bytes is sent back as its token was.
-#[test]
-fn a_long_echo_has_no_metadata(rt: HostRuntime) {
-    let mut device = without_frames(rt.alloc());
-    let waits = put(&mut device.to_come, rt.alloc(), &[7; 1_514]).is_ok();
-    assert_holds(
-        &rt,
-        waits && send_back(&mut device, Instant::ZERO) == Ok(true),
-        ("step", 1),
-    );
-    assert_holds(
-        &rt,
-        device.sent_with == 0 && device.rooms == 0 && is_back(&device.sent, &[7; 1_514]),
-        ("step", 2),
-    );
-}
-
 /// Puts in two received frames and four that were sent.
 fn put_six<A: Allocator + Copy>(device: &mut TwoLists<A>, alloc: A) -> Result<(), AllocError> {
     put(&mut device.to_come, alloc, &[7; 200])?;

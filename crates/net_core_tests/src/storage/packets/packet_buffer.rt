@@ -1,5 +1,4 @@
-//! What the rows of `rust/tests` don't show: storage that is lent, closures that mustn't run, and headers that
-//! are dropped.
+//! What no table of packet queues shows: closures that mustn't run, and headers that are dropped.
 use crate::storage::counted::Counted;
 use net_packets::{PacketBuffer, PacketMetadata};
 use net_ring::{Empty, Full, ManagedSlice};
@@ -136,23 +135,4 @@ fn each_header_is_dropped(rt: HostRuntime) -> Result<(), Fail> {
     assert!(rt; headers_come_and_go(&drops));
     assert_eq!(rt; drops.get(), 14);
     Ok(())
-}
-
-/// Puts packets into a queue over these eight bytes, takes one off, puts one in before which there is a gap of two
-/// bytes, and drops the queue. Returns whether each call did so.
-fn passes_through(bytes: &mut [u8]) -> bool {
-    let mut slots = [PacketMetadata::<u8>::EMPTY; 4];
-    let mut queue = PacketBuffer::<u8>::new(
-        ManagedSlice::Borrowed(&mut slots),
-        ManagedSlice::Borrowed(bytes),
-    );
-    let put = queue.push_slice(1, b"abc").is_ok() && queue.push_slice(2, b"def").is_ok();
-    put && queue.take() == Ok((1, 3)) && queue.push_slice(3, b"ghi").is_ok()
-}
-
-#[test]
-fn lent_bytes_stay_as_they_are_once_their_queue_is_gone(rt: HostRuntime) {
-    let mut bytes = *b"........";
-    assert!(rt; passes_through(&mut bytes));
-    assert!(rt; bytes == *b"ghidef..");
 }
