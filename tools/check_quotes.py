@@ -35,7 +35,7 @@ from parts.erase_tokens import Text
 
 ROOT = pathlib.Path(__file__).resolve().parent.parent
 # The crates whose lines doc comments quote as examples.
-EXAMPLES = ["net_examples", "net_core_tests"]
+EXAMPLES = ["net_examples", "net_tests"]
 # Where names are looked for.
 SOURCES = [*(f"{folder}/**/*" for folder in "crates overlay compare rust c tools .ci .github".split()), "*", "docs/*"]
 ELSEWHERE = set("""
@@ -236,7 +236,7 @@ def laws_page():
     """The text of docs/laws.md."""
     parts = [LAWS]
     for crate in sorted(ROOT.glob("crates/net_*")):
-        if crate.name in (*EXAMPLES, "net_bench_lib", "net_ends_tests", "net_testing"):
+        if crate.name in (*EXAMPLES, "net_bench_lib", "net_ends_tests"):
             continue
         files = sorted(crate.glob("src/**/laws.rt"))
         parts += [f"## {crate.name}\n"] * bool(files)

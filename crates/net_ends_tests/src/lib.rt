@@ -1,15 +1,13 @@
-//! The tests of `net_ends`, with numbers worked by hand, and small users of its laws.
+//! Small users of the laws of `net_ends`, and a text that is carried over a path of `net_examples`.
 //!
 //! They are in a crate of their own, so that the tests of the other libraries don't wait for both ends.
 #![tactic(auto)]
 
+#[cfg(test)]
+mod any_path;
 mod ends;
 mod heard;
 mod path;
-#[cfg(test)]
-mod send_buffer;
-#[cfg(test)]
-mod sending_end;
 
 pub use ends::{
     begin, read_first, send_all, send_late, take_acknowledgement, take_last, take_segment,

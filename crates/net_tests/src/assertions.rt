@@ -1,0 +1,24 @@
+//! Comparisons of tests. Each is a function of its own, since an `assert!` makes the proof of the
+//! body that it is in several times as long.
+use std::process::Abort;
+
+/// Where a test is: the words of a mode or the name of what is compared, and the number of a row, a call or a request.
+pub type Place<'a> = (&'a str, usize);
+
+/// Stops the test unless this holds.
+pub fn assert_holds(rt: &impl Abort, fact: bool, (name, number): Place<'_>) {
+    assert!(rt; fact, "{name}, {number}");
+}
+
+/// Stops the test unless these counts are equal.
+pub fn assert_count(rt: &impl Abort, found: usize, wanted: usize, (name, number): Place<'_>) {
+    assert!(rt; found == wanted, "{name}, {number}: {found}, not {wanted}");
+}
+
+/// Stops the test unless these bytes are equal.
+pub fn assert_bytes(rt: &impl Abort, found: &[u8], wanted: &[u8], (name, number): Place<'_>) {
+    assert!(rt;
+        found == wanted,
+        "{name}, {number}: {found:?}, not {wanted:?}"
+    );
+}
