@@ -4,7 +4,7 @@ use net_base::managed::ManagedSlice;
 use net_base::receiver::Receiver;
 use net_base::scoreboard::Scoreboard;
 use net_base::storage::fragment_table::{accept, remove_expired, AcceptError, FragmentSlot};
-use net_base::storage::FragmentBuffer;
+use net_base::storage::{FragmentBuffer, PacketBuffer, PacketMetadata, RingBuffer};
 use net_base::tcp::{RetransmissionTimeout, TimeoutBounds};
 use net_base::time::{Duration, Instant};
 
@@ -107,6 +107,20 @@ fn left_by(calls: impl FnOnce(&mut [u8])) -> [u8; 8] {
 
 #[test]
 fn storage_is_written_only_where_bytes_are_kept() {
+    let ring = left_by(|storage| {
+        let mut ring = RingBuffer::new(storage);
+        assert_eq!(ring.enqueue_slice(b"abcdefg"), 7);
+        ring.dequeue_allocated(3);
+        assert_eq!((ring.enqueue_slice(b"hi"), ring.dequeue_slice(&mut [0; 2])), (2, 2));
+    });
+    assert_eq!(&ring, b"ibcdefgh");
+    let packets = left_by(|storage| {
+        let mut slots = [PacketMetadata::EMPTY; 4];
+        let mut queue = PacketBuffer::new(&mut slots[..], storage);
+        assert!(queue.push_slice(1, b"abc").is_ok() && queue.push_slice(2, b"def").is_ok());
+        assert!(queue.dequeue().is_ok() && queue.push_slice(3, b"ghi").is_ok());
+    });
+    assert_eq!(&packets, b"ghidef..");
     let receiver = left_by(|storage| {
         let mut receiver: Receiver<1> = Receiver::empty(storage);
         assert!(receiver.segment(0, b"ab").is_ok() && receiver.segment(4, b"e").is_ok());
