@@ -29,8 +29,8 @@ The rules:
    statements, with the comment before them: a call of a law or of such a function, one that makes or is of such a
    type, and `let _name` of a method that is lent `self` alone, to be read. What these are given are places. A name
    that then only is what a block gives goes too. So does a function of `UNCALLED`: a free one, or a method whose name
-   no trait has. From an import goes what only contracts name, unless it is a trait or std's, and so do a `pub use` of
-   another crate, and names of `UNNAMED`. Rustc refuses a text that uses what this rule took out.
+   no trait has. From an import goes what only contracts name, unless it is a trait or std's, and so does a `pub use` of
+   another crate. Rustc refuses a text that uses what this rule took out.
 7. Refused are imports of all names, attributes that aren't listed, the rest of a struct from an element, the order of
    bytes of a machine (`to_ne_bytes`, `to_be` and their like), and a bound of any `usize` that does more than compare.
 8. All other tokens stay, in their order, as `tools/erased_tokens.py` finds by a reader of its own. A file that uses it
@@ -297,16 +297,14 @@ class Eraser(Text):
         self.put(docs[heading + 2], docs[end - 1] + 1, f'\n{margin}'.join(f'/// {line}' for line in text))
 
     def trim(self):
-        """Takes from imports what only contracts name, but for traits and std's, and from a `pub use` the list's
-        names."""
+        """Takes from imports what only contracts name, but for traits and std's."""
         spans = {j for _, k, end, _ in self.imports for j in range(k, end)}
         used = {self.tokens[j][1] for j, token in enumerate(self.tokens) if token[0] == 'word' and j not in spans
                 and j not in self.new}
         used |= {word for j, text in self.new.items() if j not in spans for word in words(text)}
         for head, k, end, is_public in self.imports:
             named = [j for j in range(k + 1, end) if self.tokens[j][0] == 'word']
-            unnamed = given.UNNAMED.get(self.key, ())
-            kept = lambda name: name not in unnamed if is_public else name in used or name in self.traits
+            kept = lambda name: is_public or name in used or name in self.traits
             leaves = [j for j in named if self.tokens[self.next(j + 1)][1] in (',', ';', '}')]
             by_name = {j: self.tokens[named[at - 2]][1] for at, j in enumerate(named) if at > 1
                        and self.tokens[named[at - 1]][1] == 'as'}

@@ -166,7 +166,8 @@ def ghosts(programs, sides):
         for name, _ in same_program.compared(proved, rust, within)['same']:
             old, there = proved.all[proved.functions[name]], same_program.place(proved, rust, name)
             other, said = copy.copy(proved), json.dumps(old['body'])
-            other.idle = {idle for idle in proved.idle if f'"{idle}"' not in said}
+            other.idle, other.readers = ({one for one in found if f'"{one}"' not in said}
+                                         for found in (proved.idle, proved.readers))
             if other.idle != proved.idle:
                 assert same_program.why(other, rust, name, there)[0] != 'same', name
                 seen += 1

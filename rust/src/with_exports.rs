@@ -37,7 +37,6 @@ pub mod phy;
 mod rattle;
 pub mod receiver;
 pub mod scoreboard;
-pub mod sender;
 pub mod sequence_number;
 pub mod storage;
 mod stream;

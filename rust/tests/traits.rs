@@ -280,7 +280,10 @@ fn counts() {
 fn elements_and_texts() {
     let mut ring = RingOver::over([0u8; 4]);
     assert!(ring.write_str("abc").is_ok() && ring.write_str("de").is_err());
-    assert_eq!((ring.len(), write!(ring, "{}", 7), ring.iter().last()), (3, Ok(()), Some(&b'7')));
+    assert_eq!(
+        (ring.len(), write!(ring, "{}", 7), ring.iter().next_back()),
+        (3, Ok(()), Some(&b'7'))
+    );
     let mut ring = RingOver::over([0u8; 4]);
     assert!(ring.write_str("abc").is_ok());
     ring.dequeue_allocated(2);

@@ -48,9 +48,6 @@ UNCALLED = {
     'net_base/storage/fragments/head': ['exact'],
 }
 
-# Names that a `pub use` gives to other crates of Rattle, and that nothing of Rust has.
-UNNAMED = {'net_base/time': ['earlier']}
-
 # The exports for C, which the shim of `c` calls: only the crate in rust/exports has them, and they have no
 # documentation.
 EXPORTS = 'net_ffi'

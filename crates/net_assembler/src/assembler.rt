@@ -255,7 +255,7 @@ impl<const N: usize> Assembler<N> {
         self.add_counted(offset, size, &mut Turns::new())
     }
 
-    /// Adds a range as `add` does, and counts each iteration of a loop: a move if it moves a run or
+    /// Adds a range as `add` does. Contracts count each iteration of a loop: a move if it moves a run or
     /// takes one into the range, otherwise a look. smoltcp has no such call.
     ///
     /// Looks rise by at most twice the number of binary digits of `N`, which is 3 for 4 and 6 for

@@ -912,6 +912,7 @@ impl SendingHead {
     }
 
     /// Returns the smoothed time of a round trip, once there was a sample.
+    #[inline]
     #[must_use]
     pub fn round_trip(&self) -> Option<Duration>
         ensures { result ≡ round_trip (timer_of self.now.timer).timeout.estimate }

@@ -112,6 +112,7 @@ impl RttEstimate {
 
     /// Returns the estimate of these numbers: eight times the smoothed time, of which no more than 2^63
     /// count, and four times its variation, of which no more than 2^62 do. Samples give no more.
+    #[inline]
     #[must_use]
     pub fn from_scaled(srtt_8: u64, rttvar_4: u64) -> Self
         ensures { result ≡ within srtt_8 rttvar_4 }
@@ -132,6 +133,7 @@ impl RttEstimate {
     }
 
     /// Returns the smoothed time.
+    #[inline]
     #[must_use]
     pub fn srtt(self) -> Duration
         ensures { result ≡ self.srtt_8 / 8 }

@@ -183,6 +183,7 @@ impl RetransmissionTimer {
     }
 
     /// Returns the estimate of the time of a round trip, if there was a sample.
+    #[inline]
     #[must_use]
     pub fn rtt(&self) -> Option<RttEstimate>
         ensures { result ≡ (timer_of self.now).timeout.estimate }

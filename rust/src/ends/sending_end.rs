@@ -641,6 +641,7 @@ impl SendingHead {
     }
 
     /// Returns the smoothed time of a round trip, once there was a sample.
+    #[inline]
     #[must_use]
     pub(crate) fn round_trip(&self) -> Option<Duration> {
         match self.timer.rtt() {

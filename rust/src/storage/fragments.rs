@@ -232,10 +232,7 @@ impl<B: Storage<u8>, const N: usize> FragmentsOver<B, N> {
     /// Returns the packet's size, once it is known. smoltcp has no such call.
     #[must_use]
     pub fn total_size(&self) -> Option<usize> {
-        if self.head.has_total == 0 {
-            return None;
-        }
-        Some(self.head.total)
+        self.head.total_size()
     }
 
     /// Returns whether one of the `len` positions from `offset` on has arrived: whether a fragment there

@@ -93,6 +93,7 @@ impl RttEstimate {
 
     /// Returns the estimate of these numbers: eight times the smoothed time, of which no more than 2^63
     /// count, and four times its variation, of which no more than 2^62 do. Samples give no more.
+    #[inline]
     #[must_use]
     pub fn from_scaled(srtt_8: u64, rttvar_4: u64) -> Self {
         RttEstimate {
@@ -108,6 +109,7 @@ impl RttEstimate {
     }
 
     /// Returns the smoothed time.
+    #[inline]
     #[must_use]
     pub fn srtt(self) -> Duration {
         Duration::from_micros(self.srtt_8 >> 3)

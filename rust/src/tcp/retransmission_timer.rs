@@ -168,6 +168,7 @@ impl RetransmissionTimer {
     }
 
     /// Returns the estimate of the time of a round trip, if there was a sample.
+    #[inline]
     #[must_use]
     pub fn rtt(&self) -> Option<RttEstimate> {
         if self.has_estimate == 0 {

@@ -319,10 +319,7 @@ impl<B: Storage<u8>, const N: usize> FragmentsOver<B, N> {
         ensures room { limit_of self.now ≤ length self.now.bytes }
         ensures below { IsBelow self.now.present (limit_of self.now) }
     {
-        if self.head.has_total == 0 {
-            return None;
-        }
-        Some(self.head.total)
+        self.head.total_size()
     }
 
     /// Returns whether one of the `len` positions from `offset` on has arrived: whether a fragment there

@@ -130,8 +130,8 @@ impl AssemblerHead {
         self.add_counted(runs, offset, size)
     }
 
-    /// Adds a range as `add` does, and counts each iteration of a loop as `Assembler::add_counted`
-    /// does.
+    /// Adds a range as `add` does. Contracts count each iteration of a loop, as those of
+    /// `Assembler::add_counted` say.
     ///
     /// # Requires
     ///

@@ -148,9 +148,9 @@ fn find_free<K: Copy + Eq, B: Storage<u8>, const N: usize>(
 /// Adds a fragment of the packet of this key, whose first byte is that of the packet at `offset`, and returns
 /// the packet's slot; `is_last` says that the packet ends after it. `take_complete` hands out a packet that is whole.
 ///
-/// The slot is the first that is for the packet, or else the first free one, or else the first of those that expire
-/// before all others: that one's packet is given up. So new packets never wait for old ones, however many came. A
-/// packet that is begun is waited for up to `expires_at`.
+/// The slot is the first that is for the packet, or else the first free one. If there is none, it is the first of
+/// those that expire before all others, whose packet is given up. So new packets never wait for old ones, however
+/// many came. A packet that is begun is waited for up to `expires_at`.
 ///
 /// Bytes that have arrived stay: a fragment that has another byte at one of their positions is refused, and
 /// one that has the same bytes there, as a copy has, is taken. RFC 5722 gives up a packet whose fragments

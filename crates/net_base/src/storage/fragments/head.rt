@@ -279,6 +279,18 @@ impl FragmentsHead {
         Ok(())
     }
 
+    /// Returns the packet's size, once it is known. It is a function of its own, since the prover fails on its body
+    /// where it stands in the buffer's call.
+    pub(crate) fn total_size(&self) -> Option<usize>
+        ensures { result ≡ total_of self.now }
+    {
+        if self.has_total == 0 {
+            None
+        } else {
+            Some(self.total)
+        }
+    }
+
     /// Returns whether one of the `len` positions from `offset` on has arrived: whether a fragment there
     /// overlaps bytes that are present. They need not be within the buffer.
     ///
