@@ -62,6 +62,8 @@ def measured():
     ratios = [value(cell) for cell in lwip if re.match(r"[\d.]+;", cell)]
     yield "{} to {} of the time that Linux takes; with bursts and 10 % lost over {} s", peers, [
         *span(ratios), re.search(r"over (\d+) s", " ".join(lwip))[1]]
+    ratios = [value(cell) for row in cells(peers) if len(row) == 5 for cell in row[3:5]]
+    yield "with Linux as the peer {} to {}", peers, span(ratios)
 
 
 def counted():
@@ -70,7 +72,8 @@ def counted():
     first = lambda form, path: (re.search(form, (ROOT / path).read_text(), re.M | re.S) or "00")[1]
     yield "Rust {} or later", cargo, [first(r'^rust-version = "(.*?)"', cargo)]
     yield "Version {};", cargo, [first(r'^version = "(.*?)"', cargo)]
-    yield "each function; [{}]", "crates/must-fail.md", [str(count(r"^\| .* \| `.*` \| `", "crates/must-fail.md"))]
+    for text in ("each function; [{}]", "Each of {} [wrong bodies]"):
+        yield text, "crates/must-fail.md", [str(count(r"^\| .* \| `.*` \| `", "crates/must-fail.md"))]
     yield "{} tests; {} rows", f"rust/src, rust/tests, {rows}", [
         tens(count(r"#\[test\]", "rust/src/**/*.rs", "rust/tests/**/*.rs")), tens(count(" => ", rows))]
     yield "{} by hand; {}", "tools/exports.txt, c/targets/run.py", [
@@ -80,6 +83,9 @@ def counted():
         yield text, calls, [f"{int(seeds) * int(kinds):,}"]
     for text in ("each function but [{}]", "{} functions, each with its reason"):
         yield text, left, [WORDS[first(r"^== left\n(.*)", left).count(" ~~ ") // 2]]
+    yield "[{} functions](std-calls.md)", "docs/std-calls.md", [
+        str(sum(len(re.findall(r"`\w+`", names)) for names in re.findall(
+            r"^- `\w+`: (.*(?:\n  .*)*)", (ROOT / "docs/std-calls.md").read_text(), re.M)))]
     yield "declares {}.", rattle, [WORDS[count(r'^\s*(?:unsafe )?extern(?: "\w+")? \{', rattle)]]
     yield "{} `unsafe impl`", rattle, [WORDS[count(r"^\s*unsafe impl\b", rattle)]]
     yield "by hand of [{} functions]", "crates/*/proofs", [WORDS[len([*ROOT.glob("crates/*/proofs/**/Proof.antt")])]]
