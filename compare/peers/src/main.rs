@@ -104,7 +104,8 @@ fn sample(word: &str, seed: u64) {
         ("1 % lost", path(100, 0, 0, 1_000), mib, (1.2, 1, 5)),
         ("1 % lost, without blocks", hidden, mib, (1.2, 1, 10)),
         ("20 % delayed", path(0, 2_000, 0, 1_000), mib, (1.5, 1, 80)),
-        ("20 % doubled", path(0, 0, 2_000, 1_000), mib, (1.0, 0, 5)),
+        // Acknowledgements that the path doubles are equal ones without a block: three of a number tell of a loss.
+        ("20 % doubled", path(0, 0, 2_000, 1_000), mib, (1.0, 0, 15)),
         ("both send, 1 % lost", path(100, 0, 0, 1_000), Traffic::Both { bytes: 500_000 }, (4.0, 1, 5)),
         ("a slow reader", path(0, 0, 0, 1_000), slow, (5.0, 1, 10)),
         ("answers after 40 ms", path(0, 0, 0, 1_000), requests(20, 40), (2.0, 0, 0)),
