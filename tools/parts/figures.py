@@ -56,6 +56,7 @@ def measured():
     lost, late, many = (linux[name][0] for name in ("1 % lost", "5 % delayed", "10 % lost"))
     yield "{} with 1 % lost, {} with 5 % late, {} times with 10 % lost", peers, [
         f"{lost:.2f}", f"{late:.2f}", f"{many:.0f}"]
+    yield "{} of CUBIC's with 0.5 % lost", peers, [f"{linux['0.5 % lost'][1]:.2f}"]
     for name, ratios in linux.items():
         yield f"| {name} | {{}} | {{}} |", peers, [f"{ratio:.2f}" for ratio in ratios]
     lwip = [cell for row in cells(peers) if len(row) == 5 for cell in row[1:3]]

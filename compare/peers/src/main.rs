@@ -165,8 +165,12 @@ fn median(mut values: Vec<f64>) -> f64 {
 /// many by a timeout.
 fn median_of(ends: [Kind; 2], path: Path, traffic: Traffic, seeds: u64, most: u64) -> (f64, u64, u64) {
     let what = format!("{} to {}", ends[0].name(), ends[1].name());
-    let runs =
-        (1..=seeds).map(|seed| run(Case { ends, path, traffic, seed, most }, &what)).collect::<Vec<_>>();
+    let runs: Vec<_> = (1..=seeds).map(|seed| run(Case { ends, path, traffic, seed, most }, &what)).collect();
+    summed(&runs)
+}
+
+/// The same of runs.
+fn summed(runs: &[Outcome]) -> (f64, u64, u64) {
     let seconds = median(runs.iter().map(|it| it.seconds.unwrap_or(f64::INFINITY)).collect());
     let sum = |of: fn(&Outcome) -> u64| runs.iter().map(of).sum();
     (seconds, sum(|it| it.watches[0].needless), sum(|it| it.watches[0].timeouts))
@@ -240,9 +244,9 @@ fn matrix(word: &str) {
 }
 
 fn goodput(word: &str) {
-    let (bytes, seeds) = (2 << 20, 5);
+    let (bytes, seeds) = (2 << 20, 15);
     println!("To Linux, 2 MiB, a round trip of 1 ms, no rate; a delay is up to 2 ms. Each cell: MB/s, the median of");
-    println!("{seeds} runs; timeouts of all; of 10,000 segments how many were sent again for nothing.");
+    println!("{seeds} runs, in turn with the others; timeouts of all; of 10,000 segments those sent again for nothing.");
     println!("| Path | endpoint | Linux, Reno | Linux, CUBIC | of Reno | of CUBIC |");
     println!("|---|---:|---:|---:|---:|---:|");
     for (what, path) in [
@@ -257,7 +261,14 @@ fn goodput(word: &str) {
         if !what.contains(word) {
             continue;
         }
-        let all = [ENDPOINT, RENO, CUBIC].map(|it| median_of([it, RENO], path, send(bytes), seeds, 60));
+        let mut runs = [vec![], vec![], vec![]];
+        for seed in 1..=seeds {
+            for (kind, runs) in [ENDPOINT, RENO, CUBIC].into_iter().zip(&mut runs) {
+                let case = Case { ends: [kind, RENO], path, traffic: send(bytes), seed, most: 60 };
+                runs.push(run(case, what));
+            }
+        }
+        let all = runs.map(|it| summed(&it));
         let cell = |it: (f64, u64, u64)| {
             let segments = seeds * bytes / 1_460;
             format!("{:.1}; {}; {}", bytes as f64 / 1e6 / it.0, it.2, it.1 * 10_000 / segments)
