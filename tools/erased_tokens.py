@@ -56,7 +56,7 @@ def tokens(text, is_rattle):
 
 
 def line(text):
-    """The tokens of a text of Rattle in a line, each with a space behind it and none in it."""
+    """The tokens of a text of Rattle in a line, each with a space after it and none in it."""
     return ''.join(word.replace(' ', '\0') + ' ' for word in tokens(text, True))
 
 

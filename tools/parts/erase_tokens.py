@@ -101,7 +101,7 @@ class Text:
         return before[:len(before) - len(before.lstrip())]
 
     def plain(self, *spans):
-        """The tokens of some spans that run, with one space behind each."""
+        """The tokens of some spans that run, with one space after each."""
         return ''.join(f'{word} ' for start, end in zip(spans[::2], spans[1::2])
                        for kind, word, _ in self.tokens[start:end] if kind not in ('clause', 'ghost', *SPACE))
 
