@@ -33,9 +33,9 @@ The rules:
    another crate. Rustc refuses a text that uses what this rule took out.
 7. Refused are imports of all names, attributes that aren't listed, the rest of a struct from an element, the order of
    bytes of a machine (`to_ne_bytes`, `to_be` and their like), and a bound of any `usize` that does more than compare.
-8. All other tokens stay, in their order, as `tools/erased_tokens.py` finds by a reader of its own. A file that uses it
-   imports `rattle::prelude`, where `prove!` is `assert!`. It is tested when a program is compiled if it is about `N`,
-   and in debug builds alone if it is of a `usize` of any width.
+8. All other tokens stay, in their order: each is written as it was read, and the layout after that changes none. A file
+   that uses it imports `rattle::prelude`, where `prove!` is `assert!`. It is tested when a program is compiled if it is
+   about `N`, and in debug builds alone if it is of a `usize` of any width.
 9. In documentation what a public function requires and tests is under "Panics".
 """
 import re
@@ -361,9 +361,11 @@ class Eraser(Text):
         out = re.sub(rf'\s*(?:{NO_CLAUSE}\s*)+(?={{)', ' ', out)
         out = re.sub(rf'\s*(?:{NO_CLAUSE}\s*)+(?=;)', '', out)
         out = re.sub(rf'(?m)^[ \t]*{GONE}[ \t{GONE}]*\n', '', out).replace(GONE, '')
-        out = re.sub(r'\blet (\w+) = ([^;]*);\s+\1(?=\s*\})', r'\2', out)        # what a ghost was called with
         out = re.sub(r'\{\n\n+', '{\n',
                      re.sub(r'\n\n+(\s*\})', r'\n\1', re.sub(r'\n{3,}', '\n\n', out))).strip('\n') + '\n'
+        if words(out) != [word for text in kept for word in words(text) if word not in (GONE, NO_CLAUSE)]:
+            self.refuse(0, 'the layout changes a token')
+        out = re.sub(r'\blet (\w+) = ([^;]*);\s+\1(?=\s*\})', r'\2', out)        # what a ghost was called with
         texts = ''.join(f'\n{RATTLE}::error_text!({name}, {", ".join(said)});\n' for name, said in self.errors.items())
         top = re.match(r'(?://![^\n]*\n)*\n?', out).end()
         prelude = f'use {RATTLE}::prelude::*;\n' if PRELUDE[bool(self.by_hand)] & {*words(out)} else ''
