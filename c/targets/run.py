@@ -252,14 +252,14 @@ class Programs:
             raise Failed(f"{source.name} isn't compiled: {said[:1500]}")
         return made
 
-    def harness(self, words, flags):
+    def harness(self, words):
         """What a bare program has besides: its words, its start."""
         if not self.way.bare:
             return []
         quoted = "".join(f'"{word}", ' for word in words)
         sources = [(HERE / "start.c", self.folder / "start.o", [f"-DWORDS={quoted}"])]
         if self.way.compiler[0] == "arm-none-eabi-gcc":
-            sources.append((HERE / "cortex_m.c", self.folder / "cortex_m.o", ["-UTRAPS"] if "-DSTACK" in flags else []))
+            sources.append((HERE / "cortex_m.c", self.folder / "cortex_m.o", []))
         for source, made, more in sources:
             status, said = shell([*self.way.compiler, *FLAGS, *more, "-c", source, "-o", made])
             if status:
@@ -273,7 +273,7 @@ class Programs:
     def built(self, name, sources, words=(), flags=()):
         """A program."""
         program = self.folder / name
-        objects = [*self.harness(words, flags), *[self.compiled(source, flags) for source in sources]]
+        objects = [*self.harness(words), *[self.compiled(source, flags) for source in sources]]
         # C++ has another name for a `main` that has another name.
         alias = ["-Wl,--defsym=program=_Z7programv"] * (self.way.bare and sources[0].suffix == ".cpp")
         status, said = shell([*self.way.compiler, *self.way.linking, *alias, *objects, self.library.path, "-o",
@@ -308,20 +308,6 @@ def interrupted(programs):
 
 def last(said):
     return (said.strip().splitlines() or ["(nothing)"])[-1]
-
-
-def another_version(programs):
-    """Whether a program of another version of the header isn't linked, for want of a function of that version."""
-    folder = programs.folder / "version"
-    folder.mkdir()
-    text = (C / "net_base.h").read_text()
-    (folder / "net_base.h").write_text(text.replace(f'"net_base_{ffi.interface()}_"', '"net_base_0_"'))
-    (folder / "another.c").write_text('#include "net_base.h"\nint main(void) { net_base_ring_init(NULL); return 0; }\n')
-    try:
-        programs.built("another", [folder / "another.c"])
-    except Failed as failure:
-        return "undefined reference to `net_base_0_ring_init'" in str(failure)
-    return False
 
 
 def by_cmake(programs):
@@ -389,8 +375,6 @@ def tests(programs, generated, options):
     if way.target in QUICK:
         programs.run("receiver", [C / "programs/receiver.cpp"])
         done.append("receiver.cpp")
-    if not another_version(programs):
-        raise Failed("a program of another version of the header is linked")
     if way.target == CORTEX_M4 and not way.features and by_cmake(programs):
         done.append("CMake")
     if lines_of_page(programs):
@@ -409,26 +393,14 @@ def tests(programs, generated, options):
     return ", ".join(done)
 
 
-# What of the caller's frame an empty call leaves painted, so that it counts for the export: less than a frame's
-# alignment.
-SLACK = 15
-
-
 def stacks(programs, generated):
-    """Bytes of stack of the export that can take most and of the one after it, with their names, by the code. What
-    calls left painted has to be within; under Linux the C library's `memmove` is called by a pointer, and not
-    counted."""
-    flags = ["-DSTACK", "-Wno-unused-function"]
-    said = programs.run("stack", [generated / "sequence.c", generated / "empty.c"], ["50000"], flags)
-    painted = {name: int(size) for size, name in re.findall(r"^stack: (\d+) (\w+)$", said, flags=re.M)}
-    if not painted:
-        raise Failed(f"stack: {last(said)}")
-    bounds = disassembly.stack_bounds(programs.way.tool("objdump"), programs.folder / "stack")
-    bounds |= {name.replace(f"net_base_{ffi.interface()}_", "net_base_"): size for name, size in bounds.items()}
-    for name, size in painted.items():
-        if size > bounds[name] + SLACK and programs.way.bare:
-            raise Failed(f"{name} left {size} bytes of stack painted, and by the code it takes {bounds[name]}")
-    return sorted(((bounds[name], name) for name in painted), reverse=True)[:2]
+    """Bytes of stack of the export that can take most and of the one after it, with their names, by the code. Under
+    Linux the C library's `memmove` is called by a pointer, and not counted."""
+    program = programs.built("stack", [generated / "sequence.c"])
+    bounds = disassembly.stack_bounds(programs.way.tool("objdump"), program)
+    own = f"net_base_{ffi.interface()}_"
+    return sorted(((size, name.removeprefix(own)) for name, size in bounds.items() if name.startswith(own)),
+                  reverse=True)[:2]
 
 
 def instructions(programs):
@@ -465,7 +437,7 @@ def each(ways, act):
 
 def table_of(programs, generated):
     """A target's row, what its library wants, and its column of instructions."""
-    stack = "; ".join(f"{size} {name.removeprefix('net_base_')}" for size, name in stacks(programs, generated))
+    stack = "; ".join(f"{size} {name}" for size, name in stacks(programs, generated))
     row = f"| `{programs.way.target}` | {programs.library.code_size():,} | {stack} |"
     return row, " ".join(sorted(programs.library.wanted())), instructions(programs)
 
@@ -531,7 +503,6 @@ def main():
         (generated / "exports.c").write_text(exports.program(library))
         (generated / "sequence.c").write_text(sequence.sequence(library))
         (generated / "layouts.c").write_text(layouts.program(library))
-        (generated / "empty.c").write_text(sequence.empty(library))
 
         def act(index, way):
             programs = Programs(way, rustc[way.target], folder / str(index))

@@ -1,9 +1,7 @@
 """Writes for C one long sequence of calls of all exports, the same on every processor.
 
-Each call gets sensible arguments mostly, and now and then nonsense.
-`sequence.c` prints a digest of all that the calls returned and left in memory. With -DSTACK it prints instead how many
-bytes of stack each export takes, as painted: what a call leaves changed below its caller's frame, more than an empty
-function with the same parameters does (`empty.c`).
+Each call gets sensible arguments mostly, and now and then nonsense. The program prints a digest of all that the calls
+returned and left in memory.
 
 An export has its arguments in memory of its subject, which is what the index of heads.txt has before its name, so that
 its calls work on one ring, one receiver and so on. One that only looks at a head gets in turn each of that type that is
@@ -105,52 +103,9 @@ static void digest_calls(uint64_t calls) {
            (uint32_t)digest);
 }
 
-#ifdef STACK
-enum { AREA = 2048, PAINT = 0xa5 };
-
-/* Paints the stack below the caller's frame, or returns how far up it is still painted. */
-__attribute__((noinline)) static unsigned look(int paints) {
-    volatile unsigned char area[AREA];
-    unsigned at = 0;
-    for (; paints && at < AREA; at++) area[at] = PAINT;
-    for (at = 0; at < AREA && area[at] == PAINT; at++) {}
-    return at;
-}
-
-__attribute__((noinline)) static unsigned depth(void (*act)(void)) {
-    look(1);
-    act();
-    return AREA - look(0);
-}
-
-/* What an address takes that a call leaves on the stack. */
-#if defined __x86_64__
-enum { RETURN_ADDRESS = 8 };
-#else
-enum { RETURN_ADDRESS = 0 };
-#endif
-
-static void stack_of_calls(uint64_t calls) {
-    static unsigned most[EXPORTS];
-    for (uint64_t done = 0; done < calls; done++) {
-        uint64_t which = below(EXPORTS);
-        if (below(64) == 0) exports[which].spoil();
-        exports[which].prepare();
-        unsigned empty = depth(exports[which].empty), whole = depth(exports[which].call);
-        unsigned own = (whole > empty ? whole - empty : 0) + RETURN_ADDRESS;
-        if (own > most[which]) most[which] = own;
-    }
-    for (unsigned i = 0; i < EXPORTS; i++) printf("stack: %u %s\n", most[i], exports[i].name);
-}
-#endif
-
 int main(int count, char **words) {
     uint64_t calls = count > 1 ? strtoull(words[1], NULL, 10) : 1000000;
-#ifdef STACK
-    stack_of_calls(calls);
-#else
     digest_calls(calls);
-#endif
     return 0;
 }
 """
@@ -367,7 +322,7 @@ class Call:
         return full, beyond
 
     def functions(self, sounds):
-        """The functions that prepare a call, make it, make an empty one, and eat what it returned and left."""
+        """The functions that prepare a call, make it, and eat what it returned and left."""
         index, kept = self.index, "" if self.result == "void" else f"result_{self.index} = "
         memory = self.memory.of(self.subject)
         eats = [] if self.result == "void" else self.memory.fields(f"result_{index}", self.item.type, eaten)
@@ -375,7 +330,6 @@ class Call:
         spoils = [line for name in memory if name not in self.memory.sizes for line in self.memory.each(name, spoiled)]
         spoils += [line for name in memory if self.memory.kinds[name] == "u8"
                    for line in self.memory.each(name, spoiled)]
-        parts = [part for member in self.item.members for part in ffi.c_members(member)]
         choose, own = self.chosen()
         tests = [] if self.item.name.endswith("_is_sound") else self.made_sound(sounds)
         sound = " && ".join(test for test, _ in tests) if tests and self.item.requires else "true"
@@ -401,11 +355,7 @@ class Call:
                 f"static void prepare_{index}(void) {{", *["    " + line for line in prepare], "}", "",
                 f"static void call_{index}(void) {{", f"    {kept}{self.item.name}({', '.join(self.arguments)});", "}",
                 "",
-                f"static void eat_{index}(void) {{", *["    " + line for line in eats], "}", "",
-                "#ifdef STACK", f"{self.result} empty_{self.item.name}({', '.join(parts) or 'void'});",
-                f"static void empty_{index}(void) {{",
-                f"    {kept}empty_{self.item.name}({', '.join(self.arguments)});",
-                "}", "#endif", ""]
+                f"static void eat_{index}(void) {{", *["    " + line for line in eats], "}", ""]
 
 
 def sequence(library):
@@ -419,27 +369,8 @@ def sequence(library):
     rows = [HEAD, *memory.declared(), "", *functions]
     rows += ["static void eat_all(void) {",
              *["    " + line for name in memory.kinds for line in memory.each(name, eaten)], "}", "",
-             "static const struct {", "    const char *name;",
-             "    void (*spoil)(void), (*prepare)(void), (*call)(void), (*eat)(void);",
-             "    bool makes;",
-             "#ifdef STACK", "    void (*empty)(void);", "#endif", "} exports[] = {"]
-    for call in calls:
-        index = call.index
-        makes = str(call.item.name.endswith("_init")).lower()
-        rows += [f'    {{"{call.item.name}", spoil_{index}, prepare_{index}, call_{index}, eat_{index},',
-                 f"     {makes},",
-                 "#ifdef STACK", f"     empty_{index},", "#endif", "    },"]
+             "static const struct {", "    void (*spoil)(void), (*prepare)(void), (*call)(void), (*eat)(void);",
+             "    bool makes;", "} exports[] = {"]
+    rows += [f"    {{spoil_{it.index}, prepare_{it.index}, call_{it.index}, eat_{it.index}, "
+             f"{str(it.item.name.endswith('_init')).lower()}}}," for it in calls]
     return "\n".join([*rows, "};", "", "enum { EXPORTS = sizeof exports / sizeof exports[0] };", TAIL])
-
-
-def empty(library):
-    """The source of the empty functions."""
-    rows = ['/* Written by tools/parts/sequence.py. */', '#include "net_base.h"', ""]
-    for item in library.exports():
-        parts = [part for member in item.members for part in ffi.c_members(member)]
-        result = ffi.c_type(item.type) if item.type else "void"
-        unused = "".join(f"(void){part.split()[-1].lstrip('*')}; " for part in parts)
-        zero = "" if result == "void" else f"return ({result}){{0}}; " if result.startswith("struct") else "return 0; "
-        rows.append(f"{result} empty_{item.name}({', '.join(parts) or 'void'});")
-        rows.append(f"{result} empty_{item.name}({', '.join(parts) or 'void'}) {{ {unused}{zero}}}")
-    return "\n".join(rows) + "\n"
