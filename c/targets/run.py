@@ -151,10 +151,8 @@ WAYS = [
 # The sequence's calls, whose digest depends on how many bits a `size_t` has.
 CALLS, DIGESTS = 1_000_000, C / "sequence.txt"
 TARGETS = list(dict.fromkeys(way.target for way in WAYS))
-# Those of the gate, and of a release.
+# Those of the gate.
 QUICK = [ARMV7, CORTEX_M4, RISCV_32]
-RELEASED = ["x86_64-unknown-linux-gnu", "aarch64-unknown-linux-gnu", *QUICK, "thumbv6m-none-eabi",
-            "thumbv8m.main-none-eabi"]
 
 # A PC without an operating system. A program ends the emulator by a port, with a status that isn't 0: 33 if all is
 # right.
