@@ -1,25 +1,20 @@
 #!/usr/bin/env python3
 """SMOLTCP=path timing.py [--once] [--samples N] [--milliseconds N] [--only WORD]
-timing.py --whole PROGRAM [--lines N] [--runs N]
 
 Times workloads over the crate net-base and over smoltcp in turns, each side linked once for each placement of its code,
 both built as a user builds a program, in cargo's default profile without flags; counts instructions and mispredicted
-branches, if valgrind is there. With --whole: whole runs of the example net_bench of the crate beside PROGRAM, which
-takes the same words and lines, as net_bench of another commit. Prints a table in Markdown. Status 1 if results differ.
---once: one placement.
+branches, if valgrind is there. Prints a table in Markdown. Status 1 if results differ. --once: one placement.
 """
 import argparse
 import datetime
 import math
 import os
 import platform
-import random
 import shutil
 import statistics
 import subprocess
 import sys
 import tempfile
-import time
 from collections import Counter
 from pathlib import Path
 
@@ -30,8 +25,6 @@ import common
 PLACEMENTS = [0, 16, 32, 48]
 # Where a side's code begins, before it is moved by a placement.
 TEXT = 0x400000
-# How many lines of a whole run are counted.
-COUNTED = 4000
 SYSTEM = ["-lgcc_s", "-lutil", "-lrt", "-lpthread", "-lm", "-ldl", "-lc"]
 
 
@@ -89,17 +82,12 @@ def counted(built, sides, arguments):
         return counts
 
 
-def events(dump):
-    """The counts of a file of callgrind: Ir instructions, Bcm and Bim mispredicted branches, and others."""
+def total(dump):
+    """The instructions and the mispredicted branches, conditional and indirect, of a file of callgrind."""
     lines = dump.read_text().splitlines()
     names = next(line for line in lines if line.startswith("events:")).split()[1:]
     numbers = next(line for line in lines if line.startswith(("totals:", "summary:"))).split()[1:]
-    return Counter(dict(zip(names, map(int, numbers))))
-
-
-def total(dump):
-    """The instructions and the mispredicted branches, conditional and indirect, of a file of callgrind."""
-    known = events(dump)
+    known = dict(zip(names, map(int, numbers)))
     return known["Ir"], known["Bcm"] + known["Bim"]
 
 
@@ -134,83 +122,6 @@ def workload_table(rows, counts):
               f"| {number(there)} | {number(here)} | {number(other)} | {number(missed)} |")
 
 
-def inputs(count):
-    """Inputs of whole runs: a title, the mode's words and the lines."""
-    some = random.Random(5)
-    text = lambda size: some.randbytes(size).hex()
-    chunks = [text(1000) for _ in range(8)]
-    lines = "".join(f"w {chunks[at % 8]}\nr 1000\n" for at in range(count // 8))
-    yield "ring, 1,000 bytes a line", ["ring", "65536"], lines
-    yield "ring, 2 bytes a line", ["ring", "4096"], "w 6162\nr 2\n" * (count // 2)
-    for most_runs in ("4", "32"):
-        commands = []
-        for _ in range(count):
-            kind = some.random()
-            if kind < 0.7:
-                commands.append(f"a {some.randrange(4000)} {some.randrange(1, 90)}\n")
-            else:
-                commands.append(f"t 0 {some.randrange(1, 60)}\n" if kind < 0.95 else "p\n")
-        yield f"asm {most_runs}, random", ["asm", most_runs], "".join(commands)
-    lines = "".join(f"s {1000 * at} {chunks[at % 8]}\nr 1000\n" for at in range(count // 8))
-    yield "stream 4, in order, 1,000 bytes", ["stream", "65536", "4"], lines
-    lines = ""
-    for first in range(0, count // 8, 16):
-        segments = [f"s {at * 500} {text(500)}\n" for at in range(first, first + 16)]
-        some.shuffle(segments)
-        lines += "".join(segments) + "r 65536\n"
-    yield "stream 32, shuffled by 16, 500 bytes", ["stream", "65536", "32"], lines
-    lines = "".join(f"s {4 * at} 61626364\nr 4\n" for at in range(count // 2))
-    yield "stream 4, in order, 4 bytes", ["stream", "4096", "4"], lines
-
-
-def whole_run(words, data):
-    start = time.perf_counter()
-    done = subprocess.run(words, input=data, capture_output=True)
-    return (time.perf_counter() - start) * 1000, (done.stdout, done.stderr, done.returncode)
-
-
-def counted_run(words, lines):
-    """Instructions and mispredicted branches a line of a program, besides those on no input. None without valgrind."""
-    if not shutil.which("valgrind"):
-        return None
-    counts = []
-    for data in ("", "".join(lines)):
-        with tempfile.TemporaryDirectory() as folder:
-            out = Path(folder) / "counts"
-            tool = ["valgrind", "--tool=callgrind", "--branch-sim=yes", f"--callgrind-out-file={out}"]
-            subprocess.run([*tool, *words], input=data.encode(), capture_output=True, check=True)
-            counts.append(events(out))
-    none, all_lines = counts
-    all_lines.subtract(none)
-    return all_lines["Ir"] / len(lines), (all_lines["Bcm"] + all_lines["Bim"]) / len(lines)
-
-
-def whole_runs(bench, beside, count, samples):
-    """Whole runs in turns: a table, and what differs."""
-    differ = []
-    print("| Whole run | Lines | Beside, ms | Here, ms | Pairs | Noise "
-          "| Instructions a line, here/beside | Mispredicted branches |")
-    print("|---|---:|---:|---:|---:|---:|---:|---:|")
-    for title, mode, lines in inputs(count):
-        sides = [[bench, *mode], [beside, *mode], [beside, *mode]]
-        data = lines.encode()
-        times, results = ([], [], []), [None, None, None]
-        for sample in range(samples):
-            for side in [0, 1, 2] if sample % 2 == 0 else [2, 1, 0]:
-                took, results[side] = whole_run(sides[side], data)
-                times[side].append(took)
-        if results[0] != results[1]:
-            differ.append(title)
-        pairs, noise = (statistics.median(a / b for a, b in zip(times[side], times[1])) for side in (0, 2))
-        here, original = statistics.median(times[0]), statistics.median(times[1])
-        some = lines.splitlines(keepends=True)
-        counts = [counted_run(side, some[:COUNTED]) for side in sides[:2]]
-        columns = [f"{a:,.1f}/{b:,.1f}" for a, b in zip(*counts)] if all(counts) else ["not counted"] * 2
-        print(f"| {title} | {len(some):,} | {original:.0f} | {here:.0f} | {pairs:.2f} | {noise:.2f} "
-              f"| {' | '.join(columns)} |")
-    return differ
-
-
 def machine():
     name = platform.machine()
     if Path("/proc/cpuinfo").exists():
@@ -238,27 +149,13 @@ def timed(smoltcp, arguments):
     return differ
 
 
-def timed_programs(arguments):
-    """Times whole runs: a table, and what differs."""
-    if not os.access(arguments.whole, os.X_OK):
-        sys.exit(f"there is no program {arguments.whole}")
-    example = ["--example", "net_bench"]
-    bench = common.cargo("release", ["net-base"], "", common.REPOSITORY / "rust", example) / "examples/net_bench"
-    print(f"\n{datetime.date.today()}; {machine()}; {arguments.runs} whole runs of each program, in turns\n")
-    return whole_runs(bench, arguments.whole, arguments.lines, arguments.runs)
-
-
 def main():
     parser = argparse.ArgumentParser(description=__doc__, formatter_class=argparse.RawDescriptionHelpFormatter)
     parser.add_argument("--once", action="store_true")
     parser.add_argument("--samples", type=int, default=15)
     parser.add_argument("--milliseconds", type=float, default=2)
     parser.add_argument("--only")
-    parser.add_argument("--lines", type=int, default=200_000)
-    parser.add_argument("--runs", type=int, default=9)
-    parser.add_argument("--whole", metavar="PROGRAM", type=Path)
-    arguments = parser.parse_args()
-    differ = timed_programs(arguments) if arguments.whole else timed(common.need(["cargo"]), arguments)
+    differ = timed(common.need(["cargo"]), parser.parse_args())
     if differ:
         print(f"\nDIFFERENT RESULTS: {'; '.join(differ)}")
     return 1 if differ else 0
