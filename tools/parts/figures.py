@@ -41,12 +41,10 @@ def tens(number):
 
 
 def measured():
-    times, loops, sizes, peers = (f"compare/results/{name}.md" for name in ("times", "loops", "sizes", "peers"))
+    times, sizes, peers = (f"compare/results/{name}.md" for name in ("times", "sizes", "peers"))
     rows = {row[0]: value(row[1]) for row in cells(times)}
     groups = [ratio for name, ratio in rows.items() if name.startswith("group ")]
     yield "{} to {}; the worst row {}", times, [*span(groups), f"{max(rows.values()):.2f}"]
-    ratios = [value(row[2]) / value(row[1]) for row in cells(loops)]
-    yield "{} to {}; {} above 1", loops, [*span(ratios), WORDS[sum(ratio > 1 for ratio in ratios)]]
     ratios = [value(row[k + 1]) / value(row[k]) for row in cells(sizes) if len(row) == 6 for k in (2, 4)]
     paths = {row[0]: [*map(value, row[1:3])] for row in cells(sizes) if ";" in row[1]}
     ours = [here / there for name in ("net-base's `Receiver`, `keep`", "the same, `segment`")
