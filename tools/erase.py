@@ -55,7 +55,7 @@ ROOT, RATTLE = 'crate::proved', 'crate::rattle'
 WRITTEN = '// Written by tools/erase.py from '
 HEADER = WRITTEN + '{}: a change here would be lost.\n'
 # What a prelude has: that of the library, and that of the program.
-PRELUDE = {'prove', 'slice_mut', 'Vec', 'ASSEMBLER_MAX_SEGMENT_COUNT'}, {'String', 'Vec'}
+PRELUDE = {'prove', 'slice_mut', 'Vec'}, {'String', 'Vec'}
 GHOST_DERIVES = {'Drop', 'Error'}
 PLAIN_ATTRIBUTES = {'cfg', 'default', 'derive', 'inline', 'must_use', 'non_exhaustive', 'repr', 'track_caller'}
 MODIFIERS = {'pub', 'const', 'extern'}

@@ -1,12 +1,13 @@
 //! What features set, by smoltcp's name.
 
-/// How many runs an assembler, a receiver or a buffer of fragments has whose `N` isn't named: the greatest number of
-/// the features `assembler-max-segment-count-..`, or 4.
+/// The greatest number of the features `assembler-max-segment-count-..`, or 4. A type has so many runs if it is its
+/// `N`. Where `N` isn't named it is 4, whatever features are on, so that no crate changes the types of another one.
 ///
 /// ```
 /// # use net_base::config::ASSEMBLER_MAX_SEGMENT_COUNT;
 /// # use net_base::storage::Assembler;
-/// let _assembler: Assembler<ASSEMBLER_MAX_SEGMENT_COUNT> = Assembler::new();
+/// let mut assembler = Assembler::<ASSEMBLER_MAX_SEGMENT_COUNT>::empty();
+/// assert!(assembler.add(1, 1).is_ok());
 /// ```
 pub const ASSEMBLER_MAX_SEGMENT_COUNT: usize = if cfg!(feature = "assembler-max-segment-count-32") {
     32

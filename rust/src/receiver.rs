@@ -3,8 +3,6 @@
 //! By hand: storage that is converted, what has no `N`, and what is printed.
 use core::{fmt, iter};
 
-#[cfg(doc)]
-use crate::config::ASSEMBLER_MAX_SEGMENT_COUNT;
 use crate::managed::ManagedSlice;
 use crate::storage::{Listed, Storage};
 
@@ -13,8 +11,7 @@ pub use crate::stream::{
 };
 
 impl<'a> Receiver<'a> {
-    /// Returns a receiver of a stream whose first byte has position 0, with room for [`ASSEMBLER_MAX_SEGMENT_COUNT`]
-    /// held runs.
+    /// Returns a receiver of a stream whose first byte has position 0, with room for 4 held runs.
     ///
     /// ```
     /// # use net_base::receiver::Receiver;
@@ -26,8 +23,7 @@ impl<'a> Receiver<'a> {
         Receiver::empty_at(storage, 0)
     }
 
-    /// Returns a receiver of a stream whose first byte has position `first`, with room for
-    /// [`ASSEMBLER_MAX_SEGMENT_COUNT`] held runs.
+    /// Returns a receiver of a stream whose first byte has position `first`, with room for 4 held runs.
     ///
     /// ```
     /// # use net_base::receiver::Receiver;

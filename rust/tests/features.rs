@@ -1,4 +1,4 @@
-//! The features, by smoltcp 0.14.0's names, and how many runs there are where no number is named. `features.sh` runs
+//! The features, by smoltcp 0.14.0's names, and how many runs there are where a number is named, and where none is. `features.sh` runs
 //! this with several sets of features.
 use net_base::config::ASSEMBLER_MAX_SEGMENT_COUNT;
 use net_base::receiver::Receiver;
@@ -32,7 +32,7 @@ fn count(mut is_taken: impl FnMut(usize) -> bool) -> usize {
 }
 
 #[test]
-fn runs_where_no_number_is_named() {
+fn runs_of_the_constant() {
     let named = [
         (1, cfg!(feature = "assembler-max-segment-count-1")),
         (2, cfg!(feature = "assembler-max-segment-count-2")),
@@ -43,12 +43,27 @@ fn runs_where_no_number_is_named() {
         (32, cfg!(feature = "assembler-max-segment-count-32")),
     ];
     let wanted = named.iter().filter(|it| it.1).map(|it| it.0).max().unwrap_or(4);
-    let (mut one, mut other) = ([0; 128], [0; 128]);
-    let mut assembler = Assembler::new();
-    let mut receiver = Receiver::new(&mut one[..]);
-    let mut fragments = FragmentBuffer::new(&mut other[..], Instant::ZERO);
     assert_eq!(ASSEMBLER_MAX_SEGMENT_COUNT, wanted);
+    let mut assembler = Assembler::<ASSEMBLER_MAX_SEGMENT_COUNT>::empty();
     assert_eq!(count(|at| assembler.add(at, 1).is_ok()), wanted);
-    assert_eq!(count(|at| receiver.segment(at as u64, b"a").is_ok()), wanted);
-    assert_eq!(count(|at| fragments.add(at, b"a").is_ok()), wanted);
+}
+
+/// What another crate writes, in whose graph these features may be on.
+struct Named<'a> {
+    assembler: Assembler<4>,
+    receiver: Receiver<'a, 4>,
+    fragments: FragmentBuffer<'a, 4>,
+}
+
+#[test]
+fn runs_where_no_number_is_named() {
+    let (mut one, mut other) = ([0; 128], [0; 128]);
+    let mut named = Named {
+        assembler: Assembler::new(),
+        receiver: Receiver::new(&mut one[..]),
+        fragments: FragmentBuffer::new(&mut other[..], Instant::ZERO),
+    };
+    assert_eq!(count(|at| named.assembler.add(at, 1).is_ok()), 4);
+    assert_eq!(count(|at| named.receiver.segment(at as u64, b"a").is_ok()), 4);
+    assert_eq!(count(|at| named.fragments.add(at, b"a").is_ok()), 4);
 }

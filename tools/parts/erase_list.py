@@ -85,14 +85,14 @@ ATTRIBUTES = [
     ('pub struct DeviceCapabilities ', '#[non_exhaustive]\npub struct DeviceCapabilities ', {PHY: 1}),
 ]
 
-# These in types: what writes, the numbers of core, and how many runs there are where `N` isn't named.
+# These in types: what writes, the numbers of core, and 4 runs where `N` isn't named, whatever features are on.
 TYPES = [
     ('fn fmt<W: fmt::Write>(&self, f: &mut fmt::Formatter<W>)', "fn fmt(&self, f: &mut fmt::Formatter<'_>)",
      {ASSEMBLER: 2, 'net_base/time/duration': 1, 'net_base/time/instant': 1, 'net_bench_lib/stream/reply_lines': 2}),
     ('pub use non_zero::{NonZeroU16, NonZeroUsize};', 'pub use std::num::{NonZeroU16, NonZeroUsize};', {PHY: 1}),
-    ("<'a, const N: usize> =", "<'a, const N: usize = ASSEMBLER_MAX_SEGMENT_COUNT> =",
+    ("<'a, const N: usize> =", "<'a, const N: usize = 4> =",
      {ASSEMBLER: 1, 'net_receiver/held_runs': 1, FINITE: 1, RECEIVER: 1, FRAGMENTS: 1}),
-    ('Assembler<const N: usize> {', 'Assembler<const N: usize = ASSEMBLER_MAX_SEGMENT_COUNT> {', {ASSEMBLER: 1}),
+    ('Assembler<const N: usize> {', 'Assembler<const N: usize = 4> {', {ASSEMBLER: 1}),
     ('Assembler::new()', 'Assembler::empty()', {'net_bench_lib/asm': 1}),
     ('Receiver::new_at(', 'Receiver::empty_at(', {'net_bench_lib/stream': 2}),
 ]

@@ -9,8 +9,6 @@ use super::{
 use super::{
     PacketMetadata, PacketsOver, RingBuffer, RingOver, RunIter, Storage, TooManyHolesError,
 };
-#[cfg(doc)]
-use crate::config::ASSEMBLER_MAX_SEGMENT_COUNT;
 use crate::managed::ManagedSlice;
 use crate::time::Instant;
 
@@ -84,11 +82,14 @@ impl<H, M: Storage<PacketMetadata<H>>, B: Storage<u8>> fmt::Debug for PacketsOve
 }
 
 impl Assembler {
-    /// Returns an assembler with no position, which has room for [`ASSEMBLER_MAX_SEGMENT_COUNT`] runs, as smoltcp's.
+    /// Returns an assembler with no position, which has room for 4 runs, as smoltcp's has. For as many as features say
+    /// write `Assembler::<ASSEMBLER_MAX_SEGMENT_COUNT>::empty()`, with the constant of [`config`](crate::config).
     ///
     /// ```
     /// # use net_base::storage::Assembler;
-    /// assert!(Assembler::new().is_empty());
+    /// let mut assembler = Assembler::new();
+    /// let taken = (0..9).take_while(|k| assembler.add(2 * k + 1, 1).is_ok());
+    /// assert_eq!(taken.count(), 4);
     /// ```
     #[must_use]
     pub const fn new() -> Assembler {
@@ -155,7 +156,7 @@ impl From<TooManyHolesError> for FragmentError {
 }
 
 impl<'a> FragmentBuffer<'a> {
-    /// Returns a buffer with no byte, which has room for [`ASSEMBLER_MAX_SEGMENT_COUNT`] runs.
+    /// Returns a buffer with no byte, which has room for 4 runs.
     ///
     /// ```
     /// # use net_base::storage::FragmentBuffer;

@@ -45,7 +45,7 @@ pub struct FragmentsOver<B: Storage<u8>, const N: usize> {
 
 /// A packet that arrives in fragments, in any order, as those of IPv4 do, over lent or owned bytes. Its
 /// calls are those of [`FragmentsOver`].
-pub type FragmentBuffer<'a, const N: usize = ASSEMBLER_MAX_SEGMENT_COUNT> = FragmentsOver<ManagedSlice<'a, u8>, N>;
+pub type FragmentBuffer<'a, const N: usize = 4> = FragmentsOver<ManagedSlice<'a, u8>, N>;
 
 impl<B: Storage<u8>, const N: usize> FragmentsOver<B, N> {
     /// Returns an empty buffer over storage of any type, which expires after `expires_at`.

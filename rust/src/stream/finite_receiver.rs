@@ -36,7 +36,7 @@ pub struct FiniteReceiverOver<S: Storage<u8>, const N: usize> {
 
 /// A receiver of one stream of bytes that ends, over storage that is lent or owned. Its calls are those
 /// of [`FiniteReceiverOver`].
-pub type FiniteReceiver<'a, const N: usize = ASSEMBLER_MAX_SEGMENT_COUNT> = FiniteReceiverOver<ManagedSlice<'a, u8>, N>;
+pub type FiniteReceiver<'a, const N: usize = 4> = FiniteReceiverOver<ManagedSlice<'a, u8>, N>;
 
 impl<S: Storage<u8>, const N: usize> FiniteReceiverOver<S, N> {
     /// Returns a receiver of a stream that begins at position 0: `over_at` with 0.

@@ -16,7 +16,7 @@ pub struct HeldRunIter<'a> {
 }
 
 /// The iterator of a `Receiver<N>`, which yields at most `N` runs.
-pub type HeldRuns<'a, const N: usize = ASSEMBLER_MAX_SEGMENT_COUNT> = HeldRunIter<'a>;
+pub type HeldRuns<'a, const N: usize = 4> = HeldRunIter<'a>;
 
 impl<'a> HeldRunIter<'a> {
     /// Returns these runs, counted from the position `from`.

@@ -61,7 +61,7 @@ pub struct ReceiverOver<S: Storage<u8>, const N: usize> {
 /// let mut into = [0; 8];
 /// assert_eq!((receiver.read(&mut into), &into[..5]), (5, &b"abcde"[..]));
 /// ```
-pub type Receiver<'a, const N: usize = ASSEMBLER_MAX_SEGMENT_COUNT> = ReceiverOver<ManagedSlice<'a, u8>, N>;
+pub type Receiver<'a, const N: usize = 4> = ReceiverOver<ManagedSlice<'a, u8>, N>;
 
 impl<S: Storage<u8>, const N: usize> ReceiverOver<S, N> {
     /// Returns a receiver of a stream that begins at position 0: `over_at` with 0.
