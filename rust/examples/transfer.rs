@@ -10,12 +10,14 @@ use net_base::time::{Duration, Instant};
 /// The most bytes of a datagram.
 const SIZE: usize = 100;
 const CAPACITY: usize = 4_096;
-const BOUNDS: TimeoutBounds = TimeoutBounds {
-    least: Duration::from_millis(50),
-    most: Duration::from_secs(10),
-    tick: Duration::from_micros(1),
+const BOUNDS: TimeoutBounds = {
+    let mut bounds = TimeoutBounds::new();
+    bounds.least = Duration::from_millis(50);
+    bounds.most = Duration::from_secs(10);
+    bounds.tick = Duration::from_micros(1);
     // Each datagram is answered at once.
-    ack_delay: Duration::ZERO,
+    bounds.ack_delay = Duration::ZERO;
+    bounds
 };
 
 #[derive(Clone)]

@@ -31,7 +31,8 @@
 //! let numbers = SentNumbers { first_unacknowledged: 150, sent: 151 };
 //! assert_eq!(peer_window.acknowledgement_number(numbers), 150);
 //! // A round trip of 100 ms, and then a timeout that passes.
-//! let bounds = TimeoutBounds { least: Duration::from_millis(200), ..TimeoutBounds::default() };
+//! let mut bounds = TimeoutBounds::new();
+//! bounds.least = Duration::from_millis(200);
 //! let mut timer = RetransmissionTimeout::default();
 //! timer.acknowledged(bounds, Transmission::Once(Instant::ZERO), Instant::from_millis(100));
 //! assert_eq!(timer.timeout(), Duration::from_millis(300));
@@ -129,16 +130,36 @@ impl Default for RetransmissionTimer {
     }
 }
 
-/// At least one second and at most 60, by a clock of milliseconds (RFC 6298, 2.4 and 2.5), and an acknowledgement is
-/// delayed by 200 ms at most (RFC 8985, 7.2).
-impl Default for TimeoutBounds {
-    fn default() -> Self {
+impl TimeoutBounds {
+    /// Returns at least one second and at most 60, by a clock of milliseconds (RFC 6298, 2.4 and 2.5), where an
+    /// acknowledgement is delayed by 200 ms at most (RFC 8985, 7.2). Fields that are to differ are set.
+    ///
+    /// ```
+    /// use net_base::tcp::TimeoutBounds;
+    /// use net_base::time::Duration;
+    ///
+    /// const BOUNDS: TimeoutBounds = {
+    ///     let mut bounds = TimeoutBounds::new();
+    ///     bounds.least = Duration::from_millis(200);
+    ///     bounds
+    /// };
+    /// assert_eq!((BOUNDS.least.total_millis(), BOUNDS.most.secs()), (200, 60));
+    /// ```
+    #[must_use]
+    pub const fn new() -> Self {
         TimeoutBounds {
             least: Duration::from_secs(1),
             most: Duration::from_secs(60),
             tick: Duration::from_millis(1),
             ack_delay: Duration::from_millis(200),
         }
+    }
+}
+
+/// Those of [`new`](Self::new).
+impl Default for TimeoutBounds {
+    fn default() -> Self {
+        TimeoutBounds::new()
     }
 }
 

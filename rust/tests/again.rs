@@ -70,8 +70,10 @@ fn a_scoreboard_and_a_buffer_of_fragments() {
     assert_eq!(length(buffer.into_storage()), 8);
     let mut timer = RetransmissionTimeout::default();
     assert!(timer.rtt().is_none());
-    let [least, most, sample] = [1, 9_000, 800].map(Duration::from_micros);
-    timer.take_sample(TimeoutBounds { least, most, tick: least, ack_delay: least }, sample);
+    let sample = Duration::from_micros(800);
+    let mut bounds = TimeoutBounds::new();
+    [bounds.least, bounds.most, bounds.tick] = [1, 9_000, 1].map(Duration::from_micros);
+    timer.take_sample(bounds, sample);
     assert_eq!(timer.rtt().map(|it| it.srtt()), Some(sample));
     assert_eq!(timer.timeout(), Duration::from_micros(2_400));
 }

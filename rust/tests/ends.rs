@@ -611,7 +611,8 @@ fn an_end_begins_again() {
 /// The first timeout and the greatest one are those that an end is made with.
 #[test]
 fn timeouts_of_an_end() {
-    let bounds = TimeoutBounds { most: Duration::from_secs(5), ..TimeoutBounds::default() };
+    let mut bounds = TimeoutBounds::new();
+    bounds.most = Duration::from_secs(5);
     let mut end = SendingEnd::<4>::new_at(vec![0; 4], 10, Duration::from_secs(3), bounds);
     end.open(Announcement { seq: 0, ack: 10, window: 50 }, 10, false, Instant::ZERO);
     assert_eq!((end.write(b"abc"), ranges(&mut end, Instant::ZERO).len()), (3, 1));

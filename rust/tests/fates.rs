@@ -131,11 +131,9 @@ impl Schedule {
         let (size, room) = (one_of(&mut rand, &[7, 100]), one_of(&mut rand, &[20, 500, 4_000]));
         let reports = one_of(&mut rand, &[false, true, true]);
         let (forges, slow) = (one_of(&mut rand, &[0, 0, 12]), one_of(&mut rand, &[0, 0, 80]));
-        let bounds = TimeoutBounds {
-            least: Duration::from_millis(50),
-            most: Duration::from_secs(2),
-            ..TimeoutBounds::default()
-        };
+        let mut bounds = TimeoutBounds::new();
+        bounds.least = Duration::from_millis(50);
+        bounds.most = Duration::from_secs(2);
         let mut receiving = ReceivingEnd::empty_at(vec![0; room], FIRST, size);
         let window = u64::from(receiving.open(FIRST, 0));
         let mut sending = SendingEnd::new_at(vec![0; 700], FIRST, Duration::from_secs(1), bounds);

@@ -9,11 +9,11 @@ use net_base::time::{Duration, Instant};
 
 const FIRST: u64 = 1_000;
 const BEGUN: Instant = Instant::from_micros_const(1_000_000);
-const BOUNDS: TimeoutBounds = TimeoutBounds {
-    least: Duration::from_millis(200),
-    most: Duration::from_secs(60),
-    tick: Duration::from_micros(1),
-    ack_delay: Duration::from_millis(200),
+const BOUNDS: TimeoutBounds = {
+    let mut bounds = TimeoutBounds::new();
+    bounds.least = Duration::from_millis(200);
+    bounds.tick = Duration::from_micros(1);
+    bounds
 };
 /// Fewer where the processor may be emulated.
 const SEEDS: u64 = if cfg!(target_pointer_width = "64") { 2_000 } else { 60 };

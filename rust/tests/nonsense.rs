@@ -205,8 +205,9 @@ fn sending_ends() {
         let it = Announcement { seq, ack, window };
         match draw.below(40) {
             0 => {
-                let [least, most, tick, ack_delay] = draw.numbers().map(Duration::from_micros);
-                let bounds = TimeoutBounds { least, most, tick, ack_delay };
+                let mut bounds = TimeoutBounds::new();
+                [bounds.least, bounds.most, bounds.tick, bounds.ack_delay] =
+                    draw.numbers().map(Duration::from_micros);
                 let first_timeout = Duration::from_micros(window);
                 let first = ack.min(u64::MAX - 1);
                 end = SendingEndOver::over_at([0; 16], first, first_timeout, bounds);

@@ -2,7 +2,6 @@
 //! Values are written by hand.
 #![allow(clippy::clone_on_copy)]
 use std::collections::hash_map::DefaultHasher;
-use std::error::Error;
 use std::fmt::Debug;
 use std::hash::{Hash, Hasher};
 use std::sync::Mutex;
@@ -17,10 +16,10 @@ use net_base::phy::{
     SegmentationCapabilities, IPV4_FRAGMENT_PAYLOAD_ALIGNMENT,
 };
 use net_base::rand::Rand;
-use net_base::receiver::{Kept, KeptBytes, Receiver, ReceiverOver};
-use net_base::scoreboard::{ReportError, Scoreboard};
+use net_base::receiver::{Receiver, ReceiverOver};
+use net_base::scoreboard::Scoreboard;
 use net_base::sequence_number::{Numbering, SequenceNumber};
-use net_base::storage::fragment_table::{AcceptError, FragmentSlot};
+use net_base::storage::fragment_table::FragmentSlot;
 use net_base::storage::{
     Assembler, Empty, FragmentBuffer, FragmentError, FragmentsOver, Full, PacketBuffer,
     PacketMetadata, PacketsOver, RingBuffer, RingOver, Storage, TooManyHolesError,
@@ -56,11 +55,13 @@ fn texts_of_values() {
     assert!(debug(PacketMeta::default()).starts_with("PacketMeta { id: 0"));
     assert_eq!(debug(Instant::from_micros(-7)), "Instant { micros: -7 }");
     assert_eq!(debug(Duration::from_micros(7)), "Duration { micros: 7 }");
-    assert_eq!(debug(KeptBytes { kept: 3, queued: 2 }), "KeptBytes { kept: 3, queued: 2 }");
+    let (mut storage, bytes) = ([0; 8], b"ab");
+    let mut receiver = Receiver::new(&mut storage[..]);
     assert_eq!(
-        debug(Kept { kept: 3, queued: 2, sack: [Some((7, 9)), None, None] }),
-        "Kept { kept: 3, queued: 2, sack: [Some((7, 9)), None, None] }"
+        debug(receiver.segment(5, bytes)),
+        "Ok(Kept { kept: 2, queued: 0, sack: [Some((5, 7)), None, None] })"
     );
+    assert_eq!(debug(receiver.keep(0, bytes)), "Ok(KeptBytes { kept: 2, queued: 2 })");
     assert_eq!(debug(PacketMetadata::<u8>::EMPTY), "PacketMetadata { size: 0, header: None }");
     assert_eq!(debug(AdvertisedWindow::new(9)), "AdvertisedWindow { edge: 9 }");
     let it = Announcement { seq: 1, ack: 2, window: 3 };
@@ -150,46 +151,6 @@ fn texts_of_what_stores() {
     assert_eq!(debug(ManagedSlice::from(&mut [1u8, 2])), "Borrowed([1, 2])");
 }
 
-/// Each error, with its two texts; options of a text change nothing, and none has a source. A variant without a row
-/// doesn't compile.
-macro_rules! errors {
-    ($($type:ident { $($variant:ident: $text:literal),* })*) => {
-        #[test]
-        fn errors() {
-            fn all(error: impl Error, text: &str, name: &str) {
-                assert_eq!(debug(&error), name, "what {name} is to print by Debug");
-                assert_eq!(error.to_string(), text, "what {name} is to print by Display");
-                assert_eq!(format!("{error:>99}|{error:.2}"), format!("{text}|{text}"), "{name}, with options");
-                assert!(error.source().is_none());
-            }
-            all(Full, "buffer full", "Full");
-            all(Empty, "buffer empty", "Empty");
-            all(TooManyHolesError, "too many holes", "TooManyHolesError");
-            $(for (error, text) in [$(($type::$variant, $text)),*] {
-                all(error, text, match error { $($type::$variant => stringify!($variant)),* });
-            })*
-        }
-    };
-}
-
-errors! {
-    FragmentError {
-        TooLong: "past the end of the buffer",
-        TooManyHoles: "too many holes",
-        OtherSize: "contradicts the packet's size"
-    }
-    AcceptError {
-        NoBytes: "no bytes",
-        NoSlot: "no slots",
-        OtherBytes: "contradicts bytes that have arrived",
-        TooLong: "past the end of the buffer",
-        TooManyHoles: "too many holes",
-        OtherSize: "contradicts the packet's size"
-    }
-    FiniteError { TooManyHoles: "too many holes", OtherEnd: "the stream ends elsewhere" }
-    ReportError { NoBlock: "not a block of what was sent", TooManyHoles: "too many holes" }
-}
-
 /// Equal values have equal hashes; a clone is equal, and another value is not.
 #[test]
 fn comparisons() {
@@ -202,10 +163,11 @@ fn comparisons() {
     all(Medium::Ethernet, Medium::Ip);
     all(FragmentError::TooLong, FragmentError::OtherSize);
     all(FiniteError::TooManyHoles, FiniteError::OtherEnd);
-    all(KeptBytes { kept: 1, queued: 2 }, KeptBytes { kept: 2, queued: 1 });
-    all(KeptBytes { kept: 1, queued: 2 }, KeptBytes { kept: 1, queued: 1 });
-    let kept = |start| Kept { kept: 1, queued: 2, sack: [Some((start, 9)), None, None] };
-    all(kept(7), kept(8));
+    let kept = |pos, bytes| Receiver::new(&mut [0; 8][..]).keep(pos, bytes);
+    all(kept(0, b"a"), kept(0, b"ab"));
+    all(kept(0, b"a"), kept(1, b"a"));
+    let kept = |pos| Receiver::new(&mut [0; 8][..]).segment(pos, b"a");
+    all(kept(4), kept(5));
     all(SequenceNumber::new(3), SequenceNumber::new(4));
     let numbering = |number| Numbering { first: SequenceNumber::new(number) };
     all(numbering(3), numbering(4));

@@ -70,7 +70,7 @@ LIFETIMES = [
 ]
 
 # These in attributes alone: what is printed is by hand, but for a ring's iterator; what can be cloned in Rust, where
-# that isn't refused; features; and fields that may be added.
+# that isn't refused; and features.
 ATTRIBUTES = [
     ('#[derive(Debug)]\npub struct RingOver<', '#[derive(Clone)]\npub struct RingOver<', {RING: 1}),
     ('#[derive(Debug, Drop)]\npub struct PacketsOver<', '#[derive(Clone)]\npub struct PacketsOver<', {PACKETS: 1}),
@@ -80,10 +80,23 @@ ATTRIBUTES = [
     ('pub struct Iter<', '#[derive(Debug)]\npub struct Iter<', {'net_ring/ring_buffer/iter': 1}),
     ('#[derive(Debug, Drop)]\npub struct Assembler<', 'pub struct Assembler<', {ASSEMBLER: 1}),
     ('    pub segmentation_off', '    #[cfg(feature = "segmentation-offload")]\n    pub segmentation_off', {PHY: 1}),
-    ('pub struct PacketMeta ', '#[non_exhaustive]\npub struct PacketMeta ', {PHY: 1}),
-    ('pub struct ChecksumCapabilities ', '#[non_exhaustive]\npub struct ChecksumCapabilities ', {PHY: 1}),
-    ('pub struct DeviceCapabilities ', '#[non_exhaustive]\npub struct DeviceCapabilities ', {PHY: 1}),
 ]
+
+# The types to which a version may add fields or variants: what smoltcp's are, settings, answers and errors. What programs
+# make of fields of a header, or of numbers that they keep, is open.
+GROWING = {
+    PHY: ['struct PacketMeta {', 'struct ChecksumCapabilities {', 'struct SegmentationCapabilities {',
+          'struct DeviceCapabilities {'],
+    'net_receiver/kept': ['struct Kept {', 'struct KeptBytes {', 'struct SegmentParts {', 'enum FiniteError {'],
+    'net_receiver/scoreboard_head': ['enum ReportError {'],
+    FRAGMENTS: ['enum FragmentError {'],
+    f'{FRAGMENTS}/table': ['enum AcceptError {', 'struct FragmentSlot<'],
+    'net_tcp/answer_limit': ['struct AnswerLimit {'],
+    'net_tcp/retransmission': ['struct TimeoutBounds {'],
+    'net_tcp/retransmission_timer': ['struct TimedSegment {', 'enum Expiry {'],
+}
+ATTRIBUTES += [(f'\npub {item}', f'\n#[non_exhaustive]\npub {item}', {file: 1})
+               for file, items in GROWING.items() for item in items]
 
 # These in types: what writes, the numbers of core, and 4 runs where `N` isn't named, whatever features are on.
 TYPES = [

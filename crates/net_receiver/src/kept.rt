@@ -9,7 +9,7 @@ use thiserror::Error;
 ///
 /// let mut storage = [0u8; 16];
 /// let mut receiver = Receiver::new(&mut storage[..]);
-/// let Ok(Kept { kept, queued, sack }) = receiver.segment(5, b"fg") else {
+/// let Ok(Kept { kept, queued, sack, .. }) = receiver.segment(5, b"fg") else {
 ///     panic!("a first run is never refused");
 /// };
 /// assert_eq!((kept, queued, sack), (2, 0, [Some((5, 7)), None, None]));

@@ -13,6 +13,7 @@ pub use head::FragmentsHead;
 
 /// Why a fragment or a size is refused.
 #[derive(Debug, Clone, Copy, PartialEq, Eq, Hash)]
+#[non_exhaustive]
 pub enum FragmentError {
     /// It reaches past the end of the buffer.
     TooLong,

@@ -9,12 +9,13 @@
 ///
 /// let mut storage = [0u8; 16];
 /// let mut receiver = Receiver::new(&mut storage[..]);
-/// let Ok(Kept { kept, queued, sack }) = receiver.segment(5, b"fg") else {
+/// let Ok(Kept { kept, queued, sack, .. }) = receiver.segment(5, b"fg") else {
 ///     panic!("a first run is never refused");
 /// };
 /// assert_eq!((kept, queued, sack), (2, 0, [Some((5, 7)), None, None]));
 /// ```
 #[derive(Debug, Clone, Copy, PartialEq, Eq)]
+#[non_exhaustive]
 pub struct Kept {
     /// How many bytes were kept: those of the segment whose positions are in the free window.
     pub kept: usize,
@@ -27,6 +28,7 @@ pub struct Kept {
 
 /// How many bytes of a segment were kept, and by how many `next` moved: what `keep` returns.
 #[derive(Debug, Clone, Copy, PartialEq, Eq)]
+#[non_exhaustive]
 pub struct KeptBytes {
     /// How many bytes were kept: those of the segment whose positions are in the free window.
     pub kept: usize,
@@ -36,6 +38,7 @@ pub struct KeptBytes {
 
 /// Where the bytes of a segment are, each counted once: what `parts_of` returns.
 #[derive(Debug, Clone, Copy, PartialEq, Eq)]
+#[non_exhaustive]
 pub struct SegmentParts {
     /// How many are below `next`: they were read or are queued, or are before the stream's first byte.
     pub old: usize,
@@ -50,6 +53,7 @@ pub struct SegmentParts {
 
 /// Why a segment is refused. Nothing changes then.
 #[derive(Debug, Clone, Copy, PartialEq, Eq, Hash)]
+#[non_exhaustive]
 pub enum FiniteError {
     /// Its bytes would make more held runs than there is room for.
     TooManyHoles,

@@ -183,11 +183,11 @@ impl<S: Storage<u8>, const N: usize> ReceiverOver<S, N> {
     /// segment may arrive: bytes from position `u64::MAX` on, which no stream has, are left out.
     ///
     /// ```
-    /// # use net_base::receiver::{KeptBytes, Receiver};
+    /// # use net_base::receiver::Receiver;
     /// let mut storage = [0u8; 16];
     /// let mut receiver = Receiver::new(&mut storage[..]);
-    /// assert_eq!(receiver.keep(2, b"cd"), Ok(KeptBytes { kept: 2, queued: 0 }));
-    /// assert_eq!(receiver.keep(0, b"ab"), Ok(KeptBytes { kept: 2, queued: 4 }));
+    /// assert_eq!(receiver.keep(2, b"cd").map(|it| (it.kept, it.queued)), Ok((2, 0)));
+    /// assert_eq!(receiver.keep(0, b"ab").map(|it| (it.kept, it.queued)), Ok((2, 4)));
     /// ```
     ///
     /// # Errors

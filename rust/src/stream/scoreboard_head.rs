@@ -11,6 +11,7 @@ use crate::storage::width::most;
 
 /// Why a SACK block isn't taken. Nothing changes then.
 #[derive(Debug, Clone, Copy, PartialEq, Eq, Hash)]
+#[non_exhaustive]
 pub enum ReportError {
     /// No such block can be: it has no position, or one that was never sent, or it ends too far above the
     /// first position that wasn't reported.

@@ -33,6 +33,7 @@ const PERIOD: u64 = 500_000;
 /// assert_eq!(answers, 2);
 /// ```
 #[derive(Copy, Clone, Debug, PartialEq, Eq, Hash)]
+#[non_exhaustive]
 pub struct AnswerLimit {
     /// When the next such segment is answered.
     pub until: Instant,

@@ -30,12 +30,14 @@ pub struct RttEstimate {
 /// use net_base::tcp::{RttEstimate, TimeoutBounds};
 /// use net_base::time::Duration;
 ///
-/// let bounds = TimeoutBounds { least: Duration::from_millis(200), ..TimeoutBounds::default() };
+/// let mut bounds = TimeoutBounds::new();
+/// bounds.least = Duration::from_millis(200);
 /// // The smoothed time and four times its variation, which is half of the first sample.
 /// let after = |millis| RttEstimate::first(Duration::from_millis(millis)).timeout(bounds);
 /// assert_eq!((after(100), after(10)), (Duration::from_millis(300), Duration::from_millis(200)));
 /// ```
 #[derive(Copy, Clone, Debug, PartialEq, Eq, Hash)]
+#[non_exhaustive]
 pub struct TimeoutBounds {
     /// The least timeout.
     pub least: Duration,

@@ -33,6 +33,7 @@ const PROMPT: u64 = 8;
 /// assert_eq!(said, Some(Expiry::Timeout));
 /// ```
 #[derive(Copy, Clone, Debug, PartialEq, Eq, Hash)]
+#[non_exhaustive]
 pub enum Expiry {
     /// A probe: nothing is known to be lost, and the timeout passes when it would have passed.
     Probe,
@@ -43,15 +44,17 @@ pub enum Expiry {
 /// A segment that is timed: it was sent once.
 ///
 /// ```
-/// use net_base::tcp::{RetransmissionTimer, SentNumbers, TimedSegment, TimeoutBounds};
+/// use net_base::tcp::{RetransmissionTimer, SentNumbers, TimeoutBounds};
 /// use net_base::time::{Duration, Instant};
 ///
 /// let mut timer = RetransmissionTimer::new(Duration::from_secs(1), true);
 /// let numbers = SentNumbers { first_unacknowledged: 0, sent: 0 };
 /// timer.sent(TimeoutBounds::default(), 0..10, numbers, Instant::from_millis(5));
-/// assert_eq!(timer.timed(), Some(TimedSegment { pos: 0, since: Instant::from_millis(5) }));
+/// let timed = timer.timed().expect("a segment");
+/// assert_eq!((timed.pos, timed.since), (0, Instant::from_millis(5)));
 /// ```
 #[derive(Copy, Clone, Debug, PartialEq, Eq, Hash)]
+#[non_exhaustive]
 pub struct TimedSegment {
     /// Its first position.
     pub pos: u64,

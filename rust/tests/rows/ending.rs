@@ -61,6 +61,7 @@ pub fn kept(result: Result<KeptBytes, FiniteError>) -> String {
         Ok(it) => format!("{} {}", it.kept, it.queued),
         Err(FiniteError::TooManyHoles) => "refused".to_string(),
         Err(FiniteError::OtherEnd) => "other_end".to_string(),
+        Err(other) => other.to_string(),
     }
 }
 

@@ -33,6 +33,7 @@ fn taken(result: Result<(), FragmentError>) -> String {
         Err(FragmentError::TooLong) => "too_long",
         Err(FragmentError::TooManyHoles) => "refused",
         Err(FragmentError::OtherSize) => "other_size",
+        Err(other) => return other.to_string(),
     }
     .to_string()
 }

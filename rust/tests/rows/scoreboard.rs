@@ -26,6 +26,7 @@ pub fn answer(report: Result<(), ReportError>) -> String {
         Ok(()) => "1",
         Err(ReportError::NoBlock) => "0",
         Err(ReportError::TooManyHoles) => "refused",
+        Err(other) => return other.to_string(),
     }
     .to_string()
 }

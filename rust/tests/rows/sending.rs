@@ -22,7 +22,9 @@ pub fn with_end<const N: usize>(
     let (bytes, first) = (pattern(call.size(0), 0), call.at(2));
     let [timeout, least, most, ack_delay] =
         [3, 4, 5, 6].map(|index| Duration::from_micros(call.at(index)));
-    let bounds = TimeoutBounds { least, most, tick: Duration::from_micros(1), ack_delay };
+    let mut bounds = TimeoutBounds::new();
+    [bounds.least, bounds.most, bounds.ack_delay] = [least, most, ack_delay];
+    bounds.tick = Duration::from_micros(1);
     with_storage!(
         stored,
         bytes,

@@ -17,7 +17,8 @@ impl Subject for Tcp {
             "is_acceptable" => truth(is_acceptable(one, two, three, four)).to_string(),
             "classify" => arrival(classify(one, two, three, segment(&call.numbers[3..]))),
             "answer_limit" => {
-                let mut limit = AnswerLimit { until: moment(one) };
+                let mut limit = AnswerLimit::new();
+                limit.until = moment(one);
                 let it = Segment { seq: 7, len: two, syn: three == 1, ack: true, rst: false };
                 let is_allowed = truth(limit.allows(it, moment(four)));
                 format!("{is_allowed} {}", limit.until.total_micros())
@@ -127,6 +128,8 @@ fn estimate(estimate: RttEstimate) -> String {
 }
 
 fn bounds(least: u64, most: u64, tick: u64) -> TimeoutBounds {
-    let [least, most, tick] = [least, most, tick].map(Duration::from_micros);
-    TimeoutBounds { least, most, tick, ack_delay: Duration::ZERO }
+    let mut bounds = TimeoutBounds::new();
+    [bounds.least, bounds.most, bounds.tick] = [least, most, tick].map(Duration::from_micros);
+    bounds.ack_delay = Duration::ZERO;
+    bounds
 }

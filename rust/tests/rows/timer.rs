@@ -11,15 +11,12 @@ pub struct Timer {
 
 impl Timer {
     pub fn new(first: &Call) -> Self {
-        Timer {
-            timer: RetransmissionTimer::new(Duration::from_micros(first.at(0)), first.at(4) == 1),
-            bounds: TimeoutBounds {
-                least: Duration::from_micros(first.at(1)),
-                most: Duration::from_micros(first.at(2)),
-                tick: Duration::from_micros(1),
-                ack_delay: Duration::from_micros(first.at(3)),
-            },
-        }
+        let [timeout, least, most, ack_delay] =
+            [0, 1, 2, 3].map(|index| Duration::from_micros(first.at(index)));
+        let mut bounds = TimeoutBounds::new();
+        [bounds.least, bounds.most, bounds.ack_delay] = [least, most, ack_delay];
+        bounds.tick = Duration::from_micros(1);
+        Timer { timer: RetransmissionTimer::new(timeout, first.at(4) == 1), bounds }
     }
 }
 
@@ -45,6 +42,7 @@ impl Subject for Timer {
                     None => "none",
                     Some(Expiry::Probe) => "probe",
                     Some(Expiry::Timeout) => "timeout",
+                    Some(other) => return format!("{other:?}"),
                 }
                 .to_string()
             }

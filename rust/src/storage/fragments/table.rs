@@ -31,6 +31,7 @@ use crate::storage::Storage;
 
 /// Why a fragment is refused. Nothing changes then.
 #[derive(Debug, Clone, Copy, PartialEq, Eq, Hash)]
+#[non_exhaustive]
 pub enum AcceptError {
     /// It has no bytes.
     NoBytes,
@@ -56,6 +57,7 @@ fn refusal(error: FragmentError) -> AcceptError {
 }
 
 /// A buffer of fragments, and the key of the packet that it is for, if it is for one.
+#[non_exhaustive]
 pub struct FragmentSlot<K, B: Storage<u8>, const N: usize> {
     /// The key of the packet, such as its source, destination, protocol and identification.
     pub key: Option<K>,
