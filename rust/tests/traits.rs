@@ -6,10 +6,12 @@ use std::fmt::Write as _;
 use std::hash::{Hash, Hasher};
 use std::iter::FusedIterator;
 
+use net_base::ends::{ReceivingEndOver, SendBufferOver, SendingEndOver};
 use net_base::finite::{FiniteError, FiniteReceiverOver, FiniteSenderOver};
 use net_base::receiver::{Receiver, ReceiverOver};
 use net_base::scoreboard::Scoreboard;
 use net_base::sequence_number::SequenceNumber;
+use net_base::storage::fragment_table::{accept, FragmentSlot};
 use net_base::storage::{
     Assembler, Empty, FragmentError, FragmentsOver, Full, PacketMetadata, PacketsOver, RingBuffer,
     RingOver, Storage, TooManyHolesError,
@@ -135,6 +137,20 @@ fn clones() {
     let mut finite = FiniteReceiverOver::<_, 2>::over([0u8; 4]);
     assert!(finite.clone().keep(0, b"a", true).is_ok());
     assert_eq!((finite.keep(0, b"b", false).is_ok(), finite.end()), (true, None));
+    let slots = [FragmentSlot::<u8, _, 2>::over([0u8; 4])];
+    let mut other = slots.clone();
+    assert_eq!(accept(&mut other, 7, 0, b"a", false, Instant::ZERO), Ok(0));
+    assert_eq!((slots[0].key, other[0].key), (None, Some(7)));
+    let mut newest = finite.receiver().newest_runs(0, &mut [0; 2]);
+    assert_eq!((newest.clone().count(), newest.next()), (0, None));
+    let mut receiving = ReceivingEndOver::<_, 2>::over_at([0u8; 4], 0, 4);
+    assert!(receiving.clone().arrived(0, b"a", false).is_ok());
+    assert_eq!(receiving.read(&mut [0]), 0);
+    let mut buffer = SendBufferOver::<_, 2>::over_at([0u8; 4], 0);
+    assert_eq!((buffer.clone().write(b"ab"), buffer.write(b"abc")), (2, 3));
+    let (first_timeout, bounds) = (Duration::from_secs(1), TimeoutBounds::new());
+    let mut sending = SendingEndOver::<_, 2>::over_at([0u8; 4], 0, first_timeout, bounds);
+    assert_eq!((sending.clone().write(b"ab"), sending.write(b"abc")), (2, 3));
 }
 
 #[test]

@@ -215,6 +215,7 @@ pub type ReceivingEnd<'a, const N: usize> = ReceivingEndOver<ManagedSlice<'a, u8
 /// assert!(receiving.receiver().has_read_all() && receiving.is_due());
 /// assert_eq!(receiving.acknowledgement().next, 117);
 /// ```
+#[derive(Clone)]
 pub struct ReceivingEndOver<S: Storage<u8>, const N: usize> {
     receiver: FiniteReceiverOver<S, N>,
     head: ReceivingHead,

@@ -139,6 +139,7 @@ pub type SendBuffer<'a, const N: usize> = SendBufferOver<ManagedSlice<'a, u8>, N
 /// assert_eq!(stream.next(33, 1200, 8), None);
 /// assert!(stream.acknowledge_range(16..20, 8).is_some() && stream.is_done());
 /// ```
+#[derive(Clone)]
 pub struct SendBufferOver<S: Storage<u8>, const N: usize> {
     sender: FiniteSenderOver<S>,
     runs: [Run; N],

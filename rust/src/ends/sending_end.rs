@@ -189,6 +189,7 @@ pub type SendingEnd<'a, const N: usize> = SendingEndOver<ManagedSlice<'a, u8>, N
 /// let it = sending.next_segment(8, now).expect("what was lost");
 /// assert_eq!((it.pos, it.end, it.is_again), (108, 116, true));
 /// ```
+#[derive(Clone)]
 pub struct SendingEndOver<S: Storage<u8>, const N: usize> {
     sender: FiniteSenderOver<S>,
     runs: [Run; N],

@@ -54,7 +54,7 @@ pub struct HeldRun {
 /// An iterator over held runs, the newest first, made by `newest_runs`: at most `K`.
 ///
 /// It yields (start, end) of each run as absolute positions, the end not included.
-#[derive(Debug)]
+#[derive(Clone, Debug)]
 pub struct NewestRunIter<const K: usize> {
     runs: [HeldRun; K],
     from: usize,

@@ -57,6 +57,7 @@ fn refusal(error: FragmentError) -> AcceptError {
 }
 
 /// A buffer of fragments, and the key of the packet that it is for, if it is for one.
+#[derive(Clone)]
 #[non_exhaustive]
 pub struct FragmentSlot<K, B: Storage<u8>, const N: usize> {
     /// The key of the packet, such as its source, destination, protocol and identification.
