@@ -1,15 +1,16 @@
 #!/bin/sh
-# Joins the endpoint of rust/examples, lwIP and Linux by a path that loses, doubles, delays, stops, cuts and forges
-# IP packets:
+# Joins the endpoint of rust/examples, by a path that loses, doubles, delays, stops, cuts and forges IP packets, with
+# itself, with lwIP, which reports no blocks as Debian builds it, and does from its sources, with gVisor's netstack, and
+# with Linux:
 #
-#     sh compare/peers/run.sh --sample [WORD [SEED]]   32 short cases, each with bounds
+#     sh compare/peers/run.sh --sample [WORD [SEED]]   short cases, each with bounds
 #     sh compare/peers/run.sh --matrix [WORD]          each pair on each path, three seeds: a table
 #     sh compare/peers/run.sh --goodput [WORD]         MB/s to Linux, beside Linux with Reno and with CUBIC: a table
-#     sh compare/peers/run.sh --runs [WORD]            what receivers refuse behind a queue that overflows: a table
+#     sh compare/peers/run.sh --runs [WORD]            what receivers refuse with a queue that overflows: a table
 #
-# With a word only the cases or rows that have it are run. All packets stay in network namespaces that it makes. lwIP,
-# which the first two want, is Debian's liblwip-dev, which it installs if it can. Status 1 if a case fails, and 2 if the
-# machine has no lwIP or no TUN device, or lends no namespace. TERM ends all of it.
+# With a word only the cases or rows that have it are run. All packets stay in network namespaces that it makes. The
+# first two want lwIP and netstack, which are Debian's; it installs them if it can. Status 1 if a case fails, and 2 if
+# the machine has none of these, or no TUN device, or lends no namespace. TERM ends all of it.
 set -eu
 here=$(cd "$(dirname "$0")" && pwd)
 name=peers
@@ -21,19 +22,35 @@ case "${1-}" in
 esac
 shift
 
-with_lwip() {
-    header=/usr/include/lwip/lwipopts.h
-    if [ ! -e "$header" ] && [ "$(id -u)" = 0 ] && command -v apt-get > /dev/null; then
+# Makes sure that a file of Debian's packages is here.
+want() {
+    file=$1; shift
+    if [ ! -e "$file" ] && [ "$(id -u)" = 0 ] && command -v apt-get > /dev/null; then
         apt="guarded apt-get -qq -o DPkg::Lock::Timeout=120"
-        { $apt update && $apt install -y --no-install-recommends liblwip-dev; } > "$out/apt" 2>&1 || :
+        { $apt update && $apt install -y --no-install-recommends "$@"; } > "$out/apt" 2>&1 || :
     fi
-    [ -e "$header" ] || not_run "no lwIP: apt-get install -y liblwip-dev"
-    cc -O2 -Wall -Wextra -Werror -isystem /usr/include/lwip -o "$out/lwip" "$here/lwip.c" -llwip
+    [ -e "$file" ] || not_run "no $file: apt-get install -y $*"
 }
-case $call in sample | matrix) with_lwip ;; esac
+
+# lwIP as Debian builds it reports no blocks; its sources do if they are told to.
+build_programs() {
+    want /usr/include/lwip/lwipopts.h liblwip-dev
+    want /usr/share/gocode/src/gvisor.dev golang-go golang-gvisor-gvisor-dev
+    version=$(dpkg-query -W -f '${source:Upstream-Version}' liblwip-dev)
+    archive=http://deb.debian.org/debian/pool/main/l/lwip/lwip_$version.orig.tar.xz
+    mkdir "$out/lwip.sources"
+    guarded curl -sSfo "$out/lwip.tar" "$archive" || not_run "no $archive"
+    tar -xf "$out/lwip.tar" -C "$out/lwip.sources" --strip-components 1
+    build="guarded cc -O2 -isystem /usr/include/lwip"
+    $build -Wall -Wextra -Werror -o "$out/lwip" "$here/lwip.c" -llwip
+    $build -w -DLWIP_TCP_SACK_OUT=1 -o "$out/lwip_sack" "$here/lwip.c" \
+        "$out"/lwip.sources/src/core/*.c "$out"/lwip.sources/src/core/ipv[46]/*.c -llwip
+    GO111MODULE=off GOPATH=/usr/share/gocode GOCACHE=$out/go guarded go build -o "$out/netstack" "$here/netstack.go"
+}
+case $call in sample | matrix) build_programs ;; esac
 find_space
 
 export CARGO_PROFILE_RELEASE_OVERFLOW_CHECKS=true CARGO_PROFILE_RELEASE_LTO=false
 cd "$here/.."
 guarded cargo build --offline --quiet --release --package peers
-PEERS_LWIP=$out/lwip guarded $space "${CARGO_TARGET_DIR:-$here/../target}/release/peers" "$call" "$@"
+PEERS_PROGRAMS=$out guarded $space "${CARGO_TARGET_DIR:-$here/../target}/release/peers" "$call" "$@"

@@ -1,4 +1,4 @@
-//! The ends: the example's endpoint, Linux in a network namespace of its own, and lwIP as a program.
+//! The ends: the example's endpoint, Linux in a network namespace of its own, and programs that have a TCP in them.
 use std::collections::VecDeque;
 use std::io::{self, Read, Write};
 use std::iter::from_fn;
@@ -225,13 +225,13 @@ fn linux(listens: bool, control: &'static str) -> io::Result<Box<dyn End>> {
     Ok(Box::new(Linux { tun, comes, stream: None }))
 }
 
-struct Lwip {
-    program: Child,
+struct Program {
+    child: Child,
     packets: UnixDatagram,
     stream: UnixStream,
 }
 
-impl End for Lwip {
+impl End for Program {
     fn packet(&mut self, into: &mut [u8]) -> Option<usize> {
         self.packets.recv(into).ok().filter(|len| *len > 0)
     }
@@ -257,15 +257,15 @@ impl End for Lwip {
     }
 }
 
-impl Drop for Lwip {
+impl Drop for Program {
     fn drop(&mut self) {
-        let _ended = self.program.kill();
-        let _status = self.program.wait();
+        let _ended = self.child.kill();
+        let _status = self.child.wait();
     }
 }
 
-/// lwIP, a program that the script has built.
-fn lwip(listens: bool) -> io::Result<Box<dyn End>> {
+/// A program that the script has built: lwIP, or netstack.
+fn program(name: &str, listens: bool) -> io::Result<Box<dyn End>> {
     let mut files = [0; 2];
     // SAFETY: two descriptors are lent for writing, which are then owned once.
     let (packets, its) = unsafe {
@@ -277,13 +277,13 @@ fn lwip(listens: bool) -> io::Result<Box<dyn End>> {
     let (stream, bytes) = UnixStream::pair()?;
     packets.set_nonblocking(true)?;
     stream.set_nonblocking(true)?;
-    let program = std::env::var("PEERS_LWIP").unwrap_or_else(|_| "lwip".into());
-    let program = Command::new(program)
+    let folder = std::env::var("PEERS_PROGRAMS").map_err(io::Error::other)?;
+    let child = Command::new(std::path::Path::new(&folder).join(name))
         .arg(if listens { "listen" } else { "open" })
         .stdin(Stdio::from(its))
         .stdout(Stdio::from(OwnedFd::from(bytes)))
         .spawn()?;
-    Ok(Box::new(Lwip { program, packets, stream }))
+    Ok(Box::new(Program { child, packets, stream }))
 }
 
 /// Whose TCP an end is.
@@ -291,8 +291,9 @@ fn lwip(listens: bool) -> io::Result<Box<dyn End>> {
 pub enum Kind {
     /// The example's, with a capacity of each buffer, and N.
     Example(usize, usize),
+    /// Linux with this congestion control.
     Linux(&'static str),
-    Lwip,
+    Program(&'static str),
 }
 
 impl Kind {
@@ -303,7 +304,7 @@ impl Kind {
             Kind::Example(capacity, 64) => Ok(example::<64>(listens, seed, capacity)),
             Kind::Example(capacity, _) => Ok(example::<32>(listens, seed, capacity)),
             Kind::Linux(control) => linux(listens, control),
-            Kind::Lwip => lwip(listens),
+            Kind::Program(name) => program(name, listens),
         }
     }
 
@@ -311,7 +312,7 @@ impl Kind {
         match self {
             Kind::Example(..) => "endpoint".into(),
             Kind::Linux(control) => format!("Linux ({control})"),
-            Kind::Lwip => "lwIP".into(),
+            Kind::Program(name) => name.into(),
         }
     }
 }

@@ -1,5 +1,6 @@
-//! The example's endpoint, lwIP and Linux, joined by a path that loses, doubles, delays, stops, cuts and forges IP
-//! packets by a seed: `run.sh` beside it builds it, and lwIP's program, and runs it in a network namespace of its own.
+//! The example's endpoint, lwIP, gVisor's netstack and Linux, joined by a path that loses, doubles, delays, stops, cuts
+//! and forges IP packets by a seed: `run.sh` beside it builds it and them, and runs it in a network namespace of its
+//! own.
 //!
 //!     peers sample|matrix|goodput|runs [WORD [SEED]]
 //!
@@ -37,6 +38,10 @@ use ends::Kind;
 use relay::{Case, Outcome, Path, Traffic};
 
 const ENDPOINT: Kind = Kind::Example(0x4_0000, 32);
+const LWIP: Kind = Kind::Program("lwip");
+/// The same with selective acknowledgements, and that of gVisor.
+const LWIP_SACK: Kind = Kind::Program("lwip_sack");
+const NETSTACK: Kind = Kind::Program("netstack");
 const RENO: Kind = Kind::Linux("reno");
 const CUBIC: Kind = Kind::Linux("cubic");
 
@@ -99,14 +104,18 @@ fn sample(word: &str, seed: u64) {
     let (stop, stops) = stopped();
     let slow = Traffic::Send { bytes: 200_000, chunk: 2_000, rest: 5_000 };
     let requests = |count, thinks| Traffic::Requests { count, thinks };
-    let of_endpoint: [(&str, Path, Traffic, Bounds); 11] = [
+    let both = |bytes, chunk, rest| Traffic::Both { bytes, chunk, rest };
+    let of_endpoint: [(&str, Path, Traffic, Bounds); 13] = [
         ("clean", path(0, 0, 0, 0), mib, (1.0, 1, 5)),
         ("1 % lost", path(100, 0, 0, 1_000), mib, (1.2, 1, 5)),
         ("1 % lost, without blocks", hidden, mib, (1.2, 1, 10)),
         ("20 % delayed", path(0, 2_000, 0, 1_000), mib, (1.5, 1, 80)),
         // Acknowledgements that the path doubles are equal ones without a block: three of a number tell of a loss.
         ("20 % doubled", path(0, 0, 2_000, 1_000), mib, (1.0, 0, 15)),
-        ("both send, 1 % lost", path(100, 0, 0, 1_000), Traffic::Both { bytes: 500_000 }, (4.0, 1, 5)),
+        ("both send, 1 % lost", path(100, 0, 0, 1_000), both(500_000, 0x1_0000, 0), (4.0, 1, 5)),
+        ("both send to slow readers", path(0, 0, 0, 1_000), both(200_000, 2_000, 5_000), (5.0, 1, 10)),
+        // lwIP waits for a timeout where two segments of a window are lost.
+        ("half closed, 1 % lost", path(100, 0, 0, 1_000), Traffic::Closed { bytes: 1 << 20 }, (9.0, 1, 5)),
         ("a slow reader", path(0, 0, 0, 1_000), slow, (5.0, 1, 10)),
         ("answers after 40 ms", path(0, 0, 0, 1_000), requests(20, 40), (2.0, 0, 0)),
         ("answers after 300 ms", path(0, 0, 0, 1_000), requests(4, 300), (2.0, 0, 0)),
@@ -121,11 +130,11 @@ fn sample(word: &str, seed: u64) {
         ("cut for 1 s", cut, mib, 6.0),
     ];
     let mut cases = vec![];
-    for peer in [Kind::Lwip, RENO] {
+    for peer in [ENDPOINT, LWIP, LWIP_SACK, NETSTACK, RENO] {
         for (what, path, traffic, bounds) in of_endpoint {
             cases.push(([ENDPOINT, peer], what, path, traffic, bounds));
         }
-        for (what, path, traffic, most) in to_endpoint {
+        for (what, path, traffic, most) in to_endpoint.into_iter().filter(|_| peer != ENDPOINT) {
             cases.push(([peer, ENDPOINT], what, path, traffic, (most, any, any)));
         }
     }
@@ -184,62 +193,47 @@ fn ratio(a: f64, b: f64) -> String {
     }
 }
 
+/// Each pair, beside Linux (Reno) in the place of the endpoint.
 fn matrix(word: &str) {
     let (mib, most) = (send(1 << 20), 20);
-    let hidden = |path| Path { without_blocks: true, ..path };
-    let requests = |thinks| Traffic::Requests { count: 50, thinks };
-    let hundred = Traffic::Requests { count: 100, thinks: 0 };
-    let slow = Traffic::Send { bytes: 400_000, chunk: 2_000, rest: 5_000 };
+    let (late, lost) = (path(0, 2_000, 0, 1_000), path(100, 0, 0, 1_000));
+    let requests = |count, thinks| Traffic::Requests { count, thinks };
+    let slow = Traffic::Both { bytes: 200_000, chunk: 2_000, rest: 5_000 };
     let (stop, stops) = stopped();
+    println!("Seconds, the median of three runs, and the ratio to Linux in the endpoint's place. Then, of all three,");
+    println!("segments sent again for nothing, and those of Linux. 1 MiB; a round trip of 1 ms.");
     println!(
-        "Seconds, the median of three runs; in brackets, of all three, segments sent again for nothing, and"
+        "| Path | to itself | to lwIP | from lwIP | to netstack | from netstack | to Linux | from Linux |"
     );
-    println!(
-        "those with Linux (Reno) in the endpoint's place. Then the ratio to that, and to lwIP itself. 1 MiB;"
-    );
-    println!("the round trip is 1 ms but where said.");
-    println!("| Path | endpoint to lwIP | lwIP to endpoint | endpoint to Linux | Linux to endpoint |");
-    println!("|---|---:|---:|---:|---:|");
+    println!("|---|---:|---:|---:|---:|---:|---:|---:|");
     for (what, path, traffic) in [
-        ("clean, 0 ms", path(0, 0, 0, 0), mib),
-        ("clean, 10 ms", path(0, 0, 0, 10_000), mib),
-        ("0.5 % lost", path(50, 0, 0, 1_000), mib),
-        ("1 % lost", path(100, 0, 0, 1_000), mib),
+        ("1 % lost", lost, mib),
         ("3 % lost", path(300, 0, 0, 1_000), mib),
-        ("10 % lost", path(1_000, 0, 0, 1_000), mib),
-        ("1 % lost, 10 ms", path(100, 0, 0, 10_000), mib),
-        ("1 % lost, no blocks", hidden(path(100, 0, 0, 1_000)), mib),
-        ("3 % lost, no blocks", hidden(path(300, 0, 0, 1_000)), mib),
-        ("5 % delayed", path(0, 500, 0, 1_000), mib),
-        ("20 % delayed", path(0, 2_000, 0, 1_000), mib),
-        ("20 % delayed, no blocks", hidden(path(0, 2_000, 0, 1_000)), mib),
+        ("20 % delayed", late, mib),
         ("20 % doubled", path(0, 0, 2_000, 1_000), mib),
-        ("a slow reader", path(0, 0, 0, 1_000), slow),
-        ("100 answers at once, 10 % lost", path(1_000, 0, 0, 1_000), hundred),
-        ("50 answers after 20 ms", path(0, 0, 0, 1_000), requests(20)),
-        ("50 answers after 40 ms", path(0, 0, 0, 1_000), requests(40)),
-        ("50 answers after 300 ms", path(0, 0, 0, 1_000), requests(300)),
+        ("half closed, 1 % lost", lost, Traffic::Closed { bytes: 1 << 20 }),
+        ("both send to slow readers", path(0, 0, 0, 1_000), slow),
+        ("100 answers at once, 10 % lost", path(1_000, 0, 0, 1_000), requests(100, 0)),
+        ("50 answers after 40 ms", path(0, 0, 0, 1_000), requests(50, 40)),
         ("a stop of 3 s", stop, stops),
     ] {
         if !what.contains(word) {
             continue;
         }
         let time = |ends| median_of(ends, path, traffic, 3, most);
-        let (lwip, linux) = (time([Kind::Lwip; 2]), time([RENO; 2]));
-        let cell = |it: (f64, u64, u64), linux: (f64, u64, u64)| {
-            let seconds = if it.0.is_finite() { format!("{:.2}", it.0) } else { format!("> {most}") };
-            format!("{seconds} ({}/{}); {}", it.1, linux.1, ratio(it.0, linux.0))
+        let cell = |mine: (f64, u64, u64), linux: (f64, u64, u64)| {
+            let seconds = if mine.0.is_finite() { format!("{:.2}", mine.0) } else { format!("> {most}") };
+            format!(" | {seconds} ({}); {}/{}", ratio(mine.0, linux.0), mine.1, linux.1)
         };
-        let (to, from) = (time([ENDPOINT, Kind::Lwip]), time([Kind::Lwip, ENDPOINT]));
-        println!(
-            "| {what} | {}; {} | {}; {} | {} | {} |",
-            cell(to, time([RENO, Kind::Lwip])),
-            ratio(to.0, lwip.0),
-            cell(from, time([Kind::Lwip, RENO])),
-            ratio(from.0, lwip.0),
-            cell(time([ENDPOINT, RENO]), linux),
-            cell(time([RENO, ENDPOINT]), linux),
-        );
+        let linux = time([RENO; 2]);
+        let mut row = cell(time([ENDPOINT; 2]), linux);
+        for peer in [LWIP, NETSTACK] {
+            row += &cell(time([ENDPOINT, peer]), time([RENO, peer]));
+            row += &cell(time([peer, ENDPOINT]), time([peer, RENO]));
+        }
+        row += &cell(time([ENDPOINT, RENO]), linux);
+        row += &cell(time([RENO, ENDPOINT]), linux);
+        println!("| {what}{row} |");
     }
 }
 

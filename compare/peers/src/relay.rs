@@ -37,8 +37,10 @@ impl Path {
 pub enum Traffic {
     /// The first sends bytes; the second reads as many at a time, and rests for some microseconds after each time.
     Send { bytes: u64, chunk: usize, rest: u64 },
-    /// Both send.
-    Both { bytes: u64 },
+    /// Both send, and read so.
+    Both { bytes: u64, chunk: usize, rest: u64 },
+    /// The first sends a request and closes; the second answers then, over what is half closed.
+    Closed { bytes: u64 },
     /// The first sends requests of 100 bytes, each answered by 100 bytes after some milliseconds.
     Requests { count: u64, thinks: u64 },
 }
@@ -222,7 +224,8 @@ impl Case {
     fn programs(&self) -> [Program; 2] {
         let (limits, closes) = match self.traffic {
             Traffic::Send { bytes, .. } => ([bytes, 0], [true, false]),
-            Traffic::Both { bytes } => ([bytes; 2], [true; 2]),
+            Traffic::Both { bytes, .. } => ([bytes; 2], [true; 2]),
+            Traffic::Closed { .. } => ([REQUEST, 0], [true, false]),
             Traffic::Requests { .. } => ([REQUEST, 0], [false; 2]),
         };
         [0, 1].map(|it| Program {
@@ -254,8 +257,11 @@ impl Case {
             second.closes = second.has_end;
             return first.closes;
         }
+        if let (Traffic::Closed { bytes }, true) = (self.traffic, second.has_end) {
+            second.limit = bytes;
+        }
         second.closes |= second.has_end;
-        second.has_end && (!matches!(self.traffic, Traffic::Both { .. }) || first.has_end)
+        second.has_end && (matches!(self.traffic, Traffic::Send { .. }) || first.has_end)
     }
 
     pub fn run(&self) -> io::Result<Outcome> {
@@ -269,7 +275,7 @@ impl Case {
         let (mut programs, mut answers_at, mut wrong) = (self.programs(), None, None);
         let (mut ended, mut closed, mut resets) = (None, None, 0);
         let chunk = match self.traffic {
-            Traffic::Send { chunk, rest, .. } => (chunk, rest),
+            Traffic::Send { chunk, rest, .. } | Traffic::Both { chunk, rest, .. } => (chunk, rest),
             _ => (0x1_0000, 0),
         };
         let begun = now();
