@@ -6,7 +6,7 @@ use Rattle.std.proofs.Math.Bool.{or-false}
 use Rattle.std.proofs.lemmas.Bool.{false≢true, eq-eqb, cases_lt, cases_eq, lt-ltb, le-ltb, ne_eqb, or_cases}
 use Rattle.std.proofs.lemmas.Bool.{cond-true, cond-false, false_from_ne_true, eqb-true, cases_Bool, cond_both}
 use Rattle.std.proofs.lemmas.Bool.{or_left, or_right, true_from_ne_false}
-use Rattle.std.specs.List.{range_with_len, AllByRecursion, slice_get}
+use Rattle.std.specs.List.{range_with_len, AllByRecursion}
 use Rattle.std.proofs.lemmas.Bool.Decides.{nat_tests, same_from_decides}
 use Rattle.net_assembler.specs.Positions.{Positions, contains, positions, with_range, begins_run, run_starts, runs}
 use Rattle.net_assembler.specs.Positions.{first_missing, front, maximal_runs, shift_down, lies_in, IsMaximalRun}
@@ -17,9 +17,8 @@ use Rattle.net_assembler.proofs.Sets.{same_positions, Rises, positions-set_of_li
 use Rattle.net_assembler.proofs.Sets.{begins-true, begins-false, contains-shift_down, runs-maximal_runs}
 use Rattle.net_assembler.proofs.Sets.{contains-positions, positions_rise, rises-has, has_head, first_missing-misses}
 use Rattle.net_assembler.proofs.Sets.{first_missing-has, first_missing-le, with_range-none}
-use Rattle.std.specs.Prelude.{All, AllPairs, count_by, Some, None, ◌↔◌}
+use Rattle.std.specs.Prelude.{All, AllPairs, count_by}
 use Rattle.std.proofs.lemmas.List.Elements.{All-from_recursion, All-head, All-tail}
-use Rattle.std.proofs.lemmas.Option.{slice_get_past, slice_get_within, slice_get-get_or, get_or_from_slice_get}
 use Rattle.std.proofs.lemmas.List.Kept.{AllPairs-cons}
 use Rattle.std.proofs.lemmas.List.Sums.{sum_by-cons}
 
@@ -425,21 +424,6 @@ equal_maximal_runs s t e =
     into : (s t : Positions) → maximal_runs s ≡ maximal_runs t → (q : ℕ) → contains s q ≡ true → contains t q ≡ true
     into s t e q h =
         member t q (maximal_runs t) (maximal_all t) (ap (λ rs. in_runs rs q) (sym e) ∙ in_maximal_runs s q h)
-
--- the run with number k
-pub run_by_number : (s : Positions) (k : ℕ) (run : ℕ × ℕ) → slice_get (maximal_runs s) k ≡ Some run → IsMaximalRun s run
-run_by_number s k run e =
-    subst (IsMaximalRun s) (get_or_from_slice_get (maximal_runs s) k run (0, 0) e)
-    (maximal_all s k (0, 0) (slice_get_within (maximal_runs s) k run e))
-
-pub no_run_by_number : (s : Positions) (k : ℕ) → (slice_get (maximal_runs s) k ≡ None) ↔ (runs s ≤ k)
-no_run_by_number s k =
-    let all = runs-maximal_runs s in (
-      λ e. either (cases_lt k (runs s)) (λ l. absurd
-          (let f = slice_get-get_or (maximal_runs s) k (0, 0) (omega arith) in cc)) (λ l. l),
-      λ l. slice_get_past
-          (maximal_runs s) k (omega arith),
-    )
 
 -- a set is that of its maximal runs
 pub set_of_maximal_runs : (s : Positions) → set_of_runs (maximal_runs s) ≡ s

@@ -11,14 +11,12 @@
 //!
 //! - that `add` is accepted after `is_empty()` was true: `number_of_runs()`
 //! - the same after `iter_data().count() < N`: `maximal_runs()`
-//! - the same after `run_at(N - 1)` was `None`: `maximal_runs_by_number()`
 //! - that no position is present after `clear()`, or if `is_empty()` is true: `members()`
 //! - that the front is 0 after `clear()`: `members()` and `front()`
 //! - that positions below `peek_front()` are present: `front()`
 #![tactic(auto)]
 
 pub mod assembler;
-pub mod laws;
 
 pub use assembler::{
     Assembler, AssemblerHead, HoleIter, IterData, Run, RunIter, TooManyHolesError, Turns,

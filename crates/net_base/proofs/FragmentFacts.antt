@@ -185,14 +185,6 @@ module _ (s : Positions) (rs : List (ℕ × ℕ)) (known : AreMaximalRuns s rs) 
   abbrev D : ℕ → Type 0
   D p = HasOther bytes o data' p
 
-  -- runs before the last one that starts by its offset end by then
-  pub passed_before : (n k : ℕ) → SplitsRuns rs o n → k ≡ n - 1 → PassedTo rs D k
-  passed_before n k is at j p l here d =
-      let before = is.before (n - 1) (omega (arith, at, l)) in
-      let apart = known.rising j (n - 1) (0, 0) (omega (arith, at, l)) (omega (arith, at, l, is.few)) in
-      let below : p < (get_or rs j (0, 0)).1 = grind (arith, nat_tests, here) in
-      omega (arith, before, apart, below, d.from)
-
   pub passed_more : (k : ℕ) (r : ℕ × ℕ) → get_or rs k (0, 0) ≡ r → PassedTo rs D k →
       ((p : ℕ) → r.0 ≤ p → p < r.1 → D p → ⊥) →
       PassedTo rs D (k + 1)

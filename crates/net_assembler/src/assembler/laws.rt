@@ -10,7 +10,7 @@ ghost use Rattle.std.specs.Prelude.{nat_eq, Option, Some, None, Result, Ok, IsTr
 ghost use Rattle.std.specs.List.{list_any, slice_get};
 ghost use Rattle.net_assembler.specs.declared.assembler.error.TooManyHolesError.{TooManyHolesError};
 ghost use Rattle.net_assembler.specs.Assembler.{MakesTooManyRuns};
-ghost use Rattle.net_assembler.specs.AssemblerLaws.{Adds, AddsThenRemovesFront, CallsNext, Compares, EqualMaximalRuns};
+ghost use Rattle.net_assembler.specs.AssemblerLaws.{Adds, AddsThenRemovesFront, CallsNext, Compares};
 ghost use Rattle.net_assembler.specs.AssemblerLaws.{MaximalRunsOfEverySet, MembersOfNothing};
 ghost use Rattle.net_assembler.specs.AssemblerLaws.{MembersWithRange, RemovesFront, results_of_next};
 ghost use Rattle.net_assembler.specs.Positions.{AreMaximalRuns, IsFirstMissing, IsMaximalRun, Positions, contains};
@@ -22,18 +22,13 @@ ghost use Rattle.net_assembler.specs.Turns.{binary_digits};
 use super::TooManyHolesError;
 
 /// States that two sets are equal exactly if they have the same members, and what the members are
-/// of the empty set, of the set of a list, of a set with a range, and of a set that was shifted
-/// down or up.
+/// of the empty set, of a set with a range, and of a set that was shifted down.
 pub fn members()
     ensures equal { (s t : Positions) → (s ≡ t) ↔ ((p : ℕ) → contains s p ≡ contains t p) }
     ensures nothing { MembersOfNothing }
-    ensures of_list { (ks : List ℕ) (p : ℕ) →
-        contains (set_of_list ks) p ≡ list_any (nat_eq p) ks }
     ensures with_range { MembersWithRange }
     ensures shifted_down { (s : Positions) (m p : ℕ) →
         contains (shift_down s m) p ≡ contains s (p + m) }
-    ensures shifted_up { (s : Positions) (n p : ℕ) →
-        contains (shift_up s n) p ≡ (nat_le n p && contains s (p - n)) }
 {}
 
 /// States that the first missing position from any position on is the least one from there on that
@@ -52,26 +47,6 @@ pub fn front()
 /// many as the set has positions that begin a run.
 pub fn maximal_runs()
     ensures { MaximalRunsOfEverySet }
-{}
-
-/// States that a run that `run_at` returns is a maximal run of the set, and that it returns `None`
-/// exactly if the set has no run with that number.
-pub fn maximal_runs_by_number()
-    ensures { (s : Positions) (k : ℕ) →
-        ((run : ℕ × ℕ) → slice_get (maximal_runs s) k ≡ Some run → IsMaximalRun s run)
-        × ((slice_get (maximal_runs s) k ≡ None) ↔ (runs s ≤ k)) }
-{}
-
-/// States that two sets are equal exactly if their lists of maximal runs are.
-pub fn equal_maximal_runs()
-    ensures { EqualMaximalRuns }
-{}
-
-/// States that a set that was shifted up has its maximal runs shifted up, and so as many of them.
-pub fn shifted_up()
-    ensures maximal_runs { (s : Positions) (n : ℕ) →
-        maximal_runs (shift_up s n) ≡ runs_shifted_up n (maximal_runs s) }
-    ensures number { (s : Positions) (n : ℕ) → runs (shift_up s n) ≡ runs s }
 {}
 
 /// States that two assemblers are equal exactly if their sets have the same members.
@@ -93,12 +68,9 @@ pub fn adding_again()
         (again ≡ Ok tt) × (twice ≡ once) }
 {}
 
-/// States that the empty set has no run, and a range makes at most one run more. So a range is
-/// accepted if there are fewer than `N` runs.
+/// States that the empty set has no run.
 pub fn number_of_runs()
-    ensures of_nothing { runs nothing ≡ 0 }
-    ensures with_range { (s : Positions) (offset size : ℕ) →
-        runs (with_range s offset size) ≤ runs s + 1 }
+    ensures { runs nothing ≡ 0 }
 {}
 
 /// States that two ranges that are accepted in both orders leave equal assemblers.
@@ -134,11 +106,9 @@ pub fn iterating()
 {}
 
 /// States how many binary digits a number has, which bounds the looks of `add_counted`: b digits
-/// are enough exactly for the numbers below 2 to the power b, so 4 has 3 of them, and 32 has 6.
+/// are enough exactly for the numbers below 2 to the power b.
 pub fn counting_binary_digits()
-    ensures enough { (n b : ℕ) → (n < 2 ^ b) ↔ (binary_digits n ≤ b) }
-    ensures of_4 { binary_digits 4 ≡ 3 }
-    ensures of_32 { binary_digits 32 ≡ 6 }
+    ensures { (n b : ℕ) → (n < 2 ^ b) ↔ (binary_digits n ≤ b) }
 {}
 
 /// States that two refusals are equal, and a clone of one is never refused.

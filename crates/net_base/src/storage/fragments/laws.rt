@@ -32,29 +32,6 @@ pub fn latest_arrival_wins()
     ring_buffer::laws::overwritten::<u8>();
 }
 
-/// States that a head of zeros, but for `expires_at`, is that of an empty buffer, whatever its bytes and runs, and
-/// exact.
-pub fn head_of_zeros()
-    ensures sound { (at : ℤ) (bytes : List ℕ) (runs : List (ℕ × ℕ)) →
-        HasSoundParts (zero_fragments at) bytes runs }
-    ensures nothing { (at : ℤ) (runs : List (ℕ × ℕ)) →
-        set_of (zero_fragments at).present runs ≡ nothing }
-    ensures total { (at : ℤ) → total_of (zero_fragments at) ≡ None }
-    ensures exact { (at : ℤ) → IsExact (zero_fragments at) }
-{
-    assembler::laws::head_of_zeros();
-}
-
-/// States that `add` refuses a fragment exactly if it ends past a known size or the buffer's end, or would leave too
-/// many runs.
-pub fn refused_fragments()
-    ensures { (n : ℕ) (b c : FragmentsState) (offset : ℕ) (xs : List ℕ)
-        (r : Result (Unit {0}) FragmentError) →
-        limit_of b ≤ length b.bytes → Adds n b offset xs false r c →
-        (IsErr r ↔ ((limit_of b < offset + length xs)
-        ⊎ MakesTooManyRuns n b.present offset (length xs))) }
-{}
-
 /// States that two refusals are equal exactly if they are the same, and that a clone of one is the same, and is never
 /// refused.
 pub fn refusals()
