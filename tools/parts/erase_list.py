@@ -38,14 +38,11 @@ UNERASED = {
 # Functions that nothing of Rust calls, by rustc's word: in Rattle laws, proofs and tests do.
 UNCALLED = {
     'net_ring/ring_buffer': ['from_parts', 'into_parts'],
-    'net_assembler/assembler': ['from_parts', 'into_parts', 'parts'],
     'net_receiver/receiver': ['from_parts'],
     'net_receiver/schedule': ['replay', 'replay_core'],
     'net_receiver/scoreboard': ['is_sound'],
     'net_receiver/finite_receiver': ['from_parts', 'into_parts', 'is_sound'],
     'net_receiver/finite_sender': ['from_parts', 'into_parts'],
-    'net_base/storage/fragments': ['from_parts', 'into_parts'],
-    'net_base/storage/fragments/head': ['exact'],
 }
 
 # The exports for C, which the shim of `c` calls: only the crate in rust/exports has them, and they have no

@@ -32,8 +32,7 @@ pub record AddsInPlace (head : AssemblerHead) (rs : List (ℕ × ℕ)) (offset s
   pub turns : TurnsWithin (2 * binary_digits (length rs)) (length rs) counts new_counts
 
 -- a head and runs from which the front of another with the range (o, k) is taken: it ends at end, counted as the runs
--- are, with
--- the first of them; end is 0 if there is none
+-- are, with the first of them; end is 0 if there is none
 pub record FrontEnds (head : AssemblerHead) (rs : List (ℕ × ℕ)) (offset size : ℕ) (new_head : AssemblerHead)
     (new_rs : List (ℕ × ℕ)) (end : ℕ) : Type 0 where
   pub sound : HasSoundRuns new_head new_rs

@@ -44,8 +44,7 @@ pub use turns::Turns;
 pub struct Assembler<const N: usize> {
     // Invariant: the first `head.used` runs rise, with a hole between neighbours. They are counted from
     // where the first of them starts, so that it starts at 0; that position is `head.first_start`. Each
-    // end is a `usize` also where it is counted from position 0. If there is no run, the head is 0 in both
-    // numbers.
+    // end is a `usize` also where it is counted from position 0.
     // The head precedes the runs: so close to the value's beginning, its numbers are read by short
     // instructions.
     head: AssemblerHead,
@@ -62,12 +61,11 @@ impl<const N: usize> Model for Assembler<N> {
     ghost coded = { set.code coded_ℕ };
 
     ghost use Rattle.std.specs.Prelude.{◌≡◌, length};
-    ghost use Rattle.net_assembler.specs.RunLists.{set_of, HasSoundRuns, IsCanonical};
+    ghost use Rattle.net_assembler.specs.RunLists.{set_of, HasSoundRuns};
 
     ghost view = { λ a. set_of a.head a.runs };
 
-    ghost invariant = { λ a.
-        HasSoundRuns a.head a.runs × (length a.runs ≡ N) × IsCanonical a.head };
+    ghost invariant = { λ a. HasSoundRuns a.head a.runs × (length a.runs ≡ N) };
 }
 
 impl<const N: usize> Assembler<N> {
@@ -89,56 +87,13 @@ impl<const N: usize> Assembler<N> {
     #[must_use]
     pub const fn empty() -> Self
         requires { 1 ≤ N }
-        ensures empty { result ≡ nothing }
-        ensures no_run { runs result ≡ 0 }
-        ensures bound { runs result ≤ N }
+        ensures { result ≡ nothing }
     {
         prove!(N >= 1, "N is at least 1");
         Assembler {
             head: AssemblerHead::new(),
             runs: [Run { start: 0, end: 0 }; N],
         }
-    }
-
-    /// Returns the assembler that a head and runs represent. smoltcp has no such call.
-    ///
-    /// # Requires
-    ///
-    /// The head is sound with the runs, as `AssemblerHead::is_sound` tests.
-    pub fn from_parts(head: AssemblerHead, runs: [Run; N]) -> Self
-        requires { HasSoundRuns head runs }
-        ensures set { result ≡ set_of head runs.entry }
-        ensures bound { run_count result ≤ N }
-    {
-        // Without runs `first_start` can be any number, and in an assembler it is 0.
-        if head.used == 0 {
-            return Assembler {
-                head: AssemblerHead::new(),
-                runs,
-            };
-        }
-        Assembler { head, runs }
-    }
-
-    /// Returns the head and the runs, which represent the set. smoltcp has no such call.
-    pub fn into_parts(self) -> (AssemblerHead, [Run; N])
-        ensures sound { HasSoundRuns result.0 result.1 }
-        ensures set { set_of result.0 result.1 ≡ self.entry }
-        ensures length { length result.1 ≡ N }
-        ensures canonical { IsCanonical result.0 }
-    {
-        let Assembler { head, runs } = self;
-        (head, runs)
-    }
-
-    /// Returns what `into_parts` does, with the runs as a slice. smoltcp has no such call.
-    pub fn parts(&self) -> (AssemblerHead, &[Run])
-        ensures sound { HasSoundRuns result.0 result.1.now }
-        ensures set { set_of result.0 result.1.now ≡ self.now }
-        ensures length { length result.1.now ≡ N }
-        ensures canonical { IsCanonical result.0 }
-    {
-        (self.head, &self.runs)
     }
 
     /// Removes every position.
@@ -152,7 +107,6 @@ impl<const N: usize> Assembler<N> {
     /// ```
     pub fn clear(&mut self)
         ensures empty { self.new ≡ nothing }
-        ensures no_run { runs self.new ≡ 0 }
         ensures bound { runs self.new ≤ N }
     {
         self.head.clear();
@@ -280,8 +234,6 @@ impl<const N: usize> Assembler<N> {
         ensures ok { OnOk result (self.new ≡ with_range self.old offset size) }
         ensures unchanged { OnErr result (self.new ≡ self.old) }
         ensures refused { IsErr result ↔ MakesTooManyRuns N self.old offset size }
-        ensures accepted { runs self.old < N → IsOk result }
-        ensures more { runs self.new ≤ runs self.old + 1 }
         ensures bound { runs self.new ≤ N }
         ensures turns { turns.new.0 + turns.new.1 ≤ turns.old.0 + turns.old.1 + 4 * N }
         ensures looks { turns.new.0 ≤ turns.old.0 + 2 * binary_digits N }
@@ -314,7 +266,6 @@ impl<const N: usize> Assembler<N> {
         // Guarantee.
         ensures length { result ≡ front self.old }
         ensures rest { self.new ≡ shift_down self.old (front self.old) }
-        ensures unchanged { result ≡ 0 → self.new ≡ self.old }
         // Guarantee.
         ensures fewer { 0 < result → runs self.new + 1 ≡ runs self.old }
         // Guarantee.
@@ -431,7 +382,6 @@ impl<const N: usize> Assembler<N> {
     #[must_use]
     pub fn run_at(&self, k: usize) -> Option<(usize, usize)>
         ensures run { result ≡ slice_get (maximal_runs self.now) k }
-        ensures some { IfSome result (λ r. r.0 < r.1) }
     {
         self.head.run_at(&self.runs, k)
     }
@@ -474,7 +424,6 @@ impl<const N: usize> Assembler<N> {
     #[must_use]
     pub fn hole_at(&self, k: usize) -> Option<(usize, usize)>
         ensures hole { result ≡ slice_get (holes self.now) k }
-        ensures some { IfSome result (λ h. h.0 < h.1) }
     {
         self.head.hole_at(&self.runs, k)
     }

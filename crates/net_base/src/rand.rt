@@ -113,7 +113,6 @@ impl Rand {
         // Guarantee.
         ensures value { result ≡ random_word self.new * bound / 2 ^ 32 }
         ensures below { 0 < bound → result < bound }
-        ensures none { bound ≡ 0 → result ≡ 0 }
     {
         let word = u64::from(self.rand_u32());
         (word * u64::from(bound) >> 32) as u32

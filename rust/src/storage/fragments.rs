@@ -11,7 +11,17 @@ pub mod table;
 
 pub use head::FragmentsHead;
 
-/// Why a fragment or a size is refused.
+/// Why a fragment or a size is refused. Nothing changes then.
+///
+/// ```
+/// use net_base::storage::{FragmentBuffer, FragmentError};
+/// use net_base::time::Instant;
+///
+/// let mut bytes = [0u8; 4];
+/// let mut buffer = FragmentBuffer::new(&mut bytes[..], Instant::ZERO);
+/// assert_eq!(buffer.add(0, b"abcde"), Err(FragmentError::TooLong));
+/// assert!(buffer.is_empty());
+/// ```
 #[derive(Debug, Clone, Copy, PartialEq, Eq, Hash)]
 #[non_exhaustive]
 pub enum FragmentError {

@@ -100,8 +100,6 @@ impl AssemblerHead {
 
     /// Removes every position, so that the head is that of `new`. It need not be sound before.
     pub(crate) fn clear(&mut self)
-        ensures no_run { self.new.used ≡ 0 }
-        ensures no_start { self.new.first_start ≡ 0 }
         ensures sound { (runs : List (ℕ × ℕ)) → HasSoundRuns self.new runs }
         ensures empty { (runs : List (ℕ × ℕ)) → set_of self.new runs ≡ nothing }
     {
@@ -177,41 +175,14 @@ impl AssemblerHead {
         ensures unchanged { OnErr result ((self.new ≡ self.old) × (runs.new ≡ runs.old)) }
         ensures canonical { IsCanonical self.old → IsCanonical self.new }
     {
-        self.add_counted(runs, offset, size, &mut Turns::new())
-    }
-
-    /// Adds a range as `add` does. Contracts count each iteration of a loop, as those of
-    /// `Assembler::add_counted` say.
-    ///
-    /// # Requires
-    ///
-    /// The head is sound with the runs, as `is_sound` tests, and the range ends at a `usize`, as
-    /// `fits` tests.
-    #[inline(always)]
-    pub(crate) fn add_counted(
-        &mut self,
-        runs: &mut [Run],
-        offset: usize,
-        size: usize,
-        turns: &mut Turns,
-    ) -> Result<(), TooManyHolesError>
-        requires sound { HasSoundRuns self.old runs.old }
-        requires range { RangeFits offset size }
-        ensures sound { HasSoundRuns self.new runs.new }
-        ensures added { Adds (length runs.old) (set_of self.old runs.old) offset size
-            result (set_of self.new runs.new) }
-        ensures unchanged { OnErr result ((self.new ≡ self.old) × (runs.new ≡ runs.old)) }
-        ensures canonical { IsCanonical self.old → IsCanonical self.new }
-        ensures turns { let n = length runs.old in
-            TurnsWithin (2 * binary_digits n) n turns.old turns.new }
-    {
+        let mut turns = Turns::new();
         if self.starts_in_runs(runs, offset, size) {
-            return self.join_apart(runs, offset, size, turns);
+            return self.join_apart(runs, offset, size, &mut turns);
         }
-        self.add_last(runs, offset, size, turns)
+        self.add_last(runs, offset, size, &mut turns)
     }
 
-    /// Adds a range as `add` does, with all of the rule inlined, and counts as `add_counted` does.
+    /// Adds a range as `add` does, with all of the rule inlined, and counts as `Assembler::add_counted` does.
     #[inline(always)]
     pub(crate) fn add_inlined(
         &mut self,
@@ -539,7 +510,6 @@ impl AssemblerHead {
     pub fn hole_at(&self, runs: &[Run], k: usize) -> Option<(usize, usize)>
         requires { HasSoundRuns self.now runs.now }
         ensures hole { result ≡ slice_get (holes (set_of self.now runs.now)) k }
-        ensures some { IfSome result (λ h. h.0 < h.1) }
     {
         if self.first_start == 0 {
             return self.hole_after(runs, k);
@@ -838,7 +808,6 @@ impl AssemblerHead {
         requires { HasSoundRuns self.now runs.now }
         ensures hole { let rs = runs_of self.now runs.now in
             result ≡ slice_get (holes_before (end_at rs 0) (drop 1 rs)) k }
-        ensures some { IfSome result (λ h. h.0 < h.1) }
     {
         if self.used.saturating_sub(k) < 2 {
             return None;

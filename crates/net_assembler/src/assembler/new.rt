@@ -16,7 +16,6 @@ impl<const N: usize> Assembler<N> {
     pub const fn new() -> Self
         requires { 1 ≤ N }
         ensures empty { result ≡ nothing }
-        ensures no_run { runs result ≡ 0 }
         ensures bound { runs result ≤ N }
     {
         Self::empty()

@@ -21,7 +21,17 @@ pub mod table;
 
 pub use head::FragmentsHead;
 
-/// Why a fragment or a size is refused.
+/// Why a fragment or a size is refused. Nothing changes then.
+///
+/// ```
+/// use net_base::storage::{FragmentBuffer, FragmentError};
+/// use net_base::time::Instant;
+///
+/// let mut bytes = [0u8; 4];
+/// let mut buffer = FragmentBuffer::new(&mut bytes[..], Instant::ZERO);
+/// assert_eq!(buffer.add(0, b"abcde"), Err(FragmentError::TooLong));
+/// assert!(buffer.is_empty());
+/// ```
 #[derive(Debug, Clone, Copy, PartialEq, Eq, Hash, Drop, Error)]
 pub enum FragmentError {
     /// It reaches past the end of the buffer.
@@ -90,33 +100,6 @@ impl<B: Storage<u8>, const N: usize> FragmentsOver<B, N> {
             bytes,
             runs: [Run { start: 0, end: 0 }; N],
         }
-    }
-
-    /// Returns the buffer that a head, bytes and runs represent. smoltcp has no such call.
-    ///
-    /// # Requires
-    ///
-    /// They are sound, as `FragmentsHead::is_sound` tests.
-    pub fn from_parts(head: FragmentsHead, bytes: B, runs: [Run; N]) -> Self
-        requires { HasSoundParts head (B.elements bytes) runs }
-        ensures { result ≡ fragments_of head (B.elements bytes) runs.entry }
-    {
-        FragmentsOver {
-            head: head.exact(),
-            bytes,
-            runs,
-        }
-    }
-
-    /// Returns the head, the bytes and the runs, which represent the buffer. smoltcp has no such call.
-    pub fn into_parts(self) -> (FragmentsHead, B, [Run; N])
-        ensures sound { HasSoundParts result.0 (B.elements result.1) result.2 }
-        ensures state { fragments_of result.0 (B.elements result.1) result.2 ≡ self }
-        ensures runs { length result.2 ≡ N }
-        ensures exact { IsExact result.0 }
-    {
-        let FragmentsOver { head, bytes, runs } = self;
-        (head, bytes, runs)
     }
 
     /// Returns the bytes, as fragments were written to them. smoltcp has no such call.

@@ -127,30 +127,13 @@ impl AssemblerHead {
         offset: usize,
         size: usize,
     ) -> Result<(), TooManyHolesError> {
-        self.add_counted(runs, offset, size)
-    }
-
-    /// Adds a range as `add` does. Contracts count each iteration of a loop, as those of
-    /// `Assembler::add_counted` say.
-    ///
-    /// # Requires
-    ///
-    /// The head is sound with the runs, as `is_sound` tests, and the range ends at a `usize`, as
-    /// `fits` tests.
-    #[inline(always)]
-    pub(crate) fn add_counted(
-        &mut self,
-        runs: &mut [Run],
-        offset: usize,
-        size: usize,
-    ) -> Result<(), TooManyHolesError> {
         if self.starts_in_runs(runs, offset, size) {
             return self.join_apart(runs, offset, size);
         }
         self.add_last(runs, offset, size)
     }
 
-    /// Adds a range as `add` does, with all of the rule inlined, and counts as `add_counted` does.
+    /// Adds a range as `add` does, with all of the rule inlined, and counts as `Assembler::add_counted` does.
     #[inline(always)]
     pub(crate) fn add_inlined(
         &mut self,

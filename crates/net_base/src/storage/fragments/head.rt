@@ -104,25 +104,6 @@ impl FragmentsHead {
         }
     }
 
-    /// Returns the exact head of the same buffer.
-    pub(crate) fn exact(self) -> Self
-        ensures exact { IsExact result }
-        ensures state { (bytes : List ℕ) (runs : List (ℕ × ℕ)) →
-            fragments_of result bytes runs ≡ fragments_of self bytes runs }
-        ensures sound { (bytes : List ℕ) (runs : List (ℕ × ℕ)) → HasSoundParts self bytes runs →
-            HasSoundParts result bytes runs }
-    {
-        let mut head = FragmentsHead::new(self.expires_at);
-        if !self.present.is_empty() {
-            head.present = self.present;
-        }
-        if self.has_total != 0 {
-            head.has_total = 1;
-            head.total = self.total;
-        }
-        head
-    }
-
     /// Adds a fragment, whose first byte is that of the packet at `offset`. One without bytes has
     /// its end at `offset`, and adds nothing.
     ///

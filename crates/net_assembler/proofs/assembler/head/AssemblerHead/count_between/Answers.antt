@@ -1,4 +1,4 @@
-use Rattle.std.proofs.Common.{◌∙◌, ◌-◌, ◌≤◌, arith, refl}
+use Rattle.std.proofs.Common.{◌∙◌, ◌≤◌, arith, refl}
 use Rattle.net_assembler.specs.RunLists.{used_runs}
 use Rattle.net_assembler.proofs.Searches.{before_split, few_split, next_overlap, no_overlap, overlap, overlap_set}
 use Rattle.net_assembler.proofs.Searches.{overlap_usize}
