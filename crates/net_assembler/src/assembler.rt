@@ -13,7 +13,7 @@ ghost use Rattle.net_assembler.specs.Assembler.{MakesTooManyRuns, display_text, 
 ghost use Rattle.net_assembler.specs.Positions.{RangeFits, are_same, contains, front, holes, holes_before, maximal_runs};
 ghost use Rattle.net_assembler.specs.Positions.{nothing, positions, runs, runs as run_count, runs_shifted_up, shift_down};
 ghost use Rattle.net_assembler.specs.Positions.{with_range};
-ghost use Rattle.net_assembler.specs.RunLists.{AreRuns, FitsFrom, HasSoundRuns, IsCanonical, IsRising, set_of};
+ghost use Rattle.net_assembler.specs.RunLists.{AreRuns, FitsFrom, HasSoundRuns, IsRising, set_of};
 ghost use Rattle.net_assembler.specs.Turns.{binary_digits};
 
 mod error;
@@ -40,6 +40,15 @@ pub use turns::Turns;
 ///
 /// Positions are counted from 0. A maximal run is a range of present positions that no
 /// other present position touches. Two assemblers are equal exactly if their sets are.
+///
+/// ```
+/// use net_base::storage::Assembler;
+///
+/// let mut assembler = Assembler::<1>::empty();
+/// assert!(assembler.add(4, 2).is_ok() && assembler.add(6, 2).is_ok());
+/// assert!(assembler.add(0, 2).is_err()); // A second run.
+/// assert_eq!(assembler.add_then_remove_front(0, 4), Ok(8));
+/// ```
 #[derive(Debug, Drop)]
 pub struct Assembler<const N: usize> {
     // Invariant: the first `head.used` runs rise, with a hole between neighbours. They are counted from
@@ -143,6 +152,13 @@ impl<const N: usize> Assembler<N> {
     }
 
     /// Returns how many maximal runs there are, without a loop. smoltcp has no such call.
+    ///
+    /// ```
+    /// # use net_base::storage::Assembler;
+    /// # let mut assembler = Assembler::new();
+    /// assert_eq!((assembler.add(0, 3), assembler.add(3, 2)), (Ok(()), Ok(())));
+    /// assert_eq!(assembler.run_count(), 1);
+    /// ```
     #[must_use]
     pub fn run_count(&self) -> usize
         ensures count { result ≡ runs self.now }
@@ -153,6 +169,11 @@ impl<const N: usize> Assembler<N> {
 
     /// Returns whether `offset + size` fits `usize`, which all calls that add a range require.
     /// smoltcp has no such call; there such a sum overflows.
+    ///
+    /// ```
+    /// # use net_base::storage::Assembler;
+    /// assert!(Assembler::<4>::fits(usize::MAX, 0) && !Assembler::<4>::fits(usize::MAX, 1));
+    /// ```
     #[inline]
     #[must_use]
     pub fn fits(offset: usize, size: usize) -> bool
@@ -421,6 +442,13 @@ impl<const N: usize> Assembler<N> {
     /// Returns the hole with number `k`, counted from 0 in rising order, as (start, end), the end not
     /// included; `None` exactly if there are no more than `k`. Holes are the missing ranges below
     /// the end of the last run, such as those that a sender sends again. smoltcp has no such call.
+    ///
+    /// ```
+    /// # use net_base::storage::Assembler;
+    /// # let mut assembler = Assembler::new();
+    /// assert_eq!((assembler.add(5, 1), assembler.add(0, 2)), (Ok(()), Ok(())));
+    /// assert_eq!((assembler.hole_at(0), assembler.hole_at(1)), (Some((2, 5)), None));
+    /// ```
     #[must_use]
     pub fn hole_at(&self, k: usize) -> Option<(usize, usize)>
         ensures hole { result ≡ slice_get (holes self.now) k }
@@ -502,6 +530,14 @@ impl<const N: usize> fmt::Display for Assembler<N> {
 /// An iterator over the maximal runs of an assembler, made by `iter_data`.
 ///
 /// It yields (start, end) of each run in rising order, the end not included, and then ends.
+///
+/// ```
+/// # use net_base::storage::Assembler;
+/// # let mut assembler = Assembler::new();
+/// assert_eq!((assembler.add(5, 1), assembler.add(0, 3)), (Ok(()), Ok(())));
+/// let mut runs = assembler.iter_data();
+/// assert_eq!((runs.next(), runs.len()), (Some((0, 3)), 1));
+/// ```
 #[derive(Drop)]
 pub struct RunIter<'a> {
     rest: &'a [Run],
@@ -509,6 +545,13 @@ pub struct RunIter<'a> {
 }
 
 /// The iterator of an `Assembler<N>`, which yields at most `N` runs.
+///
+/// ```
+/// # use net_base::storage::{Assembler, IterData};
+/// # let assembler = Assembler::<4>::empty();
+/// let runs: IterData<'_, 4> = assembler.iter_data();
+/// assert_eq!(runs.len(), 0);
+/// ```
 pub type IterData<'a, const N: usize> = RunIter<'a>;
 
 impl<'a> Model for RunIter<'a> {
@@ -571,6 +614,14 @@ impl<'a> Iterator for RunIter<'a> {
 /// An iterator over the holes of an assembler, made by `holes`.
 ///
 /// It yields (start, end) of each hole in rising order, the end not included, and then ends.
+///
+/// ```
+/// # use net_base::storage::Assembler;
+/// # let mut assembler = Assembler::new();
+/// assert_eq!((assembler.add(5, 1), assembler.add(0, 3)), (Ok(()), Ok(())));
+/// let mut holes = assembler.holes();
+/// assert_eq!((holes.next(), holes.next()), (Some((3, 5)), None));
+/// ```
 #[derive(Drop)]
 pub struct HoleIter<'a> {
     // The runs that are left, and where the one before them ended.

@@ -19,7 +19,7 @@ use Rattle.net_base.specs.declared.storage.fragments.FragmentError.{FragmentErro
 use Rattle.std.specs.Str.{bytes_eq}
 use Rattle.std.proofs.lemmas.List.{length-replicate, get_or-take, get_or-drop, get_or_default}
 use Rattle.std.proofs.lemmas.Slice.Eq.{bytes_eq-Decides}
-use Rattle.net_assembler.specs.RunLists.{HasSoundRuns, SplitsRuns, set_of}
+use Rattle.net_assembler.specs.RunLists.{HasSoundRuns, set_of}
 use Rattle.net_base.specs.declared.storage.fragments.head.FragmentsHead.{FragmentsHead}
 use Rattle.net_assembler.specs.AssemblerLaws.{MembersOfNothing, MembersWithRange}
 use Rattle.std.specs.Ordering.{is_lt, int_cmp}

@@ -1,10 +1,7 @@
 -- The texts of moments and lengths of time.
-use Rattle.std.proofs.Common.{◌≡◌, ◌⊎◌, suc, ℤ, inl, inr, refl, sym, ◌∙◌, arith, List, [], ◌∷◌, Option, Some, None, ℕ}
+use Rattle.std.proofs.Common.{◌≡◌, suc, ℤ, refl, sym, ◌∙◌, arith, List, [], ◌∷◌, ℕ}
 use Rattle.std.proofs.Common.{zero, ◌-◌, ◌^◌, true, false, length, replicate, pos, negsuc, ap, append-nil}
 use Rattle.std.proofs.Common.{append_assoc, ◌++◌, subst}
-use Rattle.std.specs.Prelude.{All, Any, fold}
-use Rattle.std.proofs.lemmas.Int.{ints}
-use Rattle.std.proofs.lemmas.List.Elements.{All-nil, All-cons}
 use Rattle.net_base.specs.Time.{three_decimals}
 use Rattle.std.proofs.Math.Nat.{sub-zero, sub_self}
 use Rattle.std.proofs.lemmas.Bool.{le-ltb}

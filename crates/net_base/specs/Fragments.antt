@@ -32,10 +32,10 @@ use Rattle.std.specs.Prelude.{nat_lt, nat_le, ◌↔◌, ◌<ℤ◌, ◌≤ℤ�
 use Rattle.std.specs.Coded.{Coded, code_by, coded×, coded_ℕ, coded_ℤ, coded_list, coded_option}
 use Rattle.std.specs.declared.option.Option.TheVariants.{Some, None}
 use Rattle.net_ring.specs.Overwrite.{overwrite}
-use Rattle.net_assembler.specs.Positions.{Positions, contains, nothing, with_range, lies_in}
+use Rattle.net_assembler.specs.Positions.{Positions, contains, nothing, with_range}
 use Rattle.net_assembler.specs.RunLists.{set_of, HasSoundRuns, IsCanonical, zero_head}
 use Rattle.net_base.specs.declared.storage.fragments.head.FragmentsHead.{FragmentsHead}
-use Rattle.std.specs.List.{position, list_any}
+use Rattle.std.specs.List.{position}
 use Rattle.net_assembler.specs.Assembler.{MakesTooManyRuns}
 use Rattle.net_base.specs.declared.storage.fragments.FragmentError.{FragmentError}
 use Rattle.net_base.specs.declared.storage.fragments.table.AcceptError.{AcceptError}

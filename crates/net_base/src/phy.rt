@@ -256,6 +256,15 @@ impl DeviceCapabilities {
 /// The largest buffer, in bytes, that the device cuts into segments for each protocol pair; `None`,
 /// the default, if it cuts none. On Ethernet the 14 bytes of the Ethernet header are counted,
 /// and the frame check sequence is not.
+///
+/// ```
+/// use core::num::NonZeroUsize;
+/// use net_base::phy::SegmentationCapabilities;
+///
+/// let mut segmentation = SegmentationCapabilities::default();
+/// segmentation.tcpv4 = NonZeroUsize::new(65_549);
+/// assert!(segmentation.tcpv6.is_none());
+/// ```
 #[derive(Debug, Clone, Default, Drop)]
 pub struct SegmentationCapabilities {
     /// TCP over IPv4.

@@ -59,6 +59,14 @@ impl Rand {
     }
 
     /// Returns the state: `Rand::new` of it goes on where this generator is. smoltcp has no such call.
+    ///
+    /// ```
+    /// # use net_base::rand::Rand;
+    /// let mut rand = Rand::new(7);
+    /// let seed = rand.rand_u32();
+    /// assert_ne!(rand.state(), u64::from(seed));
+    /// assert_eq!(Rand::new(rand.state()).rand_u32(), rand.rand_u32());
+    /// ```
     #[must_use]
     pub fn state(&self) -> u64
         ensures { result ≡ self.now }

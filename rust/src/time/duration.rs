@@ -54,6 +54,11 @@ impl Duration {
     }
 
     /// Returns whether the value fits; precondition of `from_millis`.
+    ///
+    /// ```
+    /// # use net_base::time::Duration;
+    /// assert!(Duration::fits_millis(1_000) && !Duration::fits_millis(u64::MAX));
+    /// ```
     #[inline]
     #[must_use]
     pub const fn fits_millis(millis: u64) -> bool {
@@ -84,6 +89,11 @@ impl Duration {
     }
 
     /// Returns whether the value fits; precondition of `from_secs`.
+    ///
+    /// ```
+    /// # use net_base::time::Duration;
+    /// assert!(Duration::fits_secs(1_000) && !Duration::fits_secs(u64::MAX));
+    /// ```
     #[inline]
     #[must_use]
     pub const fn fits_secs(secs: u64) -> bool {
@@ -171,6 +181,11 @@ impl Duration {
     }
 
     /// Returns whether the value fits; precondition of `from_core`.
+    ///
+    /// ```
+    /// # use net_base::time::Duration;
+    /// assert!(!Duration::fits_core(core::time::Duration::MAX));
+    /// ```
     #[must_use]
     pub fn fits_core(duration: crate::rattle::std::time::Duration) -> bool {
         u64::try_from(duration.as_micros()).is_ok()
@@ -178,6 +193,12 @@ impl Duration {
 
     /// Returns the whole microseconds of a duration of the standard library; the nanoseconds beyond
     /// them are dropped.
+    ///
+    /// ```
+    /// # use net_base::time::Duration;
+    /// let duration = Duration::from_core(core::time::Duration::from_nanos(1_999));
+    /// assert_eq!(duration, Duration::from_micros(1));
+    /// ```
     ///
     /// # Panics
     ///
@@ -195,6 +216,11 @@ impl Duration {
     }
 
     /// Returns whether the sum fits; precondition of `+` and `+=`.
+    ///
+    /// ```
+    /// # use net_base::time::Duration;
+    /// assert!(!Duration::MAX.can_add(Duration::from_micros(1)));
+    /// ```
     #[inline]
     #[must_use]
     pub fn can_add(&self, duration: Duration) -> bool {
@@ -202,6 +228,12 @@ impl Duration {
     }
 
     /// Returns whether the difference isn't below 0; precondition of `-` and `-=`.
+    ///
+    /// ```
+    /// # use net_base::time::Duration;
+    /// let short = Duration::from_millis(1);
+    /// assert!(short.can_sub(short) && !short.can_sub(Duration::from_millis(2)));
+    /// ```
     #[inline]
     #[must_use]
     pub fn can_sub(&self, duration: Duration) -> bool {
@@ -209,6 +241,11 @@ impl Duration {
     }
 
     /// Returns whether the product fits; precondition of `*` and `*=`.
+    ///
+    /// ```
+    /// # use net_base::time::Duration;
+    /// assert!(Duration::MAX.can_mul(1) && !Duration::MAX.can_mul(2));
+    /// ```
     #[inline]
     #[must_use]
     pub fn can_mul(&self, factor: u32) -> bool {

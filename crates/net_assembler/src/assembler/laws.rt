@@ -5,17 +5,15 @@
 //! body that meets the contracts.
 #![tactic(auto, using(crate::proofs::Calls::laws))]
 
-ghost use Rattle.std.specs.Prelude.{◌≡◌, ◌↔◌, ℕ, ◌+◌, ◌-◌, ◌<◌, ◌≤◌, ◌^◌, ◌&&◌, Bool, List, length, drop, nat_le};
-ghost use Rattle.std.specs.Prelude.{nat_eq, Option, Some, None, Result, Ok, IsTrue, IsOk, IsErr, OnOk, OnErr};
-ghost use Rattle.std.specs.List.{list_any, slice_get};
+ghost use Rattle.std.specs.Prelude.{◌≡◌, ◌↔◌, ℕ, ◌+◌, ◌<◌, ◌≤◌, ◌^◌, Bool, List, length, drop};
+ghost use Rattle.std.specs.Prelude.{Option, Result, Ok, IsTrue, IsOk, IsErr, OnOk, OnErr};
 ghost use Rattle.net_assembler.specs.declared.assembler.error.TooManyHolesError.{TooManyHolesError};
 ghost use Rattle.net_assembler.specs.Assembler.{MakesTooManyRuns};
 ghost use Rattle.net_assembler.specs.AssemblerLaws.{Adds, AddsThenRemovesFront, CallsNext, Compares};
 ghost use Rattle.net_assembler.specs.AssemblerLaws.{MaximalRunsOfEverySet, MembersOfNothing};
 ghost use Rattle.net_assembler.specs.AssemblerLaws.{MembersWithRange, RemovesFront, results_of_next};
-ghost use Rattle.net_assembler.specs.Positions.{AreMaximalRuns, IsFirstMissing, IsMaximalRun, Positions, contains};
-ghost use Rattle.net_assembler.specs.Positions.{first_missing, front, maximal_runs, nothing, runs, runs_shifted_up};
-ghost use Rattle.net_assembler.specs.Positions.{set_of_list, shift_down, shift_up, with_range};
+ghost use Rattle.net_assembler.specs.Positions.{AreMaximalRuns, IsFirstMissing, Positions, contains, first_missing};
+ghost use Rattle.net_assembler.specs.Positions.{front, maximal_runs, nothing, runs, shift_down, with_range};
 ghost use Rattle.net_assembler.specs.RunLists.{HasSoundRuns, IsCanonical, set_of, zero_head};
 ghost use Rattle.net_assembler.specs.Turns.{binary_digits};
 

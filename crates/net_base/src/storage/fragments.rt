@@ -68,6 +68,18 @@ pub struct FragmentsOver<B: Storage<u8>, const N: usize> {
 
 /// A packet that arrives in fragments, in any order, as those of IPv4 do, over lent or owned bytes. Its
 /// calls are those of [`FragmentsOver`].
+///
+/// ```
+/// use net_base::storage::{FragmentBuffer, FragmentError};
+/// use net_base::time::Instant;
+///
+/// let mut bytes = [0u8; 8];
+/// let mut buffer = FragmentBuffer::new(&mut bytes[..], Instant::from_secs(60));
+/// buffer.add_fragment(2, b"cd", true)?;
+/// buffer.add_fragment(0, b"ab", false)?;
+/// assert_eq!(buffer.assemble(), Some(&b"abcd"[..]));
+/// # Ok::<(), FragmentError>(())
+/// ```
 pub type FragmentBuffer<'a, const N: usize> = FragmentsOver<ManagedSlice<'a, u8>, N>;
 
 /// Contracts see the bytes of the storage, the set of the positions that arrived, the packet's
@@ -89,6 +101,13 @@ impl<B: Storage<u8>, const N: usize> Model for FragmentsOver<B, N> {
 impl<B: Storage<u8>, const N: usize> FragmentsOver<B, N> {
     /// Returns an empty buffer over storage of any type, which expires after `expires_at`.
     ///
+    /// ```
+    /// # use net_base::storage::FragmentsOver;
+    /// # use net_base::time::Instant;
+    /// let buffer = FragmentsOver::<_, 4>::over([0; 8], Instant::ZERO);
+    /// assert_eq!(buffer.capacity(), 8);
+    /// ```
+    ///
     /// A program in which `N` is 0 does not compile.
     pub const fn over(bytes: B, expires_at: Instant) -> Self
         requires { 1 ≤ N }
@@ -103,6 +122,14 @@ impl<B: Storage<u8>, const N: usize> FragmentsOver<B, N> {
     }
 
     /// Returns the bytes, as fragments were written to them. smoltcp has no such call.
+    ///
+    /// ```
+    /// # use net_base::storage::FragmentsOver;
+    /// # use net_base::time::Instant;
+    /// let mut buffer = FragmentsOver::<_, 4>::over([0; 3], Instant::ZERO);
+    /// assert_eq!(buffer.add(1, b"bc"), Ok(()));
+    /// assert_eq!(buffer.into_storage(), *b"\0bc");
+    /// ```
     pub fn into_storage(self) -> B
         ensures { B.elements result ≡ self.bytes }
     {
@@ -296,6 +323,17 @@ impl<B: Storage<u8>, const N: usize> FragmentsOver<B, N> {
     }
 
     /// Returns the packet's size, once it is known. smoltcp has no such call.
+    ///
+    /// ```
+    /// # use net_base::storage::{FragmentBuffer, FragmentError};
+    /// # use net_base::time::Instant;
+    /// # let mut bytes = [0u8; 8];
+    /// # let mut buffer = FragmentBuffer::new(&mut bytes[..], Instant::ZERO);
+    /// assert_eq!(buffer.total_size(), None);
+    /// buffer.add_fragment(3, b"de", true)?;
+    /// assert_eq!(buffer.total_size(), Some(5));
+    /// # Ok::<(), FragmentError>(())
+    /// ```
     #[must_use]
     pub fn total_size(&self) -> Option<usize>
         ensures size { result ≡ self.now.total }
@@ -310,6 +348,16 @@ impl<B: Storage<u8>, const N: usize> FragmentsOver<B, N> {
     ///
     /// It is asked before `add`, by callers who refuse a packet whose fragments overlap (RFC 5722). A
     /// fragment that arrives twice overlaps too: to allow that, ask `differs`. smoltcp has no such call.
+    ///
+    /// ```
+    /// # use net_base::storage::{FragmentBuffer, FragmentError};
+    /// # use net_base::time::Instant;
+    /// # let mut bytes = [0u8; 8];
+    /// # let mut buffer = FragmentBuffer::new(&mut bytes[..], Instant::ZERO);
+    /// buffer.add(2, b"cd")?;
+    /// assert!(buffer.overlaps(0, 3) && !buffer.overlaps(0, 2) && !buffer.overlaps(2, 0));
+    /// # Ok::<(), FragmentError>(())
+    /// ```
     #[must_use]
     pub fn overlaps(&self, offset: usize, len: usize) -> bool
         ensures { IsTrue result ↔ Meets self.now.present offset len }

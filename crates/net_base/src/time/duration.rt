@@ -71,6 +71,11 @@ impl Duration {
     }
 
     /// Returns whether the value fits; precondition of `from_millis`.
+    ///
+    /// ```
+    /// # use net_base::time::Duration;
+    /// assert!(Duration::fits_millis(1_000) && !Duration::fits_millis(u64::MAX));
+    /// ```
     #[inline]
     #[must_use]
     pub const fn fits_millis(millis: u64) -> bool
@@ -106,6 +111,11 @@ impl Duration {
     }
 
     /// Returns whether the value fits; precondition of `from_secs`.
+    ///
+    /// ```
+    /// # use net_base::time::Duration;
+    /// assert!(Duration::fits_secs(1_000) && !Duration::fits_secs(u64::MAX));
+    /// ```
     #[inline]
     #[must_use]
     pub const fn fits_secs(secs: u64) -> bool
@@ -208,6 +218,11 @@ impl Duration {
     }
 
     /// Returns whether the value fits; precondition of `from_core`.
+    ///
+    /// ```
+    /// # use net_base::time::Duration;
+    /// assert!(!Duration::fits_core(core::time::Duration::MAX));
+    /// ```
     #[must_use]
     pub fn fits_core(duration: std::time::Duration) -> bool
         ensures { IsTrue result ↔ IsLength (as_nanos duration / 1_000) }
@@ -217,6 +232,12 @@ impl Duration {
 
     /// Returns the whole microseconds of a duration of the standard library; the nanoseconds beyond
     /// them are dropped.
+    ///
+    /// ```
+    /// # use net_base::time::Duration;
+    /// let duration = Duration::from_core(core::time::Duration::from_nanos(1_999));
+    /// assert_eq!(duration, Duration::from_micros(1));
+    /// ```
     ///
     /// # Requires
     ///
@@ -237,6 +258,11 @@ impl Duration {
     }
 
     /// Returns whether the sum fits; precondition of `+` and `+=`.
+    ///
+    /// ```
+    /// # use net_base::time::Duration;
+    /// assert!(!Duration::MAX.can_add(Duration::from_micros(1)));
+    /// ```
     #[inline]
     #[must_use]
     pub fn can_add(&self, duration: Duration) -> bool
@@ -246,6 +272,12 @@ impl Duration {
     }
 
     /// Returns whether the difference isn't below 0; precondition of `-` and `-=`.
+    ///
+    /// ```
+    /// # use net_base::time::Duration;
+    /// let short = Duration::from_millis(1);
+    /// assert!(short.can_sub(short) && !short.can_sub(Duration::from_millis(2)));
+    /// ```
     #[inline]
     #[must_use]
     pub fn can_sub(&self, duration: Duration) -> bool
@@ -255,6 +287,11 @@ impl Duration {
     }
 
     /// Returns whether the product fits; precondition of `*` and `*=`.
+    ///
+    /// ```
+    /// # use net_base::time::Duration;
+    /// assert!(Duration::MAX.can_mul(1) && !Duration::MAX.can_mul(2));
+    /// ```
     #[inline]
     #[must_use]
     pub fn can_mul(&self, factor: u32) -> bool

@@ -66,6 +66,11 @@ impl Instant {
     }
 
     /// Returns whether the value fits; precondition of `from_millis`.
+    ///
+    /// ```
+    /// # use net_base::time::Instant;
+    /// assert!(Instant::fits_millis(-5) && !Instant::fits_millis(i64::MIN));
+    /// ```
     #[inline]
     #[must_use]
     pub const fn fits_millis(millis: i64) -> bool
@@ -102,6 +107,11 @@ impl Instant {
     }
 
     /// Returns whether the value fits; precondition of `from_secs`.
+    ///
+    /// ```
+    /// # use net_base::time::Instant;
+    /// assert!(Instant::fits_secs(-5) && !Instant::fits_secs(i64::MIN));
+    /// ```
     #[inline]
     #[must_use]
     pub const fn fits_secs(secs: i64) -> bool
@@ -205,6 +215,12 @@ impl Instant {
     }
 
     /// Returns whether the sum fits: whether `+` and `+=` don't saturate.
+    ///
+    /// ```
+    /// # use net_base::time::{Duration, Instant};
+    /// let (last, short) = (Instant::from_micros(i64::MAX), Duration::from_micros(1));
+    /// assert!(!last.can_add(short) && last + short == last);
+    /// ```
     #[inline]
     #[must_use]
     pub fn can_add(&self, duration: Duration) -> bool
@@ -214,6 +230,12 @@ impl Instant {
     }
 
     /// Returns whether the difference fits: whether `-` and `-=` don't saturate.
+    ///
+    /// ```
+    /// # use net_base::time::{Duration, Instant};
+    /// let (first, short) = (Instant::from_micros(i64::MIN), Duration::from_micros(1));
+    /// assert!(!first.can_sub(short) && first - short == first);
+    /// ```
     #[inline]
     #[must_use]
     pub fn can_sub(&self, duration: Duration) -> bool

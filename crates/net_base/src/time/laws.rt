@@ -1,6 +1,6 @@
 //! Laws of all moments and lengths, and of the constants. No function here changes anything.
 
-ghost use Rattle.std.specs.Prelude.{◌≡◌, ◌-◌, ◌^◌, ◌<◌, ◌<ℤ◌, pos, Some, ℕ, ℤ, List, Option};
+ghost use Rattle.std.specs.Prelude.{◌≡◌, ◌-◌, ◌^◌, ◌<◌, ◌<ℤ◌, pos, Some, ℕ, ℤ};
 ghost use Rattle.std.specs.Ordering.{MatchOrdering};
 ghost use Rattle.net_base.specs.Time.{distance, moment_text, length_text};
 ghost use Rattle.std.specs.Fmt.{format_spec};

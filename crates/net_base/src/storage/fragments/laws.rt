@@ -1,16 +1,11 @@
 //! Laws of packets that arrive in fragments. No function here does anything.
 #![tactic(auto, using(crate::proofs::FragmentFacts::laws))]
 
-ghost use Rattle.std.specs.Prelude.{◌≡◌, ◌↔◌, ◌+◌, ◌<◌, ◌≤◌, ◌⊎◌, ℕ, ℤ, IsTrue, IsErr, List, Result, length};
-ghost use Rattle.std.specs.Prelude.{slice_index_or, false};
-ghost use Rattle.net_assembler.specs.Assembler.{MakesTooManyRuns};
+ghost use Rattle.std.specs.Prelude.{◌≡◌, ◌<◌, ℕ, IsTrue, List, length, slice_index_or};
 ghost use Rattle.net_assembler.specs.Positions.{contains, nothing};
-ghost use Rattle.net_assembler.specs.RunLists.{set_of};
-ghost use Rattle.net_base.specs.Fragments.{FragmentsState, after_fragments, last_byte, HasSoundParts, IsExact};
-ghost use Rattle.net_base.specs.Fragments.{total_of, zero_fragments, limit_of, Adds};
+ghost use Rattle.net_base.specs.Fragments.{FragmentsState, after_fragments, last_byte};
 ghost use Rattle.net_base.specs.declared.storage.fragments.FragmentError.{FragmentError};
 ghost use Rattle.net_base.specs.Values.{ClonesAreSame, ComparesValues};
-ghost use Rattle.std.specs.declared.option.Option.TheVariants.{None};
 
 use super::FragmentError;
 use net_assembler::assembler;

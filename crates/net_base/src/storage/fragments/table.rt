@@ -24,11 +24,11 @@
 //! ```
 #![tactic(auto, using(crate::proofs::FragmentFacts::slots))]
 
-ghost use Rattle.std.specs.Prelude.{◌≡◌, ◌↔◌, ◌<◌, ◌≤◌, ◌<ℤ◌, ℕ, length, set, is_none, slice_get, pos, [], IsErr};
-ghost use Rattle.std.specs.Prelude.{IsNone, IfOk, IfSome, OnErr, OnOk, Ok, Err, ◌≢◌};
+ghost use Rattle.std.specs.Prelude.{◌≡◌, ◌↔◌, ◌<◌, ◌≤◌, ◌<ℤ◌, ℕ, length, set, is_none, slice_get, pos, []};
+ghost use Rattle.std.specs.Prelude.{IsNone, IfSome, OnErr, OnOk, Ok, Err, ◌≢◌};
 ghost use Rattle.std.specs.declared.option.Option.TheVariants.{Some, None};
 ghost use Rattle.std.specs.List.{position, AllZip};
-ghost use Rattle.net_base.specs.Fragments.{IsComplete, begun, empty, is_for, ExpiresFirst, IsSlotFor, Accepts};
+ghost use Rattle.net_base.specs.Fragments.{IsComplete, empty, is_for, ExpiresFirst, IsSlotFor, Accepts};
 ghost use Rattle.net_base.specs.Fragments.{buffer_for, key_for, refusal_of};
 
 use super::{FragmentError, FragmentsOver};
@@ -37,6 +37,15 @@ use net_ring::Storage;
 use thiserror::Error;
 
 /// Why a fragment is refused. Nothing changes then.
+///
+/// ```
+/// use net_base::storage::fragment_table::{accept, AcceptError, FragmentSlot};
+/// use net_base::time::Instant;
+///
+/// let mut slots = [FragmentSlot::<u16, _, 4>::over([0; 8])];
+/// let refused = accept(&mut slots, 7, 6, b"abc", true, Instant::ZERO);
+/// assert_eq!((refused, slots[0].key), (Err(AcceptError::TooLong), None));
+/// ```
 #[derive(Debug, Clone, Copy, PartialEq, Eq, Hash, Drop, Error)]
 pub enum AcceptError {
     /// It has no bytes.
@@ -71,6 +80,13 @@ fn refusal(error: FragmentError) -> AcceptError
 }
 
 /// A buffer of fragments, and the key of the packet that it is for, if it is for one.
+///
+/// ```
+/// use net_base::storage::fragment_table::FragmentSlot;
+///
+/// let slots = [(); 2].map(|()| FragmentSlot::<u16, _, 8>::over([0; 1_500]));
+/// assert!(slots.iter().all(|slot| slot.key.is_none()));
+/// ```
 #[derive(Drop)]
 pub struct FragmentSlot<K, B: Storage<u8>, const N: usize> {
     /// The key of the packet, such as its source, destination, protocol and identification.
@@ -81,6 +97,12 @@ pub struct FragmentSlot<K, B: Storage<u8>, const N: usize> {
 
 impl<K: Copy + Eq, B: Storage<u8>, const N: usize> FragmentSlot<K, B, N> {
     /// Returns a free slot over the bytes, whose buffer is empty and expires after the origin.
+    ///
+    /// ```
+    /// # use net_base::storage::fragment_table::FragmentSlot;
+    /// let slot = FragmentSlot::<u16, _, 4>::over([0; 8]);
+    /// assert!(slot.key.is_none() && slot.buffer.is_empty());
+    /// ```
     ///
     /// A program in which `N` is 0 does not compile.
     pub const fn over(bytes: B) -> Self
@@ -197,6 +219,19 @@ fn find_free<K: Copy + Eq, B: Storage<u8>, const N: usize>(
 /// one that has the same bytes there, as a copy has, is taken. RFC 5722 gives up a packet whose fragments
 /// overlap. Here it isn't given up, since who knows the key of a packet could then end it by one fragment.
 ///
+/// ```
+/// # use net_base::storage::fragment_table::{accept, AcceptError, FragmentSlot};
+/// # use net_base::time::Instant;
+/// # let mut slots = [FragmentSlot::<u16, _, 4>::over([0; 8])];
+/// let until = Instant::from_secs(60);
+/// assert_eq!(accept(&mut slots, 7, 0, b"ab", false, until), Ok(0));
+/// let other = accept(&mut slots, 7, 1, b"x", true, until);
+/// assert_eq!(other, Err(AcceptError::OtherBytes));
+/// // No slot is free: packet 7 is given up for packet 8.
+/// assert_eq!(accept(&mut slots, 8, 0, b"xy", true, until), Ok(0));
+/// assert_eq!(slots[0].key, Some(8));
+/// ```
+///
 /// # Errors
 ///
 /// It is refused, and nothing changes, exactly if it has no bytes, or else there are no slots, or else a byte
@@ -269,6 +304,18 @@ fn first_to_expire<K: Copy + Eq, B: Storage<u8>, const N: usize>(
 
 /// Frees the slots of packets that are waited for up to a moment before `now`. Until a slot is taken again, its buffer
 /// shows what arrived.
+///
+/// ```
+/// # use net_base::storage::fragment_table::{accept, remove_expired, FragmentSlot};
+/// # use net_base::time::{Duration, Instant};
+/// # let mut slots = [FragmentSlot::<u16, _, 4>::over([0; 8])];
+/// let until = Instant::from_secs(60);
+/// assert_eq!(accept(&mut slots, 7, 0, b"ab", false, until), Ok(0));
+/// remove_expired(&mut slots, until);
+/// assert_eq!(slots[0].key, Some(7));
+/// remove_expired(&mut slots, until + Duration::from_micros(1));
+/// assert_eq!(slots[0].key, None);
+/// ```
 pub fn remove_expired<K: Copy + Eq, B: Storage<u8>, const N: usize>(
     slots: &mut [FragmentSlot<K, B, N>],
     now: Instant,
@@ -286,6 +333,15 @@ pub fn remove_expired<K: Copy + Eq, B: Storage<u8>, const N: usize>(
 /// taken again, `assemble` of its buffer shows the packet. So a packet is handed out once.
 ///
 /// `None`, and nothing changes, exactly if no slot is for the packet, or a byte of it is missing.
+///
+/// ```
+/// # use net_base::storage::fragment_table::{accept, take_complete, FragmentSlot};
+/// # use net_base::time::Instant;
+/// # let mut slots = [FragmentSlot::<u16, _, 4>::over([0; 8])];
+/// assert_eq!(accept(&mut slots, 7, 0, b"ab", true, Instant::ZERO), Ok(0));
+/// assert_eq!((take_complete(&mut slots, 7), take_complete(&mut slots, 7)), (Some(0), None));
+/// assert_eq!(slots[0].buffer.assemble(), Some(&b"ab"[..]));
+/// ```
 #[must_use]
 pub fn take_complete<K: Copy + Eq, B: Storage<u8>, const N: usize>(
     slots: &mut [FragmentSlot<K, B, N>],
