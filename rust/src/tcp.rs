@@ -4,7 +4,7 @@
 //!
 //! ```
 //! use net_base::tcp::{checksum, classify, is_valid, AdvertisedWindow, Announcement, Arrival, Expiry, PeerWindow};
-//! use net_base::tcp::{RetransmissionTimeout, RetransmissionTimer, Segment, SentNumbers, TimeoutBounds};
+//! use net_base::tcp::{RetransmissionTimeout, RetransmissionTimer, Sack, Segment, SentNumbers, TimeoutBounds};
 //! use net_base::tcp::Transmission;
 //! use net_base::time::{Duration, Instant};
 //!
@@ -41,7 +41,7 @@
 //! // Three segments are sent at 0 to a peer that reports blocks, one is acknowledged after 100 ms, and the others
 //! // aren't in time: a probe is due after two more round trips, and the timeout passes when it would have passed
 //! // without it.
-//! let mut timer = RetransmissionTimer::new(Duration::from_secs(1), true);
+//! let mut timer = RetransmissionTimer::new(Duration::from_secs(1), Sack::Permitted);
 //! for (from, to) in [(0, 10), (10, 20), (20, 30)] {
 //!     timer.sent(bounds, from..to, SentNumbers { first_unacknowledged: 0, sent: from }, Instant::ZERO);
 //! }
@@ -69,6 +69,7 @@ erased! {
     pub(crate) mod reported;
     pub(crate) mod retransmission;
     pub(crate) mod retransmission_timer;
+    pub(crate) mod sack;
 }
 
 pub use advertised_window::{scale_for, AdvertisedWindow, MAX_SCALE};
@@ -82,6 +83,7 @@ pub use peer_window::{scaled, Announcement, PeerWindow};
 pub use reported::Reported;
 pub use retransmission::{RetransmissionTimeout, RttEstimate, TimeoutBounds, Transmission};
 pub use retransmission_timer::{Expiry, RetransmissionTimer, TimedSegment};
+pub use sack::Sack;
 
 pub(crate) use reported::LentScoreboard;
 
@@ -126,7 +128,7 @@ impl Default for RetransmissionTimeout {
 /// due.
 impl Default for RetransmissionTimer {
     fn default() -> Self {
-        RetransmissionTimer::new(Duration::from_secs(1), false)
+        RetransmissionTimer::new(Duration::from_secs(1), Sack::Absent)
     }
 }
 

@@ -12,7 +12,7 @@ use net_base::storage::FragmentBuffer;
 use net_base::tcp::{
     checksum, classify, is_acceptable, is_acknowledgement, is_valid, scaled, updated_checksum,
     AdvertisedWindow, Announcement, Answer, Expiry, LossRecovery, PartsSum, PeerWindow,
-    RetransmissionTimer, Segment, TimeoutBounds, Transmission,
+    RetransmissionTimer, Sack, Segment, TimeoutBounds, Transmission,
 };
 use net_base::time::{Duration, Instant};
 
@@ -145,7 +145,7 @@ fn windows_and_timers() {
     let mut draw = Draw(0x94d0_49bb_1331_11eb, 0);
     let (mut peer, mut advertised) = (PeerWindow::new(), AdvertisedWindow::new(0));
     let (mut timer, mut sum) =
-        (RetransmissionTimer::new(Duration::from_secs(1), true), PartsSum::new());
+        (RetransmissionTimer::new(Duration::from_secs(1), Sack::Permitted), PartsSum::new());
     let bounds = TimeoutBounds::default();
     for _ in 0..calls() {
         let [first_unacknowledged, sent, seq, ack, window, len] = draw.numbers();
@@ -437,9 +437,9 @@ fn recovery() {
             5 => recovery.probed(numbers, start..end),
             6 => recovery.duplicated(numbers),
             7 => {
-                let reports = draw.below(2) == 0;
-                recovery.expect_reports(reports);
-                assert!(recovery.is_blind() != reports);
+                let sack = if draw.below(2) == 0 { Sack::Permitted } else { Sack::Absent };
+                recovery.expect_reports(sack);
+                assert_eq!(recovery.is_blind(), sack == Sack::Absent);
             }
             8 => {
                 let _begins = recovery.lose_dropped(numbers, &board);
@@ -447,11 +447,11 @@ fn recovery() {
             9 => {
                 let _begins = recovery.find_overdue(numbers, &board);
                 let probe = recovery.next_probe(numbers, &board, end, size);
-                assert!(probe.is_none_or(|(from, to)| from < to && to <= sent.max(end)));
+                assert!(probe.is_none_or(|it| !it.is_empty() && it.end <= sent.max(end)));
             }
             _ => {
                 let next = recovery.next_segment(numbers, &board, start, end, size);
-                assert!(next.is_none_or(|(from, to)| from < to && to <= start));
+                assert!(next.is_none_or(|it| !it.is_empty() && it.end <= start));
             }
         }
     }

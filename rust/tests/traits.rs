@@ -18,7 +18,7 @@ use net_base::storage::{
 };
 use net_base::tcp::{
     AdvertisedWindow, Announcement, Answer, LossRecovery, PartsSum, PeerWindow, Reported,
-    RetransmissionTimeout, RetransmissionTimer, RttEstimate, SentNumbers, TimeoutBounds,
+    RetransmissionTimeout, RetransmissionTimer, RttEstimate, Sack, SentNumbers, TimeoutBounds,
     Transmission,
 };
 use net_base::time::{Duration, Instant};
@@ -182,7 +182,7 @@ fn machines() {
     assert_eq!(timeout, RetransmissionTimeout::default());
     assert_eq!(
         RetransmissionTimer::default(),
-        RetransmissionTimer::new(Duration::from_secs(1), false)
+        RetransmissionTimer::new(Duration::from_secs(1), Sack::Absent)
     );
 }
 
@@ -227,15 +227,15 @@ fn recovery_over_a_record_of_the_callers() {
     let answer = Answer { first: 0, unsent: 0, reports: true, is_equal: true };
     let mut recovery = LossRecovery::new();
     assert!(recovery.find_losses(numbers, &record, 10, answer));
-    assert_eq!(recovery.next_segment(numbers, &record, 60, 100, 10), Some((0, 10)));
+    assert_eq!(recovery.next_segment(numbers, &record, 60, 100, 10), Some(0..10));
     recovery.sent(numbers, 0..10);
-    assert_eq!(recovery.next_segment(numbers, &record, 60, 100, 10), Some((10, 20)));
+    assert_eq!(recovery.next_segment(numbers, &record, 60, 100, 10), Some(10..20));
 }
 
 /// None is after the last one; and what a timer or a recovery is made of makes the same.
 #[test]
 fn moments_of_timers() {
-    let mut timer = RetransmissionTimer::new(Duration::from_micros(7), true);
+    let mut timer = RetransmissionTimer::new(Duration::from_micros(7), Sack::Permitted);
     assert_eq!((timer.expires_at(), timer.timeout()), (None, Duration::from_micros(7)));
     timer.start(Instant::from_micros(-5));
     assert_eq!(timer.expires_at(), Some(Instant::from_micros(2)));
@@ -245,7 +245,7 @@ fn moments_of_timers() {
     let timeout = RetransmissionTimeout::from_parts(timer.rtt(), timer.timeout());
     assert_eq!(timeout.timeout(), Duration::from_micros(7));
     let estimate = RttEstimate::from_scaled(u64::MAX, u64::MAX);
-    assert_eq!(estimate.scaled(), (1 << 63, 1 << 62));
+    assert_eq!((estimate.srtt_8(), estimate.rttvar_4()), (1 << 63, 1 << 62));
 }
 
 #[test]

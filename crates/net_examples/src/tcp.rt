@@ -8,7 +8,8 @@ use net_base::time::{Duration, Instant};
 use net_receiver::SentNumbers;
 use net_tcp::{
     AdvertisedWindow, Announcement, Expiry, PartsSum, PeerWindow, RetransmissionTimeout,
-    RetransmissionTimer, TimeoutBounds, checksum, is_acceptable, laws, scale_for, updated_checksum,
+    RetransmissionTimer, Sack, TimeoutBounds, checksum, is_acceptable, laws, scale_for,
+    updated_checksum,
 };
 
 /// Returns whether a segment is acceptable: each that RFC 9293's table accepts is.
@@ -81,7 +82,7 @@ pub fn look_at_new(
     ensures { result ≡ Some Probe → ⊥ }
 {
     laws::timers();
-    let mut timer = RetransmissionTimer::new(timeout, false);
+    let mut timer = RetransmissionTimer::new(timeout, Sack::Absent);
     timer.start(begun);
     timer.expire(bounds, now)
 }

@@ -16,6 +16,7 @@ pub mod peer_window;
 pub mod reported;
 pub mod retransmission;
 pub mod retransmission_timer;
+pub mod sack;
 
 pub use advertised_window::{AdvertisedWindow, MAX_SCALE, scale_for};
 pub use answer_limit::AnswerLimit;
@@ -28,3 +29,4 @@ pub use peer_window::{Announcement, PeerWindow, scaled};
 pub use reported::{LentScoreboard, Reported};
 pub use retransmission::{RetransmissionTimeout, RttEstimate, TimeoutBounds, Transmission};
 pub use retransmission_timer::{Expiry, RetransmissionTimer, TimedSegment};
+pub use sack::Sack;

@@ -29,11 +29,13 @@ ghost use Rattle.net_tcp.specs.LossRecovery.{after_report, found, after_silence}
 ghost use Rattle.net_tcp.specs.LossRecovery.{after_sending, after_duplicate, was_sent_again, in_flight};
 ghost use Rattle.net_tcp.specs.LossRecovery.{unsent_lost, after_hearing, blind_lost};
 ghost use Rattle.net_tcp.specs.LossRecovery.{most_later, heard_of, after_answer, answers_copy};
-ghost use Rattle.net_tcp.specs.LossRecovery.{unsent, next_range, next_segment, resumed, gone_on, begins_at};
+ghost use Rattle.net_tcp.specs.LossRecovery.{unsent, next_range, next_segment, resumed, gone_on, begins_at, as_range};
 ghost use Rattle.net_tcp.specs.LossRecovery.{next_probe, after_copies, with_copies, is_wrong, taken_back};
 ghost use Rattle.net_tcp.specs.LossRecovery.{after_probe};
+ghost use Rattle.net_tcp.specs.Sack.{is_permitted};
 
 use crate::reported::Reported;
+use crate::sack::{Sack, is_permitted};
 use net_receiver::{SentNumbers, flag_of};
 use std::ops::Range;
 
@@ -88,15 +90,15 @@ pub struct Answer {
 /// assert!(recovery.find_losses(numbers, &scoreboard, 100, answer));
 /// // The first segment is lost. The peer's window ends at 1000, and 500 bytes may be in flight.
 /// let next = recovery.next_segment(numbers, &scoreboard, 1000, 500, 100);
-/// assert_eq!(next, Some((0, 100)));
+/// assert_eq!(next, Some(0..100));
 /// recovery.sent(numbers, 0..100);
 /// // 400 bytes are neither reported nor lost, and 100 that are lost were sent again.
 /// assert_eq!(recovery.in_flight(numbers, &scoreboard), 500);
 /// assert_eq!(recovery.next_segment(numbers, &scoreboard, 1000, 500, 100), None);
-/// assert_eq!(recovery.next_segment(numbers, &scoreboard, 1000, 600, 100), Some((800, 900)));
+/// assert_eq!(recovery.next_segment(numbers, &scoreboard, 1000, 600, 100), Some(800..900));
 /// // No answer comes: a probe asks for one, and when it is answered, the first segment is lost again.
 /// assert!(!recovery.find_overdue(numbers, &scoreboard));
-/// assert_eq!(recovery.next_probe(numbers, &scoreboard, 800, 100), Some((0, 100)));
+/// assert_eq!(recovery.next_probe(numbers, &scoreboard, 800, 100), Some(0..100));
 /// ```
 ///
 /// It is numbers alone, so that C has it as it is: a flag is not 0 where it holds, and what there may be has one beside
@@ -258,10 +260,11 @@ impl LossRecovery {
 
     /// Takes notice whether the peer reports what arrives, as its SYN says: until it does, or an equal acknowledgement
     /// reports nothing.
-    pub fn expect_reports(&mut self, reports: bool)
-        ensures { recovery_of self.new ≡ record (recovery_of self.old) { is_blind = not reports; unknown = 0 } }
+    pub fn expect_reports(&mut self, sack: Sack)
+        ensures { recovery_of self.new
+            ≡ record (recovery_of self.old) { is_blind = not (is_permitted sack); unknown = 0 } }
     {
-        self.set_blind(!reports);
+        self.set_blind(!is_permitted(sack));
         self.unknown = 0;
     }
 
@@ -617,22 +620,22 @@ impl LossRecovery {
         scoreboard: &B,
         limit: u64,
         segment_size: usize,
-    ) -> Option<(u64, u64)>
+    ) -> Option<Range<u64>>
         ensures value { (highest : ℕ) (hole : Option (ℕ × ℕ)) →
             let first = numbers.first_unacknowledged in
             IsEnd (B.set scoreboard.now) highest →
             IsHole (B.set scoreboard.now) first (min numbers.sent limit) hole →
-            result ≡ next_probe (recovery_of self.now) (max 1 segment_size) first numbers.sent limit highest
-            hole }
+            result ≡ as_range (next_probe (recovery_of self.now) (max 1 segment_size) first numbers.sent limit
+            highest hole) }
         ensures progress { numbers.first_unacknowledged < min numbers.sent limit →
             IsFalse (contains (B.set scoreboard.now) numbers.first_unacknowledged) →
             IsTrue (is_some result) }
-        ensures within { IfSome result (λ g. (g.0 < g.1) × (g.1 ≤ limit)
-            × (g.1 ≤ g.0 + max 1 segment_size)) }
-        ensures unreported { IfSome result (λ g. (p : ℕ) → g.0 ≤ p → p < g.1 → p < numbers.sent →
+        ensures within { IfSome result (λ g. (g.start < g.end) × (g.end ≤ limit)
+            × (g.end ≤ g.start + max 1 segment_size)) }
+        ensures unreported { IfSome result (λ g. (p : ℕ) → g.start ≤ p → p < g.end → p < numbers.sent →
             IsFalse (contains (B.set scoreboard.now) p)) }
         ensures after { numbers.first_unacknowledged ≤ numbers.sent →
-            IfSome result (λ g. numbers.first_unacknowledged ≤ g.0) }
+            IfSome result (λ g. numbers.first_unacknowledged ≤ g.start) }
     {
         let size = segment_size.max(1) as u64;
         let (first, sent) = (numbers.first_unacknowledged, numbers.sent);
@@ -640,15 +643,15 @@ impl LossRecovery {
         let end = sent.min(limit);
         if !self.is_active(numbers) && highest < sent {
             if sent < limit {
-                return Some((sent, limit.min(sent.saturating_add(size))));
+                return Some(sent..limit.min(sent.saturating_add(size)));
             }
             let start = first.max(highest).max(end.saturating_sub(size));
             if start < end {
-                return Some((start, end));
+                return Some(start..end);
             }
         }
         match scoreboard.next_hole(first, end) {
-            Some((start, end)) => Some((start, end.min(start.saturating_add(size)))),
+            Some((start, end)) => Some(start..end.min(start.saturating_add(size))),
             None => None,
         }
     }
@@ -743,9 +746,8 @@ impl LossRecovery {
             .saturating_sub(others)
     }
 
-    /// Returns what to send next, as a start and an end, the end not included, at most a segment. In a
-    /// recovery that is what is lost and wasn't sent again; else what was never sent. Outside of one it is what was
-    /// never sent. It is below `limit`, as `PeerWindow::send_limit` returns it. A `segment_size` of 0 counts as 1.
+    /// Returns which range to send next, at most a segment. In a recovery that is what is lost and wasn't sent again;
+    /// else what was never sent. Outside of one it is what was never sent. It is below `limit`, as `PeerWindow::send_limit` returns it. A `segment_size` of 0 counts as 1.
     ///
     /// `None` if there is nothing to send, or if with a whole segment more than `window` positions, the
     /// congestion window, would be in flight. The first unacknowledged number is sent whatever is in flight.
@@ -757,22 +759,22 @@ impl LossRecovery {
         limit: u64,
         window: u64,
         segment_size: usize,
-    ) -> Option<(u64, u64)>
+    ) -> Option<Range<u64>>
         ensures next { (lost others : Option (ℕ × ℕ)) → let first = numbers.first_unacknowledged in
             IsHole (B.set scoreboard.now) (resumed (recovery_of self.now) first)
             (min (min (recovery_of self.now).turn (recovery_of self.now).lost) limit) lost →
             IsHole (B.set scoreboard.now) (gone_on (recovery_of self.now) first)
             (min (recovery_of self.now).lost limit) others →
-            result ≡ next_segment first
+            result ≡ as_range (next_segment first
             (in_flight (recovery_of self.now) first numbers.sent (B.set scoreboard.now)) window
-            (max 1 segment_size) (next_range (recovery_of self.now) first numbers.sent limit lost others) }
+            (max 1 segment_size) (next_range (recovery_of self.now) first numbers.sent limit lost others)) }
         // Guarantee.
-        ensures within { IfSome result (λ segment. (segment.0 < segment.1) × (segment.1 ≤ limit)
-            × (segment.1 ≤ segment.0 + max 1 segment_size)) }
-        ensures room { IfSome result (λ segment. numbers.first_unacknowledged < segment.0 →
+        ensures within { IfSome result (λ segment. (segment.start < segment.end) × (segment.end ≤ limit)
+            × (segment.end ≤ segment.start + max 1 segment_size)) }
+        ensures room { IfSome result (λ segment. numbers.first_unacknowledged < segment.start →
             in_flight (recovery_of self.now) numbers.first_unacknowledged numbers.sent (B.set scoreboard.now)
-            + (segment.1 - segment.0) ≤ window) }
-        ensures once { IfSome result (λ segment. (p : ℕ) → segment.0 ≤ p → p < segment.1 →
+            + (segment.end - segment.start) ≤ window) }
+        ensures once { IfSome result (λ segment. (p : ℕ) → segment.start ≤ p → p < segment.end →
             p < numbers.sent →
             IsFalse (contains (B.set scoreboard.now) p)
             × IsFalse (was_sent_again (recovery_of self.now) numbers.first_unacknowledged p)) }
@@ -785,9 +787,9 @@ impl LossRecovery {
             IsFalse (is_active (recovery_of self.now) first) →
             first ≡ numbers.sent → first < limit → IsTrue (begins_at first result) }
         ensures after { numbers.first_unacknowledged ≤ numbers.sent →
-            IfSome result (λ segment. numbers.first_unacknowledged ≤ segment.0) }
+            IfSome result (λ segment. numbers.first_unacknowledged ≤ segment.start) }
         ensures fresh { IsFalse (is_active (recovery_of self.now) numbers.first_unacknowledged) →
-            IfSome result (λ segment. segment.0 ≡ numbers.sent) }
+            IfSome result (λ segment. segment.start ≡ numbers.sent) }
     {
         let Some((start, end)) = self.next_range(numbers, scoreboard, limit) else {
             return None;
@@ -799,7 +801,7 @@ impl LossRecovery {
                 return None;
             }
         }
-        Some((start, end.min(start.saturating_add(size))))
+        Some(start..end.min(start.saturating_add(size)))
     }
 
     /// Returns the range of which the next segment is a part.
@@ -824,10 +826,10 @@ impl LossRecovery {
             IsTrue (is_active (recovery_of self.now) first) →
             IsFalse (was_sent_again (recovery_of self.now) first first) →
             first < min (recovery_of self.now).lost limit →
-            IsFalse (contains (B.set scoreboard.now) first) → IsTrue (begins_at first result) }
+            IsFalse (contains (B.set scoreboard.now) first) → IsTrue (begins_at first (as_range result)) }
         ensures begins { let first = numbers.first_unacknowledged in
             IsFalse (is_active (recovery_of self.now) first) →
-            first ≡ numbers.sent → first < limit → IsTrue (begins_at first result) }
+            first ≡ numbers.sent → first < limit → IsTrue (begins_at first (as_range result)) }
         ensures after { numbers.first_unacknowledged ≤ numbers.sent →
             IfSome result (λ range. numbers.first_unacknowledged ≤ range.0) }
         ensures fresh { IsFalse (is_active (recovery_of self.now) numbers.first_unacknowledged) →

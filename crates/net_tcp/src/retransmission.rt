@@ -1,5 +1,5 @@
 //! The time until a retransmission.
-ghost use Rattle.std.specs.Prelude.{◌≡◌, ◌/◌, min, max};
+ghost use Rattle.std.specs.Prelude.{◌≡◌, ◌≤◌, ◌^◌, ◌/◌, min, max};
 ghost use Rattle.net_tcp.specs.Retransmission.{sample, first_estimate, next_estimate, within, timeout_of, doubled};
 ghost use Rattle.net_tcp.specs.Retransmission.{after_acknowledgement, after_sample, before_samples};
 
@@ -124,13 +124,22 @@ impl RttEstimate {
         }
     }
 
-    /// Returns eight times the smoothed time, and four times its variation, in microseconds.
+    /// Returns eight times the smoothed time, in microseconds.
     #[must_use]
-    pub fn scaled(self) -> (u64, u64)
-        ensures value { result ≡ (self.srtt_8, self.rttvar_4) }
-        ensures within { within result.0 result.1 ≡ self }
+    pub const fn srtt_8(self) -> u64
+        ensures value { result ≡ self.srtt_8 }
+        ensures small { result ≤ 2 ^ 63 }
     {
-        (self.srtt_8, self.rttvar_4)
+        self.srtt_8
+    }
+
+    /// Returns four times its variation, in microseconds.
+    #[must_use]
+    pub const fn rttvar_4(self) -> u64
+        ensures value { result ≡ self.rttvar_4 }
+        ensures small { result ≤ 2 ^ 62 }
+    {
+        self.rttvar_4
     }
 
     /// Returns the smoothed time.

@@ -13,8 +13,10 @@ ghost use Rattle.net_base.specs.Time.{moment_after};
 ghost use Rattle.net_tcp.specs.Retransmission.{IsCanonicalTimer, new_fields, timer_of, untimed, running, probed};
 ghost use Rattle.net_tcp.specs.Retransmission.{timed_out, waiting, after_news};
 ghost use Rattle.net_tcp.specs.Retransmission.{prompt_after};
+ghost use Rattle.net_tcp.specs.Sack.{is_permitted};
 
 use crate::retransmission::{RetransmissionTimeout, RttEstimate, TimeoutBounds};
+use crate::sack::{Sack, is_permitted};
 use net_base::time::{Duration, Instant};
 use net_receiver::{SentNumbers, flag_of};
 use std::ops::Range;
@@ -31,10 +33,10 @@ const PROMPT: u64 = 8;
 /// What is due where a timer has expired.
 ///
 /// ```
-/// use net_base::tcp::{Expiry, RetransmissionTimer, SentNumbers, TimeoutBounds};
+/// use net_base::tcp::{Expiry, RetransmissionTimer, Sack, SentNumbers, TimeoutBounds};
 /// use net_base::time::{Duration, Instant};
 ///
-/// let mut timer = RetransmissionTimer::new(Duration::from_secs(1), true);
+/// let mut timer = RetransmissionTimer::new(Duration::from_secs(1), Sack::Permitted);
 /// let numbers = SentNumbers { first_unacknowledged: 0, sent: 0 };
 /// timer.sent(TimeoutBounds::default(), 0..10, numbers, Instant::ZERO);
 /// // Without a sample there is no probe.
@@ -52,10 +54,10 @@ pub enum Expiry {
 /// A segment that is timed: it was sent once.
 ///
 /// ```
-/// use net_base::tcp::{RetransmissionTimer, SentNumbers, TimeoutBounds};
+/// use net_base::tcp::{RetransmissionTimer, Sack, SentNumbers, TimeoutBounds};
 /// use net_base::time::{Duration, Instant};
 ///
-/// let mut timer = RetransmissionTimer::new(Duration::from_secs(1), true);
+/// let mut timer = RetransmissionTimer::new(Duration::from_secs(1), Sack::Permitted);
 /// let numbers = SentNumbers { first_unacknowledged: 0, sent: 0 };
 /// timer.sent(TimeoutBounds::default(), 0..10, numbers, Instant::from_millis(5));
 /// let timed = timer.timed().expect("a segment");
@@ -90,11 +92,11 @@ pub struct TimedSegment {
 /// it. One of zeros is new, with a timeout of 1 second, of a peer that reports no blocks.
 ///
 /// ```
-/// use net_base::tcp::{RetransmissionTimer, SentNumbers, TimeoutBounds};
+/// use net_base::tcp::{RetransmissionTimer, Sack, SentNumbers, TimeoutBounds};
 /// use net_base::time::{Duration, Instant};
 ///
 /// let bounds = TimeoutBounds::default();
-/// let mut timer = RetransmissionTimer::new(Duration::from_secs(1), true);
+/// let mut timer = RetransmissionTimer::new(Duration::from_secs(1), Sack::Permitted);
 /// timer.sent(bounds, 0..10, SentNumbers { first_unacknowledged: 0, sent: 0 }, Instant::ZERO);
 /// assert_eq!(timer.expires_at(), Some(Instant::from_secs(1)));
 /// // All is acknowledged after 400 ms: the timer stops, and has a sample.
@@ -142,12 +144,12 @@ pub struct RetransmissionTimer {
 }
 
 impl RetransmissionTimer {
-    /// Returns a timer that doesn't run, with a timeout before any sample, which the RFC has as 1 second. `reports`
-    /// says whether the peer reports blocks (SACK): if not, no probe is ever due.
+    /// Returns a timer that doesn't run, with a timeout before any sample, which the RFC has as 1 second. Without
+    /// selective acknowledgements no probe is ever due.
     #[must_use]
-    pub const fn new(timeout: Duration, reports: bool) -> Self
-        ensures state { timer_of result ≡ new_timer timeout reports }
-        ensures numbers { result ≡ new_fields timeout reports }
+    pub const fn new(timeout: Duration, sack: Sack) -> Self
+        ensures state { timer_of result ≡ new_timer timeout (is_permitted sack) }
+        ensures numbers { result ≡ new_fields timeout (is_permitted sack) }
         ensures canonical { IsCanonicalTimer result }
     {
         RetransmissionTimer {
@@ -166,7 +168,7 @@ impl RetransmissionTimer {
             is_timing: 0,
             last: 0,
             timeouts: 0,
-            reports: flag_of(reports),
+            reports: flag_of(is_permitted(sack)),
             prompt: 0,
         }
     }
@@ -351,9 +353,8 @@ impl RetransmissionTimer {
     {
         match timeout.rtt() {
             Some(estimate) => {
-                let (srtt_8, rttvar_4) = estimate.scaled();
-                self.srtt_8 = srtt_8;
-                self.rttvar_4 = rttvar_4;
+                self.srtt_8 = estimate.srtt_8();
+                self.rttvar_4 = estimate.rttvar_4();
                 self.has_estimate = 1;
             }
             None => {

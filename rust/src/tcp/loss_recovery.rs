@@ -19,6 +19,7 @@
 // 7.4) isn't decided: peers that report no copies answer alike where it did and where it didn't.
 
 use crate::tcp::reported::Reported;
+use crate::tcp::sack::{Sack, is_permitted};
 use crate::stream::SentNumbers;
 use crate::rattle::std::ops::Range;
 
@@ -73,15 +74,15 @@ pub struct Answer {
 /// assert!(recovery.find_losses(numbers, &scoreboard, 100, answer));
 /// // The first segment is lost. The peer's window ends at 1000, and 500 bytes may be in flight.
 /// let next = recovery.next_segment(numbers, &scoreboard, 1000, 500, 100);
-/// assert_eq!(next, Some((0, 100)));
+/// assert_eq!(next, Some(0..100));
 /// recovery.sent(numbers, 0..100);
 /// // 400 bytes are neither reported nor lost, and 100 that are lost were sent again.
 /// assert_eq!(recovery.in_flight(numbers, &scoreboard), 500);
 /// assert_eq!(recovery.next_segment(numbers, &scoreboard, 1000, 500, 100), None);
-/// assert_eq!(recovery.next_segment(numbers, &scoreboard, 1000, 600, 100), Some((800, 900)));
+/// assert_eq!(recovery.next_segment(numbers, &scoreboard, 1000, 600, 100), Some(800..900));
 /// // No answer comes: a probe asks for one, and when it is answered, the first segment is lost again.
 /// assert!(!recovery.find_overdue(numbers, &scoreboard));
-/// assert_eq!(recovery.next_probe(numbers, &scoreboard, 800, 100), Some((0, 100)));
+/// assert_eq!(recovery.next_probe(numbers, &scoreboard, 800, 100), Some(0..100));
 /// ```
 ///
 /// It is numbers alone, so that C has it as it is: a flag is not 0 where it holds, and what there may be has one beside
@@ -221,8 +222,8 @@ impl LossRecovery {
 
     /// Takes notice whether the peer reports what arrives, as its SYN says: until it does, or an equal acknowledgement
     /// reports nothing.
-    pub fn expect_reports(&mut self, reports: bool) {
-        self.set_blind(!reports);
+    pub fn expect_reports(&mut self, sack: Sack) {
+        self.set_blind(!is_permitted(sack));
         self.unknown = 0;
     }
 
@@ -494,22 +495,22 @@ impl LossRecovery {
         scoreboard: &B,
         limit: u64,
         segment_size: usize,
-    ) -> Option<(u64, u64)> {
+    ) -> Option<Range<u64>> {
         let size = segment_size.max(1) as u64;
         let (first, sent) = (numbers.first_unacknowledged, numbers.sent);
         let highest = scoreboard.highest_reported();
         let end = sent.min(limit);
         if !self.is_active(numbers) && highest < sent {
             if sent < limit {
-                return Some((sent, limit.min(sent.saturating_add(size))));
+                return Some(sent..limit.min(sent.saturating_add(size)));
             }
             let start = first.max(highest).max(end.saturating_sub(size));
             if start < end {
-                return Some((start, end));
+                return Some(start..end);
             }
         }
         match scoreboard.next_hole(first, end) {
-            Some((start, end)) => Some((start, end.min(start.saturating_add(size)))),
+            Some((start, end)) => Some(start..end.min(start.saturating_add(size))),
             None => None,
         }
     }
@@ -588,16 +589,15 @@ impl LossRecovery {
             .saturating_sub(others)
     }
 
-    /// Returns what to send next, as a start and an end, the end not included, at most a segment. In a
-    /// recovery that is what is lost and wasn't sent again; else what was never sent. Outside of one it is what was
-    /// never sent. It is below `limit`, as `PeerWindow::send_limit` returns it. A `segment_size` of 0 counts as 1.
+    /// Returns which range to send next, at most a segment. In a recovery that is what is lost and wasn't sent again;
+    /// else what was never sent. Outside of one it is what was never sent. It is below `limit`, as `PeerWindow::send_limit` returns it. A `segment_size` of 0 counts as 1.
     ///
     /// `None` if there is nothing to send, or if with a whole segment more than `window` positions, the
     /// congestion window, would be in flight. The first unacknowledged number is sent whatever is in flight.
     ///
     /// # [Guarantees](crate#guarantees)
     ///
-    /// - on `Some(segment)`: `segment.0 < segment.1` and `segment.1 <= limit` and `segment.1 <= segment.0 + max(1, segment_size)`
+    /// - on `Some(segment)`: `segment.start < segment.end` and `segment.end <= limit` and `segment.end <= segment.start + max(1, segment_size)`
     #[must_use]
     pub fn next_segment<B: Reported>(
         &self,
@@ -606,7 +606,7 @@ impl LossRecovery {
         limit: u64,
         window: u64,
         segment_size: usize,
-    ) -> Option<(u64, u64)> {
+    ) -> Option<Range<u64>> {
         let Some((start, end)) = self.next_range(numbers, scoreboard, limit) else {
             return None;
         };
@@ -617,7 +617,7 @@ impl LossRecovery {
                 return None;
             }
         }
-        Some((start, end.min(start.saturating_add(size))))
+        Some(start..end.min(start.saturating_add(size)))
     }
 
     /// Returns the range of which the next segment is a part.

@@ -104,10 +104,16 @@ impl RttEstimate {
         }
     }
 
-    /// Returns eight times the smoothed time, and four times its variation, in microseconds.
+    /// Returns eight times the smoothed time, in microseconds.
     #[must_use]
-    pub fn scaled(self) -> (u64, u64) {
-        (self.srtt_8, self.rttvar_4)
+    pub const fn srtt_8(self) -> u64 {
+        self.srtt_8
+    }
+
+    /// Returns four times its variation, in microseconds.
+    #[must_use]
+    pub const fn rttvar_4(self) -> u64 {
+        self.rttvar_4
     }
 
     /// Returns the smoothed time.

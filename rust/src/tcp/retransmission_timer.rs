@@ -6,6 +6,7 @@
 // or two were on a busy machine. With all of it always, the timeout comes before the probe.
 
 use crate::tcp::retransmission::{RetransmissionTimeout, RttEstimate, TimeoutBounds};
+use crate::tcp::sack::{Sack, is_permitted};
 use crate::time::{Duration, Instant};
 use crate::stream::{SentNumbers, flag_of};
 use crate::rattle::std::ops::Range;
@@ -22,10 +23,10 @@ const PROMPT: u64 = 8;
 /// What is due where a timer has expired.
 ///
 /// ```
-/// use net_base::tcp::{Expiry, RetransmissionTimer, SentNumbers, TimeoutBounds};
+/// use net_base::tcp::{Expiry, RetransmissionTimer, Sack, SentNumbers, TimeoutBounds};
 /// use net_base::time::{Duration, Instant};
 ///
-/// let mut timer = RetransmissionTimer::new(Duration::from_secs(1), true);
+/// let mut timer = RetransmissionTimer::new(Duration::from_secs(1), Sack::Permitted);
 /// let numbers = SentNumbers { first_unacknowledged: 0, sent: 0 };
 /// timer.sent(TimeoutBounds::default(), 0..10, numbers, Instant::ZERO);
 /// // Without a sample there is no probe.
@@ -44,10 +45,10 @@ pub enum Expiry {
 /// A segment that is timed: it was sent once.
 ///
 /// ```
-/// use net_base::tcp::{RetransmissionTimer, SentNumbers, TimeoutBounds};
+/// use net_base::tcp::{RetransmissionTimer, Sack, SentNumbers, TimeoutBounds};
 /// use net_base::time::{Duration, Instant};
 ///
-/// let mut timer = RetransmissionTimer::new(Duration::from_secs(1), true);
+/// let mut timer = RetransmissionTimer::new(Duration::from_secs(1), Sack::Permitted);
 /// let numbers = SentNumbers { first_unacknowledged: 0, sent: 0 };
 /// timer.sent(TimeoutBounds::default(), 0..10, numbers, Instant::from_millis(5));
 /// let timed = timer.timed().expect("a segment");
@@ -83,11 +84,11 @@ pub struct TimedSegment {
 /// it. One of zeros is new, with a timeout of 1 second, of a peer that reports no blocks.
 ///
 /// ```
-/// use net_base::tcp::{RetransmissionTimer, SentNumbers, TimeoutBounds};
+/// use net_base::tcp::{RetransmissionTimer, Sack, SentNumbers, TimeoutBounds};
 /// use net_base::time::{Duration, Instant};
 ///
 /// let bounds = TimeoutBounds::default();
-/// let mut timer = RetransmissionTimer::new(Duration::from_secs(1), true);
+/// let mut timer = RetransmissionTimer::new(Duration::from_secs(1), Sack::Permitted);
 /// timer.sent(bounds, 0..10, SentNumbers { first_unacknowledged: 0, sent: 0 }, Instant::ZERO);
 /// assert_eq!(timer.expires_at(), Some(Instant::from_secs(1)));
 /// // All is acknowledged after 400 ms: the timer stops, and has a sample.
@@ -135,10 +136,10 @@ pub struct RetransmissionTimer {
 }
 
 impl RetransmissionTimer {
-    /// Returns a timer that doesn't run, with a timeout before any sample, which the RFC has as 1 second. `reports`
-    /// says whether the peer reports blocks (SACK): if not, no probe is ever due.
+    /// Returns a timer that doesn't run, with a timeout before any sample, which the RFC has as 1 second. Without
+    /// selective acknowledgements no probe is ever due.
     #[must_use]
-    pub const fn new(timeout: Duration, reports: bool) -> Self {
+    pub const fn new(timeout: Duration, sack: Sack) -> Self {
         RetransmissionTimer {
             srtt_8: 0,
             rttvar_4: 0,
@@ -155,7 +156,7 @@ impl RetransmissionTimer {
             is_timing: 0,
             last: 0,
             timeouts: 0,
-            reports: flag_of(reports),
+            reports: flag_of(is_permitted(sack)),
             prompt: 0,
         }
     }
@@ -305,9 +306,8 @@ impl RetransmissionTimer {
     fn set_timeout(&mut self, timeout: RetransmissionTimeout) {
         match timeout.rtt() {
             Some(estimate) => {
-                let (srtt_8, rttvar_4) = estimate.scaled();
-                self.srtt_8 = srtt_8;
-                self.rttvar_4 = rttvar_4;
+                self.srtt_8 = estimate.srtt_8();
+                self.rttvar_4 = estimate.rttvar_4();
                 self.has_estimate = 1;
             }
             None => {

@@ -1,9 +1,23 @@
 //! Loss recovery, with the sender's numbers and its scoreboard.
-use crate::scoreboard::{answer, range};
+use crate::scoreboard::answer;
 use crate::show::truth;
 use crate::{Call, Subject};
 use net_base::scoreboard::Scoreboard;
-use net_base::tcp::{Answer, LossRecovery, SentNumbers};
+use net_base::tcp::{Answer, LossRecovery, Sack, SentNumbers};
+use std::ops::Range;
+
+/// Whether a peer reports, as a row has it: 1 if it does.
+pub fn sack(reports: u64) -> Sack {
+    if reports == 1 {
+        Sack::Permitted
+    } else {
+        Sack::Absent
+    }
+}
+
+fn range(sent: Option<Range<u64>>) -> String {
+    sent.map_or("none".to_string(), |it| format!("{}-{}", it.start, it.end))
+}
 
 struct Sending<const N: usize> {
     recovery: LossRecovery,
@@ -49,7 +63,7 @@ impl<const N: usize> Subject for Sending<N> {
             "probed" => recovery.probed(*numbers, one..two),
             "came_twice" => recovery.came_twice(*numbers, one..two),
             "take_back" => return truth(recovery.take_back(*numbers, board)).to_string(),
-            "expect_reports" => recovery.expect_reports(one == 1),
+            "expect_reports" => recovery.expect_reports(sack(one)),
             "unsent" => return recovery.unsent(*numbers, board).to_string(),
             "lose_dropped" => {
                 let begins = recovery.lose_dropped(*numbers, board);

@@ -123,8 +123,7 @@ fn parts(bytes: &[u8], one: usize, other: usize) -> String {
 }
 
 fn estimate(estimate: RttEstimate) -> String {
-    let (srtt_8, rttvar_4) = estimate.scaled();
-    format!("{srtt_8} {rttvar_4}")
+    format!("{} {}", estimate.srtt_8(), estimate.rttvar_4())
 }
 
 fn bounds(least: u64, most: u64, tick: u64) -> TimeoutBounds {

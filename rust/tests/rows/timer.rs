@@ -1,4 +1,5 @@
 //! Timers of retransmissions.
+use crate::recovery::sack;
 use crate::{Call, Subject};
 use net_base::tcp::{Expiry, RetransmissionTimer, SentNumbers, TimeoutBounds};
 use net_base::time::{Duration, Instant};
@@ -16,7 +17,7 @@ impl Timer {
         let mut bounds = TimeoutBounds::new();
         [bounds.least, bounds.most, bounds.ack_delay] = [least, most, ack_delay];
         bounds.tick = Duration::from_micros(1);
-        Timer { timer: RetransmissionTimer::new(timeout, first.at(4) == 1), bounds }
+        Timer { timer: RetransmissionTimer::new(timeout, sack(first.at(4))), bounds }
     }
 }
 
