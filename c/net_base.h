@@ -1502,7 +1502,7 @@ struct net_base_loss_recovery {
     uint64_t has_probe;
     /** The number after the last one that was sent when the probe was. */
     uint64_t asked;
-    /** Not 0 if the peer doesn't report what has arrived. */
+    /** Not 0 if the peer doesn't report what has arrived, as the SYNs say. */
     uint64_t is_blind;
     /** How many positions have arrived that it doesn't report. */
     uint64_t unknown;

@@ -48,10 +48,10 @@ pub answer_keeps : (size before first sent : ℕ) (reports equal : Bool) (unsent
     (p : ℕ) → IsTrue (was_sent_again r first p) →
     IsTrue (was_sent_again (after_answer size before first sent reports equal unsent s r) first p)
 answer_keeps size before first sent reports equal unsent s r p again =
-    let c = after_copy first sent reports equal r in
-    let kept = if_keeps (equal && (not reports && answers_copy first r)) (after_duplicate first sent r) r first p
-    (duplicate_keeps r first sent p again) again in
-    let h = after_hearing size before first sent reports equal c in
+    let c = after_copy first sent reports (r.is_blind && equal) r in
+    let kept = if_keeps (r.is_blind && equal && (not reports && answers_copy first r)) (after_duplicate first sent r) r
+    first p (duplicate_keeps r first sent p again) again in
+    let h = after_hearing size before first sent reports (r.is_blind && equal) c in
     if_keeps (not h.is_blind && nat_lt (unsent_lost h first s) unsent)
     (after_duplicate first sent (withdrawn h)) h first p
     (duplicate_keeps (withdrawn h) first sent p (withdrawn_keeps h first p kept)) kept

@@ -251,10 +251,11 @@ pub fn passes()
         × IsFalse (was_sent_again (begun first sent sent r) first first) }
 {}
 
-/// States what arrives tells: where the peer reports, all is lost that was sent before a probe which is answered; and
-/// where finding something lost was wrong, nothing is lost any more that wasn't sent again. Where it doesn't, outside
-/// of a recovery, and of its end, the third equal acknowledgement loses the first segment, and the second doesn't; and in a recovery an
-/// acknowledgement of something new loses what follows.
+/// States what arrives tells: where the peer reports, all is lost that was sent before a probe which is answered, and
+/// an equal acknowledgement tells no more than one that isn't equal; and where finding something lost was wrong,
+/// nothing is lost any more that wasn't sent again. Where it doesn't report, outside of a recovery, and of its end, the
+/// third equal acknowledgement loses the first segment, and the second doesn't; and in a recovery an acknowledgement of
+/// something new loses what follows.
 #[tactic(auto, using(crate::proofs::Arrivals::arrivals))]
 pub fn arrivals()
     ensures probe { (size first sent : ℕ) (s : Positions) (lost highest : ℕ) (r : Recovery) →
@@ -263,7 +264,7 @@ pub fn arrivals()
     ensures wrong { (first : ℕ) (s : Positions) (r : Recovery) →
         unsent_lost (withdrawn r) first s ≡ 0 }
     ensures third { (size first sent : ℕ) (r : Recovery) → IsFalse (is_active r first) →
-        IsFalse (answers_copy first r) → r.duplicates ≡ 3 → r.unknown ≡ 0 →
+        IsFalse (answers_copy first r) → IsTrue r.is_blind → r.duplicates ≡ 3 → r.unknown ≡ 0 →
         0 < size → first + 4 * size ≤ sent → sent < 2 ^ 64 →
         let one = after_hearing size first first sent false true r in
         let two = after_hearing size first first sent false true one in
@@ -274,6 +275,10 @@ pub fn arrivals()
         IsTrue (is_active r first) → IsTrue r.is_blind →
         before < first → first < sent → sent < 2 ^ 64 → 0 < size →
         first < blind_lost size before first sent r }
+    ensures bare { (size before first sent : ℕ) (reports equal : Bool) (unsent : ℕ) (s : Positions)
+        (r : Recovery) → IsFalse r.is_blind →
+        after_answer size before first sent reports equal unsent s r
+        ≡ after_answer size before first sent reports false unsent s r }
 {}
 
 /// States when a recovery is taken back: not as it begins, where the first position is missing (`begins`); nor once

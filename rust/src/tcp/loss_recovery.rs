@@ -39,6 +39,7 @@ pub struct Answer {
     /// Whether a block of it reports what wasn't known.
     pub reports: bool,
     /// Whether it is an equal one, as `is_equal_acknowledgement` says: something has arrived, it doesn't say where.
+    /// That counts only of a peer that reports nothing.
     pub is_equal: bool,
 }
 
@@ -59,7 +60,8 @@ pub struct Answer {
 ///
 /// Of a peer that reports nothing, the third equal acknowledgement loses the first segment, and in a recovery each one
 /// of something new the next (RFC 5681, RFC 6582). An equal one tells that a segment has arrived, so one less is in
-/// flight.
+/// flight. Of a peer that reports, an equal one tells nothing: the path may have doubled it (RFC 6675, section 2). If it
+/// never reports, probes and the timeout repair what is lost.
 ///
 /// ```
 /// use net_base::scoreboard::Scoreboard;
@@ -110,7 +112,7 @@ pub struct LossRecovery {
     has_probe: u64,
     /// The number after the last one that was sent when the probe was.
     asked: u64,
-    /// Not 0 if the peer doesn't report what has arrived.
+    /// Not 0 if the peer doesn't report what has arrived, as the SYNs say.
     is_blind: u64,
     /// How many positions have arrived that it doesn't report.
     unknown: u64,
@@ -220,10 +222,10 @@ impl LossRecovery {
         is_wrong
     }
 
-    /// Takes notice whether the peer reports what arrives, as its SYN says: until it does, or an equal acknowledgement
-    /// reports nothing.
+    /// Takes notice whether the peer reports what arrives, as the SYNs say. A new recovery expects that it does. Nothing
+    /// else changes it: what a peer reports without that is taken, too.
     pub fn expect_reports(&mut self, sack: Sack) {
-        self.set_blind(!is_permitted(sack));
+        self.is_blind = if is_permitted(sack) { 0 } else { 1 };
         self.unknown = 0;
     }
 
@@ -231,11 +233,6 @@ impl LossRecovery {
     #[must_use]
     pub fn is_blind(&self) -> bool {
         self.is_blind != 0
-    }
-
-    /// Sets whether the peer reports nothing.
-    fn set_blind(&mut self, is_blind: bool) {
-        self.is_blind = if is_blind { 1 } else { 0 };
     }
 
     /// Returns how many positions are lost and weren't sent again. `find_losses` wants it as it was before the
@@ -263,9 +260,10 @@ impl LossRecovery {
     /// sent before a pass is lost, and what was sent again in it again, once more than `duplicates() - 1` segments are
     /// reported of what was sent after it. Once a probe is answered, all that was sent before it, and isn't reported,
     /// is lost. If what was lost and wasn't sent again has arrived, it wasn't: nothing that wasn't sent again is lost,
-    /// and it is as if something came twice, as `duplicated` says. If the peer reports nothing, the first segment is
-    /// lost after `duplicates` equal acknowledgements, and in a recovery where something new is acknowledged. An equal
-    /// one of what a recovery lasted for answers a copy: it counts as a report of what came twice.
+    /// and it is as if something came twice, as `duplicated` says. If the peer reports nothing, as `expect_reports` says,
+    /// the first segment is lost after `duplicates` equal acknowledgements, and in a recovery where something new is
+    /// acknowledged. An equal one of what a recovery lasted for answers a copy then: it counts as a report of what came
+    /// twice.
     ///
     /// Returns whether this call begins a recovery: then halve the congestion window, until `take_back` says that this
     /// was wrong.
@@ -288,10 +286,11 @@ impl LossRecovery {
         segment_size: usize,
         answer: Answer,
     ) {
-        if answer.is_equal && !answer.reports && self.answers_copy(numbers.first_unacknowledged) {
+        let is_equal = self.counts_equal(answer);
+        if is_equal && !answer.reports && self.answers_copy(numbers.first_unacknowledged) {
             self.duplicated(numbers);
         }
-        self.count_unreported(numbers, segment_size, answer);
+        self.count_unreported(numbers, segment_size, Answer { is_equal, ..answer });
         // Nothing that wasn't sent again is lost, if such a thing has arrived.
         if answer.unsent > 0
             && !self.is_blind()
@@ -303,13 +302,18 @@ impl LossRecovery {
         }
     }
 
+    /// Returns whether an acknowledgement counts as an equal one: only that of a peer that reports nothing does.
+    fn counts_equal(&self, answer: Answer) -> bool {
+        self.is_blind() && answer.is_equal
+    }
+
     /// Returns whether an equal acknowledgement of this number answers a copy: it is of all that was sent before a
     /// recovery, if there was one.
     fn answers_copy(&self, first: u64) -> bool {
         self.until > 0 && first == self.until
     }
 
-    /// Takes notice whether the peer reports, and of what has arrived that it doesn't.
+    /// Takes notice of what has arrived that the peer doesn't report.
     fn count_unreported(&mut self, numbers: SentNumbers, segment_size: usize, answer: Answer) {
         let size = segment_size as u64;
         let first = numbers.first_unacknowledged;
@@ -326,8 +330,6 @@ impl LossRecovery {
             answer.is_equal && !self.answers_copy(first),
         );
         self.unknown = unknown.saturating_sub(known).min(most);
-        let is_blind = self.is_blind();
-        self.set_blind(!answer.reports && (answer.is_equal || is_blind));
     }
 
     /// Returns how many positions have arrived that the peer doesn't report, after an acknowledgement that answers
