@@ -60,10 +60,10 @@ fn a_sender_of_a_stream_that_ends() {
 #[test]
 fn a_scoreboard_and_a_buffer_of_fragments() {
     let mut board = Scoreboard::<4>::empty_at(100);
-    assert_eq!(board.report(110, 120, 200), Ok(()));
+    assert_eq!(board.report(110..120, 200), Ok(()));
     board.reset_at(7);
     assert_eq!((board.first_unreported(), board.reported().count()), (7, 0));
-    assert_eq!(board.report(9, 10, 200), Ok(()));
+    assert_eq!(board.report(9..10, 200), Ok(()));
     let mut storage = [0; 8];
     let mut buffer: FragmentBuffer<4> = FragmentBuffer::empty(&mut storage[..], Instant::ZERO);
     assert!(buffer.add(3, b"d").is_ok());

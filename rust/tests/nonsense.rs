@@ -125,9 +125,11 @@ fn senders() {
             5 => assert!(!finite.acknowledge(pos) || finite.first_number() == pos),
             6 => assert!(!finite.mark_sent(pos) || finite.sent() >= pos),
             7 => board.acknowledge(pos),
-            8 => assert!(board.report(pos, limit, sent).is_err() || board.contains(pos)),
+            8 => assert!(board.report(pos..limit, sent).is_err() || board.contains(pos)),
             _ => {
-                assert!(board.next_hole(pos, limit).is_none_or(|it| pos <= it.0 && it.1 <= limit))
+                assert!(board
+                    .next_hole(pos, limit)
+                    .is_none_or(|it| pos <= it.start && it.end <= limit))
             }
         }
         assert!(start
@@ -424,7 +426,7 @@ fn recovery() {
                 board.reset_at(start);
                 draw.1 = start;
             }
-            1 => assert!(board.report(start, end, sent).is_err() || start < end),
+            1 => assert!(board.report(start..end, sent).is_err() || start < end),
             2 => {
                 let (first, unsent) = (draw.number(), draw.number());
                 let (reports, is_equal) = (draw.below(2) == 0, draw.below(2) == 0);

@@ -75,17 +75,17 @@ fn sent() {
 fn reported() {
     for first in begins() {
         let mut it = Scoreboard::<2>::empty_at(first);
-        assert_eq!(it.report(first + 4, first + 8, first + 20), Ok(()));
+        assert_eq!(it.report(first + 4..first + 8, first + 20), Ok(()));
         for pos in aliases(first + 4) {
             assert_eq!(it.contains(pos), pos < first, "{first} {pos}");
-            assert_eq!(it.report(pos, pos.saturating_add(4), first + 20).is_ok(), pos < first);
+            assert_eq!(it.report(pos..pos.saturating_add(4), first + 20).is_ok(), pos < first);
         }
         assert_eq!(it.reported().collect::<Vec<_>>(), [(first + 4, first + 8)]);
         let far = first.checked_add(WORD).filter(|far| *far < u64::MAX - 9);
         if let Some(far) = far {
-            assert_eq!(it.report(far, far + 2, u64::MAX), Err(ReportError::NoBlock), "{first}");
-            assert_eq!(it.report(far - 2, far, u64::MAX), Err(ReportError::NoBlock), "{first}");
-            assert_eq!(it.report(far - 2, far - 1, u64::MAX), Ok(()), "{first}");
+            assert_eq!(it.report(far..far + 2, u64::MAX), Err(ReportError::NoBlock), "{first}");
+            assert_eq!(it.report(far - 2..far, u64::MAX), Err(ReportError::NoBlock), "{first}");
+            assert_eq!(it.report(far - 2..far - 1, u64::MAX), Ok(()), "{first}");
             assert_eq!(it.highest_reported(), far - 1);
             assert_eq!(
                 (it.contains(far - 2), it.contains(far - 1), it.contains(far + 1)),
@@ -94,7 +94,7 @@ fn reported() {
             it.acknowledge(far + 1);
             assert_eq!(
                 (it.first_unreported(), it.next_hole(0, far + 9)),
-                (far + 1, Some((far + 1, far + 9)))
+                (far + 1, Some(far + 1..far + 9))
             );
         }
         it.reset_at(first);

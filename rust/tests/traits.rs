@@ -99,11 +99,11 @@ fn sequence_numbers() {
 fn scoreboards() {
     let [mut one, mut other] = [(); 2].map(|()| Scoreboard::<4>::empty_at(5));
     assert!(one == other && one != Scoreboard::empty_at(6));
-    assert_eq!((one.report(7, 9, 20), other.report(7, 8, 20)), (Ok(()), Ok(())));
+    assert_eq!((one.report(7..9, 20), other.report(7..8, 20)), (Ok(()), Ok(())));
     assert!(one != other);
-    assert_eq!(other.report(8, 9, 20), Ok(()));
+    assert_eq!(other.report(8..9, 20), Ok(()));
     assert!(one == other);
-    assert_eq!(other.report(12, 14, 20), Ok(()));
+    assert_eq!(other.report(12..14, 20), Ok(()));
     assert!(one != other);
     one.acknowledge(20);
     other.acknowledge(21);
@@ -216,7 +216,7 @@ impl Reported for Record {
 #[test]
 fn recovery_over_a_record_of_the_callers() {
     let mut record = Record(Scoreboard::empty());
-    assert_eq!(record.0.report(20, 60, 60), Ok(()));
+    assert_eq!(record.0.report(20..60, 60), Ok(()));
     assert_eq!(
         (record.contains(19), record.contains(20), record.highest_reported()),
         (false, true, 60)

@@ -142,8 +142,8 @@ fn texts_of_what_stores() {
     );
     let mut scoreboard = Scoreboard::<2>::empty();
     scoreboard.acknowledge(10);
-    assert_eq!(scoreboard.report(12, 14, 20), Ok(()));
-    assert_eq!(scoreboard.report(16, 18, 20), Ok(()));
+    assert_eq!(scoreboard.report(12..14, 20), Ok(()));
+    assert_eq!(scoreboard.report(16..18, 20), Ok(()));
     assert_eq!(
         debug(&scoreboard),
         "Scoreboard { first_unreported: 10, reported: [(12, 14), (16, 18)] }"
@@ -210,7 +210,7 @@ fn clones_and_defaults() {
         ("[ (3) 4 ]".into(), "[ (3) 4 (2) 1 ]".into())
     );
     let mut scoreboard = Scoreboard::<2>::default();
-    assert!(!scoreboard.contains(0) && scoreboard.report(3, 5, 9).is_ok());
+    assert!(!scoreboard.contains(0) && scoreboard.report(3..5, 9).is_ok());
     let copy = scoreboard.clone();
     scoreboard.acknowledge(9);
     assert!(!copy.contains(5) && copy.contains(4) && scoreboard.contains(5));

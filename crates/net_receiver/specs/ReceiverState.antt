@@ -19,6 +19,7 @@
 --     parts f r queue spare s      what is stored
 --     Fits64Bits v      its positions stay within 64 bits
 --     EndBelow limit rs      runs that end below a limit
+--     pair_of range      the start and the end of a range, if there is one
 --     receiver_code      what is stored, as a code
 -- Where the queued bytes are in the storage, and how many of them are contiguous.
 --     index_of v i      the index of the stream's byte number i
@@ -34,7 +35,7 @@
 --     new_count v p n      how many bytes of a segment of n bytes at p would be new
 use Rattle.std.specs.Prelude.{◌≡◌, ℕ, ◌+◌, ◌-◌, ◌≤◌, ◌<◌, ◌&&◌, not, min, true, List, [], ◌∷◌, ◌++◌, map, take, length}
 use Rattle.std.specs.Prelude.{drop, nat_eq, nat_le, unwrap_or, is_some, if◌then◌else◌, None, Result, Ok, Err, ◌^◌, All}
-use Rattle.std.specs.Prelude.{slice_index, refl, ◌%◌, IsOk, IfOk, OnErr, nat_lt, count_by}
+use Rattle.std.specs.Prelude.{Option, Some, slice_index, refl, ◌%◌, IsOk, IfOk, OnErr, nat_lt, count_by}
 use Rattle.std.specs.List.{range_with_len}
 use Rattle.std.specs.Ordering.{nat_cmp}
 use Rattle.net_assembler.specs.Assembler.{makes_too_many_runs}
@@ -51,6 +52,7 @@ use Rattle.net_ring.specs.Ring.{RingState}
 pub use Rattle.net_receiver.specs.Headline.{CommandValue, Segment, Read, Show, ReplyValue, SegmentReply, ReadReply}
 pub use Rattle.net_receiver.specs.Headline.{ShowReply, first_three}
 use Rattle.std.specs.FinMap as fin
+use Rattle.std.specs.declared.ops.Range.{Range}
 
 -- held bytes by their positions
 abbrev pub HeldBytes : Type 0
@@ -264,6 +266,11 @@ pub record Fits64Bits (v : ReceiverState) : Type 0 where
 -- each run is a pair (start, end) that rises, and ends below a limit
 abbrev pub EndBelow : ℕ → List (ℕ × ℕ) → Type 0
 EndBelow limit rs = All (λ r. (r.0 < r.1) × (r.1 < limit)) rs
+
+-- the start and the end of a range, if there is one
+abbrev pub pair_of : Option (Range ℕ) → Option (ℕ × ℕ)
+pair_of (Some range) = Some (range.start, range.end)
+pair_of None = None
 
 -- what is stored, as the tuple of its fields
 abbrev pub receiver_code : Coded ReceiverState

@@ -5,7 +5,7 @@ ghost use Rattle.std.specs.Prelude.{◌≡◌, ◌↔◌, ◌-◌, ◌<◌, ◌�
 ghost use Rattle.net_assembler.specs.Positions.{contains, front, maximal_runs, missing_count};
 ghost use Rattle.net_assembler.specs.Positions.{nothing, with_range};
 ghost use Rattle.net_assembler.specs.RunLists.{IsCanonical};
-ghost use Rattle.net_receiver.specs.{IsHole, IsLossBound, HasNoRoom, IsEnd, IsReport, IsSoundBoard, beyond};
+ghost use Rattle.net_receiver.specs.{IsHole, IsLossBound, HasNoRoom, IsEnd, IsReport, IsSoundBoard, beyond, pair_of};
 ghost use Rattle.net_receiver.specs.{IsSoundScoreboard, reported_by};
 
 use crate::held_runs::HeldRuns;
@@ -13,6 +13,7 @@ use crate::scoreboard_head::{ReportError, ScoreboardHead};
 use crate::sequence_number::SequenceNumber;
 use net_assembler::Run;
 use std::marker::Model;
+use std::ops::Range;
 
 /// What a sender knows of the positions that the other end has, as acknowledgements and their SACK
 /// blocks report them: a scoreboard.
@@ -29,9 +30,9 @@ use std::marker::Model;
 /// // Of the bytes from 100 to 199, all sent, those below 120 and those from 140 to 159 have arrived.
 /// let mut scoreboard = Scoreboard::<4>::empty();
 /// scoreboard.acknowledge(120);
-/// assert_eq!(scoreboard.report(140, 160, 200), Ok(()));
-/// assert_eq!(scoreboard.next_hole(120, 200), Some((120, 140)));
-/// assert_eq!(scoreboard.next_hole(140, 200), Some((160, 200)));
+/// assert_eq!(scoreboard.report(140..160, 200), Ok(()));
+/// assert_eq!(scoreboard.next_hole(120, 200), Some(120..140));
+/// assert_eq!(scoreboard.next_hole(140, 200), Some(160..200));
 /// ```
 #[derive(Clone, Drop)]
 pub struct Scoreboard<const N: usize> {
@@ -110,7 +111,7 @@ impl<const N: usize> Scoreboard<N> {
     /// ```
     /// # use net_base::scoreboard::Scoreboard;
     /// # let mut scoreboard = Scoreboard::<4>::empty();
-    /// assert_eq!(scoreboard.report(5, 9, 20), Ok(()));
+    /// assert_eq!(scoreboard.report(5..9, 20), Ok(()));
     /// scoreboard.reset_at(2);
     /// assert!(scoreboard.contains(1) && !scoreboard.contains(5));
     /// ```
@@ -120,39 +121,40 @@ impl<const N: usize> Scoreboard<N> {
         self.head.reset_at(first);
     }
 
-    /// Reports the positions from `start` on and below `end`, as a SACK block of an acknowledgement
-    /// does. Blocks may overlap. `sent` is the number after the last one that was ever sent, as
+    /// Reports the positions of `block`, as a SACK block of an acknowledgement does. Blocks may overlap. `sent` is the number after the last one that was ever sent, as
     /// `FiniteSender::sent` returns it.
     ///
     /// ```
     /// # use net_base::scoreboard::{ReportError, Scoreboard};
     /// let mut scoreboard = Scoreboard::<1>::empty();
-    /// assert_eq!(scoreboard.report(5, 9, 8), Err(ReportError::NoBlock));
-    /// assert_eq!((scoreboard.report(5, 9, 9), scoreboard.report(8, 12, 20)), (Ok(()), Ok(())));
-    /// assert_eq!(scoreboard.report(14, 15, 20), Err(ReportError::TooManyHoles));
+    /// assert_eq!(scoreboard.report(5..9, 8), Err(ReportError::NoBlock));
+    /// assert_eq!((scoreboard.report(5..9, 9), scoreboard.report(8..12, 20)), (Ok(()), Ok(())));
+    /// assert_eq!(scoreboard.report(14..15, 20), Err(ReportError::TooManyHoles));
     /// assert!(scoreboard.contains(11) && !scoreboard.contains(14));
     /// ```
     ///
     /// # Errors
     ///
-    /// `NoBlock`, and nothing changes, exactly if no such block can be: if `start` isn't below `end`, `end`
-    /// is above `sent`, or it begins beyond the first position that wasn't reported, and ends 2^32 or more
-    /// above it: TCP's numbers have 32 bits.
+    /// `NoBlock`, and nothing changes, exactly if no such block can be: if it is empty, ends above `sent`, or
+    /// begins beyond the first position that wasn't reported, and ends 2^32 or more above it: TCP's numbers
+    /// have 32 bits.
     ///
     /// `TooManyHoles`, and nothing changes, exactly if such a block can be, it begins beyond the first
     /// position that wasn't reported, and there would be more than `N` runs beyond that: then the block
     /// isn't known, and its bytes are sent again.
-    pub fn report(&mut self, start: u64, end: u64, sent: u64) -> Result<(), ReportError>
+    pub fn report(&mut self, block: Range<u64>, sent: u64) -> Result<(), ReportError>
         ensures no_block { (result ≡ Err ReportError.NoBlock)
-            ↔ (IsReport (front self.old) sent start end → ⊥) }
+            ↔ (IsReport (front self.old) sent block.start block.end → ⊥) }
         ensures too_many { (result ≡ Err ReportError.TooManyHoles)
-            ↔ (IsReport (front self.old) sent start end
-            × HasNoRoom N self.old start (end - start)) }
-        ensures ok { OnOk result (self.new ≡ with_range self.old start (end - start)) }
+            ↔ (IsReport (front self.old) sent block.start block.end
+            × HasNoRoom N self.old block.start (block.end - block.start)) }
+        ensures ok { OnOk result
+            (self.new ≡ with_range self.old block.start (block.end - block.start)) }
         // Guarantee.
         ensures unchanged { OnErr result (self.new ≡ self.old) }
     {
-        self.head.report(&mut self.runs, start, end, sent)
+        self.head
+            .report(&mut self.runs, block.start, block.end, sent)
     }
 
     /// Reports all positions below `next`. It is never refused.
@@ -160,9 +162,9 @@ impl<const N: usize> Scoreboard<N> {
     /// ```
     /// # use net_base::scoreboard::Scoreboard;
     /// # let mut scoreboard = Scoreboard::<4>::empty();
-    /// assert_eq!(scoreboard.report(5, 9, 20), Ok(()));
+    /// assert_eq!(scoreboard.report(5..9, 20), Ok(()));
     /// scoreboard.acknowledge(7);
-    /// assert_eq!(scoreboard.next_hole(0, 20), Some((9, 20)));
+    /// assert_eq!(scoreboard.next_hole(0, 20), Some(9..20));
     /// ```
     pub fn acknowledge(&mut self, next: u64)
         ensures { self.new ≡ with_range self.old 0 next }
@@ -183,7 +185,7 @@ impl<const N: usize> Scoreboard<N> {
     /// ```
     /// # use net_base::scoreboard::Scoreboard;
     /// # let mut scoreboard = Scoreboard::<4>::empty();
-    /// assert_eq!(scoreboard.report(5, 9, 20), Ok(()));
+    /// assert_eq!(scoreboard.report(5..9, 20), Ok(()));
     /// assert!(scoreboard.contains(8) && !scoreboard.contains(9));
     /// ```
     #[must_use]
@@ -211,44 +213,40 @@ impl<const N: usize> Scoreboard<N> {
         self.head.highest_reported(&self.runs)
     }
 
-    /// Returns how many positions from `start` on and below `end` weren't reported.
+    /// Returns how many positions of `range` weren't reported.
     ///
     /// ```
     /// # use net_base::scoreboard::Scoreboard;
     /// # let mut scoreboard = Scoreboard::<4>::empty();
-    /// assert_eq!((scoreboard.report(5, 9, 20), scoreboard.report(12, 20, 20)), (Ok(()), Ok(())));
-    /// assert_eq!(scoreboard.missing_between(6, 15), 3);
+    /// assert_eq!((scoreboard.report(5..9, 20), scoreboard.report(12..20, 20)), (Ok(()), Ok(())));
+    /// assert_eq!(scoreboard.missing_between(6..15), 3);
     /// ```
     #[must_use]
-    pub fn missing_between(&self, start: u64, end: u64) -> u64
-        ensures count { result ≡ missing_count self.now start (end - start) }
-        ensures few { result ≤ end - start }
+    pub fn missing_between(&self, range: Range<u64>) -> u64
+        ensures count { result ≡ missing_count self.now range.start (range.end - range.start) }
+        ensures few { result ≤ range.end - range.start }
     {
-        self.head.missing_between(&self.runs, start, end)
+        self.head
+            .missing_between(&self.runs, range.start, range.end)
     }
 
-    /// Returns the next range that wasn't reported, as a start and an end, the end not included: it
-    /// begins at the first position from `pos` on that wasn't, and ends at the next one that was, or at
-    /// `limit`. `None` if there is none below `limit`. Of these bytes most may only be in flight. What is
+    /// Returns the next range that wasn't reported: it begins at the first position from `pos` on that
+    /// wasn't, and ends at the next one that was, or at `limit`. `None` if there is none below `limit`. Of these bytes most may only be in flight. What is
     /// lost is below `lost_below`, as `limit`: a caller sends it, and passes its end as the next `pos`.
     ///
     /// ```
     /// # use net_base::scoreboard::Scoreboard;
     /// # let mut scoreboard = Scoreboard::<4>::empty();
-    /// assert_eq!((scoreboard.report(5, 9, 20), scoreboard.report(12, 20, 20)), (Ok(()), Ok(())));
-    /// assert_eq!(scoreboard.next_hole(6, 20), Some((9, 12)));
+    /// assert_eq!((scoreboard.report(5..9, 20), scoreboard.report(12..20, 20)), (Ok(()), Ok(())));
+    /// assert_eq!(scoreboard.next_hole(6, 20), Some(9..12));
     /// assert_eq!(scoreboard.next_hole(12, 20), None);
     /// ```
     #[must_use]
-    pub fn next_hole(&self, pos: u64, limit: u64) -> Option<(u64, u64)>
-        ensures { IsHole self.now pos limit result }
+    pub fn next_hole(&self, pos: u64, limit: u64) -> Option<Range<u64>>
+        ensures { IsHole self.now pos limit (pair_of result) }
     {
         let (start, end) = self.head.next_hole(&self.runs, pos, limit);
-        if start < end {
-            Some((start, end))
-        } else {
-            None
-        }
+        if start < end { Some(start..end) } else { None }
     }
 
     /// Returns the position below which all that wasn't reported is lost, by the rule of RFC 6675,
@@ -261,9 +259,9 @@ impl<const N: usize> Scoreboard<N> {
     /// # use net_base::scoreboard::Scoreboard;
     /// # let mut scoreboard = Scoreboard::<4>::empty();
     /// // Segments of 100 bytes: the first is missing, the three after it have arrived, four are in flight.
-    /// assert_eq!(scoreboard.report(100, 400, 800), Ok(()));
+    /// assert_eq!(scoreboard.report(100..400, 800), Ok(()));
     /// let lost = scoreboard.lost_below(3, 100);
-    /// assert_eq!(scoreboard.next_hole(0, lost), Some((0, 100)));
+    /// assert_eq!(scoreboard.next_hole(0, lost), Some(0..100));
     /// assert_eq!(scoreboard.next_hole(100, lost), None);
     /// ```
     #[must_use]

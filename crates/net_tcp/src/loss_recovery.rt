@@ -86,7 +86,7 @@ pub struct Answer {
 /// // Of 800 bytes in segments of 100, all sent, those from 100 to 399 were reported.
 /// let numbers = SentNumbers { first_unacknowledged: 0, sent: 800 };
 /// let mut scoreboard = Scoreboard::<4>::empty();
-/// assert_eq!(scoreboard.report(100, 400, 800), Ok(()));
+/// assert_eq!(scoreboard.report(100..400, 800), Ok(()));
 /// let mut recovery = LossRecovery::new();
 /// let answer = Answer { first: 0, unsent: 0, reports: true, is_equal: false };
 /// assert!(recovery.find_losses(numbers, &scoreboard, 100, answer));

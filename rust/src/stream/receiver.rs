@@ -16,6 +16,7 @@ use crate::stream::kept::{FiniteError, Kept, KeptBytes, SegmentParts};
 use crate::stream::receiver_head::{ReceiverHead, count_existing};
 use crate::storage::{Run, TooManyHolesError};
 use crate::storage::{ManagedSlice, Storage};
+use crate::rattle::std::ops::Range;
 
 /// A [`Receiver`] over any storage.
 ///
@@ -529,8 +530,7 @@ impl<S: Storage<u8>, const N: usize> ReceiverOver<S, N> {
         NewestRunIter::over(runs, count)
     }
 
-    /// Returns what of a segment of `len` bytes at `pos` was kept before, as a start and an end, the end not
-    /// included: what is below `next`, or else the first part that is held. `None` if all of it is new. It is
+    /// Returns what of a segment of `len` bytes at `pos` was kept before: what is below `next`, or else the first part that is held. `None` if all of it is new. It is
     /// asked before the segment is kept. TCP reports such a part once, as the first block of the next
     /// acknowledgement (RFC 2883): it is below what is acknowledged, or within a held run. smoltcp has no such
     /// call.
@@ -540,13 +540,16 @@ impl<S: Storage<u8>, const N: usize> ReceiverOver<S, N> {
     /// # let mut storage = [0u8; 16];
     /// # let mut receiver = Receiver::new(&mut storage[..]);
     /// assert!(receiver.keep(0, b"abc").is_ok() && receiver.keep(6, b"ghi").is_ok());
-    /// assert_eq!(receiver.duplicate_of(1, 4), Some((1, 3)));
-    /// assert_eq!((receiver.duplicate_of(4, 3), receiver.duplicate_of(3, 3)), (Some((6, 7)), None));
+    /// assert_eq!(receiver.duplicate_of(1, 4), Some(1..3));
+    /// assert_eq!((receiver.duplicate_of(4, 3), receiver.duplicate_of(3, 3)), (Some(6..7), None));
     /// ```
     #[must_use]
-    pub fn duplicate_of(&self, pos: u64, len: usize) -> Option<(u64, u64)> {
+    pub fn duplicate_of(&self, pos: u64, len: usize) -> Option<Range<u64>> {
         let count = count_existing(pos, len);
-        self.head.duplicate_of(&self.runs, pos, pos + count as u64)
+        match self.head.duplicate_of(&self.runs, pos, pos + count as u64) {
+            Some((start, end)) => Some(start..end),
+            None => None,
+        }
     }
 
     /// Returns where the bytes of a segment of `len` bytes at `pos` are: below `next`, in the free window, or above

@@ -5,6 +5,7 @@ use crate::rattle::prelude::*;
 use crate::stream::held_runs::HeldRuns;
 use crate::stream::scoreboard_head::{ReportError, ScoreboardHead};
 use crate::storage::Run;
+use crate::rattle::std::ops::Range;
 
 /// What a sender knows of the positions that the other end has, as acknowledgements and their SACK
 /// blocks report them: a scoreboard.
@@ -21,9 +22,9 @@ use crate::storage::Run;
 /// // Of the bytes from 100 to 199, all sent, those below 120 and those from 140 to 159 have arrived.
 /// let mut scoreboard = Scoreboard::<4>::empty();
 /// scoreboard.acknowledge(120);
-/// assert_eq!(scoreboard.report(140, 160, 200), Ok(()));
-/// assert_eq!(scoreboard.next_hole(120, 200), Some((120, 140)));
-/// assert_eq!(scoreboard.next_hole(140, 200), Some((160, 200)));
+/// assert_eq!(scoreboard.report(140..160, 200), Ok(()));
+/// assert_eq!(scoreboard.next_hole(120, 200), Some(120..140));
+/// assert_eq!(scoreboard.next_hole(140, 200), Some(160..200));
 /// ```
 #[derive(Clone)]
 pub struct Scoreboard<const N: usize> {
@@ -77,7 +78,7 @@ impl<const N: usize> Scoreboard<N> {
     /// ```
     /// # use net_base::scoreboard::Scoreboard;
     /// # let mut scoreboard = Scoreboard::<4>::empty();
-    /// assert_eq!(scoreboard.report(5, 9, 20), Ok(()));
+    /// assert_eq!(scoreboard.report(5..9, 20), Ok(()));
     /// scoreboard.reset_at(2);
     /// assert!(scoreboard.contains(1) && !scoreboard.contains(5));
     /// ```
@@ -85,24 +86,23 @@ impl<const N: usize> Scoreboard<N> {
         self.head.reset_at(first);
     }
 
-    /// Reports the positions from `start` on and below `end`, as a SACK block of an acknowledgement
-    /// does. Blocks may overlap. `sent` is the number after the last one that was ever sent, as
+    /// Reports the positions of `block`, as a SACK block of an acknowledgement does. Blocks may overlap. `sent` is the number after the last one that was ever sent, as
     /// `FiniteSender::sent` returns it.
     ///
     /// ```
     /// # use net_base::scoreboard::{ReportError, Scoreboard};
     /// let mut scoreboard = Scoreboard::<1>::empty();
-    /// assert_eq!(scoreboard.report(5, 9, 8), Err(ReportError::NoBlock));
-    /// assert_eq!((scoreboard.report(5, 9, 9), scoreboard.report(8, 12, 20)), (Ok(()), Ok(())));
-    /// assert_eq!(scoreboard.report(14, 15, 20), Err(ReportError::TooManyHoles));
+    /// assert_eq!(scoreboard.report(5..9, 8), Err(ReportError::NoBlock));
+    /// assert_eq!((scoreboard.report(5..9, 9), scoreboard.report(8..12, 20)), (Ok(()), Ok(())));
+    /// assert_eq!(scoreboard.report(14..15, 20), Err(ReportError::TooManyHoles));
     /// assert!(scoreboard.contains(11) && !scoreboard.contains(14));
     /// ```
     ///
     /// # Errors
     ///
-    /// `NoBlock`, and nothing changes, exactly if no such block can be: if `start` isn't below `end`, `end`
-    /// is above `sent`, or it begins beyond the first position that wasn't reported, and ends 2^32 or more
-    /// above it: TCP's numbers have 32 bits.
+    /// `NoBlock`, and nothing changes, exactly if no such block can be: if it is empty, ends above `sent`, or
+    /// begins beyond the first position that wasn't reported, and ends 2^32 or more above it: TCP's numbers
+    /// have 32 bits.
     ///
     /// `TooManyHoles`, and nothing changes, exactly if such a block can be, it begins beyond the first
     /// position that wasn't reported, and there would be more than `N` runs beyond that: then the block
@@ -111,8 +111,9 @@ impl<const N: usize> Scoreboard<N> {
     /// # [Guarantees](crate#guarantees)
     ///
     /// - on `Err`: `self == old(self)`
-    pub fn report(&mut self, start: u64, end: u64, sent: u64) -> Result<(), ReportError> {
-        self.head.report(&mut self.runs, start, end, sent)
+    pub fn report(&mut self, block: Range<u64>, sent: u64) -> Result<(), ReportError> {
+        self.head
+            .report(&mut self.runs, block.start, block.end, sent)
     }
 
     /// Reports all positions below `next`. It is never refused.
@@ -120,9 +121,9 @@ impl<const N: usize> Scoreboard<N> {
     /// ```
     /// # use net_base::scoreboard::Scoreboard;
     /// # let mut scoreboard = Scoreboard::<4>::empty();
-    /// assert_eq!(scoreboard.report(5, 9, 20), Ok(()));
+    /// assert_eq!(scoreboard.report(5..9, 20), Ok(()));
     /// scoreboard.acknowledge(7);
-    /// assert_eq!(scoreboard.next_hole(0, 20), Some((9, 20)));
+    /// assert_eq!(scoreboard.next_hole(0, 20), Some(9..20));
     /// ```
     pub fn acknowledge(&mut self, next: u64) {
         self.head.acknowledge(&mut self.runs, next);
@@ -139,7 +140,7 @@ impl<const N: usize> Scoreboard<N> {
     /// ```
     /// # use net_base::scoreboard::Scoreboard;
     /// # let mut scoreboard = Scoreboard::<4>::empty();
-    /// assert_eq!(scoreboard.report(5, 9, 20), Ok(()));
+    /// assert_eq!(scoreboard.report(5..9, 20), Ok(()));
     /// assert!(scoreboard.contains(8) && !scoreboard.contains(9));
     /// ```
     #[must_use]
@@ -160,39 +161,35 @@ impl<const N: usize> Scoreboard<N> {
         self.head.highest_reported(&self.runs)
     }
 
-    /// Returns how many positions from `start` on and below `end` weren't reported.
+    /// Returns how many positions of `range` weren't reported.
     ///
     /// ```
     /// # use net_base::scoreboard::Scoreboard;
     /// # let mut scoreboard = Scoreboard::<4>::empty();
-    /// assert_eq!((scoreboard.report(5, 9, 20), scoreboard.report(12, 20, 20)), (Ok(()), Ok(())));
-    /// assert_eq!(scoreboard.missing_between(6, 15), 3);
+    /// assert_eq!((scoreboard.report(5..9, 20), scoreboard.report(12..20, 20)), (Ok(()), Ok(())));
+    /// assert_eq!(scoreboard.missing_between(6..15), 3);
     /// ```
     #[must_use]
-    pub fn missing_between(&self, start: u64, end: u64) -> u64 {
-        self.head.missing_between(&self.runs, start, end)
+    pub fn missing_between(&self, range: Range<u64>) -> u64 {
+        self.head
+            .missing_between(&self.runs, range.start, range.end)
     }
 
-    /// Returns the next range that wasn't reported, as a start and an end, the end not included: it
-    /// begins at the first position from `pos` on that wasn't, and ends at the next one that was, or at
-    /// `limit`. `None` if there is none below `limit`. Of these bytes most may only be in flight. What is
+    /// Returns the next range that wasn't reported: it begins at the first position from `pos` on that
+    /// wasn't, and ends at the next one that was, or at `limit`. `None` if there is none below `limit`. Of these bytes most may only be in flight. What is
     /// lost is below `lost_below`, as `limit`: a caller sends it, and passes its end as the next `pos`.
     ///
     /// ```
     /// # use net_base::scoreboard::Scoreboard;
     /// # let mut scoreboard = Scoreboard::<4>::empty();
-    /// assert_eq!((scoreboard.report(5, 9, 20), scoreboard.report(12, 20, 20)), (Ok(()), Ok(())));
-    /// assert_eq!(scoreboard.next_hole(6, 20), Some((9, 12)));
+    /// assert_eq!((scoreboard.report(5..9, 20), scoreboard.report(12..20, 20)), (Ok(()), Ok(())));
+    /// assert_eq!(scoreboard.next_hole(6, 20), Some(9..12));
     /// assert_eq!(scoreboard.next_hole(12, 20), None);
     /// ```
     #[must_use]
-    pub fn next_hole(&self, pos: u64, limit: u64) -> Option<(u64, u64)> {
+    pub fn next_hole(&self, pos: u64, limit: u64) -> Option<Range<u64>> {
         let (start, end) = self.head.next_hole(&self.runs, pos, limit);
-        if start < end {
-            Some((start, end))
-        } else {
-            None
-        }
+        if start < end { Some(start..end) } else { None }
     }
 
     /// Returns the position below which all that wasn't reported is lost, by the rule of RFC 6675,
@@ -205,9 +202,9 @@ impl<const N: usize> Scoreboard<N> {
     /// # use net_base::scoreboard::Scoreboard;
     /// # let mut scoreboard = Scoreboard::<4>::empty();
     /// // Segments of 100 bytes: the first is missing, the three after it have arrived, four are in flight.
-    /// assert_eq!(scoreboard.report(100, 400, 800), Ok(()));
+    /// assert_eq!(scoreboard.report(100..400, 800), Ok(()));
     /// let lost = scoreboard.lost_below(3, 100);
-    /// assert_eq!(scoreboard.next_hole(0, lost), Some((0, 100)));
+    /// assert_eq!(scoreboard.next_hole(0, lost), Some(0..100));
     /// assert_eq!(scoreboard.next_hole(100, lost), None);
     /// ```
     #[must_use]

@@ -32,11 +32,14 @@ impl<const N: usize> Reported for Scoreboard<N> {
     }
 
     fn missing_between(&self, start: u64, end: u64) -> u64 {
-        self.missing_between(start, end)
+        self.missing_between(start..end)
     }
 
     fn next_hole(&self, pos: u64, limit: u64) -> Option<(u64, u64)> {
-        self.next_hole(pos, limit)
+        match self.next_hole(pos, limit) {
+            Some(hole) => Some((hole.start, hole.end)),
+            None => None,
+        }
     }
 
     fn lost_below(&self, duplicates: usize, segment_size: usize) -> u64 {

@@ -48,7 +48,7 @@ impl<const N: usize> Subject for Sending<N> {
                 recovery.sent(*numbers, one..two);
                 numbers.sent = numbers.sent.max(two);
             }
-            "report" => return answer(board.report(one, two, numbers.sent)),
+            "report" => return answer(board.report(one..two, numbers.sent)),
             "acknowledge" => {
                 numbers.first_unacknowledged = numbers.first_unacknowledged.max(one);
                 board.acknowledge(one);

@@ -35,13 +35,13 @@ impl<const N: usize> Subject for Board<N> {
     fn make(&mut self, call: &Call) -> String {
         let (board, one, two) = (&mut self.board, call.at(0), call.at(1));
         match call.name {
-            "report" => answer(board.report(one, two, call.at(2))),
+            "report" => answer(board.report(one..two, call.at(2))),
             "acknowledge" => {
                 board.acknowledge(one);
                 "done".to_string()
             }
             "contains" => truth(board.contains(one)).to_string(),
-            "next_hole" => range(board.next_hole(one, two)),
+            "next_hole" => range(board.next_hole(one, two).map(|it| (it.start, it.end))),
             "lost_below" => board.lost_below(call.size(0), call.size(1)).to_string(),
             name => panic!("no call {name}"),
         }
