@@ -77,7 +77,7 @@ fn quic() {
                 if is_beyond || fin && !receiving.can_end(data_end) {
                     return println!("FINAL_SIZE_ERROR");
                 }
-                receiving.keep(start, &data, fin).expect("few holes");
+                receiving.keep(start, &data, fin.into()).expect("few holes");
                 acknowledged.push(start..end);
             }
         }

@@ -91,7 +91,7 @@ fn receive(
         return Err("FLOW_CONTROL_ERROR");
     }
     // A frame that is refused, since too many ranges wait, isn't acknowledged, and so it is sent again.
-    Ok(stream.keep(offset, data, fin).is_ok())
+    Ok(stream.keep(offset, data, fin.into()).is_ok())
 }
 
 fn main() {

@@ -25,9 +25,9 @@
 //! let number = SequenceNumber::at(syn, 4);
 //! assert_eq!((bytes, is_last, number.get()), (&b"lo"[..], true, 1));
 //! let pos = number.position(syn, receiver.acknowledged()).expect("a position nearby");
-//! assert!(receiver.keep(pos, bytes, is_last).is_ok() && !receiver.is_complete());
+//! assert!(receiver.keep(pos, bytes, is_last.into()).is_ok() && !receiver.is_complete());
 //! let (bytes, is_last) = sender.peek_at(1, 4);
-//! assert!(receiver.keep(1, bytes, is_last).is_ok() && receiver.is_complete());
+//! assert!(receiver.keep(1, bytes, is_last.into()).is_ok() && receiver.is_complete());
 //! // What is acknowledged is all five bytes and the end.
 //! assert!(sender.acknowledge(receiver.acknowledged()) && sender.is_closed_and_acknowledged());
 //! let mut text = [0; 9];
@@ -42,7 +42,7 @@ use crate::storage::{Listed, Storage, TooManyHolesError};
 
 pub use crate::stream::SentNumbers;
 pub use crate::stream::{
-    FiniteError, FiniteReceiver, FiniteReceiverOver, FiniteSender, FiniteSenderOver,
+    FiniteError, FiniteReceiver, FiniteReceiverOver, FiniteSender, FiniteSenderOver, Part,
 };
 
 impl From<TooManyHolesError> for FiniteError {

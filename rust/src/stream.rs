@@ -18,7 +18,7 @@ erased! {
     pub(crate) mod sequence_number;
 }
 
-pub use finite_receiver::{FiniteReceiver, FiniteReceiverOver};
+pub use finite_receiver::{FiniteReceiver, FiniteReceiverOver, Part};
 pub use finite_sender::{FiniteSender, FiniteSenderOver};
 pub use held_runs::{HeldRunIter, HeldRuns, NewestRunIter};
 pub use kept::{FiniteError, Kept, KeptBytes, SegmentParts};

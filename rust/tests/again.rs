@@ -1,5 +1,5 @@
 //! Types that begin again, or give their storage back; and calls of streams that end.
-use net_base::finite::{FiniteReceiver, FiniteSender};
+use net_base::finite::{FiniteReceiver, FiniteSender, Part};
 use net_base::managed::ManagedSlice;
 use net_base::receiver::Receiver;
 use net_base::scoreboard::Scoreboard;
@@ -31,9 +31,9 @@ fn a_receiver() {
 fn a_receiver_of_a_stream_that_ends() {
     let mut storage = [0; 8];
     let mut receiver: FiniteReceiver<4> = FiniteReceiver::empty_at(&mut storage[..], 100);
-    assert!(receiver.keep(102, b"c", true).is_ok());
+    assert!(receiver.keep(102, b"c", Part::Last).is_ok());
     assert_eq!((receiver.count_new(100, 9), receiver.end()), (2, Some(103)));
-    assert!(receiver.keep(100, b"ab", false).is_ok() && !receiver.has_read_all());
+    assert!(receiver.keep(100, b"ab", Part::More).is_ok() && !receiver.has_read_all());
     receiver.remove(3);
     assert!(receiver.has_read_all());
     receiver.reset_at(7);
@@ -133,8 +133,12 @@ fn storage_is_written_only_where_bytes_are_kept() {
     assert_eq!(&receiver, b"ab..e...");
     let finite = left_by(|storage| {
         let mut finite: FiniteReceiver<1> = FiniteReceiver::empty_at(storage, 0);
-        assert!(finite.keep(0, b"ab", false).is_ok() && finite.keep(4, b"e", true).is_ok());
-        assert!(finite.keep(6, b"g", true).is_err() && finite.keep(4, b"fg", false).is_ok());
+        assert!(
+            finite.keep(0, b"ab", Part::More).is_ok() && finite.keep(4, b"e", Part::Last).is_ok()
+        );
+        assert!(
+            finite.keep(6, b"g", Part::Last).is_err() && finite.keep(4, b"fg", Part::More).is_ok()
+        );
         assert_eq!(finite.read(&mut [0; 2]), 2);
     });
     assert_eq!(&finite, b"ab..f...");

@@ -94,7 +94,7 @@ fn receivers() {
             _ => {
                 let next = finite.acknowledged();
                 let is_known = finite.end().is_some();
-                let kept = finite.keep(pos, bytes, draw.bit());
+                let kept = finite.keep(pos, bytes, draw.bit().into());
                 assert!(kept.map_or(0, |it| it.kept) <= bytes.len());
                 assert!(finite.acknowledged() >= next && (finite.end().is_some() || !is_known));
             }

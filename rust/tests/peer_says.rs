@@ -1,6 +1,6 @@
 //! What a peer says, which is no fault of the caller's: the later of two segments that differ, bytes beyond an end, a
 //! full window at the end, and an acknowledgement of what wasn't sent.
-use net_base::finite::{FiniteError, FiniteReceiver};
+use net_base::finite::{FiniteError, FiniteReceiver, Part};
 use net_base::tcp::{
     AdvertisedWindow, Announcement, PeerWindow, RetransmissionTimer, SentNumbers, TimeoutBounds,
 };
@@ -34,12 +34,12 @@ fn of_two_with_the_same_numbers_the_one_that_arrives_last_decides() {
 fn only_another_end_is_refused() {
     let mut storage = [0u8; 16];
     let mut it = FiniteReceiver::<4>::empty_at(&mut storage[..], 0);
-    assert!(it.keep(0, b"abc", true).is_ok());
+    assert!(it.keep(0, b"abc", Part::Last).is_ok());
     for (pos, bytes) in [(3, &b"XYZ"[..]), (1, b"bcXYZ")] {
-        let kept = it.keep(pos, bytes, false).expect("no other end");
+        let kept = it.keep(pos, bytes, Part::More).expect("no other end");
         assert_eq!((kept.kept, it.acknowledged(), it.receiver().queued()), (0, 4, 3));
     }
-    assert!(matches!(it.keep(3, b"XYZ", true), Err(FiniteError::OtherEnd)));
+    assert!(matches!(it.keep(3, b"XYZ", Part::Last), Err(FiniteError::OtherEnd)));
     assert_eq!((it.end(), it.receiver().queued()), (Some(3), 3));
 }
 
@@ -48,7 +48,7 @@ fn only_another_end_is_refused() {
 fn the_end_at_a_full_window_promises_nothing() {
     let mut storage = [0u8; 3];
     let mut it = FiniteReceiver::<4>::empty_at(&mut storage[..], 0);
-    assert!(it.keep(0, b"abc", true).is_ok());
+    assert!(it.keep(0, b"abc", Part::Last).is_ok());
     let (next, end) = (it.acknowledged(), it.receiver().window_end().expect("it fits"));
     assert_eq!((next, end, it.window_end()), (4, 3, Some(4)));
     let mut window = AdvertisedWindow::new(0);

@@ -1,6 +1,6 @@
 //! Positions about 2^31, 2^32, 2^63 and 2^64, which a `usize` of 32 bits has no numbers for. The values are the same on
 //! every processor, but where `usize` is named.
-use net_base::finite::{FiniteError, FiniteReceiver, FiniteSender};
+use net_base::finite::{FiniteError, FiniteReceiver, FiniteSender, Part};
 use net_base::receiver::Receiver;
 use net_base::scoreboard::{ReportError, Scoreboard};
 use net_base::sequence_number::SequenceNumber;
@@ -108,12 +108,16 @@ fn finite() {
     for first in begins() {
         let (mut storage, mut bytes) = ([0u8; 16], [0u8; 16]);
         let mut it = FiniteReceiver::<2>::empty_at(&mut storage[..], first);
-        assert_eq!(it.keep(first + 2, b"cd", true).map(|kept| kept.kept), Ok(2));
+        assert_eq!(it.keep(first + 2, b"cd", Part::Last).map(|kept| kept.kept), Ok(2));
         for pos in aliases(first + 2).filter(|&pos| pos < u64::MAX - 2) {
-            assert_eq!(it.keep(pos, b"no", true), Err(FiniteError::OtherEnd), "{first} {pos}");
+            assert_eq!(
+                it.keep(pos, b"no", Part::Last),
+                Err(FiniteError::OtherEnd),
+                "{first} {pos}"
+            );
             assert!(!it.can_end(pos) && it.end() == Some(first + 4));
         }
-        assert_eq!(it.keep(first, b"abcdef", false).map(|kept| kept.queued), Ok(4));
+        assert_eq!(it.keep(first, b"abcdef", Part::More).map(|kept| kept.queued), Ok(4));
         assert_eq!((it.acknowledged(), it.is_complete()), (first + 5, true));
         let mut it = FiniteSender::new_at(&mut bytes[..], first);
         assert_eq!(it.write(b"ab"), 2);

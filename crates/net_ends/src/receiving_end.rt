@@ -5,7 +5,7 @@ ghost use Rattle.std.specs.Prelude.{None, List};
 ghost use Rattle.std.specs.Option.{option_to_list};
 ghost use Rattle.std.specs.Fn.{FnOnceTakesAt, FnOnceReturnsAt};
 ghost use Rattle.net_tcp.specs.Windows.{IsArrival, announced, field_for};
-ghost use Rattle.net_receiver.specs.ReceiverState.{first_part, contiguous_count};
+ghost use Rattle.net_receiver.specs.ReceiverState.{first_part, contiguous_count, pair_of};
 ghost use Rattle.net_receiver.specs.NewestRuns.{with_starts};
 ghost use Rattle.net_receiver.specs.Finite.{no_end, acknowledged, is_complete, finite_result};
 ghost use Rattle.net_ends.specs.Receiving.{new_receiving, opened, opening_field, is_worth, field_of, promise};
@@ -16,10 +16,11 @@ ghost use Rattle.net_ends.specs.ReceivingRules.{room_of, waiting, worth_at, fiel
 ghost use Rattle.std.specs.Option.{option_or};
 ghost use Rattle.std.specs.Prelude.{[], ◌∷◌};
 
-use net_receiver::{FiniteError, FiniteReceiverOver, HeldRun, KeptBytes};
+use net_receiver::{FiniteError, FiniteReceiverOver, HeldRun, KeptBytes, Part};
 use net_ring::{ManagedSlice, Storage};
 use net_tcp::{AdvertisedWindow, Arrival, Segment};
 use std::marker::Model;
+use std::ops::Range;
 
 pub mod laws;
 
@@ -438,9 +439,9 @@ impl<S: Storage<u8>, const N: usize> ReceivingEndOver<S, N> {
         ensures step { self.new ≡ after_arrival N self.old pos bytes.now is_last
             self.new.duplicate }
     {
-        let part = self.receiver.receiver().duplicate_of(pos, bytes.len());
+        let part = pair_of(self.receiver.receiver().duplicate_of(pos, bytes.len()));
         let held = self.receiver.receiver().held_count();
-        let kept = self.receiver.keep(pos, bytes, is_last);
+        let kept = self.receiver.keep(pos, bytes, Part::from(is_last));
         self.head.take(pos, is_last, part, held, kept);
         kept
     }
@@ -664,5 +665,15 @@ fn in_front(
     match duplicate {
         Some(part) => [Some(part), blocks[0], blocks[1], blocks[2]],
         None => blocks,
+    }
+}
+
+/// Returns the start and the end of a range, if there is one.
+fn pair_of(range: Option<Range<u64>>) -> Option<(u64, u64)>
+    ensures { result ≡ pair_of range }
+{
+    match range {
+        Some(range) => Some((range.start, range.end)),
+        None => None,
     }
 }

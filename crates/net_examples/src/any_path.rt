@@ -14,7 +14,7 @@ ghost use Rattle.net_receiver.specs.Finite.{acknowledged, is_complete};
 ghost use Rattle.net_receiver.specs.FiniteSender.{first_number};
 ghost use Rattle.net_examples.specs.AnyPath.{IsCarried, IsSending, IsOfText, IsReading};
 
-use net_receiver::{FiniteReceiver, FiniteSender, laws};
+use net_receiver::{FiniteReceiver, FiniteSender, Part, laws};
 use net_ring::ManagedSlice;
 use std::alloc::{AllocError, Allocator};
 
@@ -155,7 +155,9 @@ fn arrive<A: Allocator + Copy>(
 {
     if index < path.len() {
         let it = &path[index];
-        let _kept = receiver.keep(it.pos, &it.bytes, it.is_last).is_ok();
+        let _kept = receiver
+            .keep(it.pos, &it.bytes, Part::from(it.is_last))
+            .is_ok();
     }
 }
 

@@ -6,11 +6,11 @@ ghost use Rattle.net_receiver.specs.Headline.{missing};
 ghost use Rattle.net_receiver.specs.Schedule.{KeptState, fresh_kept};
 ghost use Rattle.net_receiver.specs.ReceiverState.{Refines, setting, next_position};
 ghost use Rattle.net_receiver.specs.OneStream.{ReceivesFrom};
-ghost use Rattle.net_receiver.specs.Finite.{fresh_finite, kept_after_all, Arrives};
+ghost use Rattle.net_receiver.specs.Finite.{fresh_finite, is_last, kept_after_all, Arrives};
 ghost use Rattle.net_receiver.specs.SenderState.{Sends};
 ghost use Rattle.net_receiver.specs.Scoreboards.{beyond, runs_above};
 
-use net_receiver::{FiniteReceiver, FiniteSender, Receiver, Scoreboard, laws};
+use net_receiver::{FiniteReceiver, FiniteSender, Part, Receiver, Scoreboard, laws};
 use net_ring::ManagedSlice;
 
 /// Returns the first missing position of any receiver: that of some kept pieces and of some count of bytes read.
@@ -42,14 +42,14 @@ pub fn skip(receiver: &mut Receiver<'_, 4>, count: usize)
 }
 
 /// Begins a stream that ends, with a segment. Its bytes are those of the schedule of what the segment brings.
-pub fn keep_first(receiver: &mut FiniteReceiver<'_, 4>, pos: u64, bytes: &[u8], is_last: bool)
+pub fn keep_first(receiver: &mut FiniteReceiver<'_, 4>, pos: u64, bytes: &[u8], part: Part)
     ensures { let s = fresh_finite 0 receiver.old.receiver.capacity in
-        Refines receiver.new.receiver (kept_after_all 4 s fresh_kept (Arrives pos bytes.now is_last ∷ [])) }
+        Refines receiver.new.receiver (kept_after_all 4 s fresh_kept (Arrives pos bytes.now (is_last part) ∷ [])) }
 {
     laws::schedules();
     laws::finite_schedules();
     receiver.reset_at(0);
-    let _kept = receiver.keep(pos, bytes, is_last).is_ok();
+    let _kept = receiver.keep(pos, bytes, part).is_ok();
 }
 
 /// Returns whether the end is acknowledged: then all is that was written.

@@ -14,7 +14,7 @@
 ghost use Rattle.std.specs.Prelude.{◌≡◌, ℕ, ◌+◌, ◌-◌, ◌<◌, ◌≤◌, ◌^◌, min, List, length, ◌++◌, IsTrue, Some, None};
 ghost use Rattle.std.specs.Prelude.{take, drop, max, IsOk};
 ghost use Rattle.net_receiver.specs.{no_end, fresh_finite, can_end, bytes_end, finite_after, finite_result};
-ghost use Rattle.net_receiver.specs.{finite_after_read, is_complete, acknowledged, has_read_all};
+ghost use Rattle.net_receiver.specs.{finite_after_read, is_complete, acknowledged, has_read_all, is_last};
 ghost use Rattle.net_receiver.specs.{IsSoundEnd, finite_of, HasSoundFinite, new_count, MatchesFinite, ReceivesFinite};
 ghost use Rattle.net_receiver.specs.{end_with, contiguous_count, first_part, limit_of, next_position};
 ghost use Rattle.net_receiver.specs.{IsSound, ends_in_order};
@@ -30,6 +30,34 @@ use crate::receiver::ReceiverOver;
 use net_assembler::Run;
 use net_ring::{ManagedSlice, Storage};
 use std::marker::Model;
+
+/// Whether a part of a stream is its last one, which TCP's FIN and QUIC's FIN bit say.
+///
+/// ```
+/// use net_base::finite::{FiniteReceiver, Part};
+///
+/// let mut storage = [0u8; 16];
+/// let mut receiver = FiniteReceiver::<4>::empty(&mut storage[..]);
+/// assert!(receiver.keep(0, b"ab", Part::More).is_ok() && !receiver.is_complete());
+/// assert!(receiver.keep(2, b"c", Part::Last).is_ok() && receiver.is_complete());
+/// assert_eq!(Part::from(true), Part::Last); // of a flag
+/// ```
+#[derive(Copy, Clone, Debug, PartialEq, Eq, Hash)]
+pub enum Part {
+    /// More of the stream may follow.
+    More,
+    /// The stream ends after it.
+    Last,
+}
+
+/// Returns `Last` for a flag that is set, as FIN is.
+impl From<bool> for Part {
+    ghost from_gives = { λ flag part. is_last part ≡ flag };
+
+    fn from(flag: bool) -> Part {
+        if flag { Part::Last } else { Part::More }
+    }
+}
 
 /// A [`FiniteReceiver`] over any storage.
 ///
@@ -161,10 +189,10 @@ impl<S: Storage<u8>, const N: usize> FiniteReceiverOver<S, N> {
     /// alone, so none is kept after the end.
     ///
     /// ```
-    /// # use net_base::finite::FiniteReceiver;
+    /// # use net_base::finite::{FiniteReceiver, Part};
     /// # let mut storage = [0u8; 16];
     /// # let mut receiver = FiniteReceiver::<4>::empty_at(&mut storage[..], 0);
-    /// assert!(receiver.keep(0, b"abc", true).is_ok());
+    /// assert!(receiver.keep(0, b"abc", Part::Last).is_ok());
     /// assert_eq!((receiver.receiver().queued(), receiver.receiver().window()), (3, 13));
     /// ```
     #[must_use]
@@ -204,7 +232,7 @@ impl<S: Storage<u8>, const N: usize> FiniteReceiverOver<S, N> {
     }
 
     /// Keeps the bytes of a segment that are in the free window and below the end, as
-    /// `ReceiverOver::keep` does. `is_last` says that the stream ends after the segment. Any segment may
+    /// `ReceiverOver::keep` does. `part` says whether the stream ends after the segment. Any segment may
     /// arrive: bytes after which an end has no number, which no stream has, are left out.
     ///
     /// The end is taken if it is at most the end of the free window. An end beyond that is left out, as
@@ -218,13 +246,13 @@ impl<S: Storage<u8>, const N: usize> FiniteReceiverOver<S, N> {
     /// `can_end` first.
     ///
     /// ```
-    /// # use net_base::finite::{FiniteError, FiniteReceiver};
+    /// # use net_base::finite::{FiniteError, FiniteReceiver, Part};
     /// # let mut storage = [0u8; 16];
     /// # let mut receiver = FiniteReceiver::<4>::empty_at(&mut storage[..], 0);
-    /// assert!(receiver.keep(0, b"abc", false).is_ok());
-    /// assert!(receiver.keep(9, b"forged", true).is_ok());
-    /// assert_eq!(receiver.keep(4, b"e", true), Err(FiniteError::OtherEnd));
-    /// assert!(receiver.keep(3, b"d", true).is_ok());
+    /// assert!(receiver.keep(0, b"abc", Part::More).is_ok());
+    /// assert!(receiver.keep(9, b"forged", Part::Last).is_ok());
+    /// assert_eq!(receiver.keep(4, b"e", Part::Last), Err(FiniteError::OtherEnd));
+    /// assert!(receiver.keep(3, b"d", Part::Last).is_ok());
     /// assert_eq!((receiver.end(), receiver.is_complete()), (Some(4), true));
     /// ```
     ///
@@ -232,20 +260,20 @@ impl<S: Storage<u8>, const N: usize> FiniteReceiverOver<S, N> {
     ///
     /// `OtherEnd` if the segment says that the stream ends where it can't (`can_end`), and not in order; else
     /// `TooManyHoles` if its bytes are refused. Then nothing changes.
-    pub fn keep(&mut self, pos: u64, bytes: &[u8], is_last: bool) -> Result<KeptBytes, FiniteError>
-        ensures state { self.new ≡ finite_after N self.old pos bytes.now is_last }
-        ensures value { result ≡ finite_result N self.old pos bytes.now is_last }
+    pub fn keep(&mut self, pos: u64, bytes: &[u8], part: Part) -> Result<KeptBytes, FiniteError>
+        ensures state { self.new ≡ finite_after N self.old pos bytes.now (is_last part) }
+        ensures value { result ≡ finite_result N self.old pos bytes.now (is_last part) }
         ensures receives { (f : ℕ) (x : List ℕ) → ReceivesFinite f x self.old →
-            MatchesFinite f x pos bytes.now is_last → ReceivesFinite f x self.new }
+            MatchesFinite f x pos bytes.now (is_last part) → ReceivesFinite f x self.new }
         ensures read { self.new.receiver.read ≡ self.old.receiver.read }
         // Guarantee.
-        ensures in_order { IsTrue is_last →
+        ensures in_order { IsTrue (is_last part) →
             IsTrue (ends_in_order self.old pos (pos + length bytes.now)) → IsOk result }
         // Guarantee.
         ensures grows { acknowledged self.old ≤ acknowledged self.new }
     {
         self.receiver
-            .keep_finite(&mut self.after_end, pos, bytes, is_last)
+            .keep_finite(&mut self.after_end, pos, bytes, is_last(part))
     }
 
     /// Moves bytes from the head of the queue to the beginning of `into`, and returns how many: as
@@ -268,10 +296,10 @@ impl<S: Storage<u8>, const N: usize> FiniteReceiverOver<S, N> {
     /// queue is.
     ///
     /// ```
-    /// # use net_base::finite::FiniteReceiver;
+    /// # use net_base::finite::{FiniteReceiver, Part};
     /// # let mut storage = [0u8; 16];
     /// # let mut receiver = FiniteReceiver::<4>::empty_at(&mut storage[..], 0);
-    /// assert!(receiver.keep(0, b"abc", true).is_ok());
+    /// assert!(receiver.keep(0, b"abc", Part::Last).is_ok());
     /// assert_eq!(receiver.read_with(|bytes| (2, bytes.len())), (2, 3));
     /// assert_eq!((receiver.receiver().queued(), receiver.has_read_all()), (1, false));
     /// ```
@@ -354,12 +382,12 @@ impl<S: Storage<u8>, const N: usize> FiniteReceiverOver<S, N> {
     /// doesn't fit 64 bits.
     ///
     /// ```
-    /// # use net_base::finite::FiniteReceiver;
+    /// # use net_base::finite::{FiniteReceiver, Part};
     /// # let mut storage = [0u8; 3];
     /// # let mut receiver = FiniteReceiver::<4>::empty_at(&mut storage[..], 0);
-    /// assert!(receiver.keep(0, b"abc", false).is_ok());
+    /// assert!(receiver.keep(0, b"abc", Part::More).is_ok());
     /// assert_eq!((receiver.acknowledged(), receiver.window_end()), (3, Some(3)));
-    /// assert!(receiver.keep(3, b"", true).is_ok());
+    /// assert!(receiver.keep(3, b"", Part::Last).is_ok());
     /// assert_eq!((receiver.acknowledged(), receiver.window_end()), (4, Some(4)));
     /// ```
     #[must_use]
@@ -381,10 +409,10 @@ impl<S: Storage<u8>, const N: usize> FiniteReceiverOver<S, N> {
     /// QUIC's do, or past the free window.
     ///
     /// ```
-    /// # use net_base::finite::FiniteReceiver;
+    /// # use net_base::finite::{FiniteReceiver, Part};
     /// # let mut storage = [0u8; 8];
     /// # let mut receiver = FiniteReceiver::<4>::empty_at(&mut storage[..], 0);
-    /// assert!(receiver.keep(3, b"d", true).is_ok());
+    /// assert!(receiver.keep(3, b"d", Part::Last).is_ok());
     /// let parts = receiver.parts_of(2, 9);
     /// assert_eq!((parts.in_window, parts.beyond, parts.past_end), (2, 0, 7));
     /// ```
@@ -419,5 +447,15 @@ impl<S: Storage<u8>, const N: usize> FiniteReceiverOver<S, N> {
         ensures end { IsSoundEnd self.now }
     {
         self.receiver.is_sound();
+    }
+}
+
+/// Returns whether it is the last part of the stream.
+fn is_last(part: Part) -> bool
+    ensures { result ≡ is_last part }
+{
+    match part {
+        Part::Last => true,
+        Part::More => false,
     }
 }

@@ -2,9 +2,10 @@
 //! What receives a stream that ends.
 
 use crate::rattle::prelude::*;
-use crate::stream::{FiniteError, FiniteReceiverOver, HeldRun, KeptBytes};
+use crate::stream::{FiniteError, FiniteReceiverOver, HeldRun, KeptBytes, Part};
 use crate::storage::{ManagedSlice, Storage};
 use crate::tcp::{AdvertisedWindow, Arrival, Segment};
+use crate::rattle::std::ops::Range;
 
 /// What a segment without bytes tells the peer.
 ///
@@ -320,9 +321,9 @@ impl<S: Storage<u8>, const N: usize> ReceivingEndOver<S, N> {
 
     /// Takes a segment that has a byte or the end.
     fn take(&mut self, pos: u64, bytes: &[u8], is_last: bool) -> Result<KeptBytes, FiniteError> {
-        let part = self.receiver.receiver().duplicate_of(pos, bytes.len());
+        let part = pair_of(self.receiver.receiver().duplicate_of(pos, bytes.len()));
         let held = self.receiver.receiver().held_count();
-        let kept = self.receiver.keep(pos, bytes, is_last);
+        let kept = self.receiver.keep(pos, bytes, Part::from(is_last));
         self.head.take(pos, is_last, part, held, kept);
         kept
     }
@@ -496,5 +497,13 @@ fn in_front(
     match duplicate {
         Some(part) => [Some(part), blocks[0], blocks[1], blocks[2]],
         None => blocks,
+    }
+}
+
+/// Returns the start and the end of a range, if there is one.
+fn pair_of(range: Option<Range<u64>>) -> Option<(u64, u64)> {
+    match range {
+        Some(range) => Some((range.start, range.end)),
+        None => None,
     }
 }

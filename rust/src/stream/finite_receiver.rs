@@ -18,6 +18,32 @@ use crate::stream::kept::{FiniteError, KeptBytes, SegmentParts};
 use crate::stream::receiver::ReceiverOver;
 use crate::storage::{ManagedSlice, Storage};
 
+/// Whether a part of a stream is its last one, which TCP's FIN and QUIC's FIN bit say.
+///
+/// ```
+/// use net_base::finite::{FiniteReceiver, Part};
+///
+/// let mut storage = [0u8; 16];
+/// let mut receiver = FiniteReceiver::<4>::empty(&mut storage[..]);
+/// assert!(receiver.keep(0, b"ab", Part::More).is_ok() && !receiver.is_complete());
+/// assert!(receiver.keep(2, b"c", Part::Last).is_ok() && receiver.is_complete());
+/// assert_eq!(Part::from(true), Part::Last); // of a flag
+/// ```
+#[derive(Copy, Clone, Debug, PartialEq, Eq, Hash)]
+pub enum Part {
+    /// More of the stream may follow.
+    More,
+    /// The stream ends after it.
+    Last,
+}
+
+/// Returns `Last` for a flag that is set, as FIN is.
+impl From<bool> for Part {
+    fn from(flag: bool) -> Part {
+        if flag { Part::Last } else { Part::More }
+    }
+}
+
 /// A [`FiniteReceiver`] over any storage.
 ///
 /// It is a `Receiver` that knows where the stream ends, once a segment has said so. The end is the
@@ -80,10 +106,10 @@ impl<S: Storage<u8>, const N: usize> FiniteReceiverOver<S, N> {
     /// alone, so none is kept after the end.
     ///
     /// ```
-    /// # use net_base::finite::FiniteReceiver;
+    /// # use net_base::finite::{FiniteReceiver, Part};
     /// # let mut storage = [0u8; 16];
     /// # let mut receiver = FiniteReceiver::<4>::empty_at(&mut storage[..], 0);
-    /// assert!(receiver.keep(0, b"abc", true).is_ok());
+    /// assert!(receiver.keep(0, b"abc", Part::Last).is_ok());
     /// assert_eq!((receiver.receiver().queued(), receiver.receiver().window()), (3, 13));
     /// ```
     #[must_use]
@@ -116,7 +142,7 @@ impl<S: Storage<u8>, const N: usize> FiniteReceiverOver<S, N> {
     }
 
     /// Keeps the bytes of a segment that are in the free window and below the end, as
-    /// `ReceiverOver::keep` does. `is_last` says that the stream ends after the segment. Any segment may
+    /// `ReceiverOver::keep` does. `part` says whether the stream ends after the segment. Any segment may
     /// arrive: bytes after which an end has no number, which no stream has, are left out.
     ///
     /// The end is taken if it is at most the end of the free window. An end beyond that is left out, as
@@ -130,13 +156,13 @@ impl<S: Storage<u8>, const N: usize> FiniteReceiverOver<S, N> {
     /// `can_end` first.
     ///
     /// ```
-    /// # use net_base::finite::{FiniteError, FiniteReceiver};
+    /// # use net_base::finite::{FiniteError, FiniteReceiver, Part};
     /// # let mut storage = [0u8; 16];
     /// # let mut receiver = FiniteReceiver::<4>::empty_at(&mut storage[..], 0);
-    /// assert!(receiver.keep(0, b"abc", false).is_ok());
-    /// assert!(receiver.keep(9, b"forged", true).is_ok());
-    /// assert_eq!(receiver.keep(4, b"e", true), Err(FiniteError::OtherEnd));
-    /// assert!(receiver.keep(3, b"d", true).is_ok());
+    /// assert!(receiver.keep(0, b"abc", Part::More).is_ok());
+    /// assert!(receiver.keep(9, b"forged", Part::Last).is_ok());
+    /// assert_eq!(receiver.keep(4, b"e", Part::Last), Err(FiniteError::OtherEnd));
+    /// assert!(receiver.keep(3, b"d", Part::Last).is_ok());
     /// assert_eq!((receiver.end(), receiver.is_complete()), (Some(4), true));
     /// ```
     ///
@@ -147,11 +173,11 @@ impl<S: Storage<u8>, const N: usize> FiniteReceiverOver<S, N> {
     ///
     /// # [Guarantees](crate#guarantees)
     ///
-    /// - if `is_last` and `ends_in_order(old(self), pos, pos + bytes.len())`, then `result.is_ok()`
+    /// - if `is_last(part)` and `ends_in_order(old(self), pos, pos + bytes.len())`, then `result.is_ok()`
     /// - `old(self).acknowledged() <= self.acknowledged()`
-    pub fn keep(&mut self, pos: u64, bytes: &[u8], is_last: bool) -> Result<KeptBytes, FiniteError> {
+    pub fn keep(&mut self, pos: u64, bytes: &[u8], part: Part) -> Result<KeptBytes, FiniteError> {
         self.receiver
-            .keep_finite(&mut self.after_end, pos, bytes, is_last)
+            .keep_finite(&mut self.after_end, pos, bytes, is_last(part))
     }
 
     /// Moves bytes from the head of the queue to the beginning of `into`, and returns how many: as
@@ -170,10 +196,10 @@ impl<S: Storage<u8>, const N: usize> FiniteReceiverOver<S, N> {
     /// queue is.
     ///
     /// ```
-    /// # use net_base::finite::FiniteReceiver;
+    /// # use net_base::finite::{FiniteReceiver, Part};
     /// # let mut storage = [0u8; 16];
     /// # let mut receiver = FiniteReceiver::<4>::empty_at(&mut storage[..], 0);
-    /// assert!(receiver.keep(0, b"abc", true).is_ok());
+    /// assert!(receiver.keep(0, b"abc", Part::Last).is_ok());
     /// assert_eq!(receiver.read_with(|bytes| (2, bytes.len())), (2, 3));
     /// assert_eq!((receiver.receiver().queued(), receiver.has_read_all()), (1, false));
     /// ```
@@ -235,12 +261,12 @@ impl<S: Storage<u8>, const N: usize> FiniteReceiverOver<S, N> {
     /// doesn't fit 64 bits.
     ///
     /// ```
-    /// # use net_base::finite::FiniteReceiver;
+    /// # use net_base::finite::{FiniteReceiver, Part};
     /// # let mut storage = [0u8; 3];
     /// # let mut receiver = FiniteReceiver::<4>::empty_at(&mut storage[..], 0);
-    /// assert!(receiver.keep(0, b"abc", false).is_ok());
+    /// assert!(receiver.keep(0, b"abc", Part::More).is_ok());
     /// assert_eq!((receiver.acknowledged(), receiver.window_end()), (3, Some(3)));
-    /// assert!(receiver.keep(3, b"", true).is_ok());
+    /// assert!(receiver.keep(3, b"", Part::Last).is_ok());
     /// assert_eq!((receiver.acknowledged(), receiver.window_end()), (4, Some(4)));
     /// ```
     #[must_use]
@@ -257,10 +283,10 @@ impl<S: Storage<u8>, const N: usize> FiniteReceiverOver<S, N> {
     /// QUIC's do, or past the free window.
     ///
     /// ```
-    /// # use net_base::finite::FiniteReceiver;
+    /// # use net_base::finite::{FiniteReceiver, Part};
     /// # let mut storage = [0u8; 8];
     /// # let mut receiver = FiniteReceiver::<4>::empty_at(&mut storage[..], 0);
-    /// assert!(receiver.keep(3, b"d", true).is_ok());
+    /// assert!(receiver.keep(3, b"d", Part::Last).is_ok());
     /// let parts = receiver.parts_of(2, 9);
     /// assert_eq!((parts.in_window, parts.beyond, parts.past_end), (2, 0, 7));
     /// ```
@@ -284,5 +310,13 @@ impl<S: Storage<u8>, const N: usize> FiniteReceiverOver<S, N> {
     pub fn count_new(&self, position: u64, len: usize) -> usize {
         let count = count_below(self.after_end, position, len);
         self.receiver.count_part(position, count)
+    }
+}
+
+/// Returns whether it is the last part of the stream.
+fn is_last(part: Part) -> bool {
+    match part {
+        Part::Last => true,
+        Part::More => false,
     }
 }

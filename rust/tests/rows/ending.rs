@@ -31,7 +31,11 @@ impl<S: Storage<u8>, const N: usize> Subject for Ending<S, N> {
     fn make(&mut self, call: &Call) -> String {
         let (receiver, one) = (&mut self.receiver, call.at(0));
         match call.name {
-            "keep" => kept(receiver.keep(one, &pattern(call.size(1), call.at(2)), call.at(3) == 1)),
+            "keep" => kept(receiver.keep(
+                one,
+                &pattern(call.size(1), call.at(2)),
+                (call.at(3) == 1).into(),
+            )),
             "read" => {
                 let mut into = vec![0; call.size(0)];
                 let count = receiver.read(&mut into);
