@@ -1,7 +1,7 @@
 //! Streams that end: a receiver that knows where its stream ends, and a sender that says so. (Not in smoltcp.)
 //!
 //! ```
-//! use net_base::finite::{FiniteReceiver, FiniteSender};
+//! use net_base::finite::{FiniteReceiver, FiniteSender, Part};
 //! use net_base::sequence_number::SequenceNumber;
 //! use net_base::tcp::{AdvertisedWindow, PeerWindow};
 //!
@@ -19,15 +19,15 @@
 //! assert_eq!(sender.write(b"hello"), 5);
 //! sender.close();
 //! let limit = peer.send_limit(sender.numbers_end());
-//! assert_eq!((sender.send_at(1, 4), limit), ((&b"hel"[..], false), 7)); // five bytes, and the end
+//! assert_eq!((sender.send_at(1, 4).bytes, limit), (&b"hel"[..], 7)); // five bytes, and the end
 //! // The segment of the last bytes, with the end, overtakes the one before it.
-//! let (bytes, is_last) = sender.send_at(4, limit);
+//! let lent = sender.send_at(4, limit);
 //! let number = SequenceNumber::at(syn, 4);
-//! assert_eq!((bytes, is_last, number.get()), (&b"lo"[..], true, 1));
+//! assert_eq!((lent.bytes, lent.part, number.get()), (&b"lo"[..], Part::Last, 1));
 //! let pos = number.position(syn, receiver.acknowledged()).expect("a position nearby");
-//! assert!(receiver.keep(pos, bytes, is_last.into()).is_ok() && !receiver.is_complete());
-//! let (bytes, is_last) = sender.peek_at(1, 4);
-//! assert!(receiver.keep(1, bytes, is_last.into()).is_ok() && receiver.is_complete());
+//! assert!(receiver.keep(pos, lent.bytes, lent.part).is_ok() && !receiver.is_complete());
+//! let lent = sender.peek_at(1, 4);
+//! assert!(receiver.keep(1, lent.bytes, lent.part).is_ok() && receiver.is_complete());
 //! // What is acknowledged is all five bytes and the end.
 //! assert!(sender.acknowledge(receiver.acknowledged()) && sender.is_closed_and_acknowledged());
 //! let mut text = [0; 9];
@@ -42,7 +42,8 @@ use crate::storage::{Listed, Storage, TooManyHolesError};
 
 pub use crate::stream::SentNumbers;
 pub use crate::stream::{
-    FiniteError, FiniteReceiver, FiniteReceiverOver, FiniteSender, FiniteSenderOver, Part,
+    FiniteError, FiniteReceiver, FiniteReceiverOver, FiniteSender, FiniteSenderOver, LentBytes,
+    Part,
 };
 
 impl From<TooManyHolesError> for FiniteError {

@@ -9,6 +9,7 @@ erased! {
     pub(crate) mod held_runs;
     pub(crate) mod kept;
     pub(crate) mod numbering;
+    pub(crate) mod part;
     pub(crate) mod receiver;
     pub(crate) mod receiver_head;
     pub(crate) mod scoreboard;
@@ -18,11 +19,12 @@ erased! {
     pub(crate) mod sequence_number;
 }
 
-pub use finite_receiver::{FiniteReceiver, FiniteReceiverOver, Part};
+pub use finite_receiver::{FiniteReceiver, FiniteReceiverOver};
 pub use finite_sender::{FiniteSender, FiniteSenderOver};
 pub use held_runs::{HeldRunIter, HeldRuns, NewestRunIter};
 pub use kept::{FiniteError, Kept, KeptBytes, SegmentParts};
 pub use numbering::Numbering;
+pub use part::{LentBytes, Part};
 pub use receiver::{Receiver, ReceiverOver};
 pub use scoreboard::Scoreboard;
 pub use scoreboard_head::ReportError;

@@ -120,8 +120,8 @@ fn senders() {
             }
             1 => assert!(finite.write(draw.bytes(BYTES)) <= 16),
             2 => finite.close(),
-            3 => assert!(finite.peek_at(pos, limit).0.len() <= 16),
-            4 => assert!(finite.send_at(pos, limit).0.len() <= 16),
+            3 => assert!(finite.peek_at(pos, limit).bytes.len() <= 16),
+            4 => assert!(finite.send_at(pos, limit).bytes.len() <= 16),
             5 => assert!(!finite.acknowledge(pos) || finite.first_number() == pos),
             6 => assert!(!finite.mark_sent(pos) || finite.sent() >= pos),
             7 => board.acknowledge(pos),

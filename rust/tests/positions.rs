@@ -1,6 +1,6 @@
 //! Positions about 2^31, 2^32, 2^63 and 2^64, which a `usize` of 32 bits has no numbers for. The values are the same on
 //! every processor, but where `usize` is named.
-use net_base::finite::{FiniteError, FiniteReceiver, FiniteSender, Part};
+use net_base::finite::{FiniteError, FiniteReceiver, FiniteSender, LentBytes, Part};
 use net_base::receiver::Receiver;
 use net_base::scoreboard::{ReportError, Scoreboard};
 use net_base::sequence_number::SequenceNumber;
@@ -54,7 +54,7 @@ fn sent() {
     for first in begins() {
         let mut storage = [0u8; 8];
         let mut it = FiniteSender::new_at(&mut storage[..], first);
-        let lent = |it: &FiniteSender, pos: u64| it.peek_at(pos, u64::MAX).0.to_vec();
+        let lent = |it: &FiniteSender, pos: u64| it.peek_at(pos, u64::MAX).bytes.to_vec();
         assert_eq!((it.write(b"abcdefghi"), it.numbers_end()), (8, first + 8));
         assert_eq!((lent(&it, first), lent(&it, first + 7)), (b"abcdefgh".to_vec(), b"h".to_vec()));
         for pos in aliases(first + 1) {
@@ -124,7 +124,11 @@ fn finite() {
         it.close();
         assert_eq!(it.numbers_end(), first + 3);
         for pos in aliases(first + 1) {
-            assert_eq!(it.peek_at(pos, u64::MAX), (&b""[..], false), "{first} {pos}");
+            assert_eq!(
+                it.peek_at(pos, u64::MAX),
+                LentBytes { bytes: b"", part: Part::More },
+                "{first} {pos}"
+            );
             assert!(!it.acknowledge(pos), "{first} {pos}");
             assert_eq!(it.mark_sent(pos), pos < first);
         }
@@ -147,7 +151,7 @@ fn last_positions() {
     assert_eq!((it.window(), it.write(b"abcdef"), it.numbers_end()), (4, 4, u64::MAX - 1));
     it.close();
     assert_eq!((it.window(), it.numbers_end()), (0, u64::MAX));
-    assert_eq!(it.send_at(u64::MAX - 2, u64::MAX), (&b"d"[..], true));
+    assert_eq!(it.send_at(u64::MAX - 2, u64::MAX), LentBytes { bytes: b"d", part: Part::Last });
     assert!(it.acknowledge(u64::MAX) && it.is_closed_and_acknowledged() && it.window() == 0);
 }
 

@@ -127,7 +127,7 @@ fn clones() {
     assert_eq!((fragments.assemble(), fragments.total_size()), (None, Some(2)));
     let mut sender = FiniteSenderOver::over(*b"....");
     assert_eq!((sender.write(b"ab"), sender.clone().write(b"cde")), (2, 2));
-    assert_eq!((sender.peek_at(0, 9).0, sender.clone().into_storage()), (&b"ab"[..], *b"ab.."));
+    assert_eq!((sender.peek_at(0, 9).bytes, sender.clone().into_storage()), (&b"ab"[..], *b"ab.."));
     let mut finite = FiniteSenderOver::over([0u8; 4]);
     finite.clone().close();
     assert_eq!((finite.is_closed(), finite.write(b"a")), (false, 1));
@@ -413,7 +413,7 @@ mod streams {
         assert!(writer.write_all(b"abc").is_ok() && writer.flush().is_ok());
         assert_eq!((writer.write(b"de").unwrap(), writer.write(b"").unwrap()), (1, 0));
         assert_eq!(refusal(writer.write(b"e")), ErrorKind::WouldBlock);
-        assert_eq!(finite.send_at(1, 10), (&b"bcd"[..], false));
+        assert_eq!(finite.send_at(1, 10).bytes, b"bcd");
         // Room comes back with an acknowledgement, but not where a sender is closed.
         assert!(finite.acknowledge(1) && finite.write(b"e") == 1);
         finite.close();

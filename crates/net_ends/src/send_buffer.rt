@@ -904,10 +904,10 @@ pub(crate) fn lend<S: Storage<u8>>(
 ) -> (&[u8], &[u8], bool)
     ensures { IsSegment sender.now pos end (result.0.now ++ result.1.now) result.2 }
 {
-    let (front, _ends) = sender.peek_at(pos, end);
+    let front = sender.peek_at(pos, end).bytes;
     let after = pos + front.len() as u64;
-    let (back, is_last) = sender.peek_at(after, end);
-    (front, back, is_last)
+    let back = sender.peek_at(after, end);
+    (front, back.bytes, back.part.is_last())
 }
 
 /// Finds what is lost by an acknowledgement, and returns whether a recovery begins. If the peer has dropped what it had

@@ -130,8 +130,9 @@ fn send<A: Allocator + Copy>(
 {
     if sender.first_number() <= pos {
         path.reserve(1)?;
-        let (lent, is_last) = sender.peek_at(pos, limit);
-        let bytes = Vec::from_slice(alloc, lent)?;
+        let lent = sender.peek_at(pos, limit);
+        let is_last = lent.part.is_last();
+        let bytes = Vec::from_slice(alloc, lent.bytes)?;
         let end = pos + bytes.len() as u64 + u64::from(is_last);
         path.push_reserved(Segment {
             pos,
@@ -200,5 +201,5 @@ pub fn first_missing<'s>(sender: &'s FiniteSender<'_>, receiver: &FiniteReceiver
 {
     laws::is_sound_sent(sender);
     laws::lent_segments();
-    sender.peek_at(receiver.receiver().next(), u64::MAX).0
+    sender.peek_at(receiver.receiver().next(), u64::MAX).bytes
 }

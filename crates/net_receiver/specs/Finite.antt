@@ -46,8 +46,8 @@ use Rattle.net_receiver.specs.ReceiverState.{receiver_after_read, IsSound, Refin
 use Rattle.net_receiver.specs.ReceiverState.{setting}
 use Rattle.net_assembler.specs.declared.assembler.error.TooManyHolesError.{TooManyHolesError}
 use Rattle.net_assembler.specs.Positions.{bound_of, positions}
-use Rattle.net_receiver.specs.declared.finite_receiver.Part.{Part}
-use Rattle.net_receiver.specs.declared.finite_receiver.Part.TheVariants.{More, Last}
+use Rattle.net_receiver.specs.declared.part.Part.{Part}
+use Rattle.net_receiver.specs.declared.part.Part.TheVariants.{More, Last}
 use Rattle.net_receiver.specs.declared.kept.FiniteError.{FiniteError}
 use Rattle.net_receiver.specs.declared.kept.KeptBytes.{KeptBytes}
 use Rattle.net_receiver.specs.Schedule.{piece, piece_within, KeptState, Setting, bytes_read}

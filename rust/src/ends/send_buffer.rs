@@ -622,10 +622,10 @@ pub(crate) fn lend<S: Storage<u8>>(
     pos: u64,
     end: u64,
 ) -> (&[u8], &[u8], bool) {
-    let (front, _ends) = sender.peek_at(pos, end);
+    let front = sender.peek_at(pos, end).bytes;
     let after = pos + front.len() as u64;
-    let (back, is_last) = sender.peek_at(after, end);
-    (front, back, is_last)
+    let back = sender.peek_at(after, end);
+    (front, back.bytes, back.part.is_last())
 }
 
 /// Finds what is lost by an acknowledgement, and returns whether a recovery begins. If the peer has dropped what it had

@@ -15,34 +15,9 @@ use crate::stream::finite_receiver_head::{
     NO_END, acknowledged, count_below, end_or_max, known_end,
 };
 use crate::stream::kept::{FiniteError, KeptBytes, SegmentParts};
+use crate::stream::part::Part;
 use crate::stream::receiver::ReceiverOver;
 use crate::storage::{ManagedSlice, Storage};
-
-/// Whether a part of a stream is its last one, which TCP's FIN and QUIC's FIN bit say.
-///
-/// ```
-/// use net_base::finite::{FiniteReceiver, Part};
-///
-/// let mut storage = [0u8; 16];
-/// let mut receiver = FiniteReceiver::<4>::empty(&mut storage[..]);
-/// assert!(receiver.keep(0, b"ab", Part::More).is_ok() && !receiver.is_complete());
-/// assert!(receiver.keep(2, b"c", Part::Last).is_ok() && receiver.is_complete());
-/// assert_eq!(Part::from(true), Part::Last); // of a flag
-/// ```
-#[derive(Copy, Clone, Debug, PartialEq, Eq, Hash)]
-pub enum Part {
-    /// More of the stream may follow.
-    More,
-    /// The stream ends after it.
-    Last,
-}
-
-/// Returns `Last` for a flag that is set, as FIN is.
-impl From<bool> for Part {
-    fn from(flag: bool) -> Part {
-        if flag { Part::Last } else { Part::More }
-    }
-}
 
 /// A [`FiniteReceiver`] over any storage.
 ///
@@ -51,6 +26,15 @@ impl From<bool> for Part {
 /// Segments may arrive in any order, the last one too. `receiver` lends the receiver of the bytes, for
 /// all that isn't about the end: how many are queued, a look at them, the window, the held runs. The
 /// list of held runs doesn't show an end that came early, so its sender sends it again.
+///
+/// ```
+/// use net_base::finite::{FiniteReceiverOver, Part};
+///
+/// let mut receiver = FiniteReceiverOver::<_, 4>::over([0u8; 16]);
+/// assert!(receiver.keep(3, b"de", Part::Last).is_ok() && receiver.end() == Some(5));
+/// assert!(receiver.keep(0, b"abc", Part::More).is_ok() && receiver.is_complete());
+/// assert_eq!(receiver.acknowledged(), 6); // the end has a number, too
+/// ```
 #[derive(Clone)]
 pub struct FiniteReceiverOver<S: Storage<u8>, const N: usize> {
     // Invariant: the first missing position and the end of each held run are at most the end, and below
@@ -62,6 +46,16 @@ pub struct FiniteReceiverOver<S: Storage<u8>, const N: usize> {
 
 /// A receiver of one stream of bytes that ends, over storage that is lent or owned. Its calls are those
 /// of [`FiniteReceiverOver`].
+///
+/// ```
+/// use net_base::finite::{FiniteReceiver, Part};
+///
+/// let mut storage = [0u8; 16];
+/// let mut receiver = FiniteReceiver::<4>::empty_at(&mut storage[..], 100);
+/// assert!(receiver.keep(100, b"abc", Part::Last).is_ok());
+/// let mut text = [0; 9];
+/// assert_eq!((receiver.read(&mut text), &text[..3], receiver.has_read_all()), (3, &b"abc"[..], true));
+/// ```
 pub type FiniteReceiver<'a, const N: usize = 4> = FiniteReceiverOver<ManagedSlice<'a, u8>, N>;
 
 impl<S: Storage<u8>, const N: usize> FiniteReceiverOver<S, N> {
@@ -120,6 +114,15 @@ impl<S: Storage<u8>, const N: usize> FiniteReceiverOver<S, N> {
     /// Begins again over the same storage: a receiver of a stream that begins at position `first`;
     /// nothing has arrived.
     ///
+    /// ```
+    /// # use net_base::finite::{FiniteReceiver, Part};
+    /// # let mut storage = [0u8; 16];
+    /// # let mut receiver = FiniteReceiver::<4>::empty_at(&mut storage[..], 0);
+    /// assert!(receiver.keep(0, b"abc", Part::Last).is_ok());
+    /// receiver.reset_at(7);
+    /// assert_eq!((receiver.acknowledged(), receiver.end()), (7, None));
+    /// ```
+    ///
     /// # Panics
     ///
     /// Panics unless `first` is below `u64::MAX`: an end there would have no number after it.
@@ -133,6 +136,16 @@ impl<S: Storage<u8>, const N: usize> FiniteReceiverOver<S, N> {
     /// Returns whether the stream can end at a position: it is the end that is known, or none is, and it
     /// isn't below the first missing position or a held run's end. No stream ends at `u64::MAX`, which
     /// has no number after it.
+    ///
+    /// ```
+    /// # use net_base::finite::{FiniteReceiver, Part};
+    /// # let mut storage = [0u8; 16];
+    /// # let mut receiver = FiniteReceiver::<4>::empty_at(&mut storage[..], 0);
+    /// assert!(receiver.keep(2, b"cd", Part::More).is_ok());
+    /// assert!(receiver.can_end(4) && !receiver.can_end(3)); // the bytes at 2 and 3 have arrived
+    /// assert!(receiver.keep(4, b"e", Part::Last).is_ok());
+    /// assert!(receiver.can_end(5) && !receiver.can_end(6));
+    /// ```
     #[must_use]
     pub fn can_end(&self, pos: u64) -> bool {
         match self.end() {
@@ -177,11 +190,20 @@ impl<S: Storage<u8>, const N: usize> FiniteReceiverOver<S, N> {
     /// - `old(self).acknowledged() <= self.acknowledged()`
     pub fn keep(&mut self, pos: u64, bytes: &[u8], part: Part) -> Result<KeptBytes, FiniteError> {
         self.receiver
-            .keep_finite(&mut self.after_end, pos, bytes, is_last(part))
+            .keep_finite(&mut self.after_end, pos, bytes, part.is_last())
     }
 
     /// Moves bytes from the head of the queue to the beginning of `into`, and returns how many: as
     /// many as are queued and as `into` has room for. The rest of `into` stays as it is.
+    ///
+    /// ```
+    /// # use net_base::finite::{FiniteReceiver, Part};
+    /// # let mut storage = [0u8; 16];
+    /// # let mut receiver = FiniteReceiver::<4>::empty_at(&mut storage[..], 0);
+    /// assert!(receiver.keep(0, b"abc", Part::Last).is_ok());
+    /// let mut into = *b"-----";
+    /// assert_eq!((receiver.read(&mut into), &into, receiver.has_read_all()), (3, b"abc--", true));
+    /// ```
     ///
     /// # [Guarantees](crate#guarantees)
     ///
@@ -219,6 +241,15 @@ impl<S: Storage<u8>, const N: usize> FiniteReceiverOver<S, N> {
 
     /// Takes the first `count` bytes off the queue and copies none, as `ReceiverOver::remove` does.
     ///
+    /// ```
+    /// # use net_base::finite::{FiniteReceiver, Part};
+    /// # let mut storage = [0u8; 16];
+    /// # let mut receiver = FiniteReceiver::<4>::empty_at(&mut storage[..], 0);
+    /// assert!(receiver.keep(0, b"abc", Part::More).is_ok());
+    /// receiver.remove(2);
+    /// assert_eq!(receiver.receiver().peek(0, 9), b"c");
+    /// ```
+    ///
     /// # Panics
     ///
     /// Panics unless at least `count` bytes are queued.
@@ -232,12 +263,29 @@ impl<S: Storage<u8>, const N: usize> FiniteReceiverOver<S, N> {
     }
 
     /// Returns the position after the last byte, once it is known.
+    ///
+    /// ```
+    /// # use net_base::finite::{FiniteReceiver, Part};
+    /// # let mut storage = [0u8; 16];
+    /// # let mut receiver = FiniteReceiver::<4>::empty_at(&mut storage[..], 0);
+    /// assert!(receiver.keep(0, b"abc", Part::More).is_ok() && receiver.end().is_none());
+    /// assert!(receiver.keep(5, b"f", Part::Last).is_ok());
+    /// assert_eq!(receiver.end(), Some(6));
+    /// ```
     #[must_use]
     pub fn end(&self) -> Option<u64> {
         known_end(self.after_end)
     }
 
     /// Returns whether all bytes and the end have arrived. Once it is so it stays so, until `reset_at`.
+    ///
+    /// ```
+    /// # use net_base::finite::{FiniteReceiver, Part};
+    /// # let mut storage = [0u8; 16];
+    /// # let mut receiver = FiniteReceiver::<4>::empty_at(&mut storage[..], 0);
+    /// assert!(receiver.keep(2, b"c", Part::Last).is_ok() && !receiver.is_complete());
+    /// assert!(receiver.keep(0, b"ab", Part::More).is_ok() && receiver.is_complete());
+    /// ```
     #[must_use]
     pub fn is_complete(&self) -> bool {
         self.receiver.next() == end_or_max(self.after_end)
@@ -245,12 +293,28 @@ impl<S: Storage<u8>, const N: usize> FiniteReceiverOver<S, N> {
 
     /// Returns the number that an acknowledgement carries: the first missing position, or, once all
     /// bytes and the end have arrived, the end plus 1, since the end has a number.
+    ///
+    /// ```
+    /// # use net_base::finite::{FiniteReceiver, Part};
+    /// # let mut storage = [0u8; 16];
+    /// # let mut receiver = FiniteReceiver::<4>::empty_at(&mut storage[..], 0);
+    /// assert!(receiver.keep(0, b"abc", Part::More).is_ok() && receiver.acknowledged() == 3);
+    /// assert!(receiver.keep(3, b"", Part::Last).is_ok() && receiver.acknowledged() == 4);
+    /// ```
     #[must_use]
     pub fn acknowledged(&self) -> u64 {
         acknowledged(self.receiver.next(), self.after_end)
     }
 
     /// Returns whether all bytes were read, up to the end. Once it is so it stays so, until `reset_at`.
+    ///
+    /// ```
+    /// # use net_base::finite::{FiniteReceiver, Part};
+    /// # let mut storage = [0u8; 16];
+    /// # let mut receiver = FiniteReceiver::<4>::empty_at(&mut storage[..], 0);
+    /// assert!(receiver.keep(0, b"abc", Part::Last).is_ok() && !receiver.has_read_all());
+    /// assert!(receiver.read(&mut [0; 3]) == 3 && receiver.has_read_all());
+    /// ```
     #[must_use]
     pub fn has_read_all(&self) -> bool {
         self.receiver.first_unread() == end_or_max(self.after_end)
@@ -306,17 +370,17 @@ impl<S: Storage<u8>, const N: usize> FiniteReceiverOver<S, N> {
     /// Returns how many bytes of a segment of `len` bytes at `position` would be new: those in the
     /// free window and below the end whose positions are not held. Positions that leave no number for an end
     /// after them, which no stream has, aren't counted.
+    ///
+    /// ```
+    /// # use net_base::finite::{FiniteReceiver, Part};
+    /// # let mut storage = [0u8; 16];
+    /// # let mut receiver = FiniteReceiver::<4>::empty_at(&mut storage[..], 0);
+    /// assert!(receiver.keep(2, b"c", Part::More).is_ok());
+    /// assert_eq!((receiver.count_new(0, 4), receiver.count_new(2, 1)), (3, 0));
+    /// ```
     #[must_use]
     pub fn count_new(&self, position: u64, len: usize) -> usize {
         let count = count_below(self.after_end, position, len);
         self.receiver.count_part(position, count)
-    }
-}
-
-/// Returns whether it is the last part of the stream.
-fn is_last(part: Part) -> bool {
-    match part {
-        Part::Last => true,
-        Part::More => false,
     }
 }

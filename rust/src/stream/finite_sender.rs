@@ -3,6 +3,7 @@
 
 use crate::rattle::prelude::*;
 use crate::stream::finite_sender_head::FiniteSenderHead;
+use crate::stream::part::{LentBytes, Part};
 use crate::stream::sent_numbers::SentNumbers;
 use crate::storage::{ManagedSlice, Storage};
 
@@ -19,6 +20,16 @@ use crate::storage::{ManagedSlice, Storage};
 /// for it, so that it can always be closed. A stream that doesn't end has a sender that is never closed.
 ///
 /// No call takes memory. smoltcp's TCP socket has its transmit buffer inside.
+///
+/// ```
+/// use net_base::finite::FiniteSenderOver;
+///
+/// let mut sender = FiniteSenderOver::over([0u8; 8]);
+/// assert_eq!(sender.write(b"abc"), 3);
+/// sender.close();
+/// assert_eq!(sender.send_at(0, 9).bytes, b"abc"); // and the end, whose number is 3
+/// assert!(sender.acknowledge(4) && sender.is_closed_and_acknowledged());
+/// ```
 #[derive(Clone)]
 pub struct FiniteSenderOver<S: Storage<u8>> {
     // Invariant: the end is acknowledged only once the sender is closed and its queue is empty. What
@@ -37,7 +48,7 @@ pub struct FiniteSenderOver<S: Storage<u8>> {
 /// let mut storage = [0u8; 4];
 /// let mut sender = FiniteSender::new_at(&mut storage[..], 0);
 /// assert_eq!(sender.write(b"abcde"), 4);
-/// assert_eq!(sender.send_at(0, 3), (&b"abc"[..], false));
+/// assert_eq!(sender.send_at(0, 3).bytes, b"abc");
 /// assert!(sender.acknowledge(3));
 /// assert_eq!((sender.first_number(), sender.len()), (3, 1));
 /// ```
@@ -77,6 +88,15 @@ impl<S: Storage<u8>> FiniteSenderOver<S> {
     /// Begins again over the same storage: a stream that begins at position `first`, to which nothing
     /// was written.
     ///
+    /// ```
+    /// # use net_base::finite::FiniteSender;
+    /// # let mut storage = [0u8; 8];
+    /// # let mut sender = FiniteSender::new_at(&mut storage[..], 100);
+    /// assert_eq!(sender.write(b"abc"), 3);
+    /// sender.reset_at(7);
+    /// assert_eq!((sender.first_number(), sender.is_empty()), (7, true));
+    /// ```
+    ///
     /// # Panics
     ///
     /// Panics unless `first` is below `u64::MAX`: an end there would have no number after it.
@@ -88,18 +108,44 @@ impl<S: Storage<u8>> FiniteSenderOver<S> {
 
     /// Returns the first number that isn't acknowledged: TCP's SND.UNA. It is the first unacknowledged
     /// position, or the one after it once the end is acknowledged.
+    ///
+    /// ```
+    /// # use net_base::finite::FiniteSender;
+    /// # let mut storage = [0u8; 8];
+    /// # let mut sender = FiniteSender::new_at(&mut storage[..], 100);
+    /// assert!(sender.write(b"abc") == 3 && sender.mark_sent(103) && sender.first_number() == 100);
+    /// assert!(sender.acknowledge(102) && sender.first_number() == 102);
+    /// ```
     #[must_use]
     pub fn first_number(&self) -> u64 {
         self.head.first_number()
     }
 
     /// Returns the number after the last byte's, and after the end's once the sender is closed.
+    ///
+    /// ```
+    /// # use net_base::finite::FiniteSender;
+    /// # let mut storage = [0u8; 8];
+    /// # let mut sender = FiniteSender::new_at(&mut storage[..], 100);
+    /// assert!(sender.write(b"abc") == 3 && sender.numbers_end() == 103);
+    /// sender.close();
+    /// assert_eq!(sender.numbers_end(), 104);
+    /// ```
     #[must_use]
     pub fn numbers_end(&self) -> u64 {
         self.head.numbers_end()
     }
 
     /// Returns the number after the last one that was ever sent: TCP's SND.MAX.
+    ///
+    /// ```
+    /// # use net_base::finite::FiniteSender;
+    /// # let mut storage = [0u8; 8];
+    /// # let mut sender = FiniteSender::new_at(&mut storage[..], 100);
+    /// assert!(sender.write(b"abc") == 3 && sender.sent() == 100);
+    /// assert_eq!(sender.send_at(100, 102).bytes, b"ab");
+    /// assert_eq!(sender.sent(), 102);
+    /// ```
     #[must_use]
     pub fn sent(&self) -> u64 {
         self.head.sent
@@ -125,18 +171,40 @@ impl<S: Storage<u8>> FiniteSenderOver<S> {
     }
 
     /// Returns how many bytes are queued.
+    ///
+    /// ```
+    /// # use net_base::finite::FiniteSender;
+    /// # let mut storage = [0u8; 8];
+    /// # let mut sender = FiniteSender::new_at(&mut storage[..], 100);
+    /// assert!(sender.write(b"abc") == 3 && sender.mark_sent(102) && sender.acknowledge(102));
+    /// assert_eq!(sender.len(), 1);
+    /// ```
     #[must_use]
     pub fn len(&self) -> usize {
         self.head.sender.place.length
     }
 
     /// Returns whether all bytes that were written are acknowledged.
+    ///
+    /// ```
+    /// # use net_base::finite::FiniteSender;
+    /// # let mut storage = [0u8; 8];
+    /// # let mut sender = FiniteSender::new_at(&mut storage[..], 100);
+    /// assert!(sender.is_empty() && sender.write(b"a") == 1 && !sender.is_empty());
+    /// ```
     #[must_use]
     pub fn is_empty(&self) -> bool {
         self.len() == 0
     }
 
     /// Returns the most bytes that are queued: the storage's length.
+    ///
+    /// ```
+    /// # use net_base::finite::FiniteSender;
+    /// # let mut storage = [0u8; 8];
+    /// # let mut sender = FiniteSender::new_at(&mut storage[..], 100);
+    /// assert!(sender.write(b"abc") == 3 && sender.capacity() == 8);
+    /// ```
     #[must_use]
     pub fn capacity(&self) -> usize {
         self.storage.count()
@@ -162,7 +230,7 @@ impl<S: Storage<u8>> FiniteSenderOver<S> {
     /// # let mut storage = [0u8; 4];
     /// # let mut sender = FiniteSender::new_at(&mut storage[..], 0);
     /// assert_eq!((sender.write(b"abc"), sender.write(b"def")), (3, 1));
-    /// assert_eq!(sender.peek_at(0, 9), (&b"abcd"[..], false));
+    /// assert_eq!(sender.peek_at(0, 9).bytes, b"abcd");
     /// ```
     ///
     /// # [Guarantees](crate#guarantees)
@@ -175,6 +243,15 @@ impl<S: Storage<u8>> FiniteSenderOver<S> {
     }
 
     /// Ends the stream after what was written. A second call changes nothing.
+    ///
+    /// ```
+    /// # use net_base::finite::FiniteSender;
+    /// # let mut storage = [0u8; 8];
+    /// # let mut sender = FiniteSender::new_at(&mut storage[..], 100);
+    /// assert_eq!(sender.write(b"abc"), 3);
+    /// sender.close();
+    /// assert_eq!((sender.window(), sender.write(b"def"), sender.numbers_end()), (0, 0, 104));
+    /// ```
     pub fn close(&mut self) {
         self.head.close();
     }
@@ -182,8 +259,8 @@ impl<S: Storage<u8>> FiniteSenderOver<S> {
     /// Lends the queued bytes of a segment from the one at `pos` on, without a copy: as many as are
     /// contiguous in the storage, which wraps. No byte is lent if the byte at `pos` isn't queued.
     ///
-    /// Returns also whether the segment ends the stream (TCP's FIN): the sender is closed, the bytes end
-    /// where it does, and the end isn't acknowledged. A segment without bytes that ends the stream is the
+    /// The part is the last one if the segment ends the stream (TCP's FIN): the sender is closed, the bytes
+    /// end where it does, and the end isn't acknowledged. A segment without bytes that ends the stream is the
     /// end alone.
     ///
     /// All its numbers, the end's among them, are below `limit`: the end of the window is one, as
@@ -191,11 +268,26 @@ impl<S: Storage<u8>> FiniteSenderOver<S> {
     ///
     /// Clause `later` says that the segment is one of the stream whatever is written later; law `lent_segments`,
     /// which numbers it has.
+    ///
+    /// ```
+    /// # use net_base::finite::{FiniteSender, LentBytes, Part};
+    /// # let mut storage = [0u8; 4];
+    /// # let mut sender = FiniteSender::new_at(&mut storage[..], 100);
+    /// assert!(sender.write(b"abcd") == 4 && sender.mark_sent(103) && sender.acknowledge(103));
+    /// assert_eq!(sender.write(b"ef"), 2);
+    /// sender.close();
+    /// // The queue wraps in the storage: the segment from 103 on has one byte.
+    /// assert_eq!(sender.peek_at(103, 999), LentBytes { bytes: b"d", part: Part::More });
+    /// assert_eq!(sender.peek_at(104, 999), LentBytes { bytes: b"ef", part: Part::Last });
+    /// ```
     #[must_use]
-    pub fn peek_at(&self, pos: u64, limit: u64) -> (&[u8], bool) {
+    pub fn peek_at(&self, pos: u64, limit: u64) -> LentBytes<'_> {
         let lent = self.head.peek_at(self.storage.count(), pos, limit);
         let from = lent.0.from;
-        (self.storage.part(from, from + lent.0.contiguous), lent.1)
+        LentBytes {
+            bytes: self.storage.part(from, from + lent.0.contiguous),
+            part: Part::from(lent.1),
+        }
     }
 
     /// Lends and returns what `peek_at` does, and notes that the segment was sent: `sent` becomes the
@@ -203,19 +295,23 @@ impl<S: Storage<u8>> FiniteSenderOver<S> {
     /// numbers changes nothing.
     ///
     /// ```
-    /// # use net_base::finite::FiniteSender;
+    /// # use net_base::finite::{FiniteSender, LentBytes, Part};
     /// # let mut storage = [0u8; 8];
     /// # let mut sender = FiniteSender::new_at(&mut storage[..], 100);
     /// assert_eq!(sender.write(b"hello"), 5);
     /// sender.close();
-    /// assert_eq!(sender.send_at(100, 105), (&b"hello"[..], false)); // the end's number is 105
-    /// assert_eq!(sender.send_at(105, 106), (&b""[..], true));
+    /// let bytes = sender.send_at(100, 105); // the end's number is 105
+    /// assert_eq!(bytes, LentBytes { bytes: b"hello", part: Part::More });
+    /// assert_eq!(sender.send_at(105, 106), LentBytes { bytes: b"", part: Part::Last });
     /// assert_eq!(sender.sent(), 106);
     /// ```
-    pub fn send_at(&mut self, pos: u64, limit: u64) -> (&[u8], bool) {
+    pub fn send_at(&mut self, pos: u64, limit: u64) -> LentBytes<'_> {
         let lent = self.head.send_at(self.storage.count(), pos, limit);
         let from = lent.0.from;
-        (self.storage.part(from, from + lent.0.contiguous), lent.1)
+        LentBytes {
+            bytes: self.storage.part(from, from + lent.0.contiguous),
+            part: Part::from(lent.1),
+        }
     }
 
     /// Notes that all numbers below `pos` were sent, the end's among them if `pos` is past it, and
@@ -244,7 +340,7 @@ impl<S: Storage<u8>> FiniteSenderOver<S> {
     /// # let mut sender = FiniteSender::new_at(&mut storage[..], 100);
     /// assert!(sender.write(b"abc") == 3 && sender.mark_sent(102));
     /// assert!(!sender.acknowledge(103) && sender.acknowledge(102));
-    /// assert_eq!(sender.peek_at(102, 109), (&b"c"[..], false));
+    /// assert_eq!(sender.peek_at(102, 109).bytes, b"c");
     /// ```
     ///
     /// # [Guarantees](crate#guarantees)
@@ -257,12 +353,30 @@ impl<S: Storage<u8>> FiniteSenderOver<S> {
     }
 
     /// Returns whether the sender is closed.
+    ///
+    /// ```
+    /// # use net_base::finite::FiniteSender;
+    /// # let mut storage = [0u8; 8];
+    /// # let mut sender = FiniteSender::new_at(&mut storage[..], 100);
+    /// assert!(!sender.is_closed());
+    /// sender.close();
+    /// assert!(sender.is_closed());
+    /// ```
     #[must_use]
     pub fn is_closed(&self) -> bool {
         self.head.is_closed()
     }
 
     /// Returns whether all bytes and the end are acknowledged. Once it is so it stays so, until `reset_at`.
+    ///
+    /// ```
+    /// # use net_base::finite::FiniteSender;
+    /// # let mut storage = [0u8; 8];
+    /// # let mut sender = FiniteSender::new_at(&mut storage[..], 100);
+    /// sender.close();
+    /// assert!(sender.mark_sent(101) && !sender.is_closed_and_acknowledged());
+    /// assert!(sender.acknowledge(101) && sender.is_closed_and_acknowledged());
+    /// ```
     #[must_use]
     pub fn is_closed_and_acknowledged(&self) -> bool {
         self.head.is_closed_and_acknowledged()

@@ -2,7 +2,7 @@
 use crate::show::{bytes, digest, mix_bytes, pattern, truth, START};
 use crate::storages::{with_storage, Stored};
 use crate::{Call, Subject};
-use net_base::finite::{FiniteSender, FiniteSenderOver};
+use net_base::finite::{FiniteSender, FiniteSenderOver, LentBytes};
 use net_base::storage::Storage;
 
 /// A sender, and its stream's first position.
@@ -26,6 +26,10 @@ pub fn with_sender(
     )
 }
 
+fn lent(it: LentBytes) -> String {
+    format!("{} {}", bytes(it.bytes), truth(it.part.is_last()))
+}
+
 impl<S: Storage<u8>> Subject for Closing<S> {
     fn make(&mut self, call: &Call) -> String {
         let (sender, one) = (&mut self.sender, call.at(0));
@@ -37,14 +41,8 @@ impl<S: Storage<u8>> Subject for Closing<S> {
             }
             "mark_sent" => truth(sender.mark_sent(one)).to_string(),
             "acknowledge" => truth(sender.acknowledge(one)).to_string(),
-            "peek_at" => {
-                let (part, is_last) = sender.peek_at(one, call.at(1));
-                format!("{} {}", bytes(part), truth(is_last))
-            }
-            "send_at" => {
-                let (part, is_last) = sender.send_at(one, call.at(1));
-                format!("{} {}", bytes(part), truth(is_last))
-            }
+            "peek_at" => lent(sender.peek_at(one, call.at(1))),
+            "send_at" => lent(sender.send_at(one, call.at(1))),
             name => panic!("no call {name}"),
         }
     }
@@ -55,8 +53,8 @@ impl<S: Storage<u8>> Subject for Closing<S> {
     fn show(&mut self) -> String {
         let sender = &self.sender;
         let begin = sender.first_number();
-        let (part, _) = sender.peek_at(begin, u64::MAX);
-        let (rest, _) = sender.peek_at(begin.saturating_add(part.len() as u64), u64::MAX);
+        let part = sender.peek_at(begin, u64::MAX).bytes;
+        let rest = sender.peek_at(begin.saturating_add(part.len() as u64), u64::MAX).bytes;
         format!(
             "{} {} {} {} {} {}",
             begin - self.first,

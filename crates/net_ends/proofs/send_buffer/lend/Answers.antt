@@ -1,7 +1,13 @@
+use Rattle.std.proofs.Common.{subst, sym, ◌++◌}
+use Rattle.net_receiver.specs.Finite.{is_last}
+use Rattle.net_ends.specs.Ends.{IsSegment}
 use Rattle.net_ends.proofs.Segments.{two_parts}
 use Rattle.net_ends.proofs.send_buffer.lend.Goals as goal
 
 pub returns : goal.returns
-returns g c = two_parts c.args.sender.now c.args.pos c.args.end c.peek_at-ends.result.0.now
-    c.peek_at-is_last.result.0.now
-    c.peek_at-ends.result.1 c.peek_at-is_last.result.1 c.peek_at-ends.ensures.lent c.peek_at-is_last.ensures.lent
+returns g c =
+    let front = c.peek_at.result in
+    let back = c.peek_at-back.result in
+    subst (IsSegment c.args.sender.now c.args.pos c.args.end (front.bytes.now ++ back.bytes.now)) (sym c.is_last.ensures)
+    (two_parts c.args.sender.now c.args.pos c.args.end front.bytes.now back.bytes.now (is_last front.part)
+    (is_last back.part) c.peek_at.ensures.lent c.peek_at-back.ensures.lent)

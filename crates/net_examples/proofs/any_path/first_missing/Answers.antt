@@ -6,7 +6,7 @@ use Rattle.net_examples.proofs.any_path.first_missing.Goals as goal
 
 pub returns-clause-bytes : goal.returns-clause-bytes
 returns-clause-bytes c = λ text n is.
-    c.peek_at.ensures.lent.value ∙ ap (take (length c.peek_at.result.0.now))
+    c.peek_at.ensures.lent.value ∙ ap (take (length c.peek_at.result.bytes.now))
     (has_left text n c.args.sender.now c.args.receiver.now c.next.result is c.requires.kept c.requires.more
     (c.next.ensures ∙ ap next_position c.receiver.ensures))
 
