@@ -14,7 +14,7 @@ use thiserror::Error;
 /// };
 /// assert_eq!((kept, queued, sack), (2, 0, [Some((5, 7)), None, None]));
 /// ```
-#[derive(Debug, Clone, Copy, PartialEq, Eq)]
+#[derive(Debug, Clone, Copy, PartialEq, Eq, Hash)]
 pub struct Kept {
     /// How many bytes were kept: those of the segment whose positions are in the free window.
     pub kept: usize,
@@ -26,6 +26,16 @@ pub struct Kept {
 }
 
 /// How many bytes of a segment were kept, and by how many `next` moved: what `keep` returns.
+///
+/// ```
+/// use net_base::receiver::{KeptBytes, Receiver};
+///
+/// let mut storage = [0u8; 4];
+/// let mut receiver = Receiver::<4>::empty(&mut storage[..]);
+/// // One byte of three is beyond the window, and the first one is missing.
+/// assert_eq!(receiver.keep(2, b"cde"), Ok(KeptBytes { kept: 2, queued: 0 }));
+/// assert_eq!(receiver.keep(0, b"ab"), Ok(KeptBytes { kept: 2, queued: 4 }));
+/// ```
 #[derive(Debug, Clone, Copy, PartialEq, Eq)]
 pub struct KeptBytes {
     /// How many bytes were kept: those of the segment whose positions are in the free window.
@@ -35,6 +45,16 @@ pub struct KeptBytes {
 }
 
 /// Where the bytes of a segment are, each counted once: what `parts_of` returns.
+///
+/// ```
+/// use net_base::receiver::{Receiver, SegmentParts};
+///
+/// let mut storage = [0u8; 4];
+/// let mut receiver = Receiver::<4>::empty(&mut storage[..]);
+/// assert!(receiver.keep(0, b"ab").is_ok());
+/// let SegmentParts { old, in_window, beyond, past_end: _ } = receiver.parts_of(1, 5);
+/// assert_eq!((old, in_window, beyond), (1, 2, 2));
+/// ```
 #[derive(Debug, Clone, Copy, PartialEq, Eq)]
 pub struct SegmentParts {
     /// How many are below `next`: they were read or are queued, or are before the stream's first byte.
@@ -49,6 +69,16 @@ pub struct SegmentParts {
 }
 
 /// Why a segment is refused. Nothing changes then.
+///
+/// ```
+/// use net_base::finite::{FiniteError, FiniteReceiver, Part};
+///
+/// let mut storage = [0u8; 16];
+/// let mut receiver = FiniteReceiver::<1>::empty_at(&mut storage[..], 0);
+/// assert!(receiver.keep(2, b"cd", Part::More).is_ok());
+/// assert_eq!(receiver.keep(6, b"g", Part::More), Err(FiniteError::TooManyHoles));
+/// assert_eq!(receiver.keep(2, b"c", Part::Last), Err(FiniteError::OtherEnd));
+/// ```
 #[derive(Debug, Clone, Copy, PartialEq, Eq, Hash, Drop, Error)]
 pub enum FiniteError {
     /// Its bytes would make more held runs than there is room for.

@@ -91,6 +91,12 @@ impl<const N: usize> Scoreboard<N> {
     /// Returns a scoreboard of a stream that begins at position `first`, to which nothing was reported.
     /// All positions below `first` count as reported.
     ///
+    /// ```
+    /// # use net_base::scoreboard::Scoreboard;
+    /// let scoreboard = Scoreboard::<4>::empty_at(100);
+    /// assert!(scoreboard.contains(99) && !scoreboard.contains(100));
+    /// ```
+    ///
     /// A program in which `N` is 0 does not compile.
     #[must_use]
     pub const fn empty_at(first: u64) -> Self
@@ -173,6 +179,13 @@ impl<const N: usize> Scoreboard<N> {
     }
 
     /// Returns the first position that wasn't reported.
+    ///
+    /// ```
+    /// # use net_base::scoreboard::Scoreboard;
+    /// # let mut scoreboard = Scoreboard::<4>::empty();
+    /// scoreboard.acknowledge(7);
+    /// assert_eq!((scoreboard.report(9..12, 20), scoreboard.first_unreported()), (Ok(()), 7));
+    /// ```
     #[must_use]
     pub fn first_unreported(&self) -> u64
         ensures { result ≡ front self.now }
@@ -197,6 +210,13 @@ impl<const N: usize> Scoreboard<N> {
 
     /// Returns the runs beyond the first position that wasn't reported, as absolute (start, end), the end
     /// not included, in rising order, at most `N`.
+    ///
+    /// ```
+    /// # use net_base::scoreboard::Scoreboard;
+    /// # let mut scoreboard = Scoreboard::<4>::empty();
+    /// assert_eq!((scoreboard.report(5..9, 20), scoreboard.report(12..20, 20)), (Ok(()), Ok(())));
+    /// assert!(scoreboard.reported().eq([(5, 9), (12, 20)]));
+    /// ```
     #[must_use]
     pub fn reported(&self) -> HeldRuns<'_, N>
         ensures runs { result ≡ maximal_runs (beyond self.now) }
@@ -206,6 +226,13 @@ impl<const N: usize> Scoreboard<N> {
     }
 
     /// Returns the position after the last one that was reported; 0 if none was.
+    ///
+    /// ```
+    /// # use net_base::scoreboard::Scoreboard;
+    /// # let mut scoreboard = Scoreboard::<4>::empty();
+    /// assert_eq!((scoreboard.highest_reported(), scoreboard.report(5..9, 20)), (0, Ok(())));
+    /// assert_eq!(scoreboard.highest_reported(), 9);
+    /// ```
     #[must_use]
     pub fn highest_reported(&self) -> u64
         ensures { IsEnd self.now result }

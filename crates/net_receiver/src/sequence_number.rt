@@ -147,6 +147,12 @@ impl Add<u32> for SequenceNumber {
 
     ghost add_gives = { λ s n r. r ≡ (s + n) % 2 ^ 32 };
 
+    /// Returns the number `rhs` bytes after this one.
+    ///
+    /// ```
+    /// # use net_base::sequence_number::SequenceNumber;
+    /// assert_eq!(SequenceNumber::new(u32::MAX) + 3, SequenceNumber::new(2));
+    /// ```
     #[inline]
     fn add(self, rhs: u32) -> SequenceNumber {
         SequenceNumber {

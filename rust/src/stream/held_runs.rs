@@ -9,6 +9,16 @@ use crate::storage::RunIter;
 ///
 /// It yields (start, end) of each run as absolute positions in rising order, the end not included,
 /// and then ends.
+///
+/// ```
+/// use net_base::receiver::{HeldRunIter, Receiver};
+///
+/// let mut storage = [0u8; 16];
+/// let mut receiver = Receiver::<4>::empty(&mut storage[..]);
+/// assert!(receiver.keep(2, b"c").is_ok() && receiver.keep(5, b"fg").is_ok());
+/// let mut held: HeldRunIter = receiver.held();
+/// assert_eq!((held.next(), held.next(), held.next()), (Some((2, 3)), Some((5, 7)), None));
+/// ```
 #[derive(Clone)]
 pub struct HeldRunIter<'a> {
     runs: RunIter<'a>,
@@ -16,6 +26,16 @@ pub struct HeldRunIter<'a> {
 }
 
 /// The iterator of a `Receiver<N>`, which yields at most `N` runs.
+///
+/// ```
+/// use net_base::receiver::{HeldRuns, Receiver};
+///
+/// let mut storage = [0u8; 16];
+/// let mut receiver = Receiver::<4>::empty(&mut storage[..]);
+/// assert!(receiver.keep(2, b"c").is_ok());
+/// let held: HeldRuns<'_, 4> = receiver.held();
+/// assert_eq!((held.len(), receiver.held_count()), (1, 1));
+/// ```
 pub type HeldRuns<'a, const N: usize = 4> = HeldRunIter<'a>;
 
 impl<'a> HeldRunIter<'a> {
@@ -54,6 +74,16 @@ pub struct HeldRun {
 /// An iterator over held runs, the newest first, made by `newest_runs`: at most `K`.
 ///
 /// It yields (start, end) of each run as absolute positions, the end not included.
+///
+/// ```
+/// use net_base::receiver::{NewestRunIter, Receiver};
+///
+/// let mut storage = [0u8; 16];
+/// let mut receiver = Receiver::<4>::empty(&mut storage[..]);
+/// assert!(receiver.keep(2, b"c").is_ok() && receiver.keep(5, b"fg").is_ok());
+/// let mut newest: NewestRunIter<3> = receiver.newest_runs(5, &mut [0; 3]);
+/// assert_eq!((newest.next(), newest.next(), newest.next()), (Some((5, 7)), Some((2, 3)), None));
+/// ```
 #[derive(Clone, Debug)]
 pub struct NewestRunIter<const K: usize> {
     runs: [HeldRun; K],

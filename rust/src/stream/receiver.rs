@@ -67,6 +67,13 @@ pub type Receiver<'a, const N: usize = 4> = ReceiverOver<ManagedSlice<'a, u8>, N
 impl<S: Storage<u8>, const N: usize> ReceiverOver<S, N> {
     /// Returns a receiver of a stream that begins at position 0: `over_at` with 0.
     ///
+    /// ```
+    /// # use net_base::receiver::ReceiverOver;
+    /// static RECEIVER: std::sync::Mutex<ReceiverOver<[u8; 64], 4>> =
+    ///     std::sync::Mutex::new(ReceiverOver::over([0; 64]));
+    /// assert!(RECEIVER.lock().unwrap().keep(0, b"abc").is_ok());
+    /// ```
+    ///
     /// A program in which `N` is 0 does not compile.
     #[must_use]
     pub const fn over(storage: S) -> Self {
@@ -102,6 +109,13 @@ impl<S: Storage<u8>, const N: usize> ReceiverOver<S, N> {
     }
 
     /// Returns the storage. Its bytes can be any.
+    ///
+    /// ```
+    /// # use net_base::receiver::ReceiverOver;
+    /// let mut receiver = ReceiverOver::<_, 4>::over([0u8; 16]);
+    /// assert!(receiver.segment(0, b"abc").is_ok());
+    /// assert_eq!(receiver.into_storage().len(), 16);
+    /// ```
     #[must_use]
     pub fn into_storage(self) -> S {
         let (_head, storage, _runs) = self.into_parts();
@@ -110,6 +124,15 @@ impl<S: Storage<u8>, const N: usize> ReceiverOver<S, N> {
 
     /// Begins again over the same storage: a receiver of a stream that begins at position `first`;
     /// nothing is read, queued or held.
+    ///
+    /// ```
+    /// # use net_base::receiver::Receiver;
+    /// # let mut storage = [0u8; 16];
+    /// # let mut receiver = Receiver::new(&mut storage[..]);
+    /// assert!(receiver.segment(0, b"abc").is_ok());
+    /// receiver.reset_at(7);
+    /// assert_eq!((receiver.next(), receiver.queued()), (7, 0));
+    /// ```
     pub fn reset_at(&mut self, first: u64) {
         self.head.reset_at(first);
     }
@@ -365,6 +388,15 @@ impl<S: Storage<u8>, const N: usize> ReceiverOver<S, N> {
     /// Takes the first `count` bytes off the queue, as `read` does, and copies none: `peek` and
     /// `as_slices` show them before.
     ///
+    /// ```
+    /// # use net_base::receiver::Receiver;
+    /// # let mut storage = [0u8; 16];
+    /// # let mut receiver = Receiver::new(&mut storage[..]);
+    /// assert!(receiver.segment(0, b"abc").is_ok());
+    /// receiver.remove(2);
+    /// assert_eq!((receiver.peek(0, 9), receiver.next()), (&b"c"[..], 3));
+    /// ```
+    ///
     /// # Panics
     ///
     /// Panics unless at least `count` bytes are queued.
@@ -492,6 +524,14 @@ impl<S: Storage<u8>, const N: usize> ReceiverOver<S, N> {
     }
 
     /// Returns how many runs are held, without a look at them: as many as `held` yields, at most `N`.
+    ///
+    /// ```
+    /// # use net_base::receiver::Receiver;
+    /// # let mut storage = [0u8; 16];
+    /// # let mut receiver = Receiver::new(&mut storage[..]);
+    /// assert!(receiver.segment(1, b"b").is_ok() && receiver.segment(3, b"d").is_ok());
+    /// assert_eq!(receiver.held_count(), 2);
+    /// ```
     #[must_use]
     pub fn held_count(&self) -> usize {
         self.head.held_count()

@@ -10,6 +10,15 @@ use crate::storage::{AssemblerHead, Run};
 use crate::storage::width::most;
 
 /// Why a SACK block isn't taken. Nothing changes then.
+///
+/// ```
+/// use net_base::scoreboard::{ReportError, Scoreboard};
+///
+/// let mut scoreboard = Scoreboard::<1>::empty();
+/// assert_eq!(scoreboard.report(5..9, 8), Err(ReportError::NoBlock)); // only 8 bytes were sent
+/// assert_eq!(scoreboard.report(5..9, 20), Ok(()));
+/// assert_eq!(scoreboard.report(12..14, 20), Err(ReportError::TooManyHoles));
+/// ```
 #[derive(Debug, Clone, Copy, PartialEq, Eq, Hash)]
 #[non_exhaustive]
 pub enum ReportError {

@@ -3,6 +3,16 @@
 
 /// What a sender sent of its stream, and what was acknowledged: the numbers that RFC 9293 calls SND.UNA and
 /// SND.NXT, as positions.
+///
+/// ```
+/// use net_base::finite::{FiniteSender, SentNumbers};
+///
+/// let mut storage = [0u8; 8];
+/// let mut sender = FiniteSender::new_at(&mut storage[..], 100);
+/// assert!(sender.write(b"abc") == 3 && sender.mark_sent(102));
+/// let numbers: SentNumbers = sender.sent_numbers();
+/// assert_eq!((numbers.first_unacknowledged, numbers.sent, numbers.flight_size()), (100, 102, 2));
+/// ```
 #[repr(C)]
 #[derive(Copy, Clone, Debug, PartialEq, Eq, Hash)]
 pub struct SentNumbers {
