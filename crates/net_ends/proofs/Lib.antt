@@ -6,6 +6,7 @@ pub mod PairLaws
 pub mod PathLaws
 pub mod Progress
 pub mod Ranges
+pub mod Blocks
 pub mod Receiving
 pub mod ReceivingLaws
 pub mod RoundLaws

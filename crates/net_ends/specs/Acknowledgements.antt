@@ -14,8 +14,8 @@
 --     IsLeft, Recovers      the recovery that is left, and whether it begins
 --     is_sought, begins_by, after_wait, loses_nothing, expiry_of      what the timer's end does, and means
 --     after_segment      the recovery once a range is sent
-use Rattle.std.specs.Prelude.{◌≡◌, ℕ, ℤ, ◌+◌, ◌-◌, ◌^◌, max, Bool, true, false, not, ◌&&◌, ◌||◌, nat_lt, nat_le, nat_eq}
-use Rattle.std.specs.Prelude.{IsTrue, IsFalse, if◌then◌else◌, List, [], ◌∷◌, slice_get, fold, Some}
+use Rattle.std.specs.Prelude.{◌≡◌, ℕ, ℤ, ◌+◌, ◌-◌, ◌^◌, max, Bool, true, false, not, ◌&&◌, ◌||◌, nat_lt, nat_le}
+use Rattle.std.specs.Prelude.{IsTrue, IsFalse, if◌then◌else◌, List, [], ◌∷◌, slice_get, fold}
 use Rattle.std.specs.List.{list_any}
 use Rattle.net_assembler.specs.Assembler.{makes_too_many_runs}
 use Rattle.net_assembler.specs.Positions.{Positions, first_missing, front, with_range}

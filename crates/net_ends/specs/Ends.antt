@@ -17,14 +17,14 @@
 --     probe_of e limit highest hole      what a probe for an answer sends, with what it looks at (IsProbed)
 --     is_probe e window lost others      whether the next segment is such a probe
 --     may_send e from to      whether a range may be sent
+--     is_pure segment      whether a segment has neither a byte nor a FIN
 --     IsSegment s from to xs last      the bytes of a range
 --     Event, after_event, after_events      what happens to an end, and what that leaves
 --     commands      the sender's commands that they come to
 --     Run, run      an end, the greatest edge that the peer gave, and what was sent
 --     small_sends, expiries      how many small segments are sent for the timer, and how often it ends
-use Rattle.std.specs.Prelude.{◌≡◌, ℕ, ℤ, ◌+◌, ◌-◌, ◌*◌, ◌/◌, ◌<◌, ◌≤◌, ◌⊎◌, min, max, Option, Some, None, is_some}
-use Rattle.std.specs.Prelude.{is_none}
-use Rattle.std.specs.Prelude.{Bool, true, false, not, ◌&&◌, nat_lt, nat_le, nat_eq, IsTrue, if◌then◌else◌, List, []}
+use Rattle.std.specs.Prelude.{◌≡◌, ℕ, ℤ, ◌+◌, ◌-◌, ◌/◌, ◌<◌, ◌≤◌, ◌⊎◌, min, max, Option, Some, None, is_some}
+use Rattle.std.specs.Prelude.{Bool, true, false, not, ◌&&◌, nat_lt, nat_le, IsTrue, if◌then◌else◌, List, []}
 use Rattle.std.specs.Prelude.{◌||◌, ◌↔◌, take, drop, length}
 use Rattle.std.specs.Prelude.{◌∷◌, ◌++◌}
 use Rattle.std.specs.Coded.{Coded, coded_ℕ}
@@ -45,6 +45,8 @@ use Rattle.net_tcp.specs.declared.retransmission_timer.TimedSegment.{TimedSegmen
 use Rattle.net_tcp.specs.Retransmission.{Timer as RetransmissionTimer}
 use Rattle.net_tcp.specs.LossRecovery.{Recovery as LossRecovery}
 use Rattle.net_ends.specs.declared.sending_end.Outgoing.{Outgoing}
+use Rattle.net_ends.specs.declared.sending_end.AckSegment.{AckSegment}
+use Rattle.net_ends.specs.declared.sending_end.AckSegment.TheVariants.{Pure, WithData}
 use Rattle.net_ends.specs.declared.sending_end.Acknowledged.{Acknowledged}
 use Rattle.net_ends.specs.declared.sending_end.Acknowledged.TheVariants.{Refused, Old, Taken}
 use Rattle.net_receiver.specs.SenderState.{end_of}
@@ -117,6 +119,10 @@ opened e seq ack window size reports now = record e {
 }
 
 -- ---- an acknowledgement
+abbrev pub is_pure : AckSegment → Bool
+is_pure Pure = true
+is_pure WithData = false
+
 -- it isn't above what was sent, nor below the first unacknowledged number by more than the greatest window
 abbrev pub is_acceptable : End → ℕ → Bool
 is_acceptable e ack = nat_le (first e) (ack + e.greatest) && nat_le ack e.sender.sent

@@ -8,7 +8,7 @@ use Rattle.net_tcp.specs.Retransmission.{timer_of}
 use Rattle.net_tcp.specs.declared.retransmission.TimeoutBounds.{TimeoutBounds}
 use Rattle.net_ends.specs.Buffers.{board_of}
 use Rattle.net_ends.specs.Ends.{End}
-use Rattle.net_ends.specs.declared.sending_end.SendingHead.{SendingHead}
+use Rattle.net_ends.specs.declared.sending_head.SendingHead.{SendingHead}
 use Rattle.net_ends.specs.declared.sending_end.Outgoing.{Outgoing}
 
 abbrev pub end_of : FiniteSenderState → SendingHead → List (ℕ × ℕ) → ℕ → TimeoutBounds → End

@@ -6,7 +6,8 @@
 --     field_of e, promise e      the window that it announces now, and the right edge which that promises
 --     is_worth e      whether an update of the window is worth a segment
 --     listed e, reported e      the runs that an acknowledgement lists, and what came twice that it reports
---     blocks_of list      its four blocks
+--     blocks_of list, sack_blocks list      four blocks, where there are as many; those that there are
+--     range_of block, range_at block, count_of blocks      a block as a range; so if there is one; how many there are
 --     WaitsAfter e pos count d      what came twice waits to be reported, once a segment of so many bytes has come
 --     is_next N s pos xs last      whether a segment adds to the queue and leaves no hole
 --     Event, after_event, after_events      what happens to an end, and what that leaves
@@ -14,7 +15,9 @@
 --     IsSoundReceiving e      what is true of every end
 use Rattle.std.specs.Prelude.{◌≤◌, ℕ, ◌+◌, ◌-◌, ◌^◌, min, max, Option, Result, Ok, Err}
 use Rattle.std.specs.Prelude.{Bool, false, not, ◌&&◌, nat_lt, nat_le, nat_eq, if◌then◌else◌, List, [], ◌∷◌}
-use Rattle.std.specs.Prelude.{◌≡◌, ◌++◌, ◌||◌, None, Some, length, slice_get}
+use Rattle.std.specs.Prelude.{◌≡◌, ◌++◌, ◌||◌, None, Some, length, slice_get, map, take, is_some}
+use Rattle.std.specs.Int.{from_bool}
+use Rattle.std.specs.declared.ops.Range.{Range}
 use Rattle.std.specs.Option.{option_or}
 use Rattle.net_assembler.specs.Positions.{runs}
 use Rattle.net_receiver.specs.ReceiverState.{ReceiverState, domain, limit_of, next_position}
@@ -102,6 +105,20 @@ reported e = reported_of e.receiver e.duplicate
 
 abbrev pub blocks_of : List (ℕ × ℕ) → List (Option (ℕ × ℕ))
 blocks_of list = slice_get list 0 ∷ slice_get list 1 ∷ slice_get list 2 ∷ slice_get list 3 ∷ []
+
+abbrev pub range_of : ℕ × ℕ → Range ℕ
+range_of block = record { start = block.0; end = block.1 }
+
+abbrev pub range_at : Option (ℕ × ℕ) → Range ℕ
+range_at None = record { start = 0; end = 0 }
+range_at (Some block) = range_of block
+
+abbrev pub count_of : List (Option (ℕ × ℕ)) → ℕ
+count_of [] = 0
+count_of (b ∷ bs) = from_bool (is_some b) + count_of bs
+
+abbrev pub sack_blocks : List (ℕ × ℕ) → List (Range ℕ)
+sack_blocks list = map range_of (take 4 list)
 
 -- ---- segments
 -- it has neither a byte nor the end

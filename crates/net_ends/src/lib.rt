@@ -5,7 +5,13 @@ pub mod laws;
 pub mod receiving_end;
 pub mod send_buffer;
 pub mod sending_end;
+pub mod sending_head;
 
-pub use receiving_end::{Acknowledgement, ReceivingEnd, ReceivingEndOver, ReceivingHead, Room};
-pub use send_buffer::{AckKind, BufferHead, Queued, SendBuffer, SendBufferOver, Sending, TakenAck};
-pub use sending_end::{Acknowledged, Expired, Outgoing, SendingEnd, SendingEndOver, SendingHead};
+pub use receiving_end::{
+    AckFields, Acknowledgement, ReceivingEnd, ReceivingEndOver, ReceivingHead, Room, SackBlocks,
+};
+pub use send_buffer::{
+    AckKind, BufferHead, Queued, SegmentBytes, SendBuffer, SendBufferOver, Sending, TakenAck,
+};
+pub use sending_end::{AckSegment, Acknowledged, Expired, Outgoing, SendingEnd, SendingEndOver};
+pub use sending_head::SendingHead;

@@ -26,7 +26,7 @@ ghost use Rattle.net_assembler.specs.Positions.{contains};
 ghost use Rattle.net_tcp.specs.LossRecovery.{is_active, is_wrong, taken_back};
 ghost use Rattle.net_receiver.specs.FiniteSender.{sender_after_command, Acknowledges, accepts, finite_room};
 ghost use Rattle.net_receiver.specs.Finite.{no_end};
-ghost use Rattle.net_ends.specs.Ends.{new_end, first, end, is_acceptable, greatest_of, is_shut, asks, told};
+ghost use Rattle.net_ends.specs.Ends.{new_end, is_pure, first, end, is_acceptable, greatest_of, is_shut, asks, told};
 ghost use Rattle.net_ends.specs.Ends.{limit, may_send, after_event, Wrote, Shut, Heard, Looked, Sent, Rested};
 ghost use Rattle.net_ends.specs.Ends.{Resumed};
 ghost use Rattle.net_ends.specs.Ends.{IsSegment, round_trip, Opened, Forgot, Opening, synchronized, sampled};
@@ -61,20 +61,20 @@ ghost use Rattle.net_ends.specs.Ends.{AreHoles, open_to, found, due_of, range_of
 ghost use Rattle.std.specs.Option.{option_or};
 ghost use Rattle.net_tcp.specs.Windows.{after_update, acknowledgement_number};
 
-use crate::send_buffer::{AckKind, BufferHead, Queued, Sending, TakenAck, accept, lend, mark};
+use crate::send_buffer::{Queued, SegmentBytes, accept, lend, mark};
+use crate::sending_head::SendingHead;
 use net_assembler::Run;
 use net_base::time::{Duration, Instant};
 use net_receiver::{FiniteSenderOver, SentNumbers};
 use net_ring::{ManagedSlice, Storage};
-use net_tcp::{
-    Announcement, Expiry, PeerWindow, RetransmissionTimer, TimeoutBounds, is_acknowledgement,
-};
+use net_tcp::{Announcement, Expiry, TimeoutBounds};
 use std::marker::Model;
+use std::ops::Range;
 
 /// What an acknowledgement was.
 ///
 /// ```
-/// # use net_base::ends::{Acknowledged, SendingEnd};
+/// # use net_base::ends::{AckSegment, Acknowledged, SendingEnd};
 /// # use net_base::tcp::{Announcement, TimeoutBounds};
 /// # use net_base::time::{Duration, Instant};
 /// # let mut storage = [0u8; 64];
@@ -82,7 +82,7 @@ use std::marker::Model;
 /// # let mut sending = SendingEnd::<4>::new_at(&mut storage[..], 100, second, bounds);
 /// sending.open(Announcement { seq: 1, ack: 100, window: 1000 }, 8, true, Instant::ZERO);
 /// let it = Announcement { seq: 1, ack: 101, window: 1000 };
-/// match sending.acknowledged(it, &[], true, Instant::ZERO) {
+/// match sending.acknowledged(it, &[], AckSegment::Pure, Instant::ZERO) {
 ///     Acknowledged::Refused => println!("101 was never sent: answer the segment, and take nothing"),
 ///     other => panic!("{other:?}"),
 /// }
@@ -103,6 +103,29 @@ pub enum Acknowledged {
         /// Whether it begins a recovery: then halve the congestion window.
         begins: bool,
     },
+}
+
+/// What the segment of an acknowledgement has besides.
+///
+/// ```
+/// # use net_base::ends::{AckSegment, Acknowledged, SendingEnd};
+/// # use net_base::tcp::{Announcement, TimeoutBounds};
+/// # use net_base::time::{Duration, Instant};
+/// # let mut storage = [0u8; 64];
+/// # let (second, bounds) = (Duration::from_secs(1), TimeoutBounds::default());
+/// # let mut sending = SendingEnd::<4>::new_at(&mut storage[..], 100, second, bounds);
+/// # sending.open(Announcement { seq: 1, ack: 100, window: 1000 }, 8, true, Instant::ZERO);
+/// // The peer has bytes of its own to send, and acknowledges with them: that is no repeated acknowledgement.
+/// let it = Announcement { seq: 1, ack: 100, window: 1000 };
+/// let taken = sending.acknowledged(it, &[], AckSegment::WithData, Instant::ZERO);
+/// assert_eq!(taken, Acknowledged::Taken { new: 0, reports: false, begins: false });
+/// ```
+#[derive(Copy, Clone, Debug, PartialEq, Eq, Hash)]
+pub enum AckSegment {
+    /// Neither a byte nor a FIN: a pure acknowledgement.
+    Pure,
+    /// Bytes, or a FIN.
+    WithData,
 }
 
 /// What the timer's end means.
@@ -162,35 +185,24 @@ pub struct Outgoing {
     pub is_again: bool,
 }
 
-/// All of a sending end but its sender and the times that were set: what was reported and what is lost, the timer, and
-/// what the peer announced. Its calls are given the sender's numbers; who holds both has the sender take what they say.
-///
-/// It is numbers alone, so that C has it as it is: a flag is not 0 where it holds. One of zeros is new. It is sound if
-/// the scoreboard is, with its runs.
-#[repr(C)]
-#[derive(Copy, Clone, Debug)]
-pub struct SendingHead {
-    /// What was reported and what is lost.
-    pub buffer: BufferHead,
-    /// The timer.
-    pub timer: RetransmissionTimer,
-    /// The peer's window.
-    pub peer_window: PeerWindow,
-    /// The greatest window that the peer ever announced.
-    pub greatest_window: u64,
-    /// The window that it announced last.
-    pub last_window: u64,
-    /// The most bytes of a segment. 0 counts as 1.
-    pub segment_size: usize,
-    /// Not 0 if Nagle's rule is disabled.
-    pub no_delay: usize,
-    /// Not 0 once the peer has acknowledged anything, if only the own SYN.
-    pub is_open: u64,
-    /// Not 0 if the timeout has passed and nothing was sent since then: nothing is held back, and if the window is
-    /// shut, the next segment is a probe of it.
-    pub is_window_probe_due: u64,
-    /// Not 0 if the next segment is a probe for an answer, if nothing else may be sent.
-    pub is_overdue: u64,
+impl Outgoing {
+    /// Returns its numbers, as `SendingEnd::bytes` takes them.
+    #[must_use]
+    pub fn range(&self) -> Range<u64>
+        ensures { result ≡ record { start = self.now.pos; end = self.now.end } }
+    {
+        self.pos..self.end
+    }
+}
+
+/// Returns whether a segment has neither a byte nor a FIN.
+fn is_pure(segment: AckSegment) -> bool
+    ensures { result ≡ is_pure segment }
+{
+    match segment {
+        AckSegment::Pure => true,
+        AckSegment::WithData => false,
+    }
 }
 
 /// What sends a stream that ends, over storage that is lent or owned.
@@ -199,7 +211,7 @@ pub type SendingEnd<'a, const N: usize> = SendingEndOver<ManagedSlice<'a, u8>, N
 /// A [`SendingEnd`] over any storage: a sender, and all else in its head.
 ///
 /// ```
-/// use net_base::ends::{Acknowledged, Expired, SendingEnd};
+/// use net_base::ends::{AckSegment, Acknowledged, Expired, SendingEnd};
 /// use net_base::tcp::{Announcement, TimeoutBounds};
 /// use net_base::time::{Duration, Instant};
 ///
@@ -213,14 +225,14 @@ pub type SendingEnd<'a, const N: usize> = SendingEndOver<ManagedSlice<'a, u8>, N
 /// assert_eq!(sending.write(b"sixteen bytes ok"), 16);
 /// let mut segments = Vec::new();
 /// while let Some(it) = sending.next_segment(1200, now) {
-///     let (front, back, _is_last) = sending.bytes(it.pos, it.end);
-///     segments.push((it.pos, [front, back].concat()));
+///     let bytes = sending.bytes(it.range());
+///     segments.push((it.pos, [bytes.front, bytes.back].concat()));
 /// }
 /// assert_eq!(segments, [(100, b"sixteen ".to_vec()), (108, b"bytes ok".to_vec())]);
 /// // An acknowledgement of the first one.
 /// now += Duration::from_millis(100);
 /// let it = Announcement { seq: 1, ack: 108, window: 1000 };
-/// let taken = sending.acknowledged(it, &[], true, now);
+/// let taken = sending.acknowledged(it, &[], AckSegment::Pure, now);
 /// assert_eq!(taken, Acknowledged::Taken { new: 8, reports: false, begins: false });
 /// // None of the second one: when the timer ends, a probe asks for one, and in the end all is lost.
 /// while sending.expired(now) != Expired::Lost {
@@ -228,7 +240,7 @@ pub type SendingEnd<'a, const N: usize> = SendingEndOver<ManagedSlice<'a, u8>, N
 ///     now = sending.expires_at().expect("something is in flight");
 /// }
 /// let it = sending.next_segment(8, now).expect("what was lost");
-/// assert_eq!((it.pos, it.end, it.is_again), (108, 116, true));
+/// assert_eq!((it.range(), it.is_again), (108..116, true));
 /// ```
 #[derive(Drop)]
 pub struct SendingEndOver<S: Storage<u8>, const N: usize> {
@@ -342,8 +354,8 @@ impl<S: Storage<u8>, const N: usize> SendingEndOver<S, N> {
         self.sender.close();
     }
 
-    /// Lends the bytes of a segment from `pos` on, whose numbers are below `end`, in two parts, and returns whether the
-    /// stream ends after them. Of a position that is acknowledged it lends none.
+    /// Lends the bytes of a segment, in two parts, and returns whether the stream ends after them. If the range begins
+    /// at a position that is acknowledged, it lends none.
     ///
     /// ```
     /// # use net_base::ends::SendingEnd;
@@ -356,19 +368,21 @@ impl<S: Storage<u8>, const N: usize> SendingEndOver<S, N> {
     /// let _taken = sending.write(b"abc");
     /// sending.close();
     /// let it = sending.next_segment(1200, Instant::ZERO).expect("three bytes and the end");
-    /// assert_eq!(sending.bytes(it.pos, it.end), (&b"abc"[..], &b""[..], true));
+    /// let bytes = sending.bytes(it.range());
+    /// assert_eq!((bytes.front, bytes.back, bytes.is_last), (&b"abc"[..], &b""[..], true));
     /// ```
     #[must_use]
-    pub fn bytes(&self, pos: u64, end: u64) -> (&[u8], &[u8], bool)
-        ensures { IsSegment self.now.sender pos end (result.0.now ++ result.1.now) result.2 }
+    pub fn bytes(&self, range: Range<u64>) -> SegmentBytes<'_>
+        ensures { IsSegment self.now.sender range.start range.end
+            (result.front.now ++ result.back.now) result.is_last }
     {
-        lend(&self.sender, pos, end)
+        lend(&self.sender, range)
     }
 
     /// Returns whether all that was written is acknowledged, and the end.
     ///
     /// ```
-    /// # use net_base::ends::SendingEnd;
+    /// # use net_base::ends::{AckSegment, SendingEnd};
     /// # use net_base::tcp::{Announcement, TimeoutBounds};
     /// # use net_base::time::{Duration, Instant};
     /// # let mut storage = [0u8; 64];
@@ -381,7 +395,7 @@ impl<S: Storage<u8>, const N: usize> SendingEndOver<S, N> {
     /// let _segment_to_send = sending.next_segment(1200, now);
     /// assert!(!sending.is_done());
     /// let it = Announcement { seq: 1, ack: 104, window: 1000 };
-    /// let _taken = sending.acknowledged(it, &[], true, now);
+    /// let _taken = sending.acknowledged(it, &[], AckSegment::Pure, now);
     /// assert!(sending.is_done());
     /// ```
     #[must_use]
@@ -397,560 +411,6 @@ impl<S: Storage<u8>, const N: usize> SendingEndOver<S, N> {
         ensures { result ≡ finite_room self.now.sender }
     {
         self.sender.window()
-    }
-}
-
-impl SendingHead {
-    /// Returns the rules of an end without a peer, of a stream that begins at position `first`.
-    pub const fn new_at(first: u64, first_timeout: Duration) -> Self
-        ensures sound { (runs : List (ℕ × ℕ)) → IsSoundBoard result.buffer.scoreboard runs }
-        ensures reported { (runs : List (ℕ × ℕ)) →
-            board_of result.buffer runs ≡ with_range nothing 0 first }
-        ensures recovery { recovery_of result.buffer.recovery ≡ new_recovery }
-        ensures timer { timer_of result.timer ≡ new_timer first_timeout false }
-        ensures numbers { (result.buffer.scoreboard ≡ scoreboard_head first)
-            × (result.buffer.recovery ≡ no_loss)
-            × (result.timer ≡ new_fields first_timeout false) }
-        ensures rest { result ≡ record {
-          buffer = result.buffer;
-          timer = result.timer;
-          peer_window = no_window;
-          greatest_window = 0;
-          last_window = 0;
-          segment_size = 0;
-          no_delay = 0;
-          is_open = 0;
-          is_window_probe_due = 0;
-          is_overdue = 0;
-        } }
-    {
-        SendingHead {
-            buffer: BufferHead::new_at(first),
-            timer: RetransmissionTimer::new(first_timeout, false),
-            peer_window: PeerWindow::new(),
-            greatest_window: 0,
-            last_window: 0,
-            segment_size: 0,
-            no_delay: 0,
-            is_open: 0,
-            is_window_probe_due: 0,
-            is_overdue: 0,
-        }
-    }
-
-    /// Begins with a peer, whose SYN announced a window, how many bytes a segment may have, and whether it reports
-    /// blocks (SACK): one that doesn't couldn't answer a probe, and is sent none. What was written stays. It is done
-    /// once, before anything is sent; a second time begins with another peer, and the timer runs if something is in
-    /// flight.
-    #[inline]
-    pub fn open(
-        &mut self,
-        numbers: SentNumbers,
-        first_timeout: Duration,
-        it: Announcement,
-        segment_size: usize,
-        reports: bool,
-        now: Instant,
-    )
-        ensures rest { self.new ≡ record self.old {
-          buffer = self.new.buffer;
-          timer = self.new.timer;
-          peer_window = window_from it.seq it.ack it.window;
-          greatest_window = it.window;
-          last_window = it.window;
-          segment_size = segment_size;
-          is_open = 0;
-          is_window_probe_due = 0;
-          is_overdue = 0;
-        } }
-        ensures scoreboard { self.new.buffer.scoreboard ≡ self.old.buffer.scoreboard }
-        ensures recovery { recovery_of self.new.buffer.recovery
-            ≡ record (recovery_of self.old.buffer.recovery) { is_blind = not reports; unknown = 0 } }
-        ensures timer { timer_of self.new.timer ≡ renewed_by numbers first_timeout reports now }
-    {
-        self.buffer.recovery.expect_reports(reports);
-        self.renew(numbers, first_timeout, reports, now);
-        self.peer_window = PeerWindow::of(it);
-        self.greatest_window = it.window;
-        self.last_window = it.window;
-        self.segment_size = segment_size;
-        self.is_window_probe_due = 0;
-        self.is_overdue = 0;
-    }
-
-    /// Begins again without a peer: the timer stops, unless something is in flight. What was written stays.
-    #[inline]
-    pub fn forget(&mut self, numbers: SentNumbers, first_timeout: Duration, now: Instant)
-        ensures rest { self.new ≡ record self.old { timer = self.new.timer; is_open = 0 } }
-        ensures timer { timer_of self.new.timer ≡ renewed_by numbers first_timeout false now }
-    {
-        self.renew(numbers, first_timeout, false, now);
-    }
-
-    /// Begins with a timer that had no sample.
-    #[inline]
-    fn renew(&mut self, numbers: SentNumbers, first_timeout: Duration, reports: bool, now: Instant)
-        ensures rest { self.new ≡ record self.old { timer = self.new.timer; is_open = 0 } }
-        ensures timer { timer_of self.new.timer ≡ renewed_by numbers first_timeout reports now }
-    {
-        self.timer = RetransmissionTimer::new(first_timeout, reports);
-        if numbers.first_unacknowledged < numbers.sent {
-            self.timer.start(now);
-        }
-        self.is_open = 0;
-    }
-
-    /// Returns whether a SYN is to be sent now, the first one or one after a timeout, and starts the timer for the
-    /// next. Ask it only until something is acknowledged, at which it doesn't look.
-    #[inline]
-    pub fn is_opening_due(&mut self, bounds: TimeoutBounds, now: Instant) -> bool
-        ensures value { result ≡ (has_expired (timer_of self.old.timer) now
-            || is_none (expires_at (timer_of self.old.timer))) }
-        ensures rest { self.new ≡ record self.old { timer = self.new.timer } }
-        ensures timer { timer_of self.new.timer
-            ≡ started now (after_expiry bounds now (timer_of self.old.timer)) }
-    {
-        let is_first = self.timer.expires_at().is_none();
-        let has_expired = self.timer.expire(bounds, now).is_some();
-        self.timer.start(now);
-        has_expired || is_first
-    }
-
-    /// Takes what a segment acknowledges and announces, and the blocks that it reports. It `is_empty` if it has no byte
-    /// and no FIN. Whatever it says, the end stays sound.
-    ///
-    /// A block counts that begins above the first number that isn't reported, has a number, and ends where something
-    /// was sent and less than 2^32 above that one, if what is reported beyond that one is at most `N` runs then. Any
-    /// other block says nothing.
-    pub fn acknowledged(
-        &mut self,
-        runs: &mut [Run],
-        numbers: SentNumbers,
-        bounds: TimeoutBounds,
-        it: Announcement,
-        blocks: &[(u64, u64)],
-        is_empty: bool,
-        now: Instant,
-    ) -> Acknowledged
-        requires { IsSoundBoard self.old.buffer.scoreboard runs.old }
-        ensures sound { IsSoundBoard self.new.buffer.scoreboard runs.new }
-        ensures length { length runs.new ≡ length runs.old }
-        ensures hears { (s : FiniteSenderState) (timeout : ℕ) → numbers_of s ≡ numbers →
-            Hears (length runs.old) (end_of s self.old runs.old timeout bounds) it.seq it.ack
-            it.window blocks.now is_empty now result
-            (end_of (sender_after_command s (Acknowledges it.ack)) self.new runs.new timeout bounds) }
-    {
-        if !is_acknowledgement(numbers, self.greatest_window, it.ack) {
-            return Acknowledged::Refused;
-        }
-        if it.ack < numbers.first_unacknowledged || numbers.sent < it.ack {
-            self.buffer.note_duplicate(numbers, it.ack, blocks);
-            return Acknowledged::Old;
-        }
-        let taken = self.take_accepted(runs, numbers, bounds, it, blocks, is_empty, now);
-        Acknowledged::Taken {
-            new: taken.new,
-            reports: taken.reports,
-            begins: taken.begins,
-        }
-    }
-
-    /// Takes an acknowledgement that the sender takes, and returns what it said.
-    fn take_accepted(
-        &mut self,
-        runs: &mut [Run],
-        numbers: SentNumbers,
-        bounds: TimeoutBounds,
-        it: Announcement,
-        blocks: &[(u64, u64)],
-        is_empty: bool,
-        now: Instant,
-    ) -> TakenAck
-        requires { IsSoundBoard self.old.buffer.scoreboard runs.old }
-        ensures sound { IsSoundBoard self.new.buffer.scoreboard runs.new }
-        ensures count { length runs.new ≡ length runs.old }
-        ensures rest { self.new ≡ record self.old {
-          buffer = self.new.buffer;
-          timer = self.new.timer;
-          peer_window = after_update self.old.peer_window numbers.first_unacknowledged numbers.sent
-              it.seq it.ack it.window;
-          greatest_window = greatest_of self.old.peer_window self.old.greatest_window
-              numbers.first_unacknowledged numbers.sent it.seq it.ack it.window;
-          last_window = it.window;
-          is_open = 1;
-        } }
-        ensures timer { timer_of self.new.timer ≡ told result.reports now (after_acknowledged bounds
-            numbers.first_unacknowledged numbers.sent it.ack now
-            (sampled (board_of self.new.buffer runs.new) bounds now
-            (synchronized (not (nat_eq self.old.is_open 0)) numbers.first_unacknowledged numbers.sent
-            (timer_of self.old.timer)))) }
-        ensures reported { board_of self.new.buffer runs.new
-            ≡ kept (reported_by (length runs.old) numbers.sent (board_of self.old.buffer runs.old) it.ack
-            blocks.now).0 it.ack numbers.sent }
-        ensures new { result.new ≡ it.ack - numbers.first_unacknowledged }
-        ensures reports { result.reports
-            ≡ (reported_by (length runs.old) numbers.sent (board_of self.old.buffer runs.old) it.ack
-            blocks.now).1 }
-        ensures recovery { Recovers (length runs.old) (max self.old.segment_size 1) numbers
-            (unsent_at numbers.first_unacknowledged (board_of self.old.buffer runs.old)
-            (recovery_of self.old.buffer.recovery)) (board_of self.old.buffer runs.old)
-            (recovery_of self.old.buffer.recovery) it.ack blocks.now
-            (is_empty && (it.window == self.old.last_window)) result.reports
-            (recovery_of self.new.buffer.recovery) result.begins }
-    {
-        let kind = if is_empty && it.window == self.last_window {
-            AckKind::Repeat
-        } else {
-            AckKind::Other
-        };
-        let size = self.segment_size();
-        let taken = self
-            .buffer
-            .acknowledged(runs, numbers, it.ack, blocks, size, kind);
-        self.take_window(numbers, it);
-        self.update_timer(runs, numbers, bounds, it.ack, taken.reports, now);
-        taken
-    }
-
-    /// Takes the window that is announced, and that a peer answers.
-    fn take_window(&mut self, numbers: SentNumbers, it: Announcement)
-        ensures rest { self.new ≡ record self.old {
-          timer = self.new.timer;
-          peer_window = after_update self.old.peer_window numbers.first_unacknowledged numbers.sent
-              it.seq it.ack it.window;
-          greatest_window = greatest_of self.old.peer_window self.old.greatest_window
-              numbers.first_unacknowledged numbers.sent it.seq it.ack it.window;
-          last_window = it.window;
-          is_open = 1;
-        } }
-        ensures timer { timer_of self.new.timer ≡ synchronized (not (nat_eq self.old.is_open 0))
-            numbers.first_unacknowledged numbers.sent (timer_of self.old.timer) }
-    {
-        // The timer of the SYN stops, if this is the first acknowledgement and nothing is in flight.
-        if self.is_open == 0 && numbers.sent <= numbers.first_unacknowledged {
-            self.timer.stop();
-        }
-        self.is_open = 1;
-        self.greatest_window = greatest_after_update(
-            &mut self.peer_window,
-            self.greatest_window,
-            numbers,
-            it,
-        );
-        self.last_window = it.window;
-    }
-
-    /// Takes the sample of a timed segment that is reported, and tells the timer what was acknowledged, and whether a
-    /// block reported what wasn't known.
-    fn update_timer(
-        &mut self,
-        runs: &[Run],
-        numbers: SentNumbers,
-        bounds: TimeoutBounds,
-        ack: u64,
-        reports: bool,
-        now: Instant,
-    )
-        requires { IsSoundBoard self.old.buffer.scoreboard runs.now }
-        ensures rest { self.new ≡ record self.old { timer = self.new.timer } }
-        ensures timer { timer_of self.new.timer ≡ told reports now (after_acknowledged bounds
-            numbers.first_unacknowledged numbers.sent ack now
-            (sampled (board_of self.old.buffer runs.now) bounds now (timer_of self.old.timer))) }
-    {
-        // A copy: one with times isn't passed twice.
-        let sampling = TimeoutBounds {
-            least: bounds.least,
-            most: bounds.most,
-            tick: bounds.tick,
-            ack_delay: bounds.ack_delay,
-        };
-        if let Some(segment) = self.timer.timed() {
-            if self.buffer.contains(runs, segment.pos) {
-                self.timer.take_sample(sampling, now);
-            }
-        }
-        self.timer.acknowledged(bounds, numbers, ack, now);
-        if reports {
-            self.timer.reported(now);
-        }
-    }
-
-    /// Takes notice that the timer's probe is due, and returns what that means. Finds what is overdue, unless the
-    /// peer's window is shut, or it reports nothing: then it is sent no probe.
-    #[inline]
-    pub fn take_silence(&mut self, runs: &[Run], queued: Queued) -> Expired
-        requires { IsSoundBoard self.old.buffer.scoreboard runs.now }
-        ensures rest { self.new ≡ record self.old {
-          buffer = self.new.buffer;
-          is_window_probe_due = 0;
-          is_overdue = self.new.is_overdue;
-        } }
-        ensures scoreboard { self.new.buffer.scoreboard ≡ self.old.buffer.scoreboard }
-        ensures silent { (s : FiniteSenderState) (timeout : ℕ) (bounds : TimeoutBounds) → queued_of s ≡ queued →
-            Silent (end_of s self.old runs.now timeout bounds) result (end_of s self.new runs.now timeout bounds) }
-    {
-        self.is_window_probe_due = 0;
-        self.is_overdue = 0;
-        if self.buffer.recovery.is_blind() {
-            return Expired::No;
-        }
-        if self.is_shut(queued) {
-            return Expired::Overdue { begins: false };
-        }
-        self.is_overdue = 1;
-        Expired::Overdue {
-            begins: self.buffer.find_overdue(runs, queued.numbers),
-        }
-    }
-
-    /// Takes notice that the timeout has passed, and returns what that means. Loses all that was sent and isn't
-    /// reported.
-    #[inline]
-    pub fn take_timeout(&mut self, queued: Queued) -> Expired
-        ensures rest { self.new ≡ record self.old {
-          buffer = self.new.buffer;
-          is_window_probe_due = 1;
-          is_overdue = 0;
-        } }
-        ensures scoreboard { self.new.buffer.scoreboard ≡ self.old.buffer.scoreboard }
-        ensures late { (s : FiniteSenderState) (runs : List (ℕ × ℕ)) (timeout : ℕ) (bounds : TimeoutBounds) →
-            queued_of s ≡ queued →
-            TimesOut (end_of s self.old runs timeout bounds) result (end_of s self.new runs timeout bounds) }
-    {
-        self.buffer.recovery.lose_all(queued.numbers);
-        self.is_window_probe_due = 1;
-        self.is_overdue = 0;
-        if self.is_shut(queued) || queued.numbers.flight_size() == 0 {
-            Expired::Probe
-        } else {
-            Expired::Lost
-        }
-    }
-
-    /// Returns whether the peer's window is shut, and something waits.
-    fn is_shut(&self, queued: Queued) -> bool
-        ensures { result ≡ window_shut (known_by self.now queued) }
-    {
-        self.peer_window
-            .is_probe_allowed(queued.numbers.first_unacknowledged, queued.end)
-    }
-
-    /// Returns the range that is to be sent next, and why: of a window that is shut a probe, once the timeout has
-    /// passed; else what `next_range` returns; and else, where no answer came, a probe for one.
-    fn choose(
-        &self,
-        runs: &[Run],
-        queued: Queued,
-        congestion_window: u64,
-    ) -> (Option<(u64, u64)>, Sending)
-        requires sound { IsSoundBoard self.now.buffer.scoreboard runs.now }
-        requires order { queued.numbers.first_unacknowledged ≤ queued.numbers.sent }
-        ensures within { let k = known_of self.now runs.now queued in
-            IfSome result.0 (λ r. (r.0 < r.1) × (r.1 ≤ most_to k) × (low k ≤ r.0)) }
-        ensures probe { let k = known_of self.now runs.now queued in
-            IsTrue (asks_window k) → result.0 ≡ Some (low k, low k + 1) }
-        ensures asks { is_window_probe result.1 ≡ asks_window (known_of self.now runs.now queued) }
-        ensures overdue { IsTrue (is_tail_probe result.1) →
-            IsTrue (known_of self.now runs.now queued).overdue }
-        ensures due { let k = known_of self.now runs.now queued in
-            IfSome result.0 (λ r. IsTrue (due k r.0 r.1)) }
-        ensures next { let k = known_of self.now runs.now queued in
-            (lost others : Option (ℕ × ℕ)) → IsFalse (asks_window k) → IsFalse k.overdue →
-            HolesOf k (room_to k) lost others →
-            result.0 ≡ due_part k (next_of k (room_to k) congestion_window lost others) }
-        ensures answer { let k = known_of self.now runs.now queued in
-            (lost others : Option (ℕ × ℕ)) (highest : ℕ) (hole : Option (ℕ × ℕ)) →
-            IsFalse (asks_window k) → IsTrue k.overdue → HolesOf k (room_to k) lost others →
-            ProbedOf k (room_to k) highest hole → result.0 ≡ option_or
-            (due_part k (next_of k (room_to k) congestion_window lost others))
-            (probe_part k (room_to k) highest hole) }
-        ensures counts { let k = known_of self.now runs.now queued in
-            (lost others : Option (ℕ × ℕ)) → HolesOf k (room_to k) lost others →
-            is_tail_probe result.1 ≡ is_probing k congestion_window lost others }
-        ensures late { let k = known_of self.now runs.now queued in
-            IsTrue k.probes → IsFalse (is_active k.recovery (low k)) → low k ≡ high k →
-            low k < k.queued.end → IsTrue (is_some result.0) }
-    {
-        let first = queued.numbers.first_unacknowledged;
-        if self.is_window_probe_due != 0 && self.is_shut(queued) {
-            return (Some((first, first + 1)), Sending::WindowProbe);
-        }
-        let limit = self.peer_window.send_limit(queued.end);
-        let next = self.next_range(runs, queued, limit, congestion_window);
-        if next.is_some() || self.is_overdue == 0 {
-            return (next, Sending::Segment);
-        }
-        (
-            self.next_probe(runs, queued.numbers, limit),
-            Sending::TailProbe,
-        )
-    }
-
-    /// Returns what a probe for an answer sends below a limit. A function of its own, since the search doesn't find
-    /// what `choose` says with this call in it.
-    fn next_probe(&self, runs: &[Run], numbers: SentNumbers, limit: u64) -> Option<(u64, u64)>
-        requires sound { IsSoundBoard self.now.buffer.scoreboard runs.now }
-        requires order { numbers.first_unacknowledged ≤ numbers.sent }
-        ensures within { IfSome result (λ r. (r.0 < r.1) × (r.1 ≤ limit)
-            × (numbers.first_unacknowledged ≤ r.0)) }
-        ensures value { (highest : ℕ) (hole : Option (ℕ × ℕ)) →
-            IsEnd (board_of self.now.buffer runs.now) highest →
-            IsHole (board_of self.now.buffer runs.now) numbers.first_unacknowledged
-            (min numbers.sent limit) hole →
-            result ≡ next_probe (recovery_of self.now.buffer.recovery) (max 1 (max self.now.segment_size 1))
-            numbers.first_unacknowledged numbers.sent limit highest hole }
-    {
-        self.buffer
-            .next_probe(runs, numbers, limit, self.segment_size())
-    }
-
-    /// Returns what the recovery sends next below a limit, unless that is held back.
-    fn next_range(
-        &self,
-        runs: &[Run],
-        queued: Queued,
-        limit: u64,
-        congestion_window: u64,
-    ) -> Option<(u64, u64)>
-        requires sound { IsSoundBoard self.now.buffer.scoreboard runs.now }
-        requires order { queued.numbers.first_unacknowledged ≤ queued.numbers.sent }
-        ensures next { let k = known_of self.now runs.now queued in (lost others : Option (ℕ × ℕ)) →
-            HolesOf k limit lost others →
-            result ≡ due_part k (next_of k limit congestion_window lost others) }
-        ensures within { let k = known_of self.now runs.now queued in
-            IfSome result (λ r. (r.0 < r.1) × (r.1 ≤ limit) × (low k ≤ r.0)) }
-        ensures due { let k = known_of self.now runs.now queued in
-            IfSome result (λ r. IsTrue (due k r.0 r.1)) }
-        ensures late { let k = known_of self.now runs.now queued in IsTrue (in_hurry k) →
-            IsFalse (is_active k.recovery (low k)) → low k ≡ high k → low k < limit →
-            IsTrue (is_some result) }
-    {
-        let Some((from, to)) = self.buffer.next(
-            runs,
-            queued.numbers,
-            limit,
-            congestion_window,
-            self.segment_size(),
-        )
-        else {
-            return None;
-        };
-        if self.is_due(queued, from, to) {
-            Some((from, to))
-        } else {
-            None
-        }
-    }
-
-    /// Returns whether a range isn't held back: the timer asks for it, it was sent before, or it is worth a segment.
-    fn is_due(&self, queued: Queued, from: u64, to: u64) -> bool
-        ensures { result ≡ due (known_by self.now queued) from to }
-    {
-        let hurries = self.is_window_probe_due != 0 || self.is_overdue != 0;
-        hurries || from < queued.numbers.sent || self.is_worth(queued, from, to)
-    }
-
-    /// Returns whether a range is worth a segment (RFC 9293, 3.8.6.2.1): a whole one; or, unless Nagle's rule has it
-    /// wait, all that is left, or half of the greatest window that the peer announced. By that rule it waits while
-    /// something is in flight, and the stream isn't closed.
-    fn is_worth(&self, queued: Queued, from: u64, to: u64) -> bool
-        ensures { result ≡ worth_sending (known_by self.now queued) from to }
-    {
-        let numbers = queued.numbers;
-        let is_whole = self.segment_size() as u64 <= to.saturating_sub(from);
-        let waits = self.nagle_enabled()
-            && numbers.first_unacknowledged < numbers.sent
-            && !queued.is_closed;
-        is_whole || self.is_enough(queued, from, to) && !waits
-    }
-
-    /// Returns whether a range is all that is left, or half of the greatest window that the peer announced.
-    fn is_enough(&self, queued: Queued, from: u64, to: u64) -> bool
-        ensures { result ≡ enough (known_by self.now queued) from to }
-    {
-        let len = to.saturating_sub(from);
-        queued.end <= to || self.greatest_window.saturating_sub(len) <= len
-    }
-
-    /// Returns the segment that is to be sent now, and takes notice that it is: if the peer's window and the congestion
-    /// window have room for one, or as a probe. What was never sent is held back if it is less than a segment, unless
-    /// it is all that is left, or half of the greatest window that the peer announced (RFC 9293, 3.8.6.2.1), and
-    /// Nagle's rule doesn't have it wait. Once the timer has ended, the next segment isn't held back. While anything
-    /// that was written isn't acknowledged, the timer runs.
-    pub fn next_segment(
-        &mut self,
-        runs: &[Run],
-        queued: Queued,
-        bounds: TimeoutBounds,
-        congestion_window: u64,
-        now: Instant,
-    ) -> Option<Outgoing>
-        requires sound { IsSoundBoard self.old.buffer.scoreboard runs.now }
-        requires order { queued.numbers.first_unacknowledged ≤ queued.numbers.sent }
-        ensures sound { IsSoundBoard self.new.buffer.scoreboard runs.now }
-        ensures chooses { (s : FiniteSenderState) (timeout : ℕ) → queued_of s ≡ queued →
-            Chooses (end_of s self.old runs.now timeout bounds) congestion_window now result
-            (end_of (marked s result) self.new runs.now timeout bounds) }
-    {
-        let (chosen, sending) = self.choose(runs, queued, congestion_window);
-        let Some((from, to)) = chosen else {
-            // Not before something is sent: what `start` starts has no probe.
-            if queued.numbers.first_unacknowledged < queued.end {
-                self.timer.start(now);
-            }
-            return None;
-        };
-        self.timer.sent(bounds, from..to, queued.numbers, now);
-        self.is_window_probe_due = 0;
-        self.is_overdue = 0;
-        self.buffer.sent(queued.numbers, from, to, sending);
-        Some(Outgoing {
-            pos: from,
-            end: to,
-            is_again: from < queued.numbers.sent,
-        })
-    }
-
-    /// Returns the smoothed time of a round trip, once there was a sample.
-    #[inline]
-    #[must_use]
-    pub fn round_trip(&self) -> Option<Duration>
-        ensures { result ≡ round_trip (timer_of self.now.timer).timeout.estimate }
-    {
-        match self.timer.rtt() {
-            Some(estimate) => Some(estimate.srtt()),
-            None => None,
-        }
-    }
-
-    /// Returns whether Nagle's rule is enabled.
-    #[must_use]
-    #[inline]
-    pub fn nagle_enabled(&self) -> bool
-        ensures { result ≡ nat_eq self.now.no_delay 0 }
-    {
-        self.no_delay == 0
-    }
-
-    /// Returns the most bytes of a segment.
-    #[must_use]
-    #[inline]
-    pub fn segment_size(&self) -> usize
-        ensures { result ≡ max self.now.segment_size 1 }
-    {
-        self.segment_size.max(1)
-    }
-
-    /// Enables Nagle's rule (RFC 9293, 3.7.4), or disables it. While something that was sent isn't acknowledged, less
-    /// than a whole segment waits by it, unless the stream is closed or the timer has ended. It is enabled at first, as
-    /// in a socket of smoltcp: the RFC wants it so. Disable it where few bytes are written at a time, and none of them
-    /// is to wait.
-    #[inline]
-    pub fn set_nagle_enabled(&mut self, enabled: bool)
-        ensures rest { self.new ≡ record self.old { no_delay = self.new.no_delay } }
-        ensures value { nat_eq self.new.no_delay 0 ≡ enabled }
-    {
-        self.no_delay = if enabled { 0 } else { 1 };
     }
 }
 
@@ -1010,15 +470,15 @@ impl<S: Storage<u8>, const N: usize> SendingEndOver<S, N> {
         self.head.is_opening_due(self.bounds, now)
     }
 
-    /// Takes what a segment acknowledges and announces, and the blocks that it reports. It `is_empty` if it has no byte
-    /// and no FIN. Whatever it says, the end stays sound.
+    /// Takes what a segment acknowledges and announces, the blocks that it reports, and whether it has anything besides.
+    /// Whatever it says, the end stays sound.
     ///
     /// A block counts that begins above the first number that isn't reported, has a number, and ends where something
     /// was sent and less than 2^32 above that one, if what is reported beyond that one is at most `N` runs then. Any
     /// other block says nothing.
     ///
     /// ```
-    /// # use net_base::ends::{Acknowledged, SendingEnd};
+    /// # use net_base::ends::{AckSegment, Acknowledged, SendingEnd};
     /// # use net_base::tcp::{Announcement, TimeoutBounds};
     /// # use net_base::time::{Duration, Instant};
     /// # let mut storage = [0u8; 64];
@@ -1029,7 +489,7 @@ impl<S: Storage<u8>, const N: usize> SendingEndOver<S, N> {
     /// while let Some(_segment_to_send) = sending.next_segment(1200, now) {}
     /// // The first of four segments is missing, and the other three have come: a recovery begins.
     /// let it = Announcement { seq: 1, ack: 100, window: 1000 };
-    /// let taken = sending.acknowledged(it, &[(108, 132)], true, now);
+    /// let taken = sending.acknowledged(it, &[(108, 132)], AckSegment::Pure, now);
     /// assert_eq!(taken, Acknowledged::Taken { new: 0, reports: true, begins: true });
     /// let it = sending.next_segment(1200, now).expect("what was lost");
     /// assert_eq!((it.pos, it.end, it.is_again), (100, 108, true));
@@ -1038,7 +498,7 @@ impl<S: Storage<u8>, const N: usize> SendingEndOver<S, N> {
         &mut self,
         it: Announcement,
         blocks: &[(u64, u64)],
-        is_empty: bool,
+        segment: AckSegment,
         now: Instant,
     ) -> Acknowledged
         ensures refused { (result ≡ Acknowledged.Refused)
@@ -1061,7 +521,7 @@ impl<S: Storage<u8>, const N: usize> SendingEndOver<S, N> {
             Recovers N self.old.size (numbers_of self.old.sender)
             (unsent_of self.old.sender self.old.reported
             self.old.recovery) self.old.reported self.old.recovery it.ack blocks.now
-            (is_empty && (it.window == self.old.last))
+            (is_pure segment && (it.window == self.old.last))
             (reports_of result) self.new.recovery (begins_of result) }
         ensures unchanged { IsFalse (is_acceptable self.old it.ack) → self.new ≡ self.old }
         ensures twice { IsTrue (is_acceptable self.old it.ack) →
@@ -1077,7 +537,7 @@ impl<S: Storage<u8>, const N: usize> SendingEndOver<S, N> {
             self.bounds,
             it,
             blocks,
-            is_empty,
+            is_pure(segment),
             now,
         );
         let _is_taken = accept(&mut self.sender, it.ack);
@@ -1220,7 +680,7 @@ impl<S: Storage<u8>, const N: usize> SendingEndOver<S, N> {
         else {
             return None;
         };
-        mark(&mut self.sender, it.end);
+        let _is_written = mark(&mut self.sender, it.end);
         Some(it)
     }
 
@@ -1359,25 +819,5 @@ impl<S: Storage<u8>, const N: usize> SendingEndOver<S, N> {
         ensures { result ≡ self.now.size }
     {
         self.head.segment_size()
-    }
-}
-
-/// Takes the window that is announced. Returns the greatest one so far. A function of its own, since the search doesn't
-/// find what `take_window` leaves with this test in it.
-fn greatest_after_update(
-    peer: &mut PeerWindow,
-    greatest: u64,
-    numbers: SentNumbers,
-    it: Announcement,
-) -> u64
-    ensures value { result ≡ greatest_of peer.old greatest numbers.first_unacknowledged numbers.sent
-        it.seq it.ack it.window }
-    ensures state { peer.new ≡ after_update peer.old numbers.first_unacknowledged numbers.sent
-        it.seq it.ack it.window }
-{
-    if peer.update(numbers, it) {
-        greatest.max(it.window)
-    } else {
-        greatest
     }
 }

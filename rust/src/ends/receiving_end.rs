@@ -16,10 +16,10 @@ use crate::rattle::std::ops::Range;
 /// let mut receiving = ReceivingEnd::<4>::empty_at(&mut storage[..], 100, 8);
 /// let _window = receiving.open(100, 0);
 /// receiving.arrived(108, &[7; 8], false).expect("one range may wait");
-/// let told = Acknowledgement { next: 100, window: 64, blocks: [Some((108, 116)), None, None, None] };
-/// assert_eq!(receiving.acknowledgement(), told);
+/// let Acknowledgement { next, window, blocks } = receiving.acknowledgement();
+/// assert_eq!((next, window, blocks.as_slice()), (100, 64, &[108..116][..]));
 /// ```
-#[derive(Copy, Clone, Debug, PartialEq, Eq)]
+#[derive(Debug)]
 pub struct Acknowledgement {
     /// The first number that is missing.
     pub next: u64,
@@ -27,7 +27,83 @@ pub struct Acknowledgement {
     pub window: u16,
     /// What came twice since the last one, if anything did (RFC 2883), and then the newest runs that were kept beyond
     /// `next`, the newest first.
-    pub blocks: [Option<(u64, u64)>; 4],
+    pub blocks: SackBlocks,
+}
+
+/// The blocks of an acknowledgement, at most four, as TCP's options have room for: what has arrived out of order.
+///
+/// ```
+/// use net_base::ends::ReceivingEnd;
+///
+/// let mut storage = [0u8; 64];
+/// let mut receiving = ReceivingEnd::<4>::empty_at(&mut storage[..], 100, 8);
+/// let _window = receiving.open(100, 0);
+/// receiving.arrived(108, &[7; 8], false).expect("one range may wait");
+/// receiving.arrived(124, &[7; 8], false).expect("two ranges may wait");
+/// // The newest one is the first.
+/// let blocks = receiving.acknowledgement().blocks;
+/// assert_eq!(blocks.as_slice(), [124..132, 108..116]);
+/// ```
+#[derive(Debug)]
+pub(crate) struct SackBlocks {
+    blocks: [Range<u64>; 4],
+    count: usize,
+}
+
+impl SackBlocks {
+    /// Lends them, as `SendingEndOver::acknowledged` takes them.
+    #[must_use]
+    pub(crate) fn as_slice(&self) -> &[Range<u64>] {
+        &self.blocks[..self.count]
+    }
+
+    /// Returns those of which there are any: no block is after one that there isn't.
+    fn of(blocks: [Option<(u64, u64)>; 4]) -> Self {
+        SackBlocks {
+            blocks: [
+                range_at(blocks[0]),
+                range_at(blocks[1]),
+                range_at(blocks[2]),
+                range_at(blocks[3]),
+            ],
+            count: count_of(blocks),
+        }
+    }
+}
+
+/// Returns a block as a range, which is empty if there is none.
+fn range_at(block: Option<(u64, u64)>) -> Range<u64> {
+    match block {
+        Some((start, end)) => start..end,
+        None => 0..0,
+    }
+}
+
+/// Returns how many blocks there are.
+fn count_of(blocks: [Option<(u64, u64)>; 4]) -> usize {
+    usize::from(blocks[0].is_some())
+        + usize::from(blocks[1].is_some())
+        + usize::from(blocks[2].is_some())
+        + usize::from(blocks[3].is_some())
+}
+
+/// What a segment with bytes of its own tells the peer.
+///
+/// ```
+/// use net_base::ends::{AckFields, ReceivingEnd};
+///
+/// let mut storage = [0u8; 64];
+/// let mut receiving = ReceivingEnd::<4>::empty_at(&mut storage[..], 100, 8);
+/// let _window = receiving.open(100, 0);
+/// receiving.arrived(100, b"abc", false).expect("it is in order");
+/// assert_eq!(receiving.announce(), AckFields { next: 103, window: 61 });
+/// ```
+#[derive(Copy, Clone, Debug, PartialEq, Eq)]
+pub(crate) struct AckFields {
+    /// The first number that is missing.
+    pub next: u64,
+    /// The window, in units of the scale.
+    pub window: u16,
 }
 
 /// What the rules of a receiving end know of its receiver: numbers.
@@ -209,7 +285,7 @@ pub type ReceivingEnd<'a, const N: usize> = ReceivingEndOver<ManagedSlice<'a, u8
 /// // The second segment comes first: it is answered at once, and reported.
 /// assert!(receiving.arrived(108, b"bytes ok", true).is_ok() && receiving.is_due());
 /// let it = receiving.acknowledgement();
-/// assert_eq!((it.next, it.window, it.blocks[0]), (100, 64, Some((108, 116))));
+/// assert_eq!((it.next, it.window, it.blocks.as_slice()), (100, 64, &[108..116][..]));
 /// assert!(receiving.arrived(100, b"sixteen ", false).is_ok());
 /// let mut bytes = [0; 64];
 /// assert_eq!(receiving.read(&mut bytes), 16);
@@ -254,7 +330,7 @@ impl<S: Storage<u8>, const N: usize> ReceivingEndOver<S, N> {
     /// # let mut storage = [0u8; 64];
     /// # let mut receiving = ReceivingEnd::<4>::empty_at(&mut storage[..], 100, 8);
     /// assert_eq!(receiving.open(100, 3), 64); // in a SYN the window has no scale
-    /// assert_eq!(receiving.announce(), (100, 8)); // in units of 2^3
+    /// assert_eq!(receiving.announce().window, 8); // in units of 2^3
     /// ```
     #[track_caller]
     pub fn open(&mut self, first: u64, scale: u8) -> u16 {
@@ -381,12 +457,14 @@ impl<S: Storage<u8>, const N: usize> ReceivingEndOver<S, N> {
     /// # let mut receiving = ReceivingEnd::<4>::empty_at(&mut storage[..], 100, 8);
     /// let _window = receiving.open(100, 0);
     /// receiving.arrived(100, b"abc", false).expect("it is in order");
-    /// assert_eq!(receiving.announce(), (103, 61));
+    /// let told = receiving.announce();
+    /// assert_eq!((told.next, told.window), (103, 61));
     /// assert!(!receiving.is_wanted()); // the segment with bytes tells it
     /// ```
-    pub fn announce(&mut self) -> (u64, u16) {
+    pub fn announce(&mut self) -> AckFields {
         let room = self.room();
-        self.head.announce(room)
+        let (next, window) = self.head.announce(room);
+        AckFields { next, window }
     }
 
     /// Returns what a segment without bytes tells, and takes notice that it does. What came twice is told once.
@@ -399,14 +477,14 @@ impl<S: Storage<u8>, const N: usize> ReceivingEndOver<S, N> {
     /// receiving.arrived(100, b"abc", false).expect("it is in order");
     /// receiving.arrived(100, b"abc", false).expect("it came twice");
     /// let told = receiving.acknowledgement();
-    /// assert_eq!((told.next, told.window, told.blocks[0]), (103, 61, Some((100, 103))));
-    /// assert_eq!(receiving.acknowledgement().blocks[0], None);
+    /// assert_eq!((told.next, told.window, told.blocks.as_slice()), (103, 61, &[100..103][..]));
+    /// assert!(receiving.acknowledgement().blocks.as_slice().is_empty());
     /// ```
     pub fn acknowledgement(&mut self) -> Acknowledgement {
         let room = self.room();
         let (next, window) = self.head.acknowledge(room);
         let duplicate = self.head.take_duplicate(room.next, room.is_complete);
-        let blocks = in_front(duplicate, self.runs());
+        let blocks = SackBlocks::of(in_front(duplicate, self.runs()));
         Acknowledgement {
             next,
             window,
@@ -489,7 +567,8 @@ impl<S: Storage<u8>, const N: usize> ReceivingEndOver<S, N> {
     }
 }
 
-/// Returns four blocks with what came twice in front, if anything did, in place of the last one.
+/// Returns four blocks with what came twice in front, if anything did, in place of the last one. A function of its own,
+/// since the search doesn't find what `acknowledgement` tells with this test in it.
 fn in_front(
     duplicate: Option<(u64, u64)>,
     blocks: [Option<(u64, u64)>; 4],

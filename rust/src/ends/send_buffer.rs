@@ -41,7 +41,7 @@ pub struct BufferHead {
 /// let mut storage = [0u8; 64];
 /// let mut buffer = SendBuffer::<4>::new_at(&mut storage[..], 0);
 /// assert_eq!(buffer.write(&[7; 32]), 32);
-/// buffer.mark(0, 32, Sending::Segment);
+/// assert!(buffer.mark(0..32, Sending::Segment));
 /// // Three acknowledgements of nothing new, from a peer that reports no blocks: the first segment is lost.
 /// for _ in 0..3 {
 ///     buffer.acknowledge(0, &[], 8, AckKind::Repeat).expect("0 isn't beyond what was sent");
@@ -64,7 +64,7 @@ pub enum AckKind {
 /// let mut storage = [0u8; 64];
 /// let mut buffer = SendBuffer::<4>::new_at(&mut storage[..], 0);
 /// assert_eq!(buffer.write(b"abc"), 3);
-/// buffer.mark(0, 3, Sending::Segment);
+/// assert!(buffer.mark(0..3, Sending::Segment));
 /// let taken = buffer.acknowledge_range(0..2, 8);
 /// assert_eq!(taken, Some(TakenAck { new: 2, reports: false, begins: false }));
 /// ```
@@ -87,10 +87,10 @@ pub struct TakenAck {
 /// let mut buffer = SendBuffer::<4>::new_at(&mut storage[..], 0);
 /// assert_eq!(buffer.write(&[7; 16]), 16);
 /// let (start, end) = buffer.next(u64::MAX, u64::MAX, 8).expect("a segment");
-/// buffer.mark(start, end, Sending::Segment);
+/// assert!(buffer.mark(start..end, Sending::Segment));
 /// // No answer came for two round trips: a probe asks for one.
 /// let (start, end) = buffer.next_probe(u64::MAX, 8).expect("a probe");
-/// buffer.mark(start, end, Sending::TailProbe);
+/// assert!(buffer.mark(start..end, Sending::TailProbe));
 /// assert_eq!((start, end), (8, 16));
 /// ```
 #[derive(Copy, Clone, Debug, PartialEq, Eq)]
@@ -101,6 +101,28 @@ pub enum Sending {
     TailProbe,
     /// The peer's window is shut, so that it drops the range: a probe of the window (RFC 9293, 3.8.6.1).
     WindowProbe,
+}
+
+/// The bytes of a segment, in two parts: the storage may end between them.
+///
+/// ```
+/// use net_base::ends::SendBuffer;
+///
+/// let mut storage = [0u8; 64];
+/// let mut buffer = SendBuffer::<4>::new_at(&mut storage[..], 0);
+/// assert_eq!(buffer.write(b"abcdef"), 6);
+/// buffer.close();
+/// let it = buffer.bytes(2..7);
+/// assert_eq!(([it.front, it.back].concat(), it.is_last), (b"cdef".to_vec(), true));
+/// ```
+#[derive(Copy, Clone, Debug, PartialEq, Eq)]
+pub(crate) struct SegmentBytes<'a> {
+    /// The first bytes.
+    pub front: &'a [u8],
+    /// The bytes after those.
+    pub back: &'a [u8],
+    /// Whether the stream ends after them.
+    pub is_last: bool,
 }
 
 /// What a stream that ends has sent, over storage that is lent or owned.
@@ -119,9 +141,9 @@ pub type SendBuffer<'a, const N: usize> = SendBufferOver<ManagedSlice<'a, u8>, N
 /// stream.close();
 /// let mut frames = Vec::new();
 /// while let Some((from, to)) = stream.next(33, 1200, 8) {
-///     let (front, back, is_last) = stream.bytes(from, to);
-///     frames.push((from, [front, back].concat(), is_last));
-///     stream.mark(from, to, Sending::Segment);
+///     let it = stream.bytes(from..to);
+///     frames.push((from, [it.front, it.back].concat(), it.is_last));
+///     assert!(stream.mark(from..to, Sending::Segment));
 /// }
 /// // The loop ends, though the limit is above the 20 numbers of 19 bytes and the end.
 /// assert_eq!(frames[0], (0, b"nineteen".to_vec(), false));
@@ -135,7 +157,7 @@ pub type SendBuffer<'a, const N: usize> = SendBufferOver<ManagedSlice<'a, u8>, N
 /// // No answer to the third one comes in time: it is sent again.
 /// stream.lose_all();
 /// assert_eq!(stream.next(33, 1200, 8), Some((16, 20)));
-/// stream.mark(16, 20, Sending::Segment);
+/// assert!(stream.mark(16..20, Sending::Segment));
 /// assert_eq!(stream.next(33, 1200, 8), None);
 /// assert!(stream.acknowledge_range(16..20, 8).is_some() && stream.is_done());
 /// ```
@@ -192,7 +214,7 @@ impl<S: Storage<u8>, const N: usize> SendBufferOver<S, N> {
     /// # let mut buffer = SendBuffer::<4>::new_at(&mut storage[..], 0);
     /// assert_eq!(buffer.write(b"abc"), 3);
     /// buffer.close();
-    /// buffer.mark(0, 4, Sending::Segment);
+    /// assert!(buffer.mark(0..4, Sending::Segment));
     /// buffer.acknowledge_range(0..4, 8).expect("it was sent");
     /// assert!(buffer.is_done());
     /// ```
@@ -219,8 +241,8 @@ impl<S: Storage<u8>, const N: usize> SendBufferOver<S, N> {
         self.sender.close();
     }
 
-    /// Lends the bytes of a segment from `pos` on, whose numbers are below `end`, in two parts, and returns whether the
-    /// stream ends after them. Of a position that is acknowledged it lends none.
+    /// Lends the bytes of a segment, in two parts, and returns whether the stream ends after them. If the range begins
+    /// at a position that is acknowledged, it lends none.
     ///
     /// ```
     /// # use net_base::ends::{SendBuffer, Sending};
@@ -228,13 +250,13 @@ impl<S: Storage<u8>, const N: usize> SendBufferOver<S, N> {
     /// # let mut buffer = SendBuffer::<4>::new_at(&mut storage[..], 0);
     /// assert_eq!(buffer.write(b"abcdef"), 6);
     /// buffer.close();
-    /// assert_eq!(buffer.bytes(2, 5), (&b"cde"[..], &b""[..], false));
+    /// assert_eq!((buffer.bytes(2..5).front, buffer.bytes(2..5).is_last), (&b"cde"[..], false));
     /// // The end has the number 6.
-    /// assert_eq!(buffer.bytes(2, 7), (&b"cdef"[..], &b""[..], true));
+    /// assert_eq!((buffer.bytes(2..7).front, buffer.bytes(2..7).is_last), (&b"cdef"[..], true));
     /// ```
     #[must_use]
-    pub fn bytes(&self, pos: u64, end: u64) -> (&[u8], &[u8], bool) {
-        lend(&self.sender, pos, end)
+    pub fn bytes(&self, range: Range<u64>) -> SegmentBytes<'_> {
+        lend(&self.sender, range)
     }
 }
 
@@ -367,14 +389,14 @@ impl BufferHead {
     }
 
     /// Takes notice that a range is sent, as `SendBufferOver::mark` says. `numbers` are the sender's before that.
-    pub(crate) fn sent(&mut self, numbers: SentNumbers, from: u64, to: u64, sending: Sending) {
+    pub(crate) fn sent(&mut self, numbers: SentNumbers, range: Range<u64>, sending: Sending) {
         match sending {
-            Sending::Segment => self.recovery.sent(numbers, from..to),
-            Sending::TailProbe => self.recovery.probed(numbers, from..to),
+            Sending::Segment => self.recovery.sent(numbers, range),
+            Sending::TailProbe => self.recovery.probed(numbers, range),
             // The peer drops it.
             Sending::WindowProbe => self.recovery.lose_all(SentNumbers {
                 first_unacknowledged: numbers.first_unacknowledged,
-                sent: numbers.sent.max(to),
+                sent: numbers.sent.max(range.end),
             }),
         }
     }
@@ -433,7 +455,7 @@ impl<S: Storage<u8>, const N: usize> SendBufferOver<S, N> {
     /// # let mut buffer = SendBuffer::<4>::new_at(&mut storage[..], 0);
     /// # assert_eq!(buffer.write(&[7; 32]), 32);
     /// # while let Some((start, end)) = buffer.next(u64::MAX, u64::MAX, 8) {
-    /// #     buffer.mark(start, end, Sending::Segment);
+    /// #     assert!(buffer.mark(start..end, Sending::Segment));
     /// # }
     /// // All below 8, and a block.
     /// let taken = buffer.acknowledge(8, &[(16, 24)], 8, AckKind::Other).expect("it was sent");
@@ -472,7 +494,7 @@ impl<S: Storage<u8>, const N: usize> SendBufferOver<S, N> {
     /// # let mut buffer = SendBuffer::<4>::new_at(&mut storage[..], 0);
     /// # assert_eq!(buffer.write(&[7; 32]), 32);
     /// # while let Some((start, end)) = buffer.next(u64::MAX, u64::MAX, 8) {
-    /// #     buffer.mark(start, end, Sending::Segment);
+    /// #     assert!(buffer.mark(start..end, Sending::Segment));
     /// # }
     /// // Ranges in any order.
     /// let taken = buffer.acknowledge_range(8..16, 8).expect("it was sent");
@@ -523,7 +545,7 @@ impl<S: Storage<u8>, const N: usize> SendBufferOver<S, N> {
     /// # let mut buffer = SendBuffer::<4>::new_at(&mut storage[..], 0);
     /// # assert_eq!(buffer.write(&[7; 32]), 32);
     /// # while let Some((start, end)) = buffer.next(u64::MAX, u64::MAX, 8) {
-    /// #     buffer.mark(start, end, Sending::Segment);
+    /// #     assert!(buffer.mark(start..end, Sending::Segment));
     /// # }
     /// buffer.acknowledge_range(0..8, 8).expect("it was sent");
     /// assert_eq!(buffer.next(u64::MAX, u64::MAX, 8), None);
@@ -549,7 +571,7 @@ impl<S: Storage<u8>, const N: usize> SendBufferOver<S, N> {
     /// assert_eq!(buffer.write(&[7; 12]), 12);
     /// let mut sent = vec![];
     /// while let Some((start, end)) = buffer.next(u64::MAX, u64::MAX, 8) {
-    ///     buffer.mark(start, end, Sending::Segment);
+    ///     assert!(buffer.mark(start..end, Sending::Segment));
     ///     sent.push((start, end));
     /// }
     /// assert_eq!(sent, [(0, 8), (8, 12)]);
@@ -577,7 +599,7 @@ impl<S: Storage<u8>, const N: usize> SendBufferOver<S, N> {
     /// # let mut buffer = SendBuffer::<4>::new_at(&mut storage[..], 0);
     /// # assert_eq!(buffer.write(&[7; 32]), 32);
     /// # while let Some((start, end)) = buffer.next(u64::MAX, u64::MAX, 8) {
-    /// #     buffer.mark(start, end, Sending::Segment);
+    /// #     assert!(buffer.mark(start..end, Sending::Segment));
     /// # }
     /// // Nothing is left to send, so the last segment is sent again, so that an answer comes.
     /// assert_eq!(buffer.next_probe(u64::MAX, 8), Some((24, 32)));
@@ -589,11 +611,26 @@ impl<S: Storage<u8>, const N: usize> SendBufferOver<S, N> {
         self.head.next_probe(&self.runs, numbers, top, segment_size)
     }
 
-    /// Takes notice that the numbers from `from` on and below `to` are sent now, and why.
-    pub fn mark(&mut self, from: u64, to: u64, sending: Sending) {
+    /// Takes notice that a range is sent now, and why, and returns true. Returns false, and changes nothing, if it ends
+    /// above `numbers_end`: then it was never written.
+    ///
+    /// ```
+    /// # use net_base::ends::{SendBuffer, Sending};
+    /// # let mut storage = [0u8; 64];
+    /// # let mut buffer = SendBuffer::<4>::new_at(&mut storage[..], 0);
+    /// assert_eq!(buffer.write(b"abc"), 3);
+    /// assert!(!buffer.mark(0..4, Sending::Segment)); // only 3 bytes were written
+    /// assert!(buffer.mark(0..3, Sending::Segment));
+    /// assert_eq!(buffer.numbers().sent, 3);
+    /// ```
+    #[must_use]
+    pub fn mark(&mut self, range: Range<u64>, sending: Sending) -> bool {
         let numbers = self.numbers();
-        mark(&mut self.sender, to);
-        self.head.sent(numbers, from, to, sending);
+        if !mark(&mut self.sender, range.end) {
+            return false;
+        }
+        self.head.sent(numbers, range, sending);
+        true
     }
 }
 
@@ -602,9 +639,9 @@ pub(crate) fn accept<S: Storage<u8>>(sender: &mut FiniteSenderOver<S>, ack: u64)
     sender.acknowledge(ack)
 }
 
-/// Has a sender take notice that all below `to` is sent.
-pub(crate) fn mark<S: Storage<u8>>(sender: &mut FiniteSenderOver<S>, to: u64) {
-    let _is_written = sender.mark_sent(to);
+/// Has a sender take notice that all below `to` is sent, and returns whether it was written.
+pub(crate) fn mark<S: Storage<u8>>(sender: &mut FiniteSenderOver<S>, to: u64) -> bool {
+    sender.mark_sent(to)
 }
 
 /// Returns whether an acknowledgement is of a kind that only repeats the last.
@@ -615,17 +652,19 @@ fn is_repeat(kind: AckKind) -> bool {
     }
 }
 
-/// Lends the bytes of a segment from `pos` on, whose numbers are below `end`, in two parts, and returns whether the
-/// stream ends after them.
+/// Lends the bytes of a segment, in two parts, and returns whether the stream ends after them.
 pub(crate) fn lend<S: Storage<u8>>(
     sender: &FiniteSenderOver<S>,
-    pos: u64,
-    end: u64,
-) -> (&[u8], &[u8], bool) {
-    let front = sender.peek_at(pos, end).bytes;
-    let after = pos + front.len() as u64;
-    let back = sender.peek_at(after, end);
-    (front, back.bytes, back.part.is_last())
+    range: Range<u64>,
+) -> SegmentBytes<'_> {
+    let front = sender.peek_at(range.start, range.end).bytes;
+    let after = range.start + front.len() as u64;
+    let back = sender.peek_at(after, range.end);
+    SegmentBytes {
+        front,
+        back: back.bytes,
+        is_last: back.part.is_last(),
+    }
 }
 
 /// Finds what is lost by an acknowledgement, and returns whether a recovery begins. If the peer has dropped what it had

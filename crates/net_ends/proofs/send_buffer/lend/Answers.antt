@@ -8,6 +8,6 @@ pub returns : goal.returns
 returns g c =
     let front = c.peek_at.result in
     let back = c.peek_at-back.result in
-    subst (IsSegment c.args.sender.now c.args.pos c.args.end (front.bytes.now ++ back.bytes.now)) (sym c.is_last.ensures)
-    (two_parts c.args.sender.now c.args.pos c.args.end front.bytes.now back.bytes.now (is_last front.part)
+    subst (IsSegment c.args.sender.now c.args.range.start c.args.range.end (front.bytes.now ++ back.bytes.now)) (sym c.is_last.ensures)
+    (two_parts c.args.sender.now c.args.range.start c.args.range.end front.bytes.now back.bytes.now (is_last front.part)
     (is_last back.part) c.peek_at.ensures.lent c.peek_at-back.ensures.lent)

@@ -8,22 +8,23 @@ use Rattle.net_ends.specs.Parts.{end_of}
 use Rattle.net_ends.specs.declared.sending_end.Acknowledged.{Acknowledged}
 use Rattle.net_ends.proofs.sending_end.SendingEndOver.acknowledged.Goals as goal
 
-hears_of : (n m : ℕ) (d e left f : End) (seq ack window : ℕ) (bs : List (ℕ × ℕ)) (empty : Bool) (now : ℤ)
-    (said : Acknowledged) → n ≡ m → d ≡ e → f ≡ left → Hears n d seq ack window bs empty now said left →
-    Hears m e seq ack window bs empty now said f
-hears_of n m d e left f seq ack window bs empty now said many view stays hears =
-    subst (λ (x : ℕ). Hears x e seq ack window bs empty now said f) many
-    (subst (λ (x : End). Hears n x seq ack window bs empty now said f) view
-    (subst (λ (x : End). Hears n d seq ack window bs empty now said x) (sym stays) hears))
+hears_of : (n m : ℕ) (d e left f : End) (seq ack window : ℕ) (bs : List (ℕ × ℕ)) (empty pure : Bool) (now : ℤ)
+    (said : Acknowledged) → n ≡ m → d ≡ e → f ≡ left → empty ≡ pure → Hears n d seq ack window bs empty now said left →
+    Hears m e seq ack window bs pure now said f
+hears_of n m d e left f seq ack window bs empty pure now said many view stays none hears =
+    subst (λ (x : ℕ). Hears x e seq ack window bs pure now said f) many
+    (subst (λ (x : End). Hears n x seq ack window bs pure now said f) view
+    (subst (λ (x : End). Hears n d seq ack window bs pure now said x) (sym stays)
+    (subst (λ (x : Bool). Hears n d seq ack window bs x now said left) none hears)))
 
 -- What the head says, of the sender's state.
 pub returns : goal.returns
 returns g c =
     let is = ap (λ (e : End). numbers_of e.sender) c.self.view_is ∙ sym c.numbers-numbers.ensures.value in
     let all = hears_of _ g.row.N _ c.args.self.now _ _ c.args.it.seq c.args.it.ack c.args.it.window c.args.blocks.now
-    c.args.is_empty c.args.now c.acknowledged-said.result c.self.told c.self.view_is
+    c.is_pure.result _ c.args.now c.acknowledged-said.result c.self.told c.self.view_is
     (ap (λ (x : FiniteSenderState). end_of x c.acknowledged-said.new.self c.acknowledged-said.new.runs
-    c.self.inside.first_timeout c.self.inside.bounds) c.accept-is_taken.ensures.step)
+    c.self.inside.first_timeout c.self.inside.bounds) c.accept-is_taken.ensures.step) c.is_pure.ensures
     (c.acknowledged-said.ensures.hears c.self.inside.sender c.self.inside.first_timeout is) in
     record {
       refused = all.refused;

@@ -51,7 +51,7 @@ returns g c =
     c.in-Some.is (c.next_segment.ensures.chooses s c.self.inside.first_timeout is) in
     let all = chooses_of _ c.args.self.now _ _ c.args.congestion_window c.args.now _ c.self.view_is
     (ap (λ (x : FiniteSenderState). end_of x c.next_segment.new.self c.self.inside.runs c.self.inside.first_timeout
-    c.self.inside.bounds) c.mark.ensures) chosen in
+    c.self.inside.bounds) c.mark-is_written.ensures.state) chosen in
     record {
       within = all.within;
       probe = all.probe;

@@ -8,7 +8,7 @@ use Rattle.net_tcp.specs.Retransmission.{Timer, timer_of}
 use Rattle.net_ends.specs.Buffers.{board_of}
 use Rattle.net_ends.specs.Ends.{End, new_end}
 use Rattle.net_ends.specs.Parts.{end_of}
-use Rattle.net_ends.specs.declared.sending_end.SendingHead.{SendingHead}
+use Rattle.net_ends.specs.declared.sending_head.SendingHead.{SendingHead}
 use Rattle.net_ends.proofs.sending_end.SendingEndOver.reset_at.Goals as goal
 
 pub invariant_of-self : goal.invariant_of-self

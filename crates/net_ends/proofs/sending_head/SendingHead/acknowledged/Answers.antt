@@ -11,10 +11,10 @@ use Rattle.net_ends.specs.Acknowledgements.{reported_by, numbers_of}
 use Rattle.net_ends.specs.Buffers.{board_of}
 use Rattle.net_ends.specs.Ends.{heard, is_acceptable}
 use Rattle.net_ends.specs.Parts.{end_of}
-use Rattle.net_ends.specs.declared.sending_end.SendingHead.{SendingHead}
+use Rattle.net_ends.specs.declared.sending_head.SendingHead.{SendingHead}
 use Rattle.net_ends.specs.declared.sending_end.Acknowledged.TheVariants.{Refused, Old, Taken}
 use Rattle.net_ends.proofs.Steps.{heard_is, heard_none, missing_is, refused_none}
-use Rattle.net_ends.proofs.sending_end.SendingHead.acknowledged.Goals as goal
+use Rattle.net_ends.proofs.sending_head.SendingHead.acknowledged.Goals as goal
 
 -- what can't be, of few values: in an answer all that is known would be searched
 taken_not_refused : (new : ℕ) (reports begins : Bool) (A : Type 0) → Taken new reports begins ≡ Refused → A

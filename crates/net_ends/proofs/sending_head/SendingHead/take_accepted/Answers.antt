@@ -3,8 +3,8 @@ use Rattle.net_tcp.specs.Retransmission.{Timer, timer_of, after_acknowledged}
 use Rattle.net_ends.specs.Buffers.{board_of}
 use Rattle.net_ends.specs.Ends.{told, sampled}
 use Rattle.net_ends.specs.declared.send_buffer.BufferHead.{BufferHead}
-use Rattle.net_ends.specs.declared.sending_end.SendingHead.{SendingHead}
-use Rattle.net_ends.proofs.sending_end.SendingHead.take_accepted.Goals as goal
+use Rattle.net_ends.specs.declared.sending_head.SendingHead.{SendingHead}
+use Rattle.net_ends.proofs.sending_head.SendingHead.take_accepted.Goals as goal
 
 -- the timer looks at what is reported now, and stopped before if it was that of the SYN
 pub returns-clause-timer : goal.returns-clause-timer

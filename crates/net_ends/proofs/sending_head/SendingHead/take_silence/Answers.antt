@@ -9,7 +9,7 @@ use Rattle.net_ends.specs.Parts.{end_of}
 use Rattle.net_ends.specs.Rules.{known_by, window_shut}
 use Rattle.net_ends.specs.declared.send_buffer.Queued.{Queued}
 use Rattle.net_ends.specs.declared.sending_end.Expired.TheVariants.{Overdue}
-use Rattle.net_ends.proofs.sending_end.SendingHead.take_silence.Goals as goal
+use Rattle.net_ends.proofs.sending_head.SendingHead.take_silence.Goals as goal
 
 -- whether it is sought, by what the two tests say
 not_blind : (a b : Bool) → a ≡ true → (not a && b) ≡ false

@@ -13,7 +13,7 @@ use Rattle.net_ends.specs.Ends.{End, asks, first, may_send}
 use Rattle.net_ends.specs.Parts.{end_of}
 use Rattle.net_ends.specs.declared.send_buffer.Queued.{Queued}
 use Rattle.net_ends.proofs.Steps.{may_is, worth_is, sent_is}
-use Rattle.net_ends.proofs.sending_end.SendingHead.next_segment.Goals as goal
+use Rattle.net_ends.proofs.sending_head.SendingHead.next_segment.Goals as goal
 
 same_pair : (p q : ℕ × ℕ) → Some p ≡ Some q → (p.0 ≡ q.0) × (p.1 ≡ q.1)
 same_pair p q is = (cc, cc)
