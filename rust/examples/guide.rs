@@ -1,6 +1,6 @@
 //! The tasks of docs/GUIDE.md of the repository, whose page quotes them: `cargo run --example guide -- TASK`, where
 //! TASK is ring, packets, receiver, quic or fragments.
-use net_base::ends::{SendBuffer, Sending};
+use net_base::ends::{SegmentBytes, SendBuffer, Sending};
 use net_base::finite::FiniteReceiver;
 use net_base::receiver::Receiver;
 use net_base::storage::{FragmentBuffer, PacketBuffer, PacketMetadata, RingBuffer};
@@ -64,21 +64,21 @@ fn quic() {
         // The end's number is no data, so it may be one beyond what the peer allows.
         let is_last = sending.is_closed() && sending.numbers_end() == max_stream_data + 1;
         let limit = max_stream_data + u64::from(is_last);
-        while let Some((start, end)) = sending.next(limit, u64::MAX, 8) {
-            let (front, back, fin) = sending.bytes(start, end);
+        while let Some(range) = sending.next(limit, u64::MAX, 8) {
+            let SegmentBytes { front, back, is_last: fin } = sending.bytes(range.clone());
             let data = [front, back].concat();
-            sending.mark(start, end, Sending::Segment);
+            assert!(sending.mark(range.clone(), Sending::Segment)); // it was written
             packet += 1;
-            println!("packet {packet}: {start}..{end} {:?} fin {fin}", text(&data));
+            println!("packet {packet}: {range:?} {:?} fin {fin}", text(&data));
             // Packet 2 is lost. Of each other one the receiver's ACK frame names the packet, and so the range.
             if packet != 2 {
-                let data_end = start + data.len() as u64;
+                let data_end = range.start + data.len() as u64;
                 let is_beyond = receiving.end().is_some_and(|last| last < data_end);
                 if is_beyond || fin && !receiving.can_end(data_end) {
                     return println!("FINAL_SIZE_ERROR");
                 }
-                receiving.keep(start, &data, fin.into()).expect("few holes");
-                acknowledged.push(start..end);
+                receiving.keep(range.start, &data, fin.into()).expect("few holes");
+                acknowledged.push(range);
             }
         }
         for range in acknowledged {

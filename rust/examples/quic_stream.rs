@@ -5,7 +5,7 @@
 use std::collections::{BTreeMap, VecDeque};
 use std::ops::Range;
 
-use net_base::ends::{SendBuffer, Sending};
+use net_base::ends::{SegmentBytes, SendBuffer, Sending};
 use net_base::finite::FiniteReceiver;
 use net_base::rand::Rand;
 
@@ -56,12 +56,12 @@ impl Sender {
             self.stream.is_closed() && self.stream.numbers_end() == self.max_stream_data + 1;
         // The end's number is no data, so it may be one beyond what the peer allows.
         let limit = self.max_stream_data + u64::from(is_last);
-        while let Some((start, end)) = self.stream.next(limit, 16 * SIZE as u64, SIZE) {
-            let (front, back, fin) = self.stream.bytes(start, end);
+        while let Some(range) = self.stream.next(limit, 16 * SIZE as u64, SIZE) {
+            let SegmentBytes { front, back, is_last: fin } = self.stream.bytes(range.clone());
             let (number, data) = (self.next_number, [front, back].concat());
-            path.send(now, &Packet::Stream { number, offset: start, data, fin });
-            self.stream.mark(start, end, Sending::Segment);
-            self.ranges.insert(number, start..end);
+            path.send(now, &Packet::Stream { number, offset: range.start, data, fin });
+            assert!(self.stream.mark(range.clone(), Sending::Segment), "it was written");
+            self.ranges.insert(number, range);
             self.next_number += 1;
         }
     }

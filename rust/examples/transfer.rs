@@ -2,9 +2,11 @@
 //! again.
 use std::collections::VecDeque;
 
-use net_base::ends::{Acknowledged, Acknowledgement, Expired, ReceivingEnd, SendingEnd};
+use net_base::ends::{
+    AckSegment, Acknowledged, Acknowledgement, Expired, ReceivingEnd, SendingEnd,
+};
 use net_base::rand::Rand;
-use net_base::tcp::{Announcement, TimeoutBounds};
+use net_base::tcp::{Announcement, Sack, TimeoutBounds};
 use net_base::time::{Duration, Instant};
 
 /// The most bytes of a datagram.
@@ -51,7 +53,7 @@ fn main() {
     let mut sending = SendingEnd::<8>::new_at(vec![0; CAPACITY], 0, Duration::from_secs(1), BOUNDS);
     let mut receiving = ReceivingEnd::<8>::empty_at(vec![0; CAPACITY], 0, SIZE as u16);
     let it = Announcement { seq: 0, ack: 0, window: receiving.open(0, 0).into() };
-    sending.open(it, SIZE, true, Instant::ZERO);
+    sending.open(it, SIZE, Sack::Permitted, Instant::ZERO);
     // How many positions may be in flight.
     let mut window = 10 * SIZE as u64;
     let (mut rest, mut read, mut now) = (&file[..], Vec::<u8>::new(), Instant::ZERO);
@@ -73,10 +75,9 @@ fn main() {
             }
             Some((_at, Datagram::Answer(it))) => {
                 let (ack, room) = (it.next, u64::from(it.window));
-                let blocks: Vec<_> = it.blocks.into_iter().flatten().collect();
                 // The end of the room never falls, so that it tells which of two answers is older.
-                let it = Announcement { seq: ack + room, ack, window: room };
-                match sending.acknowledged(it, &blocks, true, now) {
+                let told = Announcement { seq: ack + room, ack, window: room };
+                match sending.acknowledged(told, &it.blocks, AckSegment::Pure, now) {
                     Acknowledged::Taken { begins: true, .. } => begins = true,
                     Acknowledged::Taken { .. } => window += 20,
                     _ => {}
@@ -88,8 +89,11 @@ fn main() {
             window = (window / 2).max(2 * SIZE as u64);
         }
         while let Some(it) = sending.next_segment(window, now) {
-            let (front, back, is_last) = sending.bytes(it.pos, it.end);
-            path.send(now, Datagram::Text(it.pos, [front, back].concat(), is_last));
+            let bytes = sending.bytes(it.range());
+            path.send(
+                now,
+                Datagram::Text(it.pos, [bytes.front, bytes.back].concat(), bytes.is_last),
+            );
         }
         // The next thing that happens: a datagram arrives, or the timer expires.
         let arrival = path.datagrams.front().map(|it| it.0);

@@ -7,6 +7,7 @@
 //!
 //! By hand: storage that is converted, and what is printed.
 use core::fmt;
+use core::ops::{Deref, Range};
 
 use crate::managed::ManagedSlice;
 use crate::storage::Storage;
@@ -17,18 +18,19 @@ erased! {
     pub(crate) mod receiving_end;
     pub(crate) mod send_buffer;
     pub(crate) mod sending_end;
+    pub(crate) mod sending_head;
 }
 
-pub use receiving_end::{Acknowledgement, ReceivingEnd, ReceivingEndOver};
-pub use send_buffer::{AckKind, SendBuffer, SendBufferOver, Sending, TakenAck};
-pub use sending_end::{Acknowledged, Expired, Outgoing, SendingEnd, SendingEndOver};
+pub use receiving_end::{AckFields, Acknowledgement, ReceivingEnd, ReceivingEndOver, SackBlocks};
+pub use send_buffer::{AckKind, SegmentBytes, SendBuffer, SendBufferOver, Sending, TakenAck};
+pub use sending_end::{AckSegment, Acknowledged, Expired, Outgoing, SendingEnd, SendingEndOver};
 
 // Names for the exports for C alone.
 #[allow(unused_imports)]
 pub(crate) use {
     receiving_end::{ReceivingHead, Room},
     send_buffer::Queued,
-    sending_end::SendingHead,
+    sending_head::SendingHead,
 };
 
 impl<'a, const N: usize> SendBuffer<'a, N> {
@@ -101,5 +103,28 @@ impl<S: Storage<u8>, const N: usize> fmt::Debug for SendingEndOver<S, N> {
 impl<S: Storage<u8>, const N: usize> fmt::Debug for ReceivingEndOver<S, N> {
     fn fmt(&self, f: &mut fmt::Formatter) -> fmt::Result {
         f.debug_struct("ReceivingEnd").field("receiver", self.receiver()).finish_non_exhaustive()
+    }
+}
+
+impl Deref for SackBlocks {
+    type Target = [Range<u64>];
+
+    fn deref(&self) -> &[Range<u64>] {
+        self.as_slice()
+    }
+}
+
+impl<'a> IntoIterator for &'a SackBlocks {
+    type Item = &'a Range<u64>;
+    type IntoIter = core::slice::Iter<'a, Range<u64>>;
+
+    fn into_iter(self) -> Self::IntoIter {
+        self.iter()
+    }
+}
+
+impl fmt::Debug for SackBlocks {
+    fn fmt(&self, f: &mut fmt::Formatter<'_>) -> fmt::Result {
+        f.debug_list().entries(self).finish()
     }
 }

@@ -2,12 +2,13 @@
 //! nothing is sent beyond the peer's edge but a probe, and a timer runs while anything waits.
 #![cfg(feature = "alloc")]
 use net_base::ends::{
-    AckKind, Acknowledged, Expired, ReceivingEnd, SendBuffer, SendBufferOver, Sending, SendingEnd,
-    TakenAck,
+    AckFields, AckKind, AckSegment, Acknowledged, Expired, ReceivingEnd, SegmentBytes, SendBuffer,
+    SendBufferOver, Sending, SendingEnd, TakenAck,
 };
 use net_base::rand::Rand;
-use net_base::tcp::{Announcement, SentNumbers, TimeoutBounds};
+use net_base::tcp::{Announcement, Sack, SentNumbers, TimeoutBounds};
 use net_base::time::{Duration, Instant};
+use std::ops::Range;
 
 const RUNS: u32 = if cfg!(target_pointer_width = "64") { 20_000 } else { 200 };
 
@@ -16,6 +17,24 @@ fn byte(at: u64) -> u8 {
 }
 
 const SECOND: Duration = Duration::from_secs(1);
+
+/// Whether a peer reports blocks.
+fn sack(reports: bool) -> Sack {
+    if reports {
+        Sack::Permitted
+    } else {
+        Sack::Absent
+    }
+}
+
+/// Whether a segment has anything beside its acknowledgement.
+fn segment(is_empty: bool) -> AckSegment {
+    if is_empty {
+        AckSegment::Pure
+    } else {
+        AckSegment::WithData
+    }
+}
 
 /// One of these, by chance.
 fn any<const K: usize>(rand: &mut Rand, of: [u64; K]) -> u64 {
@@ -34,7 +53,7 @@ fn whatever_arrives() {
         end.open(
             Announcement { seq: 0, ack: first, window },
             any(rand, [0, 1, 5, 1_000]) as usize,
-            any(rand, [0, 1]) == 1,
+            sack(any(rand, [0, 1]) == 1),
             Instant::ZERO,
         );
         end.set_nagle_enabled(seed % 2 == 0);
@@ -65,12 +84,12 @@ fn whatever_arrives() {
                     let seq = any(rand, [0, 1, u64::MAX, 5]);
                     let window = any(rand, [0, 1, 10, 60, u64::MAX]);
                     let blocks = [
-                        (any(rand, [0, una, mid, sent]), any(rand, [una, mid, sent, far])),
-                        (any(rand, [mid, una.saturating_add(1)]), any(rand, [sent, far, mid])),
+                        any(rand, [0, una, mid, sent])..any(rand, [una, mid, sent, far]),
+                        any(rand, [mid, una.saturating_add(1)])..any(rand, [sent, far, mid]),
                     ];
                     let runs = end.expires_at().is_some();
                     let it = Announcement { seq, ack, window };
-                    match end.acknowledged(it, &blocks, any(rand, [0, 1]) == 0, now) {
+                    match end.acknowledged(it, &blocks, segment(any(rand, [0, 1]) == 0), now) {
                         Acknowledged::Taken { new, .. } => {
                             assert!(una <= ack && ack <= sent && new == ack - una);
                             edge = edge.max(ack.saturating_add(window));
@@ -101,7 +120,7 @@ fn whatever_arrives() {
                     let window = any(rand, [0, 1, 30, u64::MAX]);
                     let una = end.numbers().first_unacknowledged;
                     while let Some(it) = end.next_segment(window, now) {
-                        let (front, back, is_last) = end.bytes(it.pos, it.end);
+                        let SegmentBytes { front, back, is_last } = end.bytes(it.range());
                         let bytes = [front, back].concat();
                         let after = it.pos + bytes.len() as u64 + u64::from(is_last);
                         assert_eq!(after, it.end);
@@ -128,12 +147,12 @@ fn whatever_arrives() {
 #[test]
 fn a_forged_acknowledgement_stops_no_timer() {
     let mut end = SendingEnd::<4>::new_at(vec![0; 20], 0, SECOND, TimeoutBounds::default());
-    end.open(Announcement { seq: 0, ack: 0, window: 100 }, 10, true, Instant::ZERO);
+    end.open(Announcement { seq: 0, ack: 0, window: 100 }, 10, Sack::Permitted, Instant::ZERO);
     assert_eq!(end.write(&[7; 10]), 10);
     assert!(end.next_segment(100, Instant::ZERO).is_some());
     let at = end.expires_at();
     let it = Announcement { seq: 1, ack: 11, window: 100 };
-    assert_eq!(end.acknowledged(it, &[], true, Instant::ZERO), Acknowledged::Refused);
+    assert_eq!(end.acknowledged(it, &[], AckSegment::Pure, Instant::ZERO), Acknowledged::Refused);
     assert!(at.is_some() && end.expires_at() == at);
 }
 
@@ -142,11 +161,11 @@ fn a_forged_acknowledgement_stops_no_timer() {
 #[test]
 fn what_is_sent_after_a_pause_is_probed() {
     let mut end = SendingEnd::<4>::new_at(vec![0; 20], 0, SECOND, TimeoutBounds::default());
-    end.open(Announcement { seq: 0, ack: 0, window: 100 }, 10, true, Instant::ZERO);
+    end.open(Announcement { seq: 0, ack: 0, window: 100 }, 10, Sack::Permitted, Instant::ZERO);
     assert_eq!(end.write(&[7; 10]), 10);
     assert!(end.next_segment(100, Instant::ZERO).is_some());
     let it = Announcement { seq: 1, ack: 10, window: 100 };
-    let taken = end.acknowledged(it, &[], true, Instant::from_millis(10));
+    let taken = end.acknowledged(it, &[], AckSegment::Pure, Instant::from_millis(10));
     assert_eq!(
         (taken, end.expires_at()),
         (Acknowledged::Taken { new: 10, reports: false, begins: false }, None)
@@ -176,7 +195,7 @@ fn what_is_sent_after_a_pause_is_probed() {
 #[test]
 fn a_peer_without_blocks_is_not_probed() {
     let mut end = SendingEnd::<4>::new_at(vec![0; 30], 0, SECOND, TimeoutBounds::default());
-    end.open(Announcement { seq: 0, ack: 0, window: 100 }, 10, false, Instant::ZERO);
+    end.open(Announcement { seq: 0, ack: 0, window: 100 }, 10, Sack::Absent, Instant::ZERO);
     assert_eq!(end.write(&[7; 30]), 30);
     let mut now = Instant::ZERO;
     for _segment in 0..3 {
@@ -185,7 +204,7 @@ fn a_peer_without_blocks_is_not_probed() {
     now = Instant::from_millis(10);
     let it = Announcement { seq: 1, ack: 10, window: 100 };
     assert_eq!(
-        end.acknowledged(it, &[], true, now),
+        end.acknowledged(it, &[], AckSegment::Pure, now),
         Acknowledged::Taken { new: 10, reports: false, begins: false }
     );
     for (timeouts, millis) in [(1, 1_010), (2, 3_010), (3, 7_010)] {
@@ -194,7 +213,10 @@ fn a_peer_without_blocks_is_not_probed() {
         assert_eq!((end.expired(now), end.timeouts()), (Expired::Lost, timeouts));
     }
     let it = Announcement { seq: 2, ack: 20, window: 100 };
-    assert!(matches!(end.acknowledged(it, &[], true, now), Acknowledged::Taken { new: 10, .. }));
+    assert!(matches!(
+        end.acknowledged(it, &[], AckSegment::Pure, now),
+        Acknowledged::Taken { new: 10, .. }
+    ));
     assert_eq!(end.timeouts(), 0);
 }
 
@@ -207,14 +229,19 @@ fn sent(end: &mut SendingEnd<'_, 4>) -> Vec<(u64, bool)> {
 /// Six segments of 10 bytes are sent, from position 10 on.
 fn six_segments(reports: bool) -> SendingEnd<'static, 4> {
     let mut end = SendingEnd::<4>::new_at(vec![0; 60], 10, SECOND, TimeoutBounds::default());
-    end.open(Announcement { seq: 0, ack: 10, window: 100 }, 10, reports, Instant::ZERO);
+    end.open(Announcement { seq: 0, ack: 10, window: 100 }, 10, sack(reports), Instant::ZERO);
     assert_eq!(end.write(&[7; 60]), 60);
     assert_eq!(sent(&mut end), [10, 20, 30, 40, 50, 60].map(|pos| (pos, false)));
     end
 }
 
-fn hear(end: &mut SendingEnd<'_, 4>, ack: u64, blocks: &[(u64, u64)]) -> Acknowledged {
-    end.acknowledged(Announcement { seq: 1, ack, window: 100 }, blocks, true, Instant::ZERO)
+fn hear(end: &mut SendingEnd<'_, 4>, ack: u64, blocks: &[Range<u64>]) -> Acknowledged {
+    end.acknowledged(
+        Announcement { seq: 1, ack, window: 100 },
+        blocks,
+        AckSegment::Pure,
+        Instant::ZERO,
+    )
 }
 
 /// A peer that reports nothing says the same three times: the first segment is lost. In the recovery an acknowledgement
@@ -245,7 +272,7 @@ fn the_third_equal_acknowledgement_and_a_partial_one() {
 fn reports_that_were_dropped() {
     let mut end = six_segments(true);
     assert_eq!(
-        hear(&mut end, 10, &[(30, 50)]),
+        hear(&mut end, 10, &[30..50]),
         Acknowledged::Taken { new: 0, reports: true, begins: false }
     );
     assert_eq!(sent(&mut end), []);
@@ -259,7 +286,7 @@ fn reports_that_were_dropped() {
 /// Positions from 0 on, in segments of 20 bytes, to a peer with room for 60, after three segments that it acknowledged.
 fn after_three_segments(bytes: usize) -> SendingEnd<'static, 4> {
     let mut end = SendingEnd::<4>::new_at(vec![0; 100], 0, SECOND, TimeoutBounds::default());
-    end.open(Announcement { seq: 0, ack: 0, window: 60 }, 20, true, Instant::ZERO);
+    end.open(Announcement { seq: 0, ack: 0, window: 60 }, 20, Sack::Permitted, Instant::ZERO);
     assert_eq!(end.write(&vec![7; 60 + bytes]), 60 + bytes);
     assert_eq!(sent(&mut end), [0, 20, 40].map(|pos| (pos, false)));
     end
@@ -267,7 +294,7 @@ fn after_three_segments(bytes: usize) -> SendingEnd<'static, 4> {
 
 /// The peer acknowledges up to a position, with a window.
 fn announce(end: &mut SendingEnd<'_, 4>, ack: u64, window: u64, now: Instant) {
-    let taken = end.acknowledged(Announcement { seq: 1, ack, window }, &[], true, now);
+    let taken = end.acknowledged(Announcement { seq: 1, ack, window }, &[], AckSegment::Pure, now);
     assert!(matches!(taken, Acknowledged::Taken { .. }));
 }
 
@@ -290,7 +317,7 @@ fn a_window_that_opens_byte_by_byte() {
     announce(&mut end, 80, 19, Instant::ZERO);
     assert_eq!(ranges(&mut end, Instant::ZERO), []);
     let mut end = SendingEnd::<4>::new_at(vec![0; 100], 0, SECOND, TimeoutBounds::default());
-    end.open(Announcement { seq: 0, ack: 0, window: 31 }, 20, true, Instant::ZERO);
+    end.open(Announcement { seq: 0, ack: 0, window: 31 }, 20, Sack::Permitted, Instant::ZERO);
     assert_eq!(end.write(&[7; 33]), 33);
     assert_eq!(ranges(&mut end, Instant::ZERO), [(0, 20)]);
     announce(&mut end, 20, 7, Instant::ZERO);
@@ -298,7 +325,7 @@ fn a_window_that_opens_byte_by_byte() {
     announce(&mut end, 20, 13, Instant::ZERO);
     assert_eq!(ranges(&mut end, Instant::ZERO), [(20, 33)]);
     let mut end = SendingEnd::<4>::new_at(vec![0; 100], 0, SECOND, TimeoutBounds::default());
-    end.open(Announcement { seq: 0, ack: 0, window: 15 }, 20, true, Instant::ZERO);
+    end.open(Announcement { seq: 0, ack: 0, window: 15 }, 20, Sack::Permitted, Instant::ZERO);
     assert_eq!(end.write(&[7; 33]), 33);
     assert_eq!(ranges(&mut end, Instant::ZERO), [(0, 15)]);
     announce(&mut end, 15, 7, Instant::ZERO);
@@ -385,7 +412,7 @@ fn a_timer_runs_for_what_is_in_flight() {
     end.forget(now);
     assert_eq!(end.expires_at(), Some(now + SECOND));
     now += SECOND;
-    end.open(Announcement { seq: 9, ack: 10, window: 100 }, 10, true, now);
+    end.open(Announcement { seq: 9, ack: 10, window: 100 }, 10, Sack::Permitted, now);
     assert_eq!(end.expires_at(), Some(now + SECOND));
     assert_eq!((end.expired(now + SECOND), sent(&mut end)[0]), (Expired::Lost, (10, true)));
     assert!(matches!(hear(&mut end, 70, &[]), Acknowledged::Taken { new: 60, .. }));
@@ -403,7 +430,7 @@ fn a_full_window_and_an_end() {
     assert!(end.arrived(0, b"abc", true).is_ok());
     assert!(end.is_due() && end.is_wanted());
     let it = end.acknowledgement();
-    assert_eq!((it.next, it.window, end.announce()), (4, 0, (4, 0)));
+    assert_eq!((it.next, it.window, end.announce()), (4, 0, AckFields { next: 4, window: 0 }));
     assert_eq!(end.read_with(|bytes| (1, bytes.len())), (1, 3));
     assert_eq!((end.read(&mut [0; 3]), end.is_wanted()), (2, false));
     // Room for a segment is worth an update, and one byte less isn't.
@@ -424,7 +451,7 @@ fn what_is_read_is_what_was_written() {
             SendingEnd::<4>::new_at(vec![0; 300], 9, SECOND, TimeoutBounds::default());
         let mut receiving = ReceivingEnd::<4>::empty_at(vec![0; 200], 9, 50);
         let window = u64::from(receiving.open(9, 0));
-        sending.open(Announcement { seq: 0, ack: 9, window }, 50, true, Instant::ZERO);
+        sending.open(Announcement { seq: 0, ack: 9, window }, 50, Sack::Permitted, Instant::ZERO);
         let (mut rest, mut read, mut now) = (&text[..], Vec::<u8>::new(), Instant::ZERO);
         let (mut there, mut back) = (vec![], vec![]);
         let mut steps = 0;
@@ -440,7 +467,7 @@ fn what_is_read_is_what_was_written() {
             }
             let _is_lost = sending.expired(now);
             while let Some(it) = sending.next_segment(400, now) {
-                let (front, back, is_last) = sending.bytes(it.pos, it.end);
+                let SegmentBytes { front, back, is_last } = sending.bytes(it.range());
                 for _copy in 0..any(rand, [0, 1, 1, 1, 1, 2]) {
                     there.push((it.pos, [front, back].concat(), is_last));
                 }
@@ -456,17 +483,16 @@ fn what_is_read_is_what_was_written() {
             if receiving.is_wanted() {
                 let it = receiving.acknowledgement();
                 for _copy in 0..any(rand, [0, 1, 1, 1, 1, 2]) {
-                    back.push(it);
+                    back.push(it.clone());
                 }
             }
             now += Duration::from_millis(3);
             if !back.is_empty() {
                 let it = back.swap_remove(rand.below(back.len() as u32) as usize);
-                let blocks = it.blocks.into_iter().flatten().collect::<Vec<_>>();
                 let window = it.window.into();
                 // The edge never falls, so that it tells which of two answers is the older one.
-                let it = Announcement { seq: it.next + window, ack: it.next, window };
-                let _taken = sending.acknowledged(it, &blocks, true, now);
+                let told = Announcement { seq: it.next + window, ack: it.next, window };
+                let _taken = sending.acknowledged(told, &it.blocks, AckSegment::Pure, now);
             }
         }
         assert!(read == text);
@@ -478,24 +504,22 @@ fn what_is_read_is_what_was_written() {
 #[test]
 fn what_came_twice_is_reported_once() {
     let mut end = ReceivingEnd::<4>::empty_at(vec![0; 40], 100, 8);
-    let blocks = |end: &mut ReceivingEnd<'_, 4>| {
-        end.acknowledgement().blocks.into_iter().flatten().collect::<Vec<_>>()
-    };
+    let blocks = |end: &mut ReceivingEnd<'_, 4>| end.acknowledgement().blocks.to_vec();
     assert!(end.arrived(100, b"abcd", false).is_ok());
     assert_eq!(blocks(&mut end), []);
     // Some of it was kept; nothing of it was; no byte of it is in the stream.
     assert!(end.arrived(102, b"cdef", false).is_ok());
-    assert_eq!((blocks(&mut end), blocks(&mut end)), (vec![(102, 104)], vec![]));
+    assert_eq!((blocks(&mut end), blocks(&mut end)), (vec![102..104], vec![]));
     assert!(end.arrived(90, b"0123456789abcd", false).is_ok());
-    assert_eq!((blocks(&mut end), blocks(&mut end)), (vec![(100, 104)], vec![]));
+    assert_eq!((blocks(&mut end), blocks(&mut end)), (vec![100..104], vec![]));
     assert!(end.arrived(90, b"0123", false).is_ok());
     assert_eq!(blocks(&mut end), []);
     // Beyond the first number that is missing.
     assert!(end.arrived(110, b"klmn", false).is_ok());
-    assert_eq!(blocks(&mut end), [(110, 114)]);
+    assert_eq!(blocks(&mut end), [110..114]);
     assert!(end.arrived(108, b"ijk", false).is_ok());
-    assert_eq!(blocks(&mut end), [(110, 111), (108, 114)]);
-    assert_eq!(blocks(&mut end), [(108, 114)]);
+    assert_eq!(blocks(&mut end), [110..111, 108..114]);
+    assert_eq!(blocks(&mut end), [108..114]);
     // It is beyond an end in order: it wasn't of the stream.
     assert!(end.arrived(110, b"k", false).is_ok() && end.arrived(106, b"", true).is_ok());
     assert_eq!((blocks(&mut end), end.acknowledgement().next), (vec![], 107));
@@ -507,25 +531,28 @@ fn a_send_buffer() {
     let buffer = SendBuffer::<2>::new_at(vec![0; 8], 7);
     assert_eq!((buffer.window(), buffer.numbers_end()), (8, 7));
     let mut buffer = SendBufferOver::<_, 2>::over_at([0; 8], 7);
-    buffer.expect_reports(true);
+    buffer.expect_reports(Sack::Permitted);
     assert_eq!((buffer.window(), buffer.write(b"abcd")), (8, 4));
     buffer.close();
     assert!(buffer.is_closed() && buffer.window() == 0 && buffer.numbers_end() == 12);
-    for (from, to) in [(7, 9), (9, 11), (11, 12)] {
-        assert_eq!(buffer.next(12, 10, 2), Some((from, to)));
-        buffer.mark(from, to, Sending::Segment);
+    for range in [7..9, 9..11, 11..12] {
+        assert_eq!(buffer.next(12, 10, 2), Some(range.clone()));
+        assert!(buffer.mark(range, Sending::Segment));
     }
+    // It was never written, and so nothing changes.
+    assert!(!buffer.mark(12..13, Sending::Segment) && !buffer.mark(7..13, Sending::WindowProbe));
     assert_eq!(buffer.numbers(), SentNumbers { first_unacknowledged: 7, sent: 12 });
-    assert_eq!(buffer.bytes(9, 12), (&b"cd"[..], &[][..], true));
+    let it = SegmentBytes { front: b"cd", back: &[], is_last: true };
+    assert_eq!(buffer.bytes(9..12), it);
     let taken = TakenAck { new: 0, reports: true, begins: false };
-    assert_eq!(buffer.acknowledge(7, &[(9, 11)], 2, AckKind::Other), Some(taken));
+    assert_eq!(buffer.acknowledge(7, &[9..11], 2, AckKind::Other), Some(taken));
     assert!(buffer.contains(9) && !buffer.is_blind() && !buffer.is_recovering());
     // No answer for two round trips.
     assert!(buffer.find_overdue() && buffer.is_recovering());
-    assert_eq!(buffer.next_probe(12, 2), Some((7, 9)));
+    assert_eq!(buffer.next_probe(12, 2), Some(7..9));
     assert_eq!(buffer.acknowledge(13, &[], 2, AckKind::Other), None);
     buffer.lose_all();
-    assert_eq!(buffer.next(12, 10, 2), Some((7, 9)));
+    assert_eq!(buffer.next(12, 10, 2), Some(7..9));
     let taken = TakenAck { new: 5, reports: false, begins: false };
     assert_eq!(buffer.acknowledge(12, &[], 2, AckKind::Repeat), Some(taken));
     assert!(buffer.is_done());
@@ -541,17 +568,17 @@ fn a_send_buffer() {
 fn a_send_buffer_takes_a_recovery_back() {
     let mut buffer = SendBuffer::<4>::new_at(vec![0; 100], 0);
     assert_eq!(buffer.write(&[7; 90]), 90);
-    while let Some((from, to)) = buffer.next(90, 90, 10) {
-        buffer.mark(from, to, Sending::Segment);
+    while let Some(range) = buffer.next(90, 90, 10) {
+        assert!(buffer.mark(range, Sending::Segment));
     }
     let taken = TakenAck { new: 10, reports: true, begins: true };
-    assert_eq!(buffer.acknowledge(10, &[(20, 50)], 10, AckKind::Other), Some(taken));
-    assert_eq!((buffer.next(90, 90, 10), buffer.take_back()), (Some((10, 20)), false));
-    buffer.mark(10, 20, Sending::Segment);
+    assert_eq!(buffer.acknowledge(10, &[20..50], 10, AckKind::Other), Some(taken));
+    assert_eq!((buffer.next(90, 90, 10), buffer.take_back()), (Some(10..20), false));
+    assert!(buffer.mark(10..20, Sending::Segment));
     assert!(buffer.acknowledge(60, &[], 10, AckKind::Other).is_some() && !buffer.take_back());
-    assert_eq!(buffer.acknowledge(50, &[(10, 20)], 10, AckKind::Other), None);
+    assert_eq!(buffer.acknowledge(50, &[10..20], 10, AckKind::Other), None);
     assert!(!buffer.take_back());
-    buffer.note_duplicate(50, &[(10, 20)]);
+    buffer.note_duplicate(50, &[10..20]);
     assert_eq!(
         [buffer.take_back(), buffer.take_back(), buffer.is_recovering()],
         [true, false, false]
@@ -567,12 +594,12 @@ fn a_stream_of_ranges() {
         assert_eq!(stream.write(&[7; 19]), 19);
         stream.close();
         let mut ranges = vec![];
-        while let Some((from, to)) = stream.next(limit, u64::MAX, 5) {
-            ranges.push(from..to);
-            stream.mark(from, to, Sending::Segment);
+        while let Some(range) = stream.next(limit, u64::MAX, 5) {
+            ranges.push(range.clone());
+            assert!(stream.mark(range, Sending::Segment));
         }
         assert_eq!(ranges, [0..5, 5..10, 10..15, 15..20], "{limit}");
-        assert_eq!(stream.next_probe(limit, 5), Some((15, 20)));
+        assert_eq!(stream.next_probe(limit, 5), Some(15..20));
         let mut take = |range| stream.acknowledge_range(range, 5).map(|it| (it.new, it.reports));
         assert_eq!(
             (take(15..21), take(10..15), take(5..10)),
@@ -599,7 +626,7 @@ fn an_end_begins_again() {
     assert_eq!((end.flight_size(), end.expires_at(), end.segment_size()), (0, None, 1));
     assert!(!end.nagle_enabled() && end.write(b"abc") == 3);
     let it = Announcement { seq: 0, ack: 1_000, window: 50 };
-    end.open(it, 10, true, Instant::ZERO);
+    end.open(it, 10, Sack::Permitted, Instant::ZERO);
     assert_eq!(ranges(&mut end, Instant::ZERO), [(1_000, 1_003)]);
     assert_eq!(
         format!("{end:?}"),
@@ -614,7 +641,7 @@ fn timeouts_of_an_end() {
     let mut bounds = TimeoutBounds::new();
     bounds.most = Duration::from_secs(5);
     let mut end = SendingEnd::<4>::new_at(vec![0; 4], 10, Duration::from_secs(3), bounds);
-    end.open(Announcement { seq: 0, ack: 10, window: 50 }, 10, false, Instant::ZERO);
+    end.open(Announcement { seq: 0, ack: 10, window: 50 }, 10, Sack::Absent, Instant::ZERO);
     assert_eq!((end.write(b"abc"), ranges(&mut end, Instant::ZERO).len()), (3, 1));
     let passed = Instant::from_secs(3);
     assert_eq!((end.expires_at(), end.expired(passed)), (Some(passed), Expired::Lost));

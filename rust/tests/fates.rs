@@ -4,10 +4,11 @@
 //! many are drawn.
 #![cfg(feature = "alloc")]
 use std::collections::BTreeMap;
+use std::ops::Range;
 
-use net_base::ends::{Acknowledged, Expired, ReceivingEnd, SendingEnd};
+use net_base::ends::{AckSegment, Acknowledged, Expired, ReceivingEnd, SegmentBytes, SendingEnd};
 use net_base::rand::Rand;
-use net_base::tcp::{Announcement, TimeoutBounds};
+use net_base::tcp::{Announcement, Sack, TimeoutBounds};
 use net_base::time::{Duration, Instant};
 
 /// The first position of the stream, how many bytes it has, and the number after its end.
@@ -29,7 +30,7 @@ enum Datagram {
     /// A position, how many bytes, and whether the stream ends after them.
     Text(u64, usize, bool),
     /// What an acknowledgement says, and its blocks.
-    Answer(Announcement, Vec<(u64, u64)>),
+    Answer(Announcement, Vec<Range<u64>>),
 }
 
 /// What is on the way, by the time at which it arrives.
@@ -80,10 +81,11 @@ impl Told {
     }
 
     /// Takes notice of an acknowledgement that was taken, when all below `sent` was.
-    fn take(&mut self, it: Announcement, blocks: &[(u64, u64)], sent: u64) {
+    fn take(&mut self, it: Announcement, blocks: &[Range<u64>], sent: u64) {
         self.edge = self.edge.max(it.ack.saturating_add(it.window));
-        for &(start, end) in blocks.iter().filter(|block| block.0 > it.ack && block.1 <= sent) {
-            (start..end.min(END - 1)).for_each(|pos| self.reported[(pos - FIRST) as usize] = true);
+        for block in blocks.iter().filter(|block| block.start > it.ack && block.end <= sent) {
+            (block.start..block.end.min(END - 1))
+                .for_each(|pos| self.reported[(pos - FIRST) as usize] = true);
         }
         // The peer has dropped what it had reported.
         if it.ack < sent && self.is_reported(it.ack) {
@@ -96,7 +98,7 @@ impl Told {
 fn forged(rand: &mut Rand, next: u64, sent: u64) -> Datagram {
     let spread = sent - FIRST + 10;
     let mut any = || FIRST + u64::from(rand.rand_u32()) % spread;
-    let (ack, blocks) = (any().min(next), vec![(any(), any()), (any(), any())]);
+    let (ack, blocks) = (any().min(next), vec![any()..any(), any()..any()]);
     let (seq, window) = (one_of(rand, &[0, 1, 9]), one_of(rand, &[0, 1, 50, 70_000]));
     Datagram::Answer(Announcement { seq, ack, window }, blocks)
 }
@@ -140,7 +142,7 @@ impl Schedule {
         sending.open(
             Announcement { seq: 0, ack: FIRST, window },
             size.into(),
-            reports,
+            if reports { Sack::Permitted } else { Sack::Absent },
             Instant::ZERO,
         );
         sending.set_nagle_enabled(seed % 2 == 0);
@@ -181,7 +183,7 @@ impl Schedule {
         }
         let mut is_probe = expired == Expired::Probe;
         while let Some(it) = self.sending.next_segment(self.congestion, self.now) {
-            let (front, back, is_last) = self.sending.bytes(it.pos, it.end);
+            let SegmentBytes { front, back, is_last } = self.sending.bytes(it.range());
             let bytes = [front, back].concat();
             let limit = it.pos + bytes.len() as u64;
             assert!((it.pos..).zip(&bytes).all(|(pos, found)| *found == byte(pos)));
@@ -244,9 +246,9 @@ impl Schedule {
         }
     }
 
-    fn acknowledged(&mut self, it: Announcement, blocks: &[(u64, u64)]) {
+    fn acknowledged(&mut self, it: Announcement, blocks: &[Range<u64>]) {
         let sent = self.sending.numbers().sent;
-        match self.sending.acknowledged(it, blocks, true, self.now) {
+        match self.sending.acknowledged(it, blocks, AckSegment::Pure, self.now) {
             Acknowledged::Taken { begins: true, .. } => self.halve(),
             Acknowledged::Taken { .. } => self.congestion += self.size / 4 + 1,
             _ => return,
@@ -257,7 +259,7 @@ impl Schedule {
     /// Sends an acknowledgement, with its blocks if the peer agreed to them.
     fn answer(&mut self) {
         let it = self.receiving.acknowledgement();
-        let blocks = it.blocks.into_iter().flatten().filter(|_| self.reports).collect();
+        let blocks = if self.reports { it.blocks.to_vec() } else { vec![] };
         let said = Announcement { seq: 0, ack: it.next, window: it.window.into() };
         self.path.send(self.now, Datagram::Answer(said, blocks));
     }

@@ -2,9 +2,11 @@
 //! lost, copied, and come in another order. Each test fails where an end refuses what the other's segment without
 //! bytes says because of its number: then each answer is answered, and no timer ends that.
 #![cfg(feature = "alloc")]
-use net_base::ends::{Acknowledged, Expired, ReceivingEnd, SendingEnd};
+use net_base::ends::{
+    AckFields, AckSegment, Acknowledged, Expired, ReceivingEnd, SegmentBytes, SendingEnd,
+};
 use net_base::rand::Rand;
-use net_base::tcp::{scaled, Announcement, Arrival, Segment, TimeoutBounds};
+use net_base::tcp::{scaled, Announcement, Arrival, Sack, Segment, TimeoutBounds};
 use net_base::time::{Duration, Instant};
 
 const FIRST: u64 = 1_000;
@@ -73,8 +75,8 @@ impl End {
 
     fn next(&mut self, now: Instant) -> Option<Packet> {
         let it = self.sending.next_segment(u64::MAX, now)?;
-        let (ack, window) = self.receiving.announce();
-        let (front, back, is_last) = self.sending.bytes(it.pos, it.end);
+        let AckFields { next: ack, window } = self.receiving.announce();
+        let SegmentBytes { front, back, is_last } = self.sending.bytes(it.range());
         Some(Packet { seq: it.pos, ack, window, bytes: [front, back].concat(), is_last })
     }
 
@@ -89,7 +91,8 @@ impl End {
         }
         let window = scaled(it.window, self.peer_scale);
         let said = Announcement { seq: it.seq, ack: it.ack, window };
-        if self.sending.acknowledged(said, &[], len == 0, now) == Acknowledged::Refused {
+        let segment = if len == 0 { AckSegment::Pure } else { AckSegment::WithData };
+        if self.sending.acknowledged(said, &[], segment, now) == Acknowledged::Refused {
             return true;
         }
         if arrival == Arrival::AcknowledgementOnly {
@@ -112,7 +115,7 @@ fn open(capacities: [usize; 2], scales: [u8; 2], size: usize, texts: [Vec<u8>; 2
     for (end, (window, scale)) in ends.iter_mut().zip(windows.into_iter().zip(scales).rev()) {
         end.peer_scale = scale;
         let it = Announcement { seq: FIRST - 1, ack: FIRST, window: window.into() };
-        end.sending.open(it, size, false, BEGUN);
+        end.sending.open(it, size, Sack::Absent, BEGUN);
     }
     ends
 }

@@ -1,7 +1,8 @@
 //! Calls that take numbers from a packet, with any numbers: none panics, also where sums are checked. `CALLS` says how
 //! many calls are made of each kind.
 use net_base::ends::{
-    AckKind, Acknowledged, Expired, ReceivingEndOver, SendBufferOver, Sending, SendingEndOver,
+    AckKind, AckSegment, Acknowledged, Expired, ReceivingEndOver, SegmentBytes, SendBufferOver,
+    Sending, SendingEndOver,
 };
 use net_base::finite::{FiniteReceiver, FiniteSender, SentNumbers};
 use net_base::receiver::Receiver;
@@ -15,6 +16,7 @@ use net_base::tcp::{
     RetransmissionTimer, Sack, Segment, TimeoutBounds, Transmission,
 };
 use net_base::time::{Duration, Instant};
+use std::ops::Range;
 
 /// Numbers about the ends of their ranges and about one another, by Marsaglia's xorshift.
 struct Draw(u64, u64);
@@ -188,8 +190,17 @@ fn windows_and_timers() {
 }
 
 /// Up to three blocks.
-fn blocks(draw: &mut Draw) -> Vec<(u64, u64)> {
-    (0..draw.below(4)).map(|_| (draw.number(), draw.number())).collect()
+fn blocks(draw: &mut Draw) -> Vec<Range<u64>> {
+    (0..draw.below(4)).map(|_| draw.number()..draw.number()).collect()
+}
+
+/// Whether a peer reports blocks.
+fn sack(reports: bool) -> Sack {
+    if reports {
+        Sack::Permitted
+    } else {
+        Sack::Absent
+    }
 }
 
 #[test]
@@ -214,7 +225,7 @@ fn sending_ends() {
                 let first = ack.min(u64::MAX - 1);
                 end = SendingEndOver::over_at([0; 16], first, first_timeout, bounds);
             }
-            1..=3 => end.open(it, draw.number() as usize, draw.bit(), now),
+            1..=3 => end.open(it, draw.number() as usize, sack(draw.bit()), now),
             4 => end.forget(now),
             5 => {
                 let _is_due = end.is_opening_due(now);
@@ -223,7 +234,7 @@ fn sending_ends() {
             6..=11 => assert!(end.write(draw.bytes(BYTES)) <= 16),
             12 => end.close(),
             13 => end.set_nagle_enabled(draw.bit()),
-            14..=23 => match end.acknowledged(it, &blocks(&mut draw), draw.bit(), now) {
+            14..=23 => match end.acknowledged(it, &blocks(&mut draw), carrier(&mut draw), now) {
                 Acknowledged::Taken { new, .. } => {
                     assert!(new == ack - before.first_unacknowledged && ack <= before.sent)
                 }
@@ -233,11 +244,11 @@ fn sending_ends() {
                 let was_due = end.expires_at().is_some_and(|it| it <= now);
                 assert!(end.expired(now) == Expired::No || was_due);
             }
-            29 => assert!(end.bytes(seq, ack).0.len() <= 16),
+            29 => assert!(end.bytes(seq..ack).front.len() <= 16),
             _ => {
                 if let Some(it) = end.next_segment(window, now) {
                     assert!(before.first_unacknowledged <= it.pos && it.pos < it.end);
-                    let (front, back, is_last) = end.bytes(it.pos, it.end);
+                    let SegmentBytes { front, back, is_last } = end.bytes(it.range());
                     let numbers = front.len() + back.len() + usize::from(is_last);
                     assert!(numbers as u64 == it.end - it.pos && end.expires_at().is_some());
                 }
@@ -248,6 +259,10 @@ fn sending_ends() {
         assert!(end.acknowledgement_number() <= sent);
         let _whatever_it_was = (end.is_recovering(), end.round_trip(), end.timeouts());
     }
+}
+
+fn carrier(draw: &mut Draw) -> AckSegment {
+    [AckSegment::WithData, AckSegment::Pure][usize::from(draw.bit())]
 }
 
 fn sending(draw: &mut Draw) -> Sending {
@@ -266,7 +281,7 @@ fn send_buffers() {
         let ([from, to, window], size) = (draw.numbers(), draw.number() as usize);
         match draw.below(20) {
             0 => buffer = SendBufferOver::over_at([0; 16], from.min(u64::MAX - 1)),
-            1 => buffer.expect_reports(draw.bit()),
+            1 => buffer.expect_reports(sack(draw.bit())),
             2..=5 => assert!(buffer.write(draw.bytes(BYTES)) <= 16),
             6 => buffer.close(),
             7..=10 => {
@@ -279,19 +294,21 @@ fn send_buffers() {
             12 => buffer.lose_all(),
             13 => {
                 let probe = buffer.next_probe(to, size);
-                assert!(probe.is_none_or(|it| it.0 < it.1 && it.1 <= to.max(before.sent)));
+                assert!(probe.is_none_or(|it| it.start < it.end && it.end <= to.max(before.sent)));
             }
-            14 => assert!(buffer.bytes(from, to).0.len() <= 16),
-            15 => buffer.mark(from, to, sending(&mut draw)),
+            14 => assert!(buffer.bytes(from..to).front.len() <= 16),
+            15 => {
+                let is_written = to <= buffer.numbers_end();
+                assert_eq!(buffer.mark(from..to, sending(&mut draw)), is_written);
+            }
             16 => {
                 let taken = buffer.acknowledge_range(from..to, size);
                 assert_eq!(taken.is_some(), to <= before.sent);
             }
             _ => {
-                if let Some((from, to)) = buffer.next(to, window, size) {
-                    assert!(before.first_unacknowledged <= from && from < to);
-                    assert!(to <= buffer.numbers_end());
-                    buffer.mark(from, to, sending(&mut draw));
+                if let Some(range) = buffer.next(to, window, size) {
+                    assert!(before.first_unacknowledged <= range.start && !range.is_empty());
+                    assert!(buffer.mark(range, sending(&mut draw)));
                 }
             }
         }
@@ -319,10 +336,10 @@ fn receiving_ends() {
                 let _whatever_it_is = end.classify(Segment { seq: pos, len, syn, ack, rst });
             }
             3 => end.answer(),
-            4..=6 => assert_eq!(end.announce().0, next),
+            4..=6 => assert_eq!(end.announce().next, next),
             7..=12 => {
                 let it = end.acknowledgement();
-                assert!(it.next == next && it.blocks.iter().flatten().all(|it| it.0 < it.1));
+                assert!(it.next == next && it.blocks.iter().all(|it| !it.is_empty()));
                 assert!(!end.is_due());
             }
             13..=16 => assert!(end.read(&mut [0; 9]) <= 9),

@@ -52,6 +52,7 @@ EXPORTS = 'net_ffi'
 RING, PACKETS = 'net_ring/ring_buffer', 'net_packets/packet_buffer'
 ASSEMBLER, PHY = 'net_assembler/assembler', 'net_base/phy'
 RECEIVER, FINITE, FRAGMENTS = 'net_receiver/receiver', 'net_receiver/finite_receiver', 'net_base/storage/fragments'
+RECEIVING = 'net_ends/receiving_end'
 
 # What is replaced: the old text, the new one, and how often it is in each of these files. These differ in lifetimes
 # alone: closures may keep what they are lent.
@@ -78,6 +79,8 @@ ATTRIBUTES = [
       'net_ends/send_buffer': 1, 'net_ends/sending_end': 1}),
     ('#[derive(Debug, Drop)]\npub struct ', '#[derive(Clone, Debug)]\npub struct ', {'net_receiver/held_runs': 1}),
     ('pub struct Iter<', '#[derive(Debug)]\npub struct Iter<', {'net_ring/ring_buffer/iter': 1}),
+    ('#[derive(Debug, Drop)]\npub struct Ack', '#[derive(Clone, Debug, PartialEq, Eq)]\npub struct Ack', {RECEIVING: 1}),
+    ('#[derive(Debug, Drop)]\npub struct Sack', '#[derive(Clone, PartialEq, Eq)]\npub struct Sack', {RECEIVING: 1}),
     ('#[derive(Debug, Drop)]\npub struct Assembler<', 'pub struct Assembler<', {ASSEMBLER: 1}),
     ('    pub segmentation_off', '    #[cfg(feature = "segmentation-offload")]\n    pub segmentation_off', {PHY: 1}),
 ]

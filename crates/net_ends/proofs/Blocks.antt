@@ -1,5 +1,5 @@
 -- Why four blocks, where there are as many, are those that there are.
-use Rattle.std.proofs.Common.{◌≡◌, ℕ, List, take, ◌∷◌, [], refl, ap, subst, ◌∙◌, sym}
+use Rattle.std.proofs.Common.{◌≡◌, ℕ, List, take, ◌∷◌, [], refl, ap, ◌∙◌}
 use Rattle.std.specs.Prelude.{Option, map}
 use Rattle.net_ends.specs.Receiving.{blocks_of, sack_blocks, range_at, count_of}
 

@@ -1,14 +1,15 @@
 -- Why a loop that sends what is next ends: each range leaves less that may be sent before an answer.
-use Rattle.std.proofs.Common.{◌≡◌, ℕ, ◌+◌, ◌-◌, ◌<◌, ◌≤◌, arith, true, false, refl, ap, sym, ◌∙◌, subst}
+use Rattle.std.proofs.Common.{◌≡◌, ℕ, ◌+◌, ◌-◌, ◌<◌, ◌≤◌, arith, true, false, refl, ap, ◌∙◌, subst}
 use Rattle.std.specs.Prelude.{Bool, IsTrue, IsFalse, IfSome, Option, Some, None, min, max, ◌&&◌, ◌||◌, nat_lt, nat_le}
 use Rattle.std.specs.Prelude.{if◌then◌else◌}
 use Rattle.std.proofs.lemmas.Bool.Decides.{nat_tests}
 use Rattle.net_receiver.specs.FiniteSender.{FiniteSenderState, first_number, numbers_end, sender_after_command, Marks}
-use Rattle.net_tcp.specs.LossRecovery.{is_active, after_sending, was_sent_again, with_mark}
+use Rattle.net_tcp.specs.LossRecovery.{is_active, after_sending, was_sent_again}
 use Rattle.net_tcp.specs.LossRecovery.{Recovery as LossRecovery}
 use Rattle.net_assembler.specs.Positions.{contains}
+use Rattle.std.specs.declared.ops.Range.{Range}
 use Rattle.net_receiver.specs.declared.sent_numbers.SentNumbers.{SentNumbers}
-use Rattle.net_ends.specs.Acknowledgements.{after_segment, numbers_of}
+use Rattle.net_ends.specs.Acknowledgements.{numbers_of}
 use Rattle.net_ends.specs.Buffers.{Buffer, marked, remaining}
 
 again_by : (b c : Bool) (x y z : LossRecovery) (m : ℕ) → x.again ≡ m → y.again ≡ m →
@@ -64,29 +65,29 @@ lasts_by false from sent fresh low = absurd (let same = fresh refl in omega (ari
 beyond_by : (again first from : ℕ) (b : Bool) → (nat_lt from (max again first) || b) ≡ false → again ≤ from
 beyond_by again first from b none = grind (arith, nat_tests, none)
 
-abbrev pub Fresh : Buffer → SentNumbers → Option (ℕ × ℕ) → Type 0
-Fresh b at o = IsFalse (is_active b.recovery at.first_unacknowledged) → IfSome o (λ r. r.0 ≡ at.sent)
+abbrev pub Fresh : Buffer → SentNumbers → Option (Range ℕ) → Type 0
+Fresh b at o = IsFalse (is_active b.recovery at.first_unacknowledged) → IfSome o (λ r. r.start ≡ at.sent)
 
-abbrev pub Once : Buffer → SentNumbers → Option (ℕ × ℕ) → Type 0
-Once b at o = IfSome o (λ r. (p : ℕ) → r.0 ≤ p → p < r.1 → p < at.sent →
+abbrev pub Once : Buffer → SentNumbers → Option (Range ℕ) → Type 0
+Once b at o = IfSome o (λ r. (p : ℕ) → r.start ≤ p → p < r.end → p < at.sent →
     IsFalse (contains b.reported p) × IsFalse (was_sent_again b.recovery at.first_unacknowledged p))
 
-each_falls : (b : Buffer) (top size : ℕ) (o : Option (ℕ × ℕ)) → top ≤ numbers_end b.sender →
-    IfSome o (λ r. (r.0 < r.1) × (r.1 ≤ top) × (r.1 ≤ r.0 + size)) → Fresh b (numbers_of b.sender) o →
-    Once b (numbers_of b.sender) o → IfSome o (λ r. remaining (marked b r.0 r.1) < remaining b)
+each_falls : (b : Buffer) (top size : ℕ) (o : Option (Range ℕ)) → top ≤ numbers_end b.sender →
+    IfSome o (λ r. (r.start < r.end) × (r.end ≤ top) × (r.end ≤ r.start + size)) → Fresh b (numbers_of b.sender) o →
+    Once b (numbers_of b.sender) o → IfSome o (λ r. remaining (marked b r.start r.end) < remaining b)
 each_falls b top size None below within fresh once = tt
 each_falls b top size (Some r) below within fresh once =
     let some = within.0 in
     let most = within.1 in
-    remaining_falls b r.0 r.1 some (omega (arith, below, most))
-    (lasts_by (is_active b.recovery (first_number b.sender)) r.0 b.sender.sent fresh)
-    (λ low. beyond_by b.recovery.again (first_number b.sender) r.0 _ (once r.0 (omega arith) some low).1)
+    remaining_falls b r.start r.end some (omega (arith, below, most))
+    (lasts_by (is_active b.recovery (first_number b.sender)) r.start b.sender.sent fresh)
+    (λ low. beyond_by b.recovery.again (first_number b.sender) r.start _ (once r.start (omega arith) some low).1)
 
 -- of a buffer as it is seen
-pub sending_falls : (b seen : Buffer) (at : SentNumbers) (limit end top size : ℕ) (o : Option (ℕ × ℕ)) → seen ≡ b →
+pub sending_falls : (b seen : Buffer) (at : SentNumbers) (limit end top size : ℕ) (o : Option (Range ℕ)) → seen ≡ b →
     at ≡ numbers_of b.sender → end ≡ numbers_end seen.sender → top ≡ min limit end →
-    IfSome o (λ r. (r.0 < r.1) × (r.1 ≤ top) × (r.1 ≤ r.0 + size)) → Fresh seen at o → Once seen at o →
-    IfSome o (λ r. remaining (marked b r.0 r.1) < remaining b)
+    IfSome o (λ r. (r.start < r.end) × (r.end ≤ top) × (r.end ≤ r.start + size)) → Fresh seen at o → Once seen at o →
+    IfSome o (λ r. remaining (marked b r.start r.end) < remaining b)
 sending_falls b seen at limit end top size o same numbers ends least within fresh once =
     let last : end ≡ numbers_end b.sender = ends ∙ ap (λ (x : Buffer). numbers_end x.sender) same in
     each_falls b top size o (omega (arith, least, last)) within

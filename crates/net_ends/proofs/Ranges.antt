@@ -1,18 +1,19 @@
 -- Why an acknowledgement of a range is one of a number and its blocks.
 use Rattle.std.proofs.Common.{◌≡◌, ℕ, ◌-◌, ◌<◌, ◌≤◌, arith, true, false, refl, ap, sym, ◌∙◌, subst, List, [], ◌∷◌}
-use Rattle.std.specs.Prelude.{Bool, IfSome, Option, Some, None, is_some, min, max, ◌&&◌, nat_lt, nat_le, if◌then◌else◌}
+use Rattle.std.specs.Prelude.{Bool, IfSome, Option, Some, None, min, max, ◌&&◌, nat_le, if◌then◌else◌}
 use Rattle.std.proofs.lemmas.Bool.Decides.{nat_tests}
-use Rattle.net_assembler.specs.Positions.{Positions, first_missing}
+use Rattle.net_assembler.specs.Positions.{first_missing}
 use Rattle.net_assembler.proofs.Sets.{first_missing-le}
 use Rattle.net_receiver.specs.declared.sent_numbers.SentNumbers.{SentNumbers}
 use Rattle.net_receiver.specs.FiniteSender.{first_number, accepts, sender_after_command, Acknowledges}
 use Rattle.net_ends.specs.Ends.{kept}
+use Rattle.std.specs.declared.ops.Range.{Range}
 use Rattle.net_ends.specs.Acknowledgements.{numbers_of, unsent_of, reported_by, Recovers}
 use Rattle.net_ends.specs.Buffers.{Buffer, Takes, ack_of, blocks_of}
 use Rattle.net_ends.specs.declared.send_buffer.TakenAck.{TakenAck}
 
 -- the clauses of `acknowledge`
-pub all_of : (n size : ℕ) (b left : Buffer) (ack : ℕ) (bs : List (ℕ × ℕ)) (repeats : Bool) (o : Option TakenAck) →
+pub all_of : (n size : ℕ) (b left : Buffer) (ack : ℕ) (bs : List (Range ℕ)) (repeats : Bool) (o : Option TakenAck) →
     IfSome o (λ r. left ≡ record {
       sender = sender_after_command b.sender (Acknowledges ack);
       reported = kept (reported_by n b.sender.sent b.reported ack bs).0 ack b.sender.sent;
@@ -42,7 +43,7 @@ high_is first from high = grind (arith, nat_tests, high)
 -- a range above the first number is a block
 pub is_block : (n size : ℕ) (b left : Buffer) (at : SentNumbers) (from to : ℕ) (o : Option TakenAck) →
     at ≡ numbers_of b.sender → at.first_unacknowledged < from →
-    IfSome o (λ r. Takes n size b at.first_unacknowledged ((from, to) ∷ []) false r left) →
+    IfSome o (λ r. Takes n size b at.first_unacknowledged (record { start = from; end = to } ∷ []) false r left) →
     IfSome o (λ r. Takes n size b (ack_of b.reported (numbers_of b.sender) from to)
     (blocks_of (numbers_of b.sender) from to) false r left)
 is_block n size b left at from to o is high takes =
@@ -51,8 +52,8 @@ is_block n size b left at from to o is high takes =
     left)) is
     (subst (λ (ack : ℕ). IfSome o (λ r. Takes n size b ack (blocks_of at from to) false r left))
     (sym (left_out (nat_le from at.first_unacknowledged) _ at.first_unacknowledged no))
-    (subst (λ (bs : List (ℕ × ℕ)). IfSome o (λ r. Takes n size b at.first_unacknowledged bs false r left))
-    (sym (left_out (nat_le from at.first_unacknowledged) [] ((from, to) ∷ []) no)) takes))
+    (subst (λ (bs : List (Range ℕ)). IfSome o (λ r. Takes n size b at.first_unacknowledged bs false r left))
+    (sym (left_out (nat_le from at.first_unacknowledged) [] (record { start = from; end = to } ∷ []) no)) takes))
 
 -- any other one acknowledges
 pub is_first : (n size : ℕ) (b left : Buffer) (at : SentNumbers) (from to ack : ℕ) (o : Option TakenAck) →
@@ -67,8 +68,8 @@ is_first n size b left at from to ack o is low known takes =
     left)) is
     (subst (λ (k : ℕ). IfSome o (λ r. Takes n size b k (blocks_of at from to) false r left))
     (known ∙ sym (chosen (nat_le from at.first_unacknowledged) _ at.first_unacknowledged yes))
-    (subst (λ (bs : List (ℕ × ℕ)). IfSome o (λ r. Takes n size b ack bs false r left))
-    (sym (chosen (nat_le from at.first_unacknowledged) [] ((from, to) ∷ []) yes)) takes))
+    (subst (λ (bs : List (Range ℕ)). IfSome o (λ r. Takes n size b ack bs false r left))
+    (sym (chosen (nat_le from at.first_unacknowledged) [] (record { start = from; end = to } ∷ []) yes)) takes))
 
 -- ---- it is taken unless the range ends above what was sent
 taken_by : (first ack sent to : ℕ) (some : Bool) → first ≤ ack → ack ≤ sent → to ≤ sent →

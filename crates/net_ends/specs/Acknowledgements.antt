@@ -17,6 +17,7 @@
 use Rattle.std.specs.Prelude.{◌≡◌, ℕ, ℤ, ◌+◌, ◌-◌, ◌^◌, max, Bool, true, false, not, ◌&&◌, ◌||◌, nat_lt, nat_le}
 use Rattle.std.specs.Prelude.{IsTrue, IsFalse, if◌then◌else◌, List, [], ◌∷◌, slice_get, fold}
 use Rattle.std.specs.List.{list_any}
+use Rattle.std.specs.declared.ops.Range.{Range}
 use Rattle.net_assembler.specs.Assembler.{makes_too_many_runs}
 use Rattle.net_assembler.specs.Positions.{Positions, first_missing, front, with_range}
 use Rattle.net_receiver.specs.declared.sent_numbers.SentNumbers.{SentNumbers}
@@ -37,31 +38,31 @@ use Rattle.net_ends.specs.Ends.{known, End, is_overdue, has_dropped}
 -- ---- blocks
 -- it begins above the first position that isn't reported, and has positions, which were sent and end less than 2 ^ 32
 -- above that one; and what is reported beyond that one has no more than n runs then
-abbrev pub is_taken : ℕ → ℕ → Positions → ℕ × ℕ → Bool
-is_taken n sent s b = nat_lt (front s) b.0 && nat_lt b.0 b.1 && nat_le b.1 sent && nat_lt b.1 (front s + 2 ^ 32)
-    && not (makes_too_many_runs n (beyond s) b.0 (b.1 - b.0))
+abbrev pub is_taken : ℕ → ℕ → Positions → Range ℕ → Bool
+is_taken n sent s b = nat_lt (front s) b.start && nat_lt b.start b.end && nat_le b.end sent && nat_lt b.end (front s + 2 ^ 32)
+    && not (makes_too_many_runs n (beyond s) b.start (b.end - b.start))
 
-abbrev pub with_block : ℕ → ℕ → Positions → ℕ × ℕ → Positions
-with_block n sent s b = if is_taken n sent s b then with_range s b.0 (b.1 - b.0) else s
+abbrev pub with_block : ℕ → ℕ → Positions → Range ℕ → Positions
+with_block n sent s b = if is_taken n sent s b then with_range s b.start (b.end - b.start) else s
 
-abbrev pub is_new : ℕ → ℕ → Positions → ℕ × ℕ → Bool
-is_new n sent s b = is_taken n sent s b && nat_lt (first_missing s b.0) b.1
+abbrev pub is_new : ℕ → ℕ → Positions → Range ℕ → Bool
+is_new n sent s b = is_taken n sent s b && nat_lt (first_missing s b.start) b.end
 
 -- what is reported, and whether one of the blocks so far reports what wasn't known
-abbrev pub after_block : ℕ → ℕ → Positions × Bool → ℕ × ℕ → Positions × Bool
+abbrev pub after_block : ℕ → ℕ → Positions × Bool → Range ℕ → Positions × Bool
 after_block n sent h b = (with_block n sent h.0 b, h.1 || is_new n sent h.0 b)
 
-abbrev pub after_blocks : ℕ → ℕ → Positions → List (ℕ × ℕ) → Positions × Bool
+abbrev pub after_blocks : ℕ → ℕ → Positions → List (Range ℕ) → Positions × Bool
 after_blocks n sent s bs = fold (after_block n sent) (s, false) bs
 
 -- all below ack is reported first
-abbrev pub reported_by : ℕ → ℕ → Positions → ℕ → List (ℕ × ℕ) → Positions × Bool
+abbrev pub reported_by : ℕ → ℕ → Positions → ℕ → List (Range ℕ) → Positions × Bool
 reported_by n sent s ack bs = after_blocks n sent (with_range s 0 ack) bs
 
-abbrev pub has_block : List (ℕ × ℕ) → Bool
-has_block bs = list_any (λ b. nat_lt b.0 b.1) bs
+abbrev pub has_block : List (Range ℕ) → Bool
+has_block bs = list_any (λ b. nat_lt b.start b.end) bs
 
-abbrev pub is_duplicated : ℕ → List (ℕ × ℕ) → Bool
+abbrev pub is_duplicated : ℕ → List (Range ℕ) → Bool
 is_duplicated ack [] = false
 is_duplicated ack (b ∷ bs) = is_duplicate_block ack b (slice_get bs 0)
 
@@ -77,7 +78,7 @@ unsent_of sender s r = unsent_at (first_number sender) s r
 
 -- with the numbers before it: whether a block `says` what wasn't known, and the segment only `repeats`, that is, has no
 -- byte and no FIN, and announces the window that was announced last
-abbrev pub answer_of : SentNumbers → ℕ → ℕ → List (ℕ × ℕ) → Bool → Bool → Answer
+abbrev pub answer_of : SentNumbers → ℕ → ℕ → List (Range ℕ) → Bool → Bool → Answer
 answer_of at unsent ack bs says repeats = record {
   first = at.first_unacknowledged;
   unsent = unsent;
@@ -86,11 +87,11 @@ answer_of at unsent ack bs says repeats = record {
 }
 
 -- the first block came twice
-abbrev pub with_twice : SentNumbers → List (ℕ × ℕ) → LossRecovery → LossRecovery
+abbrev pub with_twice : SentNumbers → List (Range ℕ) → LossRecovery → LossRecovery
 with_twice at [] r = r
-with_twice at (b ∷ bs) r = after_copies at.first_unacknowledged at.sent b.0 b.1 r
+with_twice at (b ∷ bs) r = after_copies at.first_unacknowledged at.sent b.start b.end r
 
-abbrev pub doubted : SentNumbers → ℕ → List (ℕ × ℕ) → LossRecovery → LossRecovery
+abbrev pub doubted : SentNumbers → ℕ → List (Range ℕ) → LossRecovery → LossRecovery
 doubted at ack bs r = if is_duplicated ack bs then with_twice at bs r else r
 
 abbrev pub answered : ℕ → ℕ → ℕ → Answer → Positions → LossRecovery → LossRecovery
@@ -117,7 +118,7 @@ pub record IsLeft (size ack sent : ℕ) (a : Answer) (s : Positions) (r left : L
         (answered size ack sent a s r)))
 
 -- with the numbers, what was unsent, what was reported and the recovery before the acknowledgement
-abbrev pub Recovers : ℕ → ℕ → SentNumbers → ℕ → Positions → LossRecovery → ℕ → List (ℕ × ℕ) → Bool → Bool →
+abbrev pub Recovers : ℕ → ℕ → SentNumbers → ℕ → Positions → LossRecovery → ℕ → List (Range ℕ) → Bool → Bool →
     LossRecovery → Bool → Type 0
 Recovers n size at unsent s r ack bs repeats says left begins =
     IsLeft size ack at.sent (answer_of at unsent ack bs says repeats) (reported_by n at.sent s ack bs).0

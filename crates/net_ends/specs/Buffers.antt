@@ -7,6 +7,7 @@
 --     Takes n size b ack bs repeats it left      what an acknowledgement says and leaves
 --     marked b from to, remaining b      what is left once a range is sent; how much may be sent before an answer
 use Rattle.std.specs.Prelude.{◌≡◌, ℕ, ◌+◌, ◌-◌, min, max, Bool, true, false, nat_le, if◌then◌else◌, List, [], ◌∷◌}
+use Rattle.std.specs.declared.ops.Range.{Range}
 use Rattle.net_assembler.specs.Positions.{Positions, with_range, nothing, first_missing}
 use Rattle.net_receiver.specs.declared.sent_numbers.SentNumbers.{SentNumbers}
 use Rattle.net_receiver.specs.FiniteSender.{FiniteSenderState, fresh_finite_sender, numbers_end}
@@ -70,11 +71,11 @@ ack_of s at from to =
     if nat_le from at.first_unacknowledged then min (first_missing s (max to at.first_unacknowledged)) at.sent
     else at.first_unacknowledged
 
-abbrev pub blocks_of : SentNumbers → ℕ → ℕ → List (ℕ × ℕ)
-blocks_of at from to = if nat_le from at.first_unacknowledged then [] else (from, to) ∷ []
+abbrev pub blocks_of : SentNumbers → ℕ → ℕ → List (Range ℕ)
+blocks_of at from to = if nat_le from at.first_unacknowledged then [] else record { start = from; end = to } ∷ []
 
 -- as the clauses of `acknowledge` say it
-pub record Takes (n size : ℕ) (b : Buffer) (ack : ℕ) (bs : List (ℕ × ℕ)) (repeats : Bool) (it : TakenAck)
+pub record Takes (n size : ℕ) (b : Buffer) (ack : ℕ) (bs : List (Range ℕ)) (repeats : Bool) (it : TakenAck)
     (left : Buffer) : Type 0 where
   pub state : left ≡ record {
     sender = sender_after_command b.sender (Acknowledges ack);

@@ -3,17 +3,16 @@
 --     Takes expiry f said left      the timer's end, once it has started again: Silent, TimesOut
 --     Looks e now said left      the timer
 --     Chooses e window now said left      a segment
-use Rattle.std.specs.Prelude.{◌≡◌, ◌↔◌, ℕ, ℤ, ◌+◌, ◌-◌, ◌<◌, ◌≤◌, ◌==◌, ◌&&◌, max, Option, Some, None, is_some}
-use Rattle.std.specs.Prelude.{IfSome, IfNone, Bool, not, nat_eq, nat_lt, if◌then◌else◌, IsTrue, IsFalse, List, length}
-use Rattle.std.specs.Prelude.{unwrap_or, replicate, false}
+use Rattle.std.specs.Prelude.{◌≡◌, ◌↔◌, ℕ, ℤ, ◌+◌, ◌-◌, ◌<◌, ◌≤◌, ◌==◌, ◌&&◌, Option, is_some}
+use Rattle.std.specs.Prelude.{IfSome, IfNone, Bool, nat_lt, if◌then◌else◌, IsTrue, IsFalse, List}
+use Rattle.std.specs.Prelude.{false}
 use Rattle.std.specs.Option.{option_or}
+use Rattle.std.specs.declared.ops.Range.{Range}
 use Rattle.net_assembler.specs.Positions.{contains}
-use Rattle.net_receiver.specs.FiniteSender.{finite_sender_of, IsSoundFiniteSender, accepts}
-use Rattle.net_receiver.specs.Scoreboards.{reported_by as reported_of, IsSoundBoard, IsEnd}
+use Rattle.net_receiver.specs.FiniteSender.{accepts}
+use Rattle.net_receiver.specs.Scoreboards.{IsEnd}
 use Rattle.net_tcp.specs.LossRecovery.{is_active}
-use Rattle.net_tcp.specs.LossRecovery.{Recovery}
-use Rattle.net_tcp.specs.Retransmission.{has_ended, has_expired, new_timer}
-use Rattle.net_tcp.specs.Windows.{no_window}
+use Rattle.net_tcp.specs.Retransmission.{has_ended, has_expired}
 use Rattle.net_ends.specs.Acknowledgements.{reported_by, numbers_of, unsent_of, Recovers, expiry_of, after_wait}
 use Rattle.net_ends.specs.Acknowledgements.{doubted}
 use Rattle.net_ends.specs.Acknowledgements.{is_sought, after_segment, begins_by, loses_nothing}
@@ -25,12 +24,12 @@ use Rattle.net_ends.specs.Ends.{hurries}
 use Rattle.net_ends.specs.Ends.{AreHoles, open_to, found, due_of, range_of, IsProbed, probe_of, is_probe, is_worth}
 use Rattle.net_ends.specs.Ends.{may_send}
 use Rattle.net_ends.specs.declared.sending_end.Acknowledged.{Acknowledged}
-use Rattle.net_ends.specs.declared.sending_end.Acknowledged.TheVariants.{Refused, Old, Taken}
+use Rattle.net_ends.specs.declared.sending_end.Acknowledged.TheVariants.{Refused, Old}
 use Rattle.net_ends.specs.declared.sending_end.Expired.{Expired}
 use Rattle.net_ends.specs.declared.sending_end.Expired.TheVariants.{No, Overdue, Probe, Lost}
 use Rattle.net_ends.specs.declared.sending_end.Outgoing.{Outgoing}
 
-pub record Hears (most_runs : ℕ) (e : End) (seq ack window : ℕ) (bs : List (ℕ × ℕ)) (empty : Bool) (now : ℤ)
+pub record Hears (most_runs : ℕ) (e : End) (seq ack window : ℕ) (bs : List (Range ℕ)) (empty : Bool) (now : ℤ)
     (said : Acknowledged) (left : End) : Type 0 where
   pub refused : (said ≡ Refused) ↔ IsFalse (is_acceptable e ack)
   pub old : (said ≡ Old) ↔ (IsTrue (is_acceptable e ack) × IsFalse (accepts e.sender ack))

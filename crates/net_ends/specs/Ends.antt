@@ -30,6 +30,7 @@ use Rattle.std.specs.Prelude.{◌∷◌, ◌++◌}
 use Rattle.std.specs.Coded.{Coded, coded_ℕ}
 use Rattle.std.specs.Int.{from_bool}
 use Rattle.std.specs.FinSet as set
+use Rattle.std.specs.declared.ops.Range.{Range}
 use Rattle.net_assembler.specs.Positions.{Positions, contains, with_range, nothing}
 use Rattle.net_tcp.specs.LossRecovery.{begun as begun_recovery, forgotten, new_recovery}
 use Rattle.net_ends.specs.Rules.{Known, queued_of, renewed_by, window_shut, asks_window, room_to, most_to, in_hurry}
@@ -257,26 +258,26 @@ abbrev pub AreHoles : End → ℕ → Option (ℕ × ℕ) → Option (ℕ × ℕ
 AreHoles e limit lost others = HolesOf (known e) limit lost others
 
 -- what the recovery sends next, and that unless it is held back
-abbrev pub found : End → ℕ → ℕ → Option (ℕ × ℕ) → Option (ℕ × ℕ) → Option (ℕ × ℕ)
+abbrev pub found : End → ℕ → ℕ → Option (ℕ × ℕ) → Option (ℕ × ℕ) → Option (Range ℕ)
 found e limit window lost others = next_of (known e) limit window lost others
 
-abbrev pub due_of : End → Option (ℕ × ℕ) → Option (ℕ × ℕ)
+abbrev pub due_of : End → Option (Range ℕ) → Option (Range ℕ)
 due_of e r = due_part (known e) r
 
 -- what a probe for an answer sends, by the end of what was reported and the first hole in it
 abbrev pub IsProbed : End → ℕ → ℕ → Option (ℕ × ℕ) → Type 0
 IsProbed e limit highest hole = ProbedOf (known e) limit highest hole
 
-abbrev pub probe_of : End → ℕ → ℕ → Option (ℕ × ℕ) → Option (ℕ × ℕ)
+abbrev pub probe_of : End → ℕ → ℕ → Option (ℕ × ℕ) → Option (Range ℕ)
 probe_of e limit highest hole = probe_part (known e) limit highest hole
 
 -- the next segment is such a probe: no answer came, the window isn't asked for, and nothing else may be sent
 abbrev pub is_probe : End → ℕ → Option (ℕ × ℕ) → Option (ℕ × ℕ) → Bool
 is_probe e window lost others = is_probing (known e) window lost others
 
-abbrev pub range_of : Option Outgoing → Option (ℕ × ℕ)
+abbrev pub range_of : Option Outgoing → Option (Range ℕ)
 range_of None = None
-range_of (Some it) = Some (it.pos, it.end)
+range_of (Some it) = Some (record { start = it.pos; end = it.end })
 
 -- a range that may be sent: a probe is the first number alone
 abbrev pub may_send : End → ℕ → ℕ → Bool

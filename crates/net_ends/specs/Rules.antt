@@ -21,7 +21,8 @@ use Rattle.net_assembler.specs.Positions.{Positions}
 use Rattle.net_receiver.specs.Scoreboards.{IsEnd, IsHole, reported_by}
 use Rattle.net_receiver.specs.FiniteSender.{FiniteSenderState, first_number, numbers_end}
 use Rattle.net_tcp.specs.LossRecovery.{Recovery, recovery_of, next_segment, next_range, in_flight, resumed}
-use Rattle.net_tcp.specs.LossRecovery.{gone_on}
+use Rattle.net_tcp.specs.LossRecovery.{gone_on, as_range}
+use Rattle.std.specs.declared.ops.Range.{Range}
 use Rattle.net_tcp.specs.LossRecovery.{next_probe}
 use Rattle.net_receiver.specs.declared.sent_numbers.SentNumbers.{SentNumbers}
 use Rattle.net_tcp.specs.Retransmission.{Timer, started, new_timer}
@@ -110,22 +111,23 @@ pub record HolesOf (k : Known) (limit : ℕ) (lost others : Option (ℕ × ℕ))
   pub other_hole : IsHole k.reported (gone_on k.recovery (low k)) (min k.recovery.lost limit) others
 
 -- what the recovery sends next, and that unless it is held back
-abbrev pub next_of : Known → ℕ → ℕ → Option (ℕ × ℕ) → Option (ℕ × ℕ) → Option (ℕ × ℕ)
+abbrev pub next_of : Known → ℕ → ℕ → Option (ℕ × ℕ) → Option (ℕ × ℕ) → Option (Range ℕ)
 next_of k limit window lost others =
-    next_segment (low k) (in_flight k.recovery (low k) (high k) k.reported) window (max 1 k.size)
-    (next_range k.recovery (low k) (high k) limit lost others)
+    as_range (next_segment (low k) (in_flight k.recovery (low k) (high k) k.reported) window (max 1 k.size)
+    (next_range k.recovery (low k) (high k) limit lost others))
 
-abbrev pub due_part : Known → Option (ℕ × ℕ) → Option (ℕ × ℕ)
+abbrev pub due_part : Known → Option (Range ℕ) → Option (Range ℕ)
 due_part k None = None
-due_part k (Some r) = if due k r.0 r.1 then Some r else None
+due_part k (Some r) = if due k r.start r.end then Some r else None
 
 -- what a probe for an answer sends, by the end of what was reported and the first hole in it
 pub record ProbedOf (k : Known) (limit highest : ℕ) (hole : Option (ℕ × ℕ)) : Type 0 where
   pub top : IsEnd k.reported highest
   pub first_hole : IsHole k.reported (low k) (min (high k) limit) hole
 
-abbrev pub probe_part : Known → ℕ → ℕ → Option (ℕ × ℕ) → Option (ℕ × ℕ)
-probe_part k limit highest hole = next_probe k.recovery (max 1 k.size) (low k) (high k) limit highest hole
+abbrev pub probe_part : Known → ℕ → ℕ → Option (ℕ × ℕ) → Option (Range ℕ)
+probe_part k limit highest hole =
+    as_range (next_probe k.recovery (max 1 k.size) (low k) (high k) limit highest hole)
 
 -- the next segment is such a probe: no answer came, the window isn't asked for, and nothing else may be sent
 abbrev pub is_probing : Known → ℕ → Option (ℕ × ℕ) → Option (ℕ × ℕ) → Bool

@@ -4,7 +4,8 @@ ghost use Rattle.std.specs.Prelude.{IfSome, IfNone, is_some, ◌++◌, not, true
 ghost use Rattle.net_assembler.specs.Positions.{contains};
 ghost use Rattle.net_tcp.specs.LossRecovery.{is_wrong, taken_back, was_sent_again};
 ghost use Rattle.net_tcp.specs.LossRecovery.{is_active, in_flight, begun, forgotten, next_segment, next_range};
-ghost use Rattle.net_tcp.specs.LossRecovery.{resumed, recovery_of};
+ghost use Rattle.net_tcp.specs.LossRecovery.{resumed, recovery_of, as_range};
+ghost use Rattle.net_tcp.specs.Sack.{is_permitted};
 ghost use Rattle.net_tcp.specs.LossRecovery.{gone_on, begins_at, next_probe};
 ghost use Rattle.net_receiver.specs.FiniteSender.{sender_after_command, Writes, Closes, Marks, Acknowledges, accepts};
 ghost use Rattle.net_receiver.specs.FiniteSender.{finite_room, first_number, numbers_end};
@@ -26,7 +27,9 @@ ghost use Rattle.net_ends.specs.Acknowledgements.{after_segment, after_wait};
 use net_assembler::Run;
 use net_receiver::{FiniteSenderOver, ScoreboardHead, SentNumbers};
 use net_ring::{ManagedSlice, Storage};
-use net_tcp::{Answer, LentScoreboard, LossRecovery, is_duplicate_block, is_equal_acknowledgement};
+use net_tcp::{
+    Answer, LentScoreboard, LossRecovery, Sack, is_duplicate_block, is_equal_acknowledgement,
+};
 use std::marker::Model;
 use std::ops::Range;
 
@@ -68,7 +71,7 @@ pub struct BufferHead {
 /// for _ in 0..3 {
 ///     buffer.acknowledge(0, &[], 8, AckKind::Repeat).expect("0 isn't beyond what was sent");
 /// }
-/// assert_eq!(buffer.next(u64::MAX, u64::MAX, 8), Some((0, 8)));
+/// assert_eq!(buffer.next(u64::MAX, u64::MAX, 8), Some(0..8));
 /// ```
 #[derive(Copy, Clone, Debug, PartialEq, Eq)]
 pub enum AckKind {
@@ -108,12 +111,12 @@ pub struct TakenAck {
 /// let mut storage = [0u8; 64];
 /// let mut buffer = SendBuffer::<4>::new_at(&mut storage[..], 0);
 /// assert_eq!(buffer.write(&[7; 16]), 16);
-/// let (start, end) = buffer.next(u64::MAX, u64::MAX, 8).expect("a segment");
-/// assert!(buffer.mark(start..end, Sending::Segment));
+/// let range = buffer.next(u64::MAX, u64::MAX, 8).expect("a segment");
+/// assert!(buffer.mark(range, Sending::Segment));
 /// // No answer came for two round trips: a probe asks for one.
-/// let (start, end) = buffer.next_probe(u64::MAX, 8).expect("a probe");
-/// assert!(buffer.mark(start..end, Sending::TailProbe));
-/// assert_eq!((start, end), (8, 16));
+/// let range = buffer.next_probe(u64::MAX, 8).expect("a probe");
+/// assert_eq!(range, 8..16);
+/// assert!(buffer.mark(range, Sending::TailProbe));
 /// ```
 #[derive(Copy, Clone, Debug, PartialEq, Eq)]
 pub enum Sending {
@@ -162,10 +165,10 @@ pub type SendBuffer<'a, const N: usize> = SendBufferOver<ManagedSlice<'a, u8>, N
 /// assert_eq!(stream.write(b"nineteen bytes here"), 19);
 /// stream.close();
 /// let mut frames = Vec::new();
-/// while let Some((from, to)) = stream.next(33, 1200, 8) {
-///     let it = stream.bytes(from..to);
-///     frames.push((from, [it.front, it.back].concat(), it.is_last));
-///     assert!(stream.mark(from..to, Sending::Segment));
+/// while let Some(range) = stream.next(33, 1200, 8) {
+///     let it = stream.bytes(range.clone());
+///     frames.push((range.start, [it.front, it.back].concat(), it.is_last));
+///     assert!(stream.mark(range, Sending::Segment));
 /// }
 /// // The loop ends, though the limit is above the 20 numbers of 19 bytes and the end.
 /// assert_eq!(frames[0], (0, b"nineteen".to_vec(), false));
@@ -178,7 +181,7 @@ pub type SendBuffer<'a, const N: usize> = SendBufferOver<ManagedSlice<'a, u8>, N
 /// assert_eq!(taken.new, 16);
 /// // No answer to the third one comes in time: it is sent again.
 /// stream.lose_all();
-/// assert_eq!(stream.next(33, 1200, 8), Some((16, 20)));
+/// assert_eq!(stream.next(33, 1200, 8), Some(16..20));
 /// assert!(stream.mark(16..20, Sending::Segment));
 /// assert_eq!(stream.next(33, 1200, 8), None);
 /// assert!(stream.acknowledge_range(16..20, 8).is_some() && stream.is_done());
@@ -370,7 +373,7 @@ impl BufferHead {
         runs: &mut [Run],
         numbers: SentNumbers,
         ack: u64,
-        blocks: &[(u64, u64)],
+        blocks: &[Range<u64>],
         segment_size: usize,
         kind: AckKind,
     ) -> TakenAck
@@ -412,7 +415,7 @@ impl BufferHead {
         runs: &[Run],
         numbers: SentNumbers,
         ack: u64,
-        blocks: &[(u64, u64)],
+        blocks: &[Range<u64>],
         segment_size: usize,
         answer: Answer,
     ) -> bool
@@ -440,14 +443,14 @@ impl BufferHead {
     }
 
     /// Tells the recovery, if the first block reports what came twice.
-    pub fn note_duplicate(&mut self, numbers: SentNumbers, ack: u64, blocks: &[(u64, u64)])
+    pub fn note_duplicate(&mut self, numbers: SentNumbers, ack: u64, blocks: &[Range<u64>])
         ensures rest { self.new.scoreboard ≡ self.old.scoreboard }
         ensures recovery { recovery_of self.new.recovery
             ≡ doubted numbers ack blocks.now (recovery_of self.old.recovery) }
     {
         if is_duplicated(ack, blocks) {
-            let (from, to) = blocks[0];
-            self.recovery.came_twice(numbers, from..to);
+            let block = &blocks[0];
+            self.recovery.came_twice(numbers, block.start..block.end);
         }
     }
 
@@ -486,26 +489,26 @@ impl BufferHead {
         limit: u64,
         congestion_window: u64,
         segment_size: usize,
-    ) -> Option<(u64, u64)>
+    ) -> Option<Range<u64>>
         requires { IsSoundBoard self.now.scoreboard runs.now }
         ensures next { (lost others : Option (ℕ × ℕ)) → let low = numbers.first_unacknowledged in
             let r = recovery_of self.now.recovery in
             IsHole (board_of self.now runs.now) (resumed r low) (min (min r.turn r.lost) limit) lost →
             IsHole (board_of self.now runs.now) (gone_on r low) (min r.lost limit) others →
-            result ≡ next_segment low (in_flight r low numbers.sent (board_of self.now runs.now))
-            congestion_window (max 1 segment_size) (next_range r low numbers.sent limit lost others) }
-        ensures within { IfSome result (λ r. (r.0 < r.1) × (r.1 ≤ limit)
-            × (r.1 ≤ r.0 + max 1 segment_size)) }
+            result ≡ as_range (next_segment low (in_flight r low numbers.sent (board_of self.now runs.now))
+            congestion_window (max 1 segment_size) (next_range r low numbers.sent limit lost others)) }
+        ensures within { IfSome result (λ r. (r.start < r.end) × (r.end ≤ limit)
+            × (r.end ≤ r.start + max 1 segment_size)) }
         ensures begins { let low = numbers.first_unacknowledged in
             IsFalse (is_active (recovery_of self.now.recovery) low) →
             low ≡ numbers.sent → low < limit → IsTrue (begins_at low result) }
         ensures after { numbers.first_unacknowledged ≤ numbers.sent →
-            IfSome result (λ r. numbers.first_unacknowledged ≤ r.0) }
-        ensures once { IfSome result (λ r. (p : ℕ) → r.0 ≤ p → p < r.1 → p < numbers.sent →
+            IfSome result (λ r. numbers.first_unacknowledged ≤ r.start) }
+        ensures once { IfSome result (λ r. (p : ℕ) → r.start ≤ p → p < r.end → p < numbers.sent →
             IsFalse (contains (board_of self.now runs.now) p)
             × IsFalse (was_sent_again (recovery_of self.now.recovery) numbers.first_unacknowledged p)) }
         ensures fresh { IsFalse (is_active (recovery_of self.now.recovery) numbers.first_unacknowledged) →
-            IfSome result (λ r. r.0 ≡ numbers.sent) }
+            IfSome result (λ r. r.start ≡ numbers.sent) }
     {
         self.recovery.next_segment(
             numbers,
@@ -523,22 +526,22 @@ impl BufferHead {
         numbers: SentNumbers,
         limit: u64,
         segment_size: usize,
-    ) -> Option<(u64, u64)>
+    ) -> Option<Range<u64>>
         requires { IsSoundBoard self.now.scoreboard runs.now }
         ensures value { (highest : ℕ) (hole : Option (ℕ × ℕ)) → let low = numbers.first_unacknowledged in
             IsEnd (board_of self.now runs.now) highest →
             IsHole (board_of self.now runs.now) low (min numbers.sent limit) hole →
-            result ≡ next_probe (recovery_of self.now.recovery) (max 1 segment_size) low numbers.sent
-            limit highest hole }
+            result ≡ as_range (next_probe (recovery_of self.now.recovery) (max 1 segment_size) low
+            numbers.sent limit highest hole) }
         ensures progress { numbers.first_unacknowledged < min numbers.sent limit →
             IsFalse (contains (board_of self.now runs.now) numbers.first_unacknowledged) →
             IsTrue (is_some result) }
-        ensures unreported { IfSome result (λ r. (p : ℕ) → r.0 ≤ p → p < r.1 → p < numbers.sent →
+        ensures unreported { IfSome result (λ r. (p : ℕ) → r.start ≤ p → p < r.end → p < numbers.sent →
             IsFalse (contains (board_of self.now runs.now) p)) }
-        ensures within { IfSome result (λ r. (r.0 < r.1) × (r.1 ≤ limit)
-            × (r.1 ≤ r.0 + max 1 segment_size)) }
+        ensures within { IfSome result (λ r. (r.start < r.end) × (r.end ≤ limit)
+            × (r.end ≤ r.start + max 1 segment_size)) }
         ensures after { numbers.first_unacknowledged ≤ numbers.sent →
-            IfSome result (λ r. numbers.first_unacknowledged ≤ r.0) }
+            IfSome result (λ r. numbers.first_unacknowledged ≤ r.start) }
     {
         self.recovery
             .next_probe(numbers, &self.board(runs), limit, segment_size)
@@ -614,13 +617,13 @@ impl<S: Storage<u8>, const N: usize> SendBufferOver<S, N> {
         self.head.recovery.is_blind()
     }
 
-    /// Takes notice whether the peer reports what arrives.
-    pub fn expect_reports(&mut self, reports: bool)
+    /// Takes notice whether the peer reports what arrives, in blocks.
+    pub fn expect_reports(&mut self, sack: Sack)
         ensures { self.new ≡ record self.old {
-          recovery = record self.old.recovery { is_blind = not reports; unknown = 0 };
+          recovery = record self.old.recovery { is_blind = not (is_permitted sack); unknown = 0 };
         } }
     {
-        self.head.recovery.expect_reports(reports);
+        self.head.recovery.expect_reports(sack);
     }
 
     /// Takes an acknowledgement of TCP: of all below `ack`, with its blocks, in a segment of that kind.
@@ -633,18 +636,18 @@ impl<S: Storage<u8>, const N: usize> SendBufferOver<S, N> {
     /// # let mut storage = [0u8; 64];
     /// # let mut buffer = SendBuffer::<4>::new_at(&mut storage[..], 0);
     /// # assert_eq!(buffer.write(&[7; 32]), 32);
-    /// # while let Some((start, end)) = buffer.next(u64::MAX, u64::MAX, 8) {
-    /// #     assert!(buffer.mark(start..end, Sending::Segment));
+    /// # while let Some(range) = buffer.next(u64::MAX, u64::MAX, 8) {
+    /// #     assert!(buffer.mark(range, Sending::Segment));
     /// # }
     /// // All below 8, and a block.
-    /// let taken = buffer.acknowledge(8, &[(16, 24)], 8, AckKind::Other).expect("it was sent");
+    /// let taken = buffer.acknowledge(8, &[16..24], 8, AckKind::Other).expect("it was sent");
     /// assert_eq!((taken.new, taken.reports), (8, true));
     /// assert_eq!(buffer.acknowledge(33, &[], 8, AckKind::Other), None); // never sent
     /// ```
     pub fn acknowledge(
         &mut self,
         ack: u64,
-        blocks: &[(u64, u64)],
+        blocks: &[Range<u64>],
         segment_size: usize,
         kind: AckKind,
     ) -> Option<TakenAck>
@@ -690,8 +693,8 @@ impl<S: Storage<u8>, const N: usize> SendBufferOver<S, N> {
     /// # let mut storage = [0u8; 64];
     /// # let mut buffer = SendBuffer::<4>::new_at(&mut storage[..], 0);
     /// # assert_eq!(buffer.write(&[7; 32]), 32);
-    /// # while let Some((start, end)) = buffer.next(u64::MAX, u64::MAX, 8) {
-    /// #     assert!(buffer.mark(start..end, Sending::Segment));
+    /// # while let Some(range) = buffer.next(u64::MAX, u64::MAX, 8) {
+    /// #     assert!(buffer.mark(range, Sending::Segment));
     /// # }
     /// // Ranges in any order.
     /// let taken = buffer.acknowledge_range(8..16, 8).expect("it was sent");
@@ -711,8 +714,12 @@ impl<S: Storage<u8>, const N: usize> SendBufferOver<S, N> {
             return None;
         }
         if numbers.first_unacknowledged < range.start {
-            let (ack, block) = (numbers.first_unacknowledged, [(range.start, range.end)]);
-            return self.acknowledge(ack, &block, segment_size, AckKind::Other);
+            return self.acknowledge(
+                numbers.first_unacknowledged,
+                &[range],
+                segment_size,
+                AckKind::Other,
+            );
         }
         let known = self
             .head
@@ -724,7 +731,7 @@ impl<S: Storage<u8>, const N: usize> SendBufferOver<S, N> {
 
     /// Tells the recovery, if the first block of an acknowledgement reports what came twice: for one of TCP that
     /// `acknowledge` doesn't take, since it is an old one.
-    pub fn note_duplicate(&mut self, ack: u64, blocks: &[(u64, u64)])
+    pub fn note_duplicate(&mut self, ack: u64, blocks: &[Range<u64>])
         ensures { self.new ≡ record self.old {
           recovery =
               doubted (numbers_of self.old.sender) ack blocks.now self.old.recovery;
@@ -765,13 +772,13 @@ impl<S: Storage<u8>, const N: usize> SendBufferOver<S, N> {
     /// # let mut storage = [0u8; 64];
     /// # let mut buffer = SendBuffer::<4>::new_at(&mut storage[..], 0);
     /// # assert_eq!(buffer.write(&[7; 32]), 32);
-    /// # while let Some((start, end)) = buffer.next(u64::MAX, u64::MAX, 8) {
-    /// #     assert!(buffer.mark(start..end, Sending::Segment));
+    /// # while let Some(range) = buffer.next(u64::MAX, u64::MAX, 8) {
+    /// #     assert!(buffer.mark(range, Sending::Segment));
     /// # }
     /// buffer.acknowledge_range(0..8, 8).expect("it was sent");
     /// assert_eq!(buffer.next(u64::MAX, u64::MAX, 8), None);
     /// buffer.lose_all();
-    /// assert_eq!(buffer.next(u64::MAX, u64::MAX, 8), Some((8, 16)));
+    /// assert_eq!(buffer.next(u64::MAX, u64::MAX, 8), Some(8..16));
     /// ```
     pub fn lose_all(&mut self)
         ensures { self.new ≡ record self.old {
@@ -782,9 +789,9 @@ impl<S: Storage<u8>, const N: usize> SendBufferOver<S, N> {
         self.head.recovery.lose_all(self.sender.sent_numbers());
     }
 
-    /// Returns what to send next below `limit`, as a start and an end, the end not included, at most a segment: what is
-    /// lost, else what was never sent. `None` if there is none, or if with a whole segment more than the congestion
-    /// window would be in flight. The first unacknowledged number is sent whatever is in flight.
+    /// Returns the range to send next below `limit`, at most a segment: what is lost, else what was never sent. `None` if
+    /// there is none, or if with a whole segment more than the congestion window would be in flight. The first
+    /// unacknowledged number is sent whatever is in flight.
     ///
     /// Of a `limit` above `numbers_end`, such as a window that has more room than there is to send, only what is below
     /// `numbers_end` counts. So each range has a number that was written, or is the end; and as long as nothing is
@@ -796,11 +803,11 @@ impl<S: Storage<u8>, const N: usize> SendBufferOver<S, N> {
     /// # let mut buffer = SendBuffer::<4>::new_at(&mut storage[..], 0);
     /// assert_eq!(buffer.write(&[7; 12]), 12);
     /// let mut sent = vec![];
-    /// while let Some((start, end)) = buffer.next(u64::MAX, u64::MAX, 8) {
-    ///     assert!(buffer.mark(start..end, Sending::Segment));
-    ///     sent.push((start, end));
+    /// while let Some(range) = buffer.next(u64::MAX, u64::MAX, 8) {
+    ///     sent.push(range.clone());
+    ///     assert!(buffer.mark(range, Sending::Segment));
     /// }
-    /// assert_eq!(sent, [(0, 8), (8, 12)]);
+    /// assert_eq!(sent, [0..8, 8..12]);
     /// ```
     #[must_use]
     pub fn next(
@@ -808,26 +815,26 @@ impl<S: Storage<u8>, const N: usize> SendBufferOver<S, N> {
         limit: u64,
         congestion_window: u64,
         segment_size: usize,
-    ) -> Option<(u64, u64)>
+    ) -> Option<Range<u64>>
         ensures next { (lost others : Option (ℕ × ℕ)) → let low = first_number self.now.sender in
             let top = min limit (numbers_end self.now.sender) in
             IsHole self.now.reported (resumed self.now.recovery low)
             (min (min self.now.recovery.turn self.now.recovery.lost) top) lost →
             IsHole self.now.reported (gone_on self.now.recovery low)
             (min self.now.recovery.lost top) others →
-            result ≡ next_segment low
+            result ≡ as_range (next_segment low
             (in_flight self.now.recovery low self.now.sender.sent self.now.reported)
             congestion_window (max 1 segment_size)
-            (next_range self.now.recovery low self.now.sender.sent top lost others) }
-        ensures within { IfSome result (λ r. (r.0 < r.1) × (r.1 ≤ limit)
-            × (r.1 ≤ r.0 + max 1 segment_size)) }
-        ensures written { IfSome result (λ r. r.1 ≤ numbers_end self.now.sender) }
+            (next_range self.now.recovery low self.now.sender.sent top lost others)) }
+        ensures within { IfSome result (λ r. (r.start < r.end) × (r.end ≤ limit)
+            × (r.end ≤ r.start + max 1 segment_size)) }
+        ensures written { IfSome result (λ r. r.end ≤ numbers_end self.now.sender) }
         ensures begins { let low = first_number self.now.sender in
             IsFalse (is_active self.now.recovery low) →
             low ≡ self.now.sender.sent → low < limit → low < numbers_end self.now.sender →
             IsTrue (begins_at low result) }
-        ensures after { IfSome result (λ r. first_number self.now.sender ≤ r.0) }
-        ensures ends { IfSome result (λ r. remaining (marked self.now r.0 r.1)
+        ensures after { IfSome result (λ r. first_number self.now.sender ≤ r.start) }
+        ensures ends { IfSome result (λ r. remaining (marked self.now r.start r.end)
             < remaining self.now) }
     {
         let numbers = self.numbers();
@@ -845,31 +852,31 @@ impl<S: Storage<u8>, const N: usize> SendBufferOver<S, N> {
     /// # let mut storage = [0u8; 64];
     /// # let mut buffer = SendBuffer::<4>::new_at(&mut storage[..], 0);
     /// # assert_eq!(buffer.write(&[7; 32]), 32);
-    /// # while let Some((start, end)) = buffer.next(u64::MAX, u64::MAX, 8) {
-    /// #     assert!(buffer.mark(start..end, Sending::Segment));
+    /// # while let Some(range) = buffer.next(u64::MAX, u64::MAX, 8) {
+    /// #     assert!(buffer.mark(range, Sending::Segment));
     /// # }
     /// // Nothing is left to send, so the last segment is sent again, so that an answer comes.
-    /// assert_eq!(buffer.next_probe(u64::MAX, 8), Some((24, 32)));
+    /// assert_eq!(buffer.next_probe(u64::MAX, 8), Some(24..32));
     /// ```
     #[must_use]
-    pub fn next_probe(&self, limit: u64, segment_size: usize) -> Option<(u64, u64)>
+    pub fn next_probe(&self, limit: u64, segment_size: usize) -> Option<Range<u64>>
         ensures value { (highest : ℕ) (hole : Option (ℕ × ℕ)) →
             let low = first_number self.now.sender in
             let top = min limit (numbers_end self.now.sender) in
             IsEnd self.now.reported highest →
             IsHole self.now.reported low (min self.now.sender.sent top) hole →
-            result ≡ next_probe self.now.recovery (max 1 segment_size) low self.now.sender.sent
-            top highest hole }
+            result ≡ as_range (next_probe self.now.recovery (max 1 segment_size) low
+            self.now.sender.sent top highest hole) }
         ensures progress { first_number self.now.sender < min self.now.sender.sent limit →
             IsFalse (contains self.now.reported (first_number self.now.sender)) →
             IsTrue (is_some result) }
-        ensures unreported { IfSome result (λ r. (p : ℕ) → r.0 ≤ p → p < r.1 →
+        ensures unreported { IfSome result (λ r. (p : ℕ) → r.start ≤ p → p < r.end →
             p < self.now.sender.sent →
             IsFalse (contains self.now.reported p)) }
-        ensures within { IfSome result (λ r. (r.0 < r.1) × (r.1 ≤ limit)
-            × (r.1 ≤ r.0 + max 1 segment_size)) }
-        ensures written { IfSome result (λ r. r.1 ≤ numbers_end self.now.sender) }
-        ensures after { IfSome result (λ r. first_number self.now.sender ≤ r.0) }
+        ensures within { IfSome result (λ r. (r.start < r.end) × (r.end ≤ limit)
+            × (r.end ≤ r.start + max 1 segment_size)) }
+        ensures written { IfSome result (λ r. r.end ≤ numbers_end self.now.sender) }
+        ensures after { IfSome result (λ r. first_number self.now.sender ≤ r.start) }
     {
         let numbers = self.numbers();
         let top = limit.min(self.sender.numbers_end());
@@ -994,7 +1001,7 @@ fn has_dropped(board: &ScoreboardHead, runs: &[Run], after: SentNumbers) -> bool
 fn report_blocks(
     board: &mut ScoreboardHead,
     runs: &mut [Run],
-    blocks: &[(u64, u64)],
+    blocks: &[Range<u64>],
     sent: u64,
 ) -> bool
     requires { IsSoundBoard board.old runs.old }
@@ -1007,7 +1014,7 @@ fn report_blocks(
 {
     let mut reports = false;
     for block in blocks {
-        if report_block(board, runs, block.0, block.1, sent) {
+        if report_block(board, runs, block, sent) {
             reports = true;
         }
     }
@@ -1016,34 +1023,28 @@ fn report_blocks(
 
 /// Reports a block, if it begins beyond the first position that wasn't reported. Returns whether that wasn't known:
 /// what is refused is sent again.
-fn report_block(
-    board: &mut ScoreboardHead,
-    runs: &mut [Run],
-    start: u64,
-    end: u64,
-    sent: u64,
-) -> bool
+fn report_block(board: &mut ScoreboardHead, runs: &mut [Run], block: &Range<u64>, sent: u64) -> bool
     requires { IsSoundBoard board.old runs.old }
     ensures sound { IsSoundBoard board.new runs.new }
     ensures length { length runs.new ≡ length runs.old }
     ensures state { reported_to board.new runs.new
-        ≡ with_block (length runs.old) sent (reported_to board.old runs.old) (start, end) }
-    ensures value { result ≡ is_new (length runs.old) sent (reported_to board.old runs.old) (start, end) }
+        ≡ with_block (length runs.old) sent (reported_to board.old runs.old) block.now }
+    ensures value { result ≡ is_new (length runs.old) sent (reported_to board.old runs.old) block.now }
 {
-    if start <= board.first_unreported() {
+    if block.start <= board.first_unreported() {
         return false;
     }
-    let is_new = board.first_missing(runs, start) < end;
-    board.report(runs, start, end, sent).is_ok() && is_new
+    let is_new = board.first_missing(runs, block.start) < block.end;
+    board.report(runs, block.start, block.end, sent).is_ok() && is_new
 }
 
 /// Returns whether one of the blocks has a position.
-fn has_block(blocks: &[(u64, u64)]) -> bool
+fn has_block(blocks: &[Range<u64>]) -> bool
     ensures { result ≡ has_block blocks.now }
 {
     let mut is_found = false;
     for block in blocks {
-        if block.0 < block.1 {
+        if block.start < block.end {
             is_found = true;
         }
     }
@@ -1051,16 +1052,11 @@ fn has_block(blocks: &[(u64, u64)]) -> bool
 }
 
 /// Returns whether the first block reports what came twice.
-fn is_duplicated(ack: u64, blocks: &[(u64, u64)]) -> bool
+fn is_duplicated(ack: u64, blocks: &[Range<u64>]) -> bool
     ensures { result ≡ is_duplicated ack blocks.now }
 {
     if blocks.is_empty() {
         return false;
     }
-    let second = if blocks.len() > 1 {
-        Some(blocks[1])
-    } else {
-        None
-    };
-    is_duplicate_block(ack, blocks[0], second)
+    is_duplicate_block(ack, &blocks[0], blocks.get(1))
 }

@@ -19,7 +19,8 @@ ghost use Rattle.net_ends.specs.Acknowledgements.{numbers_of, unsent_of, unsent_
 ghost use Rattle.net_ends.specs.Acknowledgements.{is_sought, after_segment, after_wait};
 ghost use Rattle.net_ends.specs.Acknowledgements.{expiry_of};
 ghost use Rattle.net_receiver.specs.Scoreboards.{IsEnd, IsHole};
-ghost use Rattle.net_tcp.specs.LossRecovery.{next_probe};
+ghost use Rattle.net_tcp.specs.LossRecovery.{next_probe, as_range};
+ghost use Rattle.net_tcp.specs.Sack.{is_permitted};
 ghost use Rattle.net_ends.specs.Parts.{end_of, marked};
 ghost use Rattle.net_ends.specs.Calls.{Hears, Silent, TimesOut, Chooses};
 ghost use Rattle.net_ends.specs.Rules.{queued_of, known_of, known_by, low, high, window_shut, asks_window, room_to};
@@ -48,7 +49,10 @@ use crate::sending_end::{Acknowledged, Expired, Outgoing};
 use net_assembler::Run;
 use net_base::time::{Duration, Instant};
 use net_receiver::SentNumbers;
-use net_tcp::{Announcement, PeerWindow, RetransmissionTimer, TimeoutBounds, is_acknowledgement};
+use net_tcp::{
+    Announcement, PeerWindow, RetransmissionTimer, Sack, TimeoutBounds, is_acknowledgement,
+};
+use std::ops::Range;
 
 /// All of a sending end but its sender and the times that were set: what was reported and what is lost, the timer, and
 /// what the peer announced. Its calls are given the sender's numbers; who holds both has the sender take what they say.
@@ -107,7 +111,7 @@ impl SendingHead {
     {
         SendingHead {
             buffer: BufferHead::new_at(first),
-            timer: RetransmissionTimer::new(first_timeout, false),
+            timer: RetransmissionTimer::new(first_timeout, Sack::Absent),
             peer_window: PeerWindow::new(),
             greatest_window: 0,
             last_window: 0,
@@ -120,7 +124,7 @@ impl SendingHead {
     }
 
     /// Begins with a peer, whose SYN announced a window, how many bytes a segment may have, and whether it reports
-    /// blocks (SACK): one that doesn't couldn't answer a probe, and is sent none. What was written stays. It is done
+    /// blocks: one that doesn't couldn't answer a probe, and is sent none. What was written stays. It is done
     /// once, before anything is sent; a second time begins with another peer, and the timer runs if something is in
     /// flight.
     #[inline]
@@ -130,7 +134,7 @@ impl SendingHead {
         first_timeout: Duration,
         it: Announcement,
         segment_size: usize,
-        reports: bool,
+        sack: Sack,
         now: Instant,
     )
         ensures rest { self.new ≡ record self.old {
@@ -146,11 +150,11 @@ impl SendingHead {
         } }
         ensures scoreboard { self.new.buffer.scoreboard ≡ self.old.buffer.scoreboard }
         ensures recovery { recovery_of self.new.buffer.recovery
-            ≡ record (recovery_of self.old.buffer.recovery) { is_blind = not reports; unknown = 0 } }
-        ensures timer { timer_of self.new.timer ≡ renewed_by numbers first_timeout reports now }
+            ≡ record (recovery_of self.old.buffer.recovery) { is_blind = not (is_permitted sack); unknown = 0 } }
+        ensures timer { timer_of self.new.timer ≡ renewed_by numbers first_timeout (is_permitted sack) now }
     {
-        self.buffer.recovery.expect_reports(reports);
-        self.renew(numbers, first_timeout, reports, now);
+        self.buffer.recovery.expect_reports(sack);
+        self.renew(numbers, first_timeout, sack, now);
         self.peer_window = PeerWindow::of(it);
         self.greatest_window = it.window;
         self.last_window = it.window;
@@ -165,16 +169,16 @@ impl SendingHead {
         ensures rest { self.new ≡ record self.old { timer = self.new.timer; is_open = 0 } }
         ensures timer { timer_of self.new.timer ≡ renewed_by numbers first_timeout false now }
     {
-        self.renew(numbers, first_timeout, false, now);
+        self.renew(numbers, first_timeout, Sack::Absent, now);
     }
 
     /// Begins with a timer that had no sample.
     #[inline]
-    fn renew(&mut self, numbers: SentNumbers, first_timeout: Duration, reports: bool, now: Instant)
+    fn renew(&mut self, numbers: SentNumbers, first_timeout: Duration, sack: Sack, now: Instant)
         ensures rest { self.new ≡ record self.old { timer = self.new.timer; is_open = 0 } }
-        ensures timer { timer_of self.new.timer ≡ renewed_by numbers first_timeout reports now }
+        ensures timer { timer_of self.new.timer ≡ renewed_by numbers first_timeout (is_permitted sack) now }
     {
-        self.timer = RetransmissionTimer::new(first_timeout, reports);
+        self.timer = RetransmissionTimer::new(first_timeout, sack);
         if numbers.first_unacknowledged < numbers.sent {
             self.timer.start(now);
         }
@@ -209,7 +213,7 @@ impl SendingHead {
         numbers: SentNumbers,
         bounds: TimeoutBounds,
         it: Announcement,
-        blocks: &[(u64, u64)],
+        blocks: &[Range<u64>],
         is_empty: bool,
         now: Instant,
     ) -> Acknowledged
@@ -243,7 +247,7 @@ impl SendingHead {
         numbers: SentNumbers,
         bounds: TimeoutBounds,
         it: Announcement,
-        blocks: &[(u64, u64)],
+        blocks: &[Range<u64>],
         is_empty: bool,
         now: Instant,
     ) -> TakenAck
@@ -423,18 +427,18 @@ impl SendingHead {
         runs: &[Run],
         queued: Queued,
         congestion_window: u64,
-    ) -> (Option<(u64, u64)>, Sending)
+    ) -> (Option<Range<u64>>, Sending)
         requires sound { IsSoundBoard self.now.buffer.scoreboard runs.now }
         requires order { queued.numbers.first_unacknowledged ≤ queued.numbers.sent }
         ensures within { let k = known_of self.now runs.now queued in
-            IfSome result.0 (λ r. (r.0 < r.1) × (r.1 ≤ most_to k) × (low k ≤ r.0)) }
+            IfSome result.0 (λ r. (r.start < r.end) × (r.end ≤ most_to k) × (low k ≤ r.start)) }
         ensures probe { let k = known_of self.now runs.now queued in
-            IsTrue (asks_window k) → result.0 ≡ Some (low k, low k + 1) }
+            IsTrue (asks_window k) → result.0 ≡ Some (record { start = low k; end = low k + 1 }) }
         ensures asks { is_window_probe result.1 ≡ asks_window (known_of self.now runs.now queued) }
         ensures overdue { IsTrue (is_tail_probe result.1) →
             IsTrue (known_of self.now runs.now queued).overdue }
         ensures due { let k = known_of self.now runs.now queued in
-            IfSome result.0 (λ r. IsTrue (due k r.0 r.1)) }
+            IfSome result.0 (λ r. IsTrue (due k r.start r.end)) }
         ensures next { let k = known_of self.now runs.now queued in
             (lost others : Option (ℕ × ℕ)) → IsFalse (asks_window k) → IsFalse k.overdue →
             HolesOf k (room_to k) lost others →
@@ -454,7 +458,7 @@ impl SendingHead {
     {
         let first = queued.numbers.first_unacknowledged;
         if self.is_window_probe_due != 0 && self.is_shut(queued) {
-            return (Some((first, first + 1)), Sending::WindowProbe);
+            return (Some(first..first + 1), Sending::WindowProbe);
         }
         let limit = self.peer_window.send_limit(queued.end);
         let next = self.next_range(runs, queued, limit, congestion_window);
@@ -469,17 +473,18 @@ impl SendingHead {
 
     /// Returns what a probe for an answer sends below a limit. A function of its own, since the search doesn't find
     /// what `choose` says with this call in it.
-    fn next_probe(&self, runs: &[Run], numbers: SentNumbers, limit: u64) -> Option<(u64, u64)>
+    fn next_probe(&self, runs: &[Run], numbers: SentNumbers, limit: u64) -> Option<Range<u64>>
         requires sound { IsSoundBoard self.now.buffer.scoreboard runs.now }
         requires order { numbers.first_unacknowledged ≤ numbers.sent }
-        ensures within { IfSome result (λ r. (r.0 < r.1) × (r.1 ≤ limit)
-            × (numbers.first_unacknowledged ≤ r.0)) }
+        ensures within { IfSome result (λ r. (r.start < r.end) × (r.end ≤ limit)
+            × (numbers.first_unacknowledged ≤ r.start)) }
         ensures value { (highest : ℕ) (hole : Option (ℕ × ℕ)) →
             IsEnd (board_of self.now.buffer runs.now) highest →
             IsHole (board_of self.now.buffer runs.now) numbers.first_unacknowledged
             (min numbers.sent limit) hole →
-            result ≡ next_probe (recovery_of self.now.buffer.recovery) (max 1 (max self.now.segment_size 1))
-            numbers.first_unacknowledged numbers.sent limit highest hole }
+            result ≡ as_range (next_probe (recovery_of self.now.buffer.recovery)
+            (max 1 (max self.now.segment_size 1)) numbers.first_unacknowledged numbers.sent limit
+            highest hole) }
     {
         self.buffer
             .next_probe(runs, numbers, limit, self.segment_size())
@@ -492,21 +497,21 @@ impl SendingHead {
         queued: Queued,
         limit: u64,
         congestion_window: u64,
-    ) -> Option<(u64, u64)>
+    ) -> Option<Range<u64>>
         requires sound { IsSoundBoard self.now.buffer.scoreboard runs.now }
         requires order { queued.numbers.first_unacknowledged ≤ queued.numbers.sent }
         ensures next { let k = known_of self.now runs.now queued in (lost others : Option (ℕ × ℕ)) →
             HolesOf k limit lost others →
             result ≡ due_part k (next_of k limit congestion_window lost others) }
         ensures within { let k = known_of self.now runs.now queued in
-            IfSome result (λ r. (r.0 < r.1) × (r.1 ≤ limit) × (low k ≤ r.0)) }
+            IfSome result (λ r. (r.start < r.end) × (r.end ≤ limit) × (low k ≤ r.start)) }
         ensures due { let k = known_of self.now runs.now queued in
-            IfSome result (λ r. IsTrue (due k r.0 r.1)) }
+            IfSome result (λ r. IsTrue (due k r.start r.end)) }
         ensures late { let k = known_of self.now runs.now queued in IsTrue (in_hurry k) →
             IsFalse (is_active k.recovery (low k)) → low k ≡ high k → low k < limit →
             IsTrue (is_some result) }
     {
-        let Some((from, to)) = self.buffer.next(
+        let Some(range) = self.buffer.next(
             runs,
             queued.numbers,
             limit,
@@ -516,8 +521,8 @@ impl SendingHead {
         else {
             return None;
         };
-        if self.is_due(queued, from, to) {
-            Some((from, to))
+        if self.is_due(queued, range.start, range.end) {
+            Some(range)
         } else {
             None
         }
@@ -574,17 +579,18 @@ impl SendingHead {
             (end_of (marked s result) self.new runs.now timeout bounds) }
     {
         let (chosen, sending) = self.choose(runs, queued, congestion_window);
-        let Some((from, to)) = chosen else {
+        let Some(range) = chosen else {
             // Not before something is sent: what `start` starts has no probe.
             if queued.numbers.first_unacknowledged < queued.end {
                 self.timer.start(now);
             }
             return None;
         };
+        let (from, to) = (range.start, range.end);
         self.timer.sent(bounds, from..to, queued.numbers, now);
         self.is_window_probe_due = 0;
         self.is_overdue = 0;
-        self.buffer.sent(queued.numbers, from..to, sending);
+        self.buffer.sent(queued.numbers, range, sending);
         Some(Outgoing {
             pos: from,
             end: to,

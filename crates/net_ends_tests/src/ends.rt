@@ -9,11 +9,11 @@ ghost use Rattle.net_ends.specs.Receiving.{IsSoundReceiving};
 
 use net_base::time::Instant;
 use net_ends::{
-    Acknowledged, Acknowledgement, Outgoing, ReceivingEnd, ReceivingEndOver, SendBufferOver,
-    Sending, SendingEndOver, laws, receiving_end,
+    AckSegment, Acknowledged, Acknowledgement, Outgoing, ReceivingEnd, ReceivingEndOver,
+    SendBufferOver, Sending, SendingEndOver, laws, receiving_end,
 };
 use net_ring::{ManagedSlice, Storage};
-use net_tcp::Announcement;
+use net_tcp::{Announcement, Sack};
 
 /// Sends all that a buffer has below a limit. Whatever the limit is, the loop ends: by clause `ends` of `next` each range
 /// leaves less that may be sent before an answer.
@@ -26,8 +26,8 @@ pub fn send_all<S: Storage<u8>, const N: usize>(
     ensures { remaining buffer.new ≤ remaining buffer.old }
 {
     // The label is the loop's name in its proof.
-    'sending: while let Some((from, to)) = buffer.next(limit, congestion_window, segment_size) {
-        buffer.mark(from, to, Sending::Segment);
+    'sending: while let Some(range) = buffer.next(limit, congestion_window, segment_size) {
+        let _is_written = buffer.mark(range, Sending::Segment);
     }
 }
 
@@ -42,7 +42,7 @@ pub fn take_acknowledgement<S: Storage<u8>, const N: usize>(
         IsUnacknowledged sender.new → IsSome result }
 {
     laws::sending_ends();
-    let _taken = sender.acknowledged(it, &[], true, now);
+    let _taken = sender.acknowledged(it, &[], AckSegment::Pure, now);
     sender.expires_at()
 }
 
@@ -57,7 +57,7 @@ pub fn take_last<S: Storage<u8>, const N: usize>(
         rest sender.new ≡ 0 }
 {
     laws::progress();
-    match sender.acknowledged(it, &[], true, now) {
+    match sender.acknowledged(it, &[], AckSegment::Pure, now) {
         Acknowledged::Taken { new, .. } => new > 0,
         _ => false,
     }
@@ -73,7 +73,7 @@ pub fn begin<S: Storage<u8>, const N: usize>(
     ensures { (vs : List Event) → small_sends sender.new vs ≤ expiries sender.new vs }
 {
     laws::small_segments();
-    sender.open(it, segment_size, true, now);
+    sender.open(it, segment_size, Sack::Permitted, now);
 }
 
 /// Looks at the timer, and sends what is next, and returns it. If the timeout has passed, nothing is in flight, and

@@ -10,11 +10,12 @@ ghost use Rattle.net_examples.specs.AnyPath.{IsOfText, IsReading};
 ghost use Rattle.net_ends_tests.specs.Path.{IsCarried, IsWriting};
 
 use net_base::time::{Duration, Instant};
-use net_ends::{ReceivingEnd, SendingEnd, laws};
+use net_ends::{AckSegment, ReceivingEnd, SendingEnd, laws};
 use net_examples::Segment;
 use net_ring::ManagedSlice;
 use net_tcp::{Announcement, TimeoutBounds};
 use std::alloc::{AllocError, Allocator};
+use std::ops::Range;
 
 /// What happens next. Nothing says in which order, or that it happens at all.
 #[derive(Drop)]
@@ -33,7 +34,7 @@ pub enum Event {
     /// An acknowledgement arrives with a block, whatever they say.
     Acknowledge {
         it: Announcement,
-        block: (u64, u64),
+        block: Range<u64>,
         now: Instant,
     },
     /// The timer is looked at.
@@ -115,7 +116,7 @@ pub fn happen<A: Allocator + Copy>(
             it: said,
             block,
             now,
-        } => acknowledge(*said, *block, *now, &mut it.sender),
+        } => acknowledge(*said, block.start..block.end, *now, &mut it.sender),
         Event::Look { now } => look(*now, &mut it.sender),
         Event::Read => it.read = read_more(&mut it.receiver, into, it.read),
     }
@@ -155,31 +156,31 @@ fn send<A: Allocator + Copy>(
     let Some(next) = sender.next_segment(congestion_window, now) else {
         return Ok(());
     };
-    put(alloc, sender, next.pos, next.end, path)
+    put(alloc, sender, next.range(), path)
 }
 
 /// Puts a segment on the path: a copy of what the end lends.
 fn put<A: Allocator + Copy>(
     alloc: A,
     sender: &SendingEnd<'_, 4>,
-    pos: u64,
-    end: u64,
+    range: Range<u64>,
     path: &mut Vec<Segment<A>, A>,
 ) -> Result<(), AllocError>
     ensures { IfOk result (λ _. (text : List ℕ) (n : ℕ) → IsWriting text n sender.now.sender →
-        sender.now.sender.sender.first_unacknowledged ≤ pos →
+        sender.now.sender.sender.first_unacknowledged ≤ range.start →
         All (IsOfText text) path.old.items → All (IsOfText text) path.new.items) }
 {
     laws::both_ends();
     net_receiver::laws::matches_stream();
     path.reserve(1)?;
-    let (front, back, is_last) = sender.bytes(pos, end);
-    let mut bytes = Vec::from_slice(alloc, front)?;
-    bytes.extend_from_slice(back)?;
+    let pos = range.start;
+    let lent = sender.bytes(range);
+    let mut bytes = Vec::from_slice(alloc, lent.front)?;
+    bytes.extend_from_slice(lent.back)?;
     path.push_reserved(Segment {
         pos,
         bytes,
-        is_last,
+        is_last: lent.is_last,
     });
     Ok(())
 }
@@ -210,13 +211,13 @@ fn take(receiver: &mut ReceivingEnd<'_, 4>, pos: u64, bytes: &[u8], is_last: boo
 }
 
 /// Takes an acknowledgement, whatever it says.
-fn acknowledge(it: Announcement, block: (u64, u64), now: Instant, sender: &mut SendingEnd<'_, 4>)
+fn acknowledge(it: Announcement, block: Range<u64>, now: Instant, sender: &mut SendingEnd<'_, 4>)
     ensures { (text : List ℕ) (n : ℕ) → IsWriting text n sender.old.sender →
         IsWriting text n sender.new.sender }
 {
     net_receiver::laws::finite_senders();
     laws::sending_ends();
-    let _taken = sender.acknowledged(it, &[block], true, now);
+    let _taken = sender.acknowledged(it, &[block], AckSegment::Pure, now);
 }
 
 /// Looks at the timer.

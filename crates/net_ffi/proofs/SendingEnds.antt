@@ -6,10 +6,11 @@ use Rattle.net_tcp.specs.Retransmission.{Timer, expiry, after_expiry, has_expire
 use Rattle.net_tcp.specs.declared.retransmission.TimeoutBounds.{TimeoutBounds as Bounds}
 use Rattle.net_tcp.specs.declared.retransmission_timer.Expiry.{Expiry}
 use Rattle.net_tcp.specs.declared.retransmission_timer.Expiry.TheVariants.{Probe, Timeout}
+use Rattle.std.specs.declared.ops.Range.{Range}
 use Rattle.net_ends.specs.Calls.{Hears, Looks, Chooses, Takes}
 use Rattle.net_ends.specs.Ends.{End}
 use Rattle.net_ends.specs.Parts.{end_of, marked}
-use Rattle.net_ends.specs.declared.sending_end.SendingHead.{SendingHead}
+use Rattle.net_ends.specs.declared.sending_head.SendingHead.{SendingHead}
 use Rattle.net_ends.specs.declared.sending_end.Acknowledged.{Acknowledged}
 use Rattle.net_ends.specs.declared.sending_end.Expired.{Expired}
 use Rattle.net_ends.specs.declared.sending_end.Expired.TheVariants.{No}
@@ -17,23 +18,23 @@ use Rattle.net_ends.specs.declared.sending_end.Outgoing.{Outgoing}
 use Rattle.net_ends.proofs.Expiries.{restarted, none_left, none_means, none_step, expiry_is}
 
 pub hears_c : (n : ℕ) (s t : FiniteSenderState) (h left : SendingHead) (runs kept : List (ℕ × ℕ)) (timeout : ℕ)
-    (b bounds : Bounds) (seq ack window : ℕ) (pairs bs : List (ℕ × ℕ)) (empty : Bool) (at now : ℤ)
+    (b bounds : Bounds) (seq ack window : ℕ) (ranges bs : List (Range ℕ)) (empty : Bool) (at now : ℤ)
     (said : Acknowledged) →
-    n ≡ 16 → b ≡ bounds → pairs ≡ bs → at ≡ now → t ≡ sender_after_command s (Acknowledges ack) →
-    Hears n (end_of s h runs timeout b) seq ack window pairs empty at said
+    n ≡ 16 → b ≡ bounds → ranges ≡ bs → at ≡ now → t ≡ sender_after_command s (Acknowledges ack) →
+    Hears n (end_of s h runs timeout b) seq ack window ranges empty at said
     (end_of (sender_after_command s (Acknowledges ack)) left kept timeout b) →
     Hears 16 (end_of s h runs timeout bounds) seq ack window bs empty now said (end_of t left kept timeout bounds)
-hears_c n s t h left runs kept timeout b bounds seq ack window pairs bs empty at now said many limits blocks moment step
+hears_c n s t h left runs kept timeout b bounds seq ack window ranges bs empty at now said many limits blocks moment step
     hears =
     subst (λ (x : ℕ). Hears x (end_of s h runs timeout bounds) seq ack window bs empty now said
     (end_of t left kept timeout bounds)) many
     (subst (λ (x : Bounds). Hears n (end_of s h runs timeout x) seq ack window bs empty now said
     (end_of t left kept timeout x)) limits
-    (subst (λ (x : List (ℕ × ℕ)). Hears n (end_of s h runs timeout b) seq ack window x empty now said
+    (subst (λ (x : List (Range ℕ)). Hears n (end_of s h runs timeout b) seq ack window x empty now said
     (end_of t left kept timeout b)) blocks
-    (subst (λ (x : ℤ). Hears n (end_of s h runs timeout b) seq ack window pairs empty x said
+    (subst (λ (x : ℤ). Hears n (end_of s h runs timeout b) seq ack window ranges empty x said
     (end_of t left kept timeout b)) moment
-    (subst (λ (x : FiniteSenderState). Hears n (end_of s h runs timeout b) seq ack window pairs empty at said
+    (subst (λ (x : FiniteSenderState). Hears n (end_of s h runs timeout b) seq ack window ranges empty at said
     (end_of x left kept timeout b)) (sym step) hears))))
 
 pub chooses_c : (s t : FiniteSenderState) (h left : SendingHead) (runs : List (ℕ × ℕ)) (timeout : ℕ) (b bounds : Bounds)

@@ -1,4 +1,4 @@
--- Four blocks as pairs, and the bytes of a segment that a sending end of C lends.
+-- Four blocks as ranges, and the bytes of a segment that a sending end of C lends.
 use Rattle.std.proofs.Common.{◌≡◌, ℕ, sym, ◌∙◌, refl, subst, List, take, drop, length, ◌∷◌, [], ◌++◌, ◌+◌, ◌≤◌, arith}
 use Rattle.std.proofs.Common.{length-take, length-drop, replicate}
 use Rattle.std.proofs.lemmas.List.{length-replicate}
@@ -7,14 +7,17 @@ use Rattle.net_receiver.specs.FiniteSender.{finite_sender_of, IsLent, LendsAt}
 use Rattle.net_receiver.specs.declared.finite_sender_head.FiniteSenderHead.{FiniteSenderHead}
 use Rattle.net_ends.proofs.Segments.{two_parts, lent_below}
 use Rattle.net_ends.specs.Ends.{IsSegment}
+use Rattle.net_ends.specs.Receiving.{range_of}
+use Rattle.net_ffi.specs.SendingEnds.{ranges_of}
+use Rattle.std.specs.declared.ops.Range.{Range}
 
 -- ---- blocks
-abbrev at : List (ℕ × ℕ) → ℕ → ℕ × ℕ
-at bs i = unwrap_or (slice_get bs i) (0, 0)
+abbrev at : List (ℕ × ℕ) → ℕ → Range ℕ
+at bs i = range_of (unwrap_or (slice_get bs i) (0, 0))
 
 -- four of a list of no more are the list
 four_back : (bs : List (ℕ × ℕ)) → length bs ≤ 4 →
-    take (length bs) (at bs 0 ∷ at bs 1 ∷ at bs 2 ∷ at bs 3 ∷ []) ≡ bs
+    take (length bs) (at bs 0 ∷ at bs 1 ∷ at bs 2 ∷ at bs 3 ∷ []) ≡ ranges_of bs
 four_back [] h = refl
 four_back (a ∷ []) h = refl
 four_back (a ∷ b ∷ []) h = refl
@@ -22,8 +25,8 @@ four_back (a ∷ b ∷ c ∷ []) h = refl
 four_back (a ∷ b ∷ c ∷ d ∷ []) h = refl
 four_back (a ∷ b ∷ c ∷ d ∷ e ∷ bs) h = absurd (omega arith)
 
-pub four_are : (bs : List (ℕ × ℕ)) (a b c d : ℕ × ℕ) → length bs ≤ 4 →
-    a ≡ at bs 0 → b ≡ at bs 1 → c ≡ at bs 2 → d ≡ at bs 3 → take (length bs) (a ∷ b ∷ c ∷ d ∷ []) ≡ bs
+pub four_are : (bs : List (ℕ × ℕ)) (a b c d : Range ℕ) → length bs ≤ 4 →
+    a ≡ at bs 0 → b ≡ at bs 1 → c ≡ at bs 2 → d ≡ at bs 3 → take (length bs) (a ∷ b ∷ c ∷ d ∷ []) ≡ ranges_of bs
 four_are bs a b c d few p q r s = (λ i. take (length bs) (p i ∷ q i ∷ r i ∷ s i ∷ [])) ∙ four_back bs few
 
 -- ---- the bytes of a segment

@@ -2,7 +2,7 @@
 --     sending_of e xs      what one of C represents, with the bytes of a storage
 --     begun_at first timeout b      a new one
 --     IsSoundSending c e      what is true of an end over a storage of c bytes
---     AreBlocks bs      an acknowledgement has room for as many
+--     AreBlocks bs, ranges_of bs      an acknowledgement has room for as many; them as ranges
 --     taken_fields it, ended_fields it, outgoing_fields it      what is returned in C, of the results of the calls
 use Rattle.std.specs.Prelude.{ℕ, ◌≤◌, Option, Some, None, List, length, replicate, false}
 use Rattle.net_receiver.specs.FiniteSender.{finite_sender_of, IsSoundFiniteSender}
@@ -11,7 +11,10 @@ use Rattle.net_receiver.specs.Scoreboards.{IsSoundBoard}
 use Rattle.net_tcp.specs.LossRecovery.{no_loss}
 use Rattle.net_tcp.specs.Retransmission.{new_fields}
 use Rattle.net_tcp.specs.Windows.{no_window}
+use Rattle.std.specs.Prelude.{map}
+use Rattle.std.specs.declared.ops.Range.{Range}
 use Rattle.net_ends.specs.Ends.{End}
+use Rattle.net_ends.specs.Receiving.{range_of}
 use Rattle.net_ends.specs.Parts.{end_of}
 use Rattle.net_ends.specs.declared.sending_end.Acknowledged.{Acknowledged}
 use Rattle.net_ends.specs.declared.sending_end.Acknowledged.TheVariants.{Refused, Old, Taken}
@@ -58,6 +61,9 @@ IsSoundSending capacity e =
 -- TCP's options have room for four
 abbrev pub AreBlocks : List (ℕ × ℕ) → Type 0
 AreBlocks bs = length bs ≤ 4
+
+abbrev pub ranges_of : List (ℕ × ℕ) → List (Range ℕ)
+ranges_of bs = map range_of bs
 
 -- ---- an acknowledgement
 -- 8 is to be answered, 15 is old

@@ -33,7 +33,9 @@ ghost use Rattle.net_ffi.specs.Refusals.{no_number};
 ghost use Rattle.net_ffi.specs.Retransmission.{given_or, bounds_of};
 ghost use Rattle.net_ffi.specs.SendingEnds.{sending_of, begun_at};
 ghost use Rattle.net_ffi.specs.SendingEnds.{IsSoundSending, AreBlocks};
-ghost use Rattle.net_ffi.specs.SendingEnds.{taken_fields, ended_fields, outgoing_fields};
+ghost use Rattle.net_ffi.specs.SendingEnds.{taken_fields, ended_fields, outgoing_fields, ranges_of};
+ghost use Rattle.net_ends.specs.Receiving.{range_of};
+ghost use Rattle.net_tcp.specs.Sack.{is_permitted};
 ghost use Rattle.net_ends.specs.Calls.{Hears, Looks, Chooses};
 ghost use Rattle.net_ends.specs.Rules.{queued_of};
 ghost use Rattle.net_receiver.specs.FiniteSender.{finite_sender_of, sender_after_command, Acknowledges, Marks};
@@ -50,7 +52,8 @@ use net_assembler::Run;
 use net_base::time::{Duration, Instant};
 use net_ends::{Acknowledged, Expired, Outgoing, Queued, SendingHead};
 use net_receiver::{FiniteSenderHead, HeldRun, SentNumbers};
-use net_tcp::{Announcement, Expiry};
+use net_tcp::{Announcement, Expiry, Sack};
+use std::ops::Range;
 
 /// How many blocks an acknowledgement has room for: TCP's options have room for four.
 const BLOCKS: usize = 4;
@@ -249,24 +252,24 @@ fn fields_of_outgoing(it: Outgoing) -> OutgoingSegment
     }
 }
 
-/// Returns a block, or none if there are fewer.
+/// Returns a block, or an empty one if there are fewer.
 #[inline(always)]
-fn block_at(blocks: &[HeldRun], at: usize) -> (u64, u64)
-    ensures { result ≡ unwrap_or (slice_get blocks.now at) (0, 0) }
+fn block_at(blocks: &[HeldRun], at: usize) -> Range<u64>
+    ensures { result ≡ range_of (unwrap_or (slice_get blocks.now at) (0, 0)) }
 {
     if at < blocks.len() {
         let block = blocks[at];
-        (block.start, block.end)
+        block.start..block.end
     } else {
-        (0, 0)
+        0..0
     }
 }
 
-/// Returns blocks as pairs, and none after them. Rust promises no layout of a pair, so these are copied.
+/// Returns blocks as ranges, and empty ones after them. Rust promises no layout of a range, so these are copied.
 #[inline(always)]
-fn pairs_of(blocks: &[HeldRun]) -> [(u64, u64); BLOCKS]
+fn ranges_of(blocks: &[HeldRun]) -> [Range<u64>; BLOCKS]
     requires { AreBlocks blocks.now }
-    ensures { take (length blocks.now) result ≡ blocks.now }
+    ensures { take (length blocks.now) result ≡ ranges_of blocks.now }
 {
     [
         block_at(blocks, 0),
@@ -297,6 +300,18 @@ fn numbers_from(sender: &FiniteSenderHead) -> SentNumbers
     SentNumbers {
         first_unacknowledged: sender.first_number(),
         sent: sender.sent,
+    }
+}
+
+/// Returns whether the peer reports blocks.
+#[inline(always)]
+fn sack_of(reports: bool) -> Sack
+    ensures { is_permitted result ≡ reports }
+{
+    if reports {
+        Sack::Permitted
+    } else {
+        Sack::Absent
     }
 }
 
@@ -443,8 +458,14 @@ pub extern "C" fn net_base_sending_end_open(
         return false;
     }
     let (numbers, first) = (numbers_from(&end.sender), first_timeout(end));
-    end.head
-        .open(numbers, first, *it, segment_size, reports, moment(now));
+    end.head.open(
+        numbers,
+        first,
+        *it,
+        segment_size,
+        sack_of(reports),
+        moment(now),
+    );
     true
 }
 
@@ -567,8 +588,8 @@ pub extern "C" fn net_base_sending_end_acknowledged(
 ) -> TakenAcknowledgement
     ensures value { IsSoundSending (length storage.now) end.old → AreBlocks blocks.now →
         (said : Acknowledged) × (result ≡ taken_fields said)
-        × Hears 16 (sending_of end.old storage.now) it.now.seq it.now.ack it.now.window blocks.now
-        is_empty now said (sending_of end.new storage.now) }
+        × Hears 16 (sending_of end.old storage.now) it.now.seq it.now.ack it.now.window
+        (ranges_of blocks.now) is_empty now said (sending_of end.new storage.now) }
     ensures sound { IsSoundSending (length storage.now) end.old →
         IsSoundSending (length storage.now) end.new }
     ensures refused { (IsSoundSending (length storage.now) end.old × AreBlocks blocks.now → ⊥) →
@@ -579,14 +600,14 @@ pub extern "C" fn net_base_sending_end_acknowledged(
         return refused_taken_acknowledgement();
     }
     are_sixteen(end.runs);
-    let pairs = pairs_of(blocks);
+    let ranges = ranges_of(blocks);
     let numbers = numbers_from(&end.sender);
     let said = end.head.acknowledged(
         &mut end.runs,
         numbers,
         bounds_from(&end.bounds),
         *it,
-        &pairs[..blocks.len()],
+        &ranges[..blocks.len()],
         is_empty,
         moment(now),
     );

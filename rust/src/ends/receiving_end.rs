@@ -19,7 +19,7 @@ use crate::rattle::std::ops::Range;
 /// let Acknowledgement { next, window, blocks } = receiving.acknowledgement();
 /// assert_eq!((next, window, blocks.as_slice()), (100, 64, &[108..116][..]));
 /// ```
-#[derive(Debug)]
+#[derive(Clone, Debug, PartialEq, Eq)]
 pub struct Acknowledgement {
     /// The first number that is missing.
     pub next: u64,
@@ -44,8 +44,8 @@ pub struct Acknowledgement {
 /// let blocks = receiving.acknowledgement().blocks;
 /// assert_eq!(blocks.as_slice(), [124..132, 108..116]);
 /// ```
-#[derive(Debug)]
-pub(crate) struct SackBlocks {
+#[derive(Clone, PartialEq, Eq)]
+pub struct SackBlocks {
     blocks: [Range<u64>; 4],
     count: usize,
 }
@@ -53,7 +53,7 @@ pub(crate) struct SackBlocks {
 impl SackBlocks {
     /// Lends them, as `SendingEndOver::acknowledged` takes them.
     #[must_use]
-    pub(crate) fn as_slice(&self) -> &[Range<u64>] {
+    pub fn as_slice(&self) -> &[Range<u64>] {
         &self.blocks[..self.count]
     }
 
@@ -99,7 +99,7 @@ fn count_of(blocks: [Option<(u64, u64)>; 4]) -> usize {
 /// assert_eq!(receiving.announce(), AckFields { next: 103, window: 61 });
 /// ```
 #[derive(Copy, Clone, Debug, PartialEq, Eq)]
-pub(crate) struct AckFields {
+pub struct AckFields {
     /// The first number that is missing.
     pub next: u64,
     /// The window, in units of the scale.

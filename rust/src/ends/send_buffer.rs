@@ -5,7 +5,9 @@ use crate::rattle::prelude::*;
 use crate::storage::Run;
 use crate::stream::{FiniteSenderOver, ScoreboardHead, SentNumbers};
 use crate::storage::{ManagedSlice, Storage};
-use crate::tcp::{Answer, LentScoreboard, LossRecovery, is_duplicate_block, is_equal_acknowledgement};
+use crate::tcp::{
+    Answer, LentScoreboard, LossRecovery, Sack, is_duplicate_block, is_equal_acknowledgement,
+};
 use crate::rattle::std::ops::Range;
 
 /// What a sender has sent, and what is queued, in numbers.
@@ -46,7 +48,7 @@ pub struct BufferHead {
 /// for _ in 0..3 {
 ///     buffer.acknowledge(0, &[], 8, AckKind::Repeat).expect("0 isn't beyond what was sent");
 /// }
-/// assert_eq!(buffer.next(u64::MAX, u64::MAX, 8), Some((0, 8)));
+/// assert_eq!(buffer.next(u64::MAX, u64::MAX, 8), Some(0..8));
 /// ```
 #[derive(Copy, Clone, Debug, PartialEq, Eq)]
 pub enum AckKind {
@@ -86,12 +88,12 @@ pub struct TakenAck {
 /// let mut storage = [0u8; 64];
 /// let mut buffer = SendBuffer::<4>::new_at(&mut storage[..], 0);
 /// assert_eq!(buffer.write(&[7; 16]), 16);
-/// let (start, end) = buffer.next(u64::MAX, u64::MAX, 8).expect("a segment");
-/// assert!(buffer.mark(start..end, Sending::Segment));
+/// let range = buffer.next(u64::MAX, u64::MAX, 8).expect("a segment");
+/// assert!(buffer.mark(range, Sending::Segment));
 /// // No answer came for two round trips: a probe asks for one.
-/// let (start, end) = buffer.next_probe(u64::MAX, 8).expect("a probe");
-/// assert!(buffer.mark(start..end, Sending::TailProbe));
-/// assert_eq!((start, end), (8, 16));
+/// let range = buffer.next_probe(u64::MAX, 8).expect("a probe");
+/// assert_eq!(range, 8..16);
+/// assert!(buffer.mark(range, Sending::TailProbe));
 /// ```
 #[derive(Copy, Clone, Debug, PartialEq, Eq)]
 pub enum Sending {
@@ -116,7 +118,7 @@ pub enum Sending {
 /// assert_eq!(([it.front, it.back].concat(), it.is_last), (b"cdef".to_vec(), true));
 /// ```
 #[derive(Copy, Clone, Debug, PartialEq, Eq)]
-pub(crate) struct SegmentBytes<'a> {
+pub struct SegmentBytes<'a> {
     /// The first bytes.
     pub front: &'a [u8],
     /// The bytes after those.
@@ -140,10 +142,10 @@ pub type SendBuffer<'a, const N: usize> = SendBufferOver<ManagedSlice<'a, u8>, N
 /// assert_eq!(stream.write(b"nineteen bytes here"), 19);
 /// stream.close();
 /// let mut frames = Vec::new();
-/// while let Some((from, to)) = stream.next(33, 1200, 8) {
-///     let it = stream.bytes(from..to);
-///     frames.push((from, [it.front, it.back].concat(), it.is_last));
-///     assert!(stream.mark(from..to, Sending::Segment));
+/// while let Some(range) = stream.next(33, 1200, 8) {
+///     let it = stream.bytes(range.clone());
+///     frames.push((range.start, [it.front, it.back].concat(), it.is_last));
+///     assert!(stream.mark(range, Sending::Segment));
 /// }
 /// // The loop ends, though the limit is above the 20 numbers of 19 bytes and the end.
 /// assert_eq!(frames[0], (0, b"nineteen".to_vec(), false));
@@ -156,7 +158,7 @@ pub type SendBuffer<'a, const N: usize> = SendBufferOver<ManagedSlice<'a, u8>, N
 /// assert_eq!(taken.new, 16);
 /// // No answer to the third one comes in time: it is sent again.
 /// stream.lose_all();
-/// assert_eq!(stream.next(33, 1200, 8), Some((16, 20)));
+/// assert_eq!(stream.next(33, 1200, 8), Some(16..20));
 /// assert!(stream.mark(16..20, Sending::Segment));
 /// assert_eq!(stream.next(33, 1200, 8), None);
 /// assert!(stream.acknowledge_range(16..20, 8).is_some() && stream.is_done());
@@ -291,7 +293,7 @@ impl BufferHead {
         runs: &mut [Run],
         numbers: SentNumbers,
         ack: u64,
-        blocks: &[(u64, u64)],
+        blocks: &[Range<u64>],
         segment_size: usize,
         kind: AckKind,
     ) -> TakenAck {
@@ -319,7 +321,7 @@ impl BufferHead {
         runs: &[Run],
         numbers: SentNumbers,
         ack: u64,
-        blocks: &[(u64, u64)],
+        blocks: &[Range<u64>],
         segment_size: usize,
         answer: Answer,
     ) -> bool {
@@ -339,10 +341,10 @@ impl BufferHead {
     }
 
     /// Tells the recovery, if the first block reports what came twice.
-    pub(crate) fn note_duplicate(&mut self, numbers: SentNumbers, ack: u64, blocks: &[(u64, u64)]) {
+    pub(crate) fn note_duplicate(&mut self, numbers: SentNumbers, ack: u64, blocks: &[Range<u64>]) {
         if is_duplicated(ack, blocks) {
-            let (from, to) = blocks[0];
-            self.recovery.came_twice(numbers, from..to);
+            let block = &blocks[0];
+            self.recovery.came_twice(numbers, block.start..block.end);
         }
     }
 
@@ -366,7 +368,7 @@ impl BufferHead {
         limit: u64,
         congestion_window: u64,
         segment_size: usize,
-    ) -> Option<(u64, u64)> {
+    ) -> Option<Range<u64>> {
         self.recovery.next_segment(
             numbers,
             &self.board(runs),
@@ -383,7 +385,7 @@ impl BufferHead {
         numbers: SentNumbers,
         limit: u64,
         segment_size: usize,
-    ) -> Option<(u64, u64)> {
+    ) -> Option<Range<u64>> {
         self.recovery
             .next_probe(numbers, &self.board(runs), limit, segment_size)
     }
@@ -439,9 +441,9 @@ impl<S: Storage<u8>, const N: usize> SendBufferOver<S, N> {
         self.head.recovery.is_blind()
     }
 
-    /// Takes notice whether the peer reports what arrives.
-    pub fn expect_reports(&mut self, reports: bool) {
-        self.head.recovery.expect_reports(reports);
+    /// Takes notice whether the peer reports what arrives, in blocks.
+    pub fn expect_reports(&mut self, sack: Sack) {
+        self.head.recovery.expect_reports(sack);
     }
 
     /// Takes an acknowledgement of TCP: of all below `ack`, with its blocks, in a segment of that kind.
@@ -454,18 +456,18 @@ impl<S: Storage<u8>, const N: usize> SendBufferOver<S, N> {
     /// # let mut storage = [0u8; 64];
     /// # let mut buffer = SendBuffer::<4>::new_at(&mut storage[..], 0);
     /// # assert_eq!(buffer.write(&[7; 32]), 32);
-    /// # while let Some((start, end)) = buffer.next(u64::MAX, u64::MAX, 8) {
-    /// #     assert!(buffer.mark(start..end, Sending::Segment));
+    /// # while let Some(range) = buffer.next(u64::MAX, u64::MAX, 8) {
+    /// #     assert!(buffer.mark(range, Sending::Segment));
     /// # }
     /// // All below 8, and a block.
-    /// let taken = buffer.acknowledge(8, &[(16, 24)], 8, AckKind::Other).expect("it was sent");
+    /// let taken = buffer.acknowledge(8, &[16..24], 8, AckKind::Other).expect("it was sent");
     /// assert_eq!((taken.new, taken.reports), (8, true));
     /// assert_eq!(buffer.acknowledge(33, &[], 8, AckKind::Other), None); // never sent
     /// ```
     pub fn acknowledge(
         &mut self,
         ack: u64,
-        blocks: &[(u64, u64)],
+        blocks: &[Range<u64>],
         segment_size: usize,
         kind: AckKind,
     ) -> Option<TakenAck> {
@@ -493,8 +495,8 @@ impl<S: Storage<u8>, const N: usize> SendBufferOver<S, N> {
     /// # let mut storage = [0u8; 64];
     /// # let mut buffer = SendBuffer::<4>::new_at(&mut storage[..], 0);
     /// # assert_eq!(buffer.write(&[7; 32]), 32);
-    /// # while let Some((start, end)) = buffer.next(u64::MAX, u64::MAX, 8) {
-    /// #     assert!(buffer.mark(start..end, Sending::Segment));
+    /// # while let Some(range) = buffer.next(u64::MAX, u64::MAX, 8) {
+    /// #     assert!(buffer.mark(range, Sending::Segment));
     /// # }
     /// // Ranges in any order.
     /// let taken = buffer.acknowledge_range(8..16, 8).expect("it was sent");
@@ -508,8 +510,12 @@ impl<S: Storage<u8>, const N: usize> SendBufferOver<S, N> {
             return None;
         }
         if numbers.first_unacknowledged < range.start {
-            let (ack, block) = (numbers.first_unacknowledged, [(range.start, range.end)]);
-            return self.acknowledge(ack, &block, segment_size, AckKind::Other);
+            return self.acknowledge(
+                numbers.first_unacknowledged,
+                &[range],
+                segment_size,
+                AckKind::Other,
+            );
         }
         let known = self
             .head
@@ -521,7 +527,7 @@ impl<S: Storage<u8>, const N: usize> SendBufferOver<S, N> {
 
     /// Tells the recovery, if the first block of an acknowledgement reports what came twice: for one of TCP that
     /// `acknowledge` doesn't take, since it is an old one.
-    pub fn note_duplicate(&mut self, ack: u64, blocks: &[(u64, u64)]) {
+    pub fn note_duplicate(&mut self, ack: u64, blocks: &[Range<u64>]) {
         let numbers = self.numbers();
         self.head.note_duplicate(numbers, ack, blocks);
     }
@@ -544,21 +550,21 @@ impl<S: Storage<u8>, const N: usize> SendBufferOver<S, N> {
     /// # let mut storage = [0u8; 64];
     /// # let mut buffer = SendBuffer::<4>::new_at(&mut storage[..], 0);
     /// # assert_eq!(buffer.write(&[7; 32]), 32);
-    /// # while let Some((start, end)) = buffer.next(u64::MAX, u64::MAX, 8) {
-    /// #     assert!(buffer.mark(start..end, Sending::Segment));
+    /// # while let Some(range) = buffer.next(u64::MAX, u64::MAX, 8) {
+    /// #     assert!(buffer.mark(range, Sending::Segment));
     /// # }
     /// buffer.acknowledge_range(0..8, 8).expect("it was sent");
     /// assert_eq!(buffer.next(u64::MAX, u64::MAX, 8), None);
     /// buffer.lose_all();
-    /// assert_eq!(buffer.next(u64::MAX, u64::MAX, 8), Some((8, 16)));
+    /// assert_eq!(buffer.next(u64::MAX, u64::MAX, 8), Some(8..16));
     /// ```
     pub fn lose_all(&mut self) {
         self.head.recovery.lose_all(self.sender.sent_numbers());
     }
 
-    /// Returns what to send next below `limit`, as a start and an end, the end not included, at most a segment: what is
-    /// lost, else what was never sent. `None` if there is none, or if with a whole segment more than the congestion
-    /// window would be in flight. The first unacknowledged number is sent whatever is in flight.
+    /// Returns the range to send next below `limit`, at most a segment: what is lost, else what was never sent. `None` if
+    /// there is none, or if with a whole segment more than the congestion window would be in flight. The first
+    /// unacknowledged number is sent whatever is in flight.
     ///
     /// Of a `limit` above `numbers_end`, such as a window that has more room than there is to send, only what is below
     /// `numbers_end` counts. So each range has a number that was written, or is the end; and as long as nothing is
@@ -570,11 +576,11 @@ impl<S: Storage<u8>, const N: usize> SendBufferOver<S, N> {
     /// # let mut buffer = SendBuffer::<4>::new_at(&mut storage[..], 0);
     /// assert_eq!(buffer.write(&[7; 12]), 12);
     /// let mut sent = vec![];
-    /// while let Some((start, end)) = buffer.next(u64::MAX, u64::MAX, 8) {
-    ///     assert!(buffer.mark(start..end, Sending::Segment));
-    ///     sent.push((start, end));
+    /// while let Some(range) = buffer.next(u64::MAX, u64::MAX, 8) {
+    ///     sent.push(range.clone());
+    ///     assert!(buffer.mark(range, Sending::Segment));
     /// }
-    /// assert_eq!(sent, [(0, 8), (8, 12)]);
+    /// assert_eq!(sent, [0..8, 8..12]);
     /// ```
     #[must_use]
     pub fn next(
@@ -582,7 +588,7 @@ impl<S: Storage<u8>, const N: usize> SendBufferOver<S, N> {
         limit: u64,
         congestion_window: u64,
         segment_size: usize,
-    ) -> Option<(u64, u64)> {
+    ) -> Option<Range<u64>> {
         let numbers = self.numbers();
         let top = limit.min(self.sender.numbers_end());
         self.head
@@ -598,14 +604,14 @@ impl<S: Storage<u8>, const N: usize> SendBufferOver<S, N> {
     /// # let mut storage = [0u8; 64];
     /// # let mut buffer = SendBuffer::<4>::new_at(&mut storage[..], 0);
     /// # assert_eq!(buffer.write(&[7; 32]), 32);
-    /// # while let Some((start, end)) = buffer.next(u64::MAX, u64::MAX, 8) {
-    /// #     assert!(buffer.mark(start..end, Sending::Segment));
+    /// # while let Some(range) = buffer.next(u64::MAX, u64::MAX, 8) {
+    /// #     assert!(buffer.mark(range, Sending::Segment));
     /// # }
     /// // Nothing is left to send, so the last segment is sent again, so that an answer comes.
-    /// assert_eq!(buffer.next_probe(u64::MAX, 8), Some((24, 32)));
+    /// assert_eq!(buffer.next_probe(u64::MAX, 8), Some(24..32));
     /// ```
     #[must_use]
-    pub fn next_probe(&self, limit: u64, segment_size: usize) -> Option<(u64, u64)> {
+    pub fn next_probe(&self, limit: u64, segment_size: usize) -> Option<Range<u64>> {
         let numbers = self.numbers();
         let top = limit.min(self.sender.numbers_end());
         self.head.next_probe(&self.runs, numbers, top, segment_size)
@@ -696,12 +702,12 @@ fn has_dropped(board: &ScoreboardHead, runs: &[Run], after: SentNumbers) -> bool
 fn report_blocks(
     board: &mut ScoreboardHead,
     runs: &mut [Run],
-    blocks: &[(u64, u64)],
+    blocks: &[Range<u64>],
     sent: u64,
 ) -> bool {
     let mut reports = false;
     for block in blocks {
-        if report_block(board, runs, block.0, block.1, sent) {
+        if report_block(board, runs, block, sent) {
             reports = true;
         }
     }
@@ -710,25 +716,19 @@ fn report_blocks(
 
 /// Reports a block, if it begins beyond the first position that wasn't reported. Returns whether that wasn't known:
 /// what is refused is sent again.
-fn report_block(
-    board: &mut ScoreboardHead,
-    runs: &mut [Run],
-    start: u64,
-    end: u64,
-    sent: u64,
-) -> bool {
-    if start <= board.first_unreported() {
+fn report_block(board: &mut ScoreboardHead, runs: &mut [Run], block: &Range<u64>, sent: u64) -> bool {
+    if block.start <= board.first_unreported() {
         return false;
     }
-    let is_new = board.first_missing(runs, start) < end;
-    board.report(runs, start, end, sent).is_ok() && is_new
+    let is_new = board.first_missing(runs, block.start) < block.end;
+    board.report(runs, block.start, block.end, sent).is_ok() && is_new
 }
 
 /// Returns whether one of the blocks has a position.
-fn has_block(blocks: &[(u64, u64)]) -> bool {
+fn has_block(blocks: &[Range<u64>]) -> bool {
     let mut is_found = false;
     for block in blocks {
-        if block.0 < block.1 {
+        if block.start < block.end {
             is_found = true;
         }
     }
@@ -736,14 +736,9 @@ fn has_block(blocks: &[(u64, u64)]) -> bool {
 }
 
 /// Returns whether the first block reports what came twice.
-fn is_duplicated(ack: u64, blocks: &[(u64, u64)]) -> bool {
+fn is_duplicated(ack: u64, blocks: &[Range<u64>]) -> bool {
     if blocks.is_empty() {
         return false;
     }
-    let second = if blocks.len() > 1 {
-        Some(blocks[1])
-    } else {
-        None
-    };
-    is_duplicate_block(ack, blocks[0], second)
+    is_duplicate_block(ack, &blocks[0], blocks.get(1))
 }

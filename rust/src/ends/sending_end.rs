@@ -27,19 +27,19 @@ use crate::storage::Run;
 use crate::time::{Duration, Instant};
 use crate::stream::{FiniteSenderOver, SentNumbers};
 use crate::storage::{ManagedSlice, Storage};
-use crate::tcp::{Announcement, Expiry, TimeoutBounds};
+use crate::tcp::{Announcement, Expiry, Sack, TimeoutBounds};
 use crate::rattle::std::ops::Range;
 
 /// What an acknowledgement was.
 ///
 /// ```
 /// # use net_base::ends::{AckSegment, Acknowledged, SendingEnd};
-/// # use net_base::tcp::{Announcement, TimeoutBounds};
+/// # use net_base::tcp::{Announcement, Sack, TimeoutBounds};
 /// # use net_base::time::{Duration, Instant};
 /// # let mut storage = [0u8; 64];
 /// # let (second, bounds) = (Duration::from_secs(1), TimeoutBounds::default());
 /// # let mut sending = SendingEnd::<4>::new_at(&mut storage[..], 100, second, bounds);
-/// sending.open(Announcement { seq: 1, ack: 100, window: 1000 }, 8, true, Instant::ZERO);
+/// sending.open(Announcement { seq: 1, ack: 100, window: 1000 }, 8, Sack::Permitted, Instant::ZERO);
 /// let it = Announcement { seq: 1, ack: 101, window: 1000 };
 /// match sending.acknowledged(it, &[], AckSegment::Pure, Instant::ZERO) {
 ///     Acknowledged::Refused => println!("101 was never sent: answer the segment, and take nothing"),
@@ -68,19 +68,19 @@ pub enum Acknowledged {
 ///
 /// ```
 /// # use net_base::ends::{AckSegment, Acknowledged, SendingEnd};
-/// # use net_base::tcp::{Announcement, TimeoutBounds};
+/// # use net_base::tcp::{Announcement, Sack, TimeoutBounds};
 /// # use net_base::time::{Duration, Instant};
 /// # let mut storage = [0u8; 64];
 /// # let (second, bounds) = (Duration::from_secs(1), TimeoutBounds::default());
 /// # let mut sending = SendingEnd::<4>::new_at(&mut storage[..], 100, second, bounds);
-/// # sending.open(Announcement { seq: 1, ack: 100, window: 1000 }, 8, true, Instant::ZERO);
+/// # sending.open(Announcement { seq: 1, ack: 100, window: 1000 }, 8, Sack::Permitted, Instant::ZERO);
 /// // The peer has bytes of its own to send, and acknowledges with them: that is no repeated acknowledgement.
 /// let it = Announcement { seq: 1, ack: 100, window: 1000 };
 /// let taken = sending.acknowledged(it, &[], AckSegment::WithData, Instant::ZERO);
 /// assert_eq!(taken, Acknowledged::Taken { new: 0, reports: false, begins: false });
 /// ```
 #[derive(Copy, Clone, Debug, PartialEq, Eq, Hash)]
-pub(crate) enum AckSegment {
+pub enum AckSegment {
     /// Neither a byte nor a FIN: a pure acknowledgement.
     Pure,
     /// Bytes, or a FIN.
@@ -91,12 +91,12 @@ pub(crate) enum AckSegment {
 ///
 /// ```
 /// # use net_base::ends::{Expired, SendingEnd};
-/// # use net_base::tcp::{Announcement, TimeoutBounds};
+/// # use net_base::tcp::{Announcement, Sack, TimeoutBounds};
 /// # use net_base::time::{Duration, Instant};
 /// # let mut storage = [0u8; 64];
 /// # let (second, bounds) = (Duration::from_secs(1), TimeoutBounds::default());
 /// # let mut sending = SendingEnd::<4>::new_at(&mut storage[..], 100, second, bounds);
-/// # sending.open(Announcement { seq: 1, ack: 100, window: 1000 }, 8, true, Instant::ZERO);
+/// # sending.open(Announcement { seq: 1, ack: 100, window: 1000 }, 8, Sack::Permitted, Instant::ZERO);
 /// let _taken = sending.write(b"abc");
 /// let _segment_to_send = sending.next_segment(1200, Instant::ZERO);
 /// // Before any sample the timeout is all that the timer waits for.
@@ -124,12 +124,12 @@ pub enum Expired {
 ///
 /// ```
 /// # use net_base::ends::{Outgoing, SendingEnd};
-/// # use net_base::tcp::{Announcement, TimeoutBounds};
+/// # use net_base::tcp::{Announcement, Sack, TimeoutBounds};
 /// # use net_base::time::{Duration, Instant};
 /// # let mut storage = [0u8; 64];
 /// # let (second, bounds) = (Duration::from_secs(1), TimeoutBounds::default());
 /// # let mut sending = SendingEnd::<4>::new_at(&mut storage[..], 100, second, bounds);
-/// # sending.open(Announcement { seq: 1, ack: 100, window: 1000 }, 8, true, Instant::ZERO);
+/// # sending.open(Announcement { seq: 1, ack: 100, window: 1000 }, 8, Sack::Permitted, Instant::ZERO);
 /// let _taken = sending.write(b"abc");
 /// let it = sending.next_segment(1200, Instant::ZERO);
 /// assert_eq!(it, Some(Outgoing { pos: 100, end: 103, is_again: false }));
@@ -167,7 +167,7 @@ pub type SendingEnd<'a, const N: usize> = SendingEndOver<ManagedSlice<'a, u8>, N
 ///
 /// ```
 /// use net_base::ends::{AckSegment, Acknowledged, Expired, SendingEnd};
-/// use net_base::tcp::{Announcement, TimeoutBounds};
+/// use net_base::tcp::{Announcement, Sack, TimeoutBounds};
 /// use net_base::time::{Duration, Instant};
 ///
 /// let second = Duration::from_secs(1);
@@ -176,7 +176,7 @@ pub type SendingEnd<'a, const N: usize> = SendingEndOver<ManagedSlice<'a, u8>, N
 /// let mut sending = SendingEnd::<4>::new_at(&mut storage[..], 100, second, bounds);
 /// // The peer's SYN announces a window of 1000 bytes, and agrees to SACK. A segment has at most 8 bytes.
 /// let mut now = Instant::ZERO;
-/// sending.open(Announcement { seq: 1, ack: 100, window: 1000 }, 8, true, now);
+/// sending.open(Announcement { seq: 1, ack: 100, window: 1000 }, 8, Sack::Permitted, now);
 /// assert_eq!(sending.write(b"sixteen bytes ok"), 16);
 /// let mut segments = Vec::new();
 /// while let Some(it) = sending.next_segment(1200, now) {
@@ -264,12 +264,12 @@ impl<S: Storage<u8>, const N: usize> SendingEndOver<S, N> {
     ///
     /// ```
     /// # use net_base::ends::SendingEnd;
-    /// # use net_base::tcp::{Announcement, TimeoutBounds};
+    /// # use net_base::tcp::{Announcement, Sack, TimeoutBounds};
     /// # use net_base::time::{Duration, Instant};
     /// # let mut storage = [0u8; 64];
     /// # let (second, bounds) = (Duration::from_secs(1), TimeoutBounds::default());
     /// # let mut sending = SendingEnd::<4>::new_at(&mut storage[..], 100, second, bounds);
-    /// # sending.open(Announcement { seq: 1, ack: 100, window: 1000 }, 8, true, Instant::ZERO);
+    /// # sending.open(Announcement { seq: 1, ack: 100, window: 1000 }, 8, Sack::Permitted, Instant::ZERO);
     /// let _taken = sending.write(b"abc");
     /// sending.close();
     /// // The end has a number, too.
@@ -285,12 +285,12 @@ impl<S: Storage<u8>, const N: usize> SendingEndOver<S, N> {
     ///
     /// ```
     /// # use net_base::ends::SendingEnd;
-    /// # use net_base::tcp::{Announcement, TimeoutBounds};
+    /// # use net_base::tcp::{Announcement, Sack, TimeoutBounds};
     /// # use net_base::time::{Duration, Instant};
     /// # let mut storage = [0u8; 64];
     /// # let (second, bounds) = (Duration::from_secs(1), TimeoutBounds::default());
     /// # let mut sending = SendingEnd::<4>::new_at(&mut storage[..], 100, second, bounds);
-    /// # sending.open(Announcement { seq: 1, ack: 100, window: 1000 }, 8, true, Instant::ZERO);
+    /// # sending.open(Announcement { seq: 1, ack: 100, window: 1000 }, 8, Sack::Permitted, Instant::ZERO);
     /// let _taken = sending.write(b"abc");
     /// sending.close();
     /// let it = sending.next_segment(1200, Instant::ZERO).expect("three bytes and the end");
@@ -306,12 +306,12 @@ impl<S: Storage<u8>, const N: usize> SendingEndOver<S, N> {
     ///
     /// ```
     /// # use net_base::ends::{AckSegment, SendingEnd};
-    /// # use net_base::tcp::{Announcement, TimeoutBounds};
+    /// # use net_base::tcp::{Announcement, Sack, TimeoutBounds};
     /// # use net_base::time::{Duration, Instant};
     /// # let mut storage = [0u8; 64];
     /// # let (second, bounds) = (Duration::from_secs(1), TimeoutBounds::default());
     /// # let mut sending = SendingEnd::<4>::new_at(&mut storage[..], 100, second, bounds);
-    /// # sending.open(Announcement { seq: 1, ack: 100, window: 1000 }, 8, true, Instant::ZERO);
+    /// # sending.open(Announcement { seq: 1, ack: 100, window: 1000 }, 8, Sack::Permitted, Instant::ZERO);
     /// let _taken = sending.write(b"abc");
     /// sending.close();
     /// let now = Instant::ZERO;
@@ -335,24 +335,25 @@ impl<S: Storage<u8>, const N: usize> SendingEndOver<S, N> {
 
 impl<S: Storage<u8>, const N: usize> SendingEndOver<S, N> {
     /// Begins with a peer, whose SYN announced a window, how many bytes a segment may have, and whether it reports
-    /// blocks (SACK): one that doesn't couldn't answer a probe, and is sent none. What was written stays. It is done
+    /// blocks: one that doesn't couldn't answer a probe, and is sent none. What was written stays. It is done
     /// once, before anything is sent; a second time begins with another peer, and the timer runs if something is in
     /// flight.
     ///
     /// ```
     /// # use net_base::ends::SendingEnd;
-    /// # use net_base::tcp::{Announcement, TimeoutBounds};
+    /// # use net_base::tcp::{Announcement, Sack, TimeoutBounds};
     /// # use net_base::time::{Duration, Instant};
     /// # let mut storage = [0u8; 64];
     /// # let (second, bounds) = (Duration::from_secs(1), TimeoutBounds::default());
     /// # let mut sending = SendingEnd::<4>::new_at(&mut storage[..], 100, second, bounds);
     /// let it = Announcement { seq: 1, ack: 100, window: 1000 };
-    /// sending.open(it, 536, true, Instant::ZERO);
+    /// sending.open(it, 536, Sack::Permitted, Instant::ZERO);
     /// assert_eq!(sending.segment_size(), 536);
     /// ```
-    pub fn open(&mut self, it: Announcement, segment_size: usize, reports: bool, now: Instant) {
+    pub fn open(&mut self, it: Announcement, segment_size: usize, sack: Sack, now: Instant) {
         let numbers = self.numbers();
-        self.head.open(numbers, self.first_timeout, it, segment_size, reports, now);
+        self.head
+            .open(numbers, self.first_timeout, it, segment_size, sack, now);
     }
 
     /// Begins again without a peer: the timer stops, unless something is in flight. What was written stays.
@@ -389,17 +390,17 @@ impl<S: Storage<u8>, const N: usize> SendingEndOver<S, N> {
     ///
     /// ```
     /// # use net_base::ends::{AckSegment, Acknowledged, SendingEnd};
-    /// # use net_base::tcp::{Announcement, TimeoutBounds};
+    /// # use net_base::tcp::{Announcement, Sack, TimeoutBounds};
     /// # use net_base::time::{Duration, Instant};
     /// # let mut storage = [0u8; 64];
     /// # let (second, bounds) = (Duration::from_secs(1), TimeoutBounds::default());
     /// # let mut sending = SendingEnd::<4>::new_at(&mut storage[..], 100, second, bounds);
-    /// # sending.open(Announcement { seq: 1, ack: 100, window: 1000 }, 8, true, Instant::ZERO);
+    /// # sending.open(Announcement { seq: 1, ack: 100, window: 1000 }, 8, Sack::Permitted, Instant::ZERO);
     /// let (now, _taken) = (Instant::ZERO, sending.write(&[7; 32]));
     /// while let Some(_segment_to_send) = sending.next_segment(1200, now) {}
     /// // The first of four segments is missing, and the other three have come: a recovery begins.
     /// let it = Announcement { seq: 1, ack: 100, window: 1000 };
-    /// let taken = sending.acknowledged(it, &[(108, 132)], AckSegment::Pure, now);
+    /// let taken = sending.acknowledged(it, &[108..132], AckSegment::Pure, now);
     /// assert_eq!(taken, Acknowledged::Taken { new: 0, reports: true, begins: true });
     /// let it = sending.next_segment(1200, now).expect("what was lost");
     /// assert_eq!((it.pos, it.end, it.is_again), (100, 108, true));
@@ -407,7 +408,7 @@ impl<S: Storage<u8>, const N: usize> SendingEndOver<S, N> {
     pub fn acknowledged(
         &mut self,
         it: Announcement,
-        blocks: &[(u64, u64)],
+        blocks: &[Range<u64>],
         segment: AckSegment,
         now: Instant,
     ) -> Acknowledged {
@@ -430,12 +431,12 @@ impl<S: Storage<u8>, const N: usize> SendingEndOver<S, N> {
     ///
     /// ```
     /// # use net_base::ends::SendingEnd;
-    /// # use net_base::tcp::{Announcement, TimeoutBounds};
+    /// # use net_base::tcp::{Announcement, Sack, TimeoutBounds};
     /// # use net_base::time::{Duration, Instant};
     /// # let mut storage = [0u8; 64];
     /// # let (second, bounds) = (Duration::from_secs(1), TimeoutBounds::default());
     /// # let mut sending = SendingEnd::<4>::new_at(&mut storage[..], 100, second, bounds);
-    /// # sending.open(Announcement { seq: 1, ack: 100, window: 1000 }, 8, true, Instant::ZERO);
+    /// # sending.open(Announcement { seq: 1, ack: 100, window: 1000 }, 8, Sack::Permitted, Instant::ZERO);
     /// let _taken = sending.write(b"abc");
     /// let _segment_to_send = sending.next_segment(1200, Instant::ZERO);
     /// let numbers = sending.numbers();
@@ -479,12 +480,12 @@ impl<S: Storage<u8>, const N: usize> SendingEndOver<S, N> {
     ///
     /// ```
     /// # use net_base::ends::SendingEnd;
-    /// # use net_base::tcp::{Announcement, TimeoutBounds};
+    /// # use net_base::tcp::{Announcement, Sack, TimeoutBounds};
     /// # use net_base::time::{Duration, Instant};
     /// # let mut storage = [0u8; 64];
     /// # let (second, bounds) = (Duration::from_secs(1), TimeoutBounds::default());
     /// # let mut sending = SendingEnd::<4>::new_at(&mut storage[..], 100, second, bounds);
-    /// # sending.open(Announcement { seq: 1, ack: 100, window: 1000 }, 8, true, Instant::ZERO);
+    /// # sending.open(Announcement { seq: 1, ack: 100, window: 1000 }, 8, Sack::Permitted, Instant::ZERO);
     /// let _taken = sending.write(&[7; 20]);
     /// // 16 positions may be in flight: two segments of 8.
     /// let mut sent = vec![];
@@ -509,12 +510,12 @@ impl<S: Storage<u8>, const N: usize> SendingEndOver<S, N> {
     ///
     /// ```
     /// # use net_base::ends::SendingEnd;
-    /// # use net_base::tcp::{Announcement, TimeoutBounds};
+    /// # use net_base::tcp::{Announcement, Sack, TimeoutBounds};
     /// # use net_base::time::{Duration, Instant};
     /// # let mut storage = [0u8; 64];
     /// # let (second, bounds) = (Duration::from_secs(1), TimeoutBounds::default());
     /// # let mut sending = SendingEnd::<4>::new_at(&mut storage[..], 100, second, bounds);
-    /// # sending.open(Announcement { seq: 1, ack: 100, window: 1000 }, 8, true, Instant::ZERO);
+    /// # sending.open(Announcement { seq: 1, ack: 100, window: 1000 }, 8, Sack::Permitted, Instant::ZERO);
     /// assert_eq!(sending.expires_at(), None);
     /// let _taken = sending.write(b"abc");
     /// let _segment_to_send = sending.next_segment(1200, Instant::from_millis(5));
@@ -565,12 +566,12 @@ impl<S: Storage<u8>, const N: usize> SendingEndOver<S, N> {
     ///
     /// ```
     /// # use net_base::ends::SendingEnd;
-    /// # use net_base::tcp::{Announcement, TimeoutBounds};
+    /// # use net_base::tcp::{Announcement, Sack, TimeoutBounds};
     /// # use net_base::time::{Duration, Instant};
     /// # let mut storage = [0u8; 64];
     /// # let (second, bounds) = (Duration::from_secs(1), TimeoutBounds::default());
     /// # let mut sending = SendingEnd::<4>::new_at(&mut storage[..], 100, second, bounds);
-    /// # sending.open(Announcement { seq: 1, ack: 100, window: 1000 }, 8, true, Instant::ZERO);
+    /// # sending.open(Announcement { seq: 1, ack: 100, window: 1000 }, 8, Sack::Permitted, Instant::ZERO);
     /// let _taken = sending.write(b"abc");
     /// let _segment_to_send = sending.next_segment(1200, Instant::ZERO);
     /// assert_eq!(sending.acknowledgement_number(), 103);
@@ -587,12 +588,12 @@ impl<S: Storage<u8>, const N: usize> SendingEndOver<S, N> {
     ///
     /// ```
     /// # use net_base::ends::SendingEnd;
-    /// # use net_base::tcp::{Announcement, TimeoutBounds};
+    /// # use net_base::tcp::{Announcement, Sack, TimeoutBounds};
     /// # use net_base::time::{Duration, Instant};
     /// # let mut storage = [0u8; 64];
     /// # let (second, bounds) = (Duration::from_secs(1), TimeoutBounds::default());
     /// # let mut sending = SendingEnd::<4>::new_at(&mut storage[..], 100, second, bounds);
-    /// # sending.open(Announcement { seq: 1, ack: 100, window: 1000 }, 8, true, Instant::ZERO);
+    /// # sending.open(Announcement { seq: 1, ack: 100, window: 1000 }, 8, Sack::Permitted, Instant::ZERO);
     /// let (now, _taken) = (Instant::ZERO, sending.write(b"abc"));
     /// let _segment_to_send = sending.next_segment(1200, now);
     /// // Three more bytes are less than a segment, and something is in flight.

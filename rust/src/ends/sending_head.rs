@@ -7,7 +7,10 @@ use crate::ends::sending_end::{Acknowledged, Expired, Outgoing};
 use crate::storage::Run;
 use crate::time::{Duration, Instant};
 use crate::stream::SentNumbers;
-use crate::tcp::{Announcement, PeerWindow, RetransmissionTimer, TimeoutBounds, is_acknowledgement};
+use crate::tcp::{
+    Announcement, PeerWindow, RetransmissionTimer, Sack, TimeoutBounds, is_acknowledgement,
+};
+use crate::rattle::std::ops::Range;
 
 /// All of a sending end but its sender and the times that were set: what was reported and what is lost, the timer, and
 /// what the peer announced. Its calls are given the sender's numbers; who holds both has the sender take what they say.
@@ -45,7 +48,7 @@ impl SendingHead {
     pub(crate) const fn new_at(first: u64, first_timeout: Duration) -> Self {
         SendingHead {
             buffer: BufferHead::new_at(first),
-            timer: RetransmissionTimer::new(first_timeout, false),
+            timer: RetransmissionTimer::new(first_timeout, Sack::Absent),
             peer_window: PeerWindow::new(),
             greatest_window: 0,
             last_window: 0,
@@ -58,7 +61,7 @@ impl SendingHead {
     }
 
     /// Begins with a peer, whose SYN announced a window, how many bytes a segment may have, and whether it reports
-    /// blocks (SACK): one that doesn't couldn't answer a probe, and is sent none. What was written stays. It is done
+    /// blocks: one that doesn't couldn't answer a probe, and is sent none. What was written stays. It is done
     /// once, before anything is sent; a second time begins with another peer, and the timer runs if something is in
     /// flight.
     #[inline]
@@ -68,11 +71,11 @@ impl SendingHead {
         first_timeout: Duration,
         it: Announcement,
         segment_size: usize,
-        reports: bool,
+        sack: Sack,
         now: Instant,
     ) {
-        self.buffer.recovery.expect_reports(reports);
-        self.renew(numbers, first_timeout, reports, now);
+        self.buffer.recovery.expect_reports(sack);
+        self.renew(numbers, first_timeout, sack, now);
         self.peer_window = PeerWindow::of(it);
         self.greatest_window = it.window;
         self.last_window = it.window;
@@ -84,13 +87,13 @@ impl SendingHead {
     /// Begins again without a peer: the timer stops, unless something is in flight. What was written stays.
     #[inline]
     pub(crate) fn forget(&mut self, numbers: SentNumbers, first_timeout: Duration, now: Instant) {
-        self.renew(numbers, first_timeout, false, now);
+        self.renew(numbers, first_timeout, Sack::Absent, now);
     }
 
     /// Begins with a timer that had no sample.
     #[inline]
-    fn renew(&mut self, numbers: SentNumbers, first_timeout: Duration, reports: bool, now: Instant) {
-        self.timer = RetransmissionTimer::new(first_timeout, reports);
+    fn renew(&mut self, numbers: SentNumbers, first_timeout: Duration, sack: Sack, now: Instant) {
+        self.timer = RetransmissionTimer::new(first_timeout, sack);
         if numbers.first_unacknowledged < numbers.sent {
             self.timer.start(now);
         }
@@ -119,7 +122,7 @@ impl SendingHead {
         numbers: SentNumbers,
         bounds: TimeoutBounds,
         it: Announcement,
-        blocks: &[(u64, u64)],
+        blocks: &[Range<u64>],
         is_empty: bool,
         now: Instant,
     ) -> Acknowledged {
@@ -145,7 +148,7 @@ impl SendingHead {
         numbers: SentNumbers,
         bounds: TimeoutBounds,
         it: Announcement,
-        blocks: &[(u64, u64)],
+        blocks: &[Range<u64>],
         is_empty: bool,
         now: Instant,
     ) -> TakenAck {
@@ -253,10 +256,10 @@ impl SendingHead {
         runs: &[Run],
         queued: Queued,
         congestion_window: u64,
-    ) -> (Option<(u64, u64)>, Sending) {
+    ) -> (Option<Range<u64>>, Sending) {
         let first = queued.numbers.first_unacknowledged;
         if self.is_window_probe_due != 0 && self.is_shut(queued) {
-            return (Some((first, first + 1)), Sending::WindowProbe);
+            return (Some(first..first + 1), Sending::WindowProbe);
         }
         let limit = self.peer_window.send_limit(queued.end);
         let next = self.next_range(runs, queued, limit, congestion_window);
@@ -271,7 +274,7 @@ impl SendingHead {
 
     /// Returns what a probe for an answer sends below a limit. A function of its own, since the search doesn't find
     /// what `choose` says with this call in it.
-    fn next_probe(&self, runs: &[Run], numbers: SentNumbers, limit: u64) -> Option<(u64, u64)> {
+    fn next_probe(&self, runs: &[Run], numbers: SentNumbers, limit: u64) -> Option<Range<u64>> {
         self.buffer
             .next_probe(runs, numbers, limit, self.segment_size())
     }
@@ -283,8 +286,8 @@ impl SendingHead {
         queued: Queued,
         limit: u64,
         congestion_window: u64,
-    ) -> Option<(u64, u64)> {
-        let Some((from, to)) = self.buffer.next(
+    ) -> Option<Range<u64>> {
+        let Some(range) = self.buffer.next(
             runs,
             queued.numbers,
             limit,
@@ -294,8 +297,8 @@ impl SendingHead {
         else {
             return None;
         };
-        if self.is_due(queued, from, to) {
-            Some((from, to))
+        if self.is_due(queued, range.start, range.end) {
+            Some(range)
         } else {
             None
         }
@@ -339,17 +342,18 @@ impl SendingHead {
         now: Instant,
     ) -> Option<Outgoing> {
         let (chosen, sending) = self.choose(runs, queued, congestion_window);
-        let Some((from, to)) = chosen else {
+        let Some(range) = chosen else {
             // Not before something is sent: what `start` starts has no probe.
             if queued.numbers.first_unacknowledged < queued.end {
                 self.timer.start(now);
             }
             return None;
         };
+        let (from, to) = (range.start, range.end);
         self.timer.sent(bounds, from..to, queued.numbers, now);
         self.is_window_probe_due = 0;
         self.is_overdue = 0;
-        self.buffer.sent(queued.numbers, from..to, sending);
+        self.buffer.sent(queued.numbers, range, sending);
         Some(Outgoing {
             pos: from,
             end: to,

@@ -14,7 +14,8 @@ use crate::storage::Run;
 use crate::time::{Duration, Instant};
 use crate::ends::{Acknowledged, Expired, Outgoing, Queued, SendingHead};
 use crate::stream::{FiniteSenderHead, HeldRun, SentNumbers};
-use crate::tcp::{Announcement, Expiry};
+use crate::tcp::{Announcement, Expiry, Sack};
+use crate::rattle::std::ops::Range;
 
 const BLOCKS: usize = 4;
 
@@ -153,17 +154,17 @@ fn fields_of_outgoing(it: Outgoing) -> OutgoingSegment {
 }
 
 #[inline(always)]
-fn block_at(blocks: &[HeldRun], at: usize) -> (u64, u64) {
+fn block_at(blocks: &[HeldRun], at: usize) -> Range<u64> {
     if at < blocks.len() {
         let block = blocks[at];
-        (block.start, block.end)
+        block.start..block.end
     } else {
-        (0, 0)
+        0..0
     }
 }
 
 #[inline(always)]
-fn pairs_of(blocks: &[HeldRun]) -> [(u64, u64); BLOCKS] {
+fn ranges_of(blocks: &[HeldRun]) -> [Range<u64>; BLOCKS] {
     [
         block_at(blocks, 0),
         block_at(blocks, 1),
@@ -182,6 +183,15 @@ fn numbers_from(sender: &FiniteSenderHead) -> SentNumbers {
     SentNumbers {
         first_unacknowledged: sender.first_number(),
         sent: sender.sent,
+    }
+}
+
+#[inline(always)]
+fn sack_of(reports: bool) -> Sack {
+    if reports {
+        Sack::Permitted
+    } else {
+        Sack::Absent
     }
 }
 
@@ -264,8 +274,14 @@ pub fn net_base_sending_end_open(
         return false;
     }
     let (numbers, first) = (numbers_from(&end.sender), first_timeout(end));
-    end.head
-        .open(numbers, first, *it, segment_size, reports, moment(now));
+    end.head.open(
+        numbers,
+        first,
+        *it,
+        segment_size,
+        sack_of(reports),
+        moment(now),
+    );
     true
 }
 
@@ -330,14 +346,14 @@ pub fn net_base_sending_end_acknowledged(
     if blocks.len() > BLOCKS || !is_sound(end, storage.len()) {
         return refused_taken_acknowledgement();
     }
-    let pairs = pairs_of(blocks);
+    let ranges = ranges_of(blocks);
     let numbers = numbers_from(&end.sender);
     let said = end.head.acknowledged(
         &mut end.runs,
         numbers,
         bounds_from(&end.bounds),
         *it,
-        &pairs[..blocks.len()],
+        &ranges[..blocks.len()],
         is_empty,
         moment(now),
     );

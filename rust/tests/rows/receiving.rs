@@ -45,14 +45,13 @@ impl<S: Storage<u8>, const N: usize> Subject for Receiving<S, N> {
                 "done".to_string()
             }
             "announce" => {
-                let (next, window) = end.announce();
-                format!("{} {window}", next - first)
+                let it = end.announce();
+                format!("{} {}", it.next - first, it.window)
             }
             "acknowledgement" => {
                 let it = end.acknowledgement();
-                let blocks = it.blocks.iter().flatten();
                 let shown =
-                    blocks.map(|(start, end)| format!(" {}-{}", start - first, end - first));
+                    it.blocks.iter().map(|it| format!(" {}-{}", it.start - first, it.end - first));
                 format!("{} {}{}", it.next - first, it.window, shown.collect::<String>())
             }
             "read" => {

@@ -3,9 +3,11 @@ use crate::show::{digest, mix_bytes, pattern, truth, START};
 use crate::storages::{with_storage, Stored};
 use crate::timer::moment;
 use crate::{Call, Subject};
-use net_base::ends::{Acknowledged, Expired, Outgoing, SendingEnd, SendingEndOver};
+use net_base::ends::{
+    AckSegment, Acknowledged, Expired, Outgoing, SegmentBytes, SendingEnd, SendingEndOver,
+};
 use net_base::storage::Storage;
-use net_base::tcp::{Announcement, TimeoutBounds};
+use net_base::tcp::{Announcement, Sack, TimeoutBounds};
 use net_base::time::Duration;
 
 /// An end, and its stream's first position.
@@ -35,9 +37,9 @@ pub fn with_end<const N: usize>(
 }
 
 /// How many bytes both parts have, their digest, and whether the stream ends after them.
-fn part((front, back, is_last): (&[u8], &[u8], bool)) -> String {
-    let sum = mix_bytes(mix_bytes(START, front), back);
-    format!("{} {} {}", front.len() + back.len(), digest(sum), truth(is_last))
+fn part(it: SegmentBytes<'_>) -> String {
+    let sum = mix_bytes(mix_bytes(START, it.front), it.back);
+    format!("{} {} {}", it.front.len() + it.back.len(), digest(sum), truth(it.is_last))
 }
 
 /// The segments that are sent.
@@ -59,7 +61,8 @@ impl<S: Storage<u8>, const N: usize> Subject for Sending<S, N> {
         let reply = match call.name {
             "open" => {
                 let it = Announcement { seq: one, ack: two, window: three };
-                end.open(it, call.size(3), five == 1, moment(six));
+                let sack = if five == 1 { Sack::Permitted } else { Sack::Absent };
+                end.open(it, call.size(3), sack, moment(six));
                 return "done".to_string();
             }
             "forget" => {
@@ -67,7 +70,7 @@ impl<S: Storage<u8>, const N: usize> Subject for Sending<S, N> {
                 return "done".to_string();
             }
             "is_opening_due" => return truth(end.is_opening_due(moment(one))).to_string(),
-            "bytes" => return part(end.bytes(one, two)),
+            "bytes" => return part(end.bytes(one..two)),
             "next_segment" => return shown(end.next_segment(window, now).into_iter()),
             "write" => end.write(&pattern(call.size(2), four)).to_string(),
             "close" => {
@@ -82,9 +85,9 @@ impl<S: Storage<u8>, const N: usize> Subject for Sending<S, N> {
             }
             "acknowledged" => {
                 let it = Announcement { seq: three, ack: four, window: five };
-                let blocks =
-                    call.numbers[6..].chunks(2).map(|it| (it[0], it[1])).collect::<Vec<_>>();
-                match end.acknowledged(it, &blocks, six == 1, now) {
+                let blocks = call.numbers[6..].chunks(2).map(|it| it[0]..it[1]).collect::<Vec<_>>();
+                let segment = if six == 1 { AckSegment::Pure } else { AckSegment::WithData };
+                match end.acknowledged(it, &blocks, segment, now) {
                     Acknowledged::Refused => "refused".to_string(),
                     Acknowledged::Old => "old".to_string(),
                     Acknowledged::Taken { new, reports, begins } => {
@@ -126,7 +129,7 @@ impl<S: Storage<u8>, const N: usize> Subject for Sending<S, N> {
             truth(end.is_recovering()),
             truth(end.is_done()),
             end.acknowledgement_number() - first,
-            part(end.bytes(numbers.first_unacknowledged, u64::MAX)),
+            part(end.bytes(numbers.first_unacknowledged..u64::MAX)),
         )
     }
 }

@@ -1,6 +1,7 @@
 use Rattle.std.proofs.Common.{refl, sym, ◌∙◌, rules, arith, length}
 use Rattle.net_receiver.specs.FiniteSender.{finite_sender_of}
 use Rattle.net_ffi.specs.Retransmission.{given_or, bounds_of}
+use Rattle.net_ffi.specs.SendingEnds.{ranges_of}
 use Rattle.net_ffi.proofs.SendingEnds.{hears_c}
 use Rattle.net_ffi.proofs.sending_end.net_base_sending_end_acknowledged.Goals as goal
 
@@ -16,8 +17,8 @@ returns-clause-value c = λ sound few.
       c.fields_of_acknowledged.ensures,
       hears_c (length it.runs) s (finite_sender_of c.acknowledge.new.sender xs) it.head c.acknowledged-said.new.self
           it.runs c.acknowledged-said.new.runs timeout c.bounds_from.result (bounds_of it.bounds) ack.seq ack.ack
-          ack.window _ c.args.blocks.now c.args.is_empty c.moment.result c.args.now c.acknowledged-said.result
-          c.are_sixteen.ensures c.bounds_from.ensures c.pairs_of-pairs.ensures moment (c.acknowledge.ensures.step xs refl)
+          ack.window _ (ranges_of c.args.blocks.now) c.args.is_empty c.moment.result c.args.now c.acknowledged-said.result
+          c.are_sixteen.ensures c.bounds_from.ensures c.ranges_of-ranges.ensures moment (c.acknowledge.ensures.step xs refl)
           (c.acknowledged-said.ensures.hears s timeout (sym c.numbers_from-numbers.ensures)),
     )
 

@@ -26,7 +26,7 @@ returns-then-numbers-range-2-clause-takes g c =
     is_block g.row.N c.args.segment_size c.args.self.now c.acknowledge.new.self at c.args.range.start c.args.range.end
     c.acknowledge.result c.numbers-numbers.ensures.value (grind (arith, nat_tests, c.if-numbers-range-2.true))
     (all_of g.row.N c.args.segment_size c.args.self.now c.acknowledge.new.self at.first_unacknowledged
-    ((c.args.range.start, c.args.range.end) ∷ []) _ c.acknowledge.result said.state said.new said.reports said.recovery)
+    (c.args.range ∷ []) _ c.acknowledge.result said.state said.new said.reports said.recovery)
 
 pub returns-clause-refused : goal.returns-clause-refused
 returns-clause-refused g c =

@@ -1,5 +1,6 @@
 use Rattle.std.proofs.Common.{◌≡◌, ℕ, ℤ, List, sym, ap, subst, ◌∙◌}
 use Rattle.std.specs.Prelude.{Bool}
+use Rattle.std.specs.declared.ops.Range.{Range}
 use Rattle.net_receiver.specs.FiniteSender.{FiniteSenderState}
 use Rattle.net_ends.specs.Acknowledgements.{numbers_of}
 use Rattle.net_ends.specs.Calls.{Hears}
@@ -8,7 +9,7 @@ use Rattle.net_ends.specs.Parts.{end_of}
 use Rattle.net_ends.specs.declared.sending_end.Acknowledged.{Acknowledged}
 use Rattle.net_ends.proofs.sending_end.SendingEndOver.acknowledged.Goals as goal
 
-hears_of : (n m : ℕ) (d e left f : End) (seq ack window : ℕ) (bs : List (ℕ × ℕ)) (empty pure : Bool) (now : ℤ)
+hears_of : (n m : ℕ) (d e left f : End) (seq ack window : ℕ) (bs : List (Range ℕ)) (empty pure : Bool) (now : ℤ)
     (said : Acknowledged) → n ≡ m → d ≡ e → f ≡ left → empty ≡ pure → Hears n d seq ack window bs empty now said left →
     Hears m e seq ack window bs pure now said f
 hears_of n m d e left f seq ack window bs empty pure now said many view stays none hears =

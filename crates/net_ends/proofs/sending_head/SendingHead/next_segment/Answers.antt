@@ -2,6 +2,7 @@
 use Rattle.std.proofs.Common.{◌≡◌, ℕ, ◌+◌, false, refl, sym, ap, ◌∙◌}
 use Rattle.std.specs.Prelude.{Bool, IsTrue, Some, nat_lt}
 use Rattle.net_assembler.specs.Positions.{Positions}
+use Rattle.std.specs.declared.ops.Range.{Range}
 use Rattle.net_receiver.specs.FiniteSender.{sender_after_command, Marks}
 use Rattle.net_receiver.specs.Scoreboards.{reported_by}
 use Rattle.net_receiver.specs.declared.scoreboard_head.ScoreboardHead.{ScoreboardHead}
@@ -15,14 +16,14 @@ use Rattle.net_ends.specs.declared.send_buffer.Queued.{Queued}
 use Rattle.net_ends.proofs.Steps.{may_is, worth_is, sent_is}
 use Rattle.net_ends.proofs.sending_head.SendingHead.next_segment.Goals as goal
 
-same_pair : (p q : ℕ × ℕ) → Some p ≡ Some q → (p.0 ≡ q.0) × (p.1 ≡ q.1)
-same_pair p q is = (cc, cc)
+same_range : (p q : Range ℕ) → Some p ≡ Some q → (p.start ≡ q.start) × (p.end ≡ q.end)
+same_range p q is = (cc, cc)
 
 pub returns-clause-chooses : goal.returns-clause-chooses
 returns-clause-chooses c = λ s timeout is.
     let e = end_of s c.args.self.now c.args.runs.now timeout c.args.bounds in
-    let from = c.in-Some.from in
-    let to = c.in-Some.to in
+    let from = c.in-Some.range.start in
+    let to = c.in-Some.range.end in
     let some = c.in-Some.is in
     let tail = is_tail_probe c.choose-chosen.result.1 in
     let chose = rw (← is) at c.choose-chosen.ensures in
@@ -44,7 +45,7 @@ returns-clause-chooses c = λ s timeout is.
     } in
     record {
       within = may;
-      probe = λ on. same_pair (from, to) (first e, first e + 1) (sym some ∙ chose.probe on);
+      probe = λ on. same_range c.in-Some.range (record { start = first e; end = first e + 1 }) (sym some ∙ chose.probe on);
       asked = λ _. refl;
       worth = λ calm new. worth_is e from to is_due calm new;
       late = λ _ _ _ _. refl;
