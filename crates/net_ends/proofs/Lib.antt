@@ -7,6 +7,7 @@ pub mod PathLaws
 pub mod Progress
 pub mod Ranges
 pub mod Blocks
+pub mod Losses
 pub mod Receiving
 pub mod ReceivingLaws
 pub mod RoundLaws

@@ -5,6 +5,8 @@
 --     is_repeat kind, is_window_probe sending, is_tail_probe sending      of what is passed
 --     ack_of s at from to, blocks_of at from to      up to where a range acknowledges, and the block that it is else
 --     Takes n size b ack bs repeats it left      what an acknowledgement says and leaves
+--     lost_range at from to r      the recovery once a range is lost
+--     is_to_resend r first p      whether a position is lost, and wasn't sent again
 --     marked b from to, remaining b      what is left once a range is sent; how much may be sent before an answer
 use Rattle.std.specs.Prelude.{◌≡◌, ℕ, ◌+◌, ◌-◌, min, max, Bool, true, false, nat_le, if◌then◌else◌, List, [], ◌∷◌}
 use Rattle.std.specs.declared.ops.Range.{Range}
@@ -13,7 +15,9 @@ use Rattle.net_receiver.specs.declared.sent_numbers.SentNumbers.{SentNumbers}
 use Rattle.net_receiver.specs.FiniteSender.{FiniteSenderState, fresh_finite_sender, numbers_end}
 use Rattle.net_receiver.specs.FiniteSender.{sender_after_command, Marks, Acknowledges, first_number}
 use Rattle.net_receiver.specs.Scoreboards.{reported_by as reported_of}
-use Rattle.net_tcp.specs.LossRecovery.{new_recovery, recovery_of, Recovery}
+use Rattle.net_tcp.specs.LossRecovery.{new_recovery, recovery_of, Recovery, after_sending, begun, forgotten}
+use Rattle.net_tcp.specs.LossRecovery.{is_active, was_sent_again}
+use Rattle.std.specs.Prelude.{nat_lt, ◌&&◌, not}
 use Rattle.net_ends.specs.Ends.{kept}
 use Rattle.net_ends.specs.Acknowledgements.{after_segment, numbers_of, unsent_of, reported_by, Recovers}
 use Rattle.net_ends.specs.declared.send_buffer.BufferHead.{BufferHead}
@@ -86,6 +90,17 @@ pub record Takes (n size : ℕ) (b : Buffer) (ack : ℕ) (bs : List (Range ℕ))
   pub reports : it.reports ≡ (reported_by n b.sender.sent b.reported ack bs).1
   pub recovery : Recovers n size (numbers_of b.sender) (unsent_of b.sender b.reported b.recovery) b.reported
       b.recovery ack bs repeats it.reports left.recovery it.begins
+
+-- ---- a range that is lost
+-- what of it isn't acknowledged is a pass of its own: what is below it isn't sent again
+abbrev pub lost_range : SentNumbers → ℕ → ℕ → Recovery → Recovery
+lost_range at from to r = if nat_le to at.first_unacknowledged then r
+    else after_sending at.first_unacknowledged at.sent at.first_unacknowledged from
+    (begun at.first_unacknowledged to to (forgotten r))
+
+-- a position is lost, and wasn't sent again
+abbrev pub is_to_resend : Recovery → ℕ → ℕ → Bool
+is_to_resend r first p = is_active r first && nat_lt p r.lost && not (was_sent_again r first p)
 
 -- ---- what is sent before an answer
 -- a range is sent that isn't a probe

@@ -18,6 +18,8 @@ ghost use Rattle.net_receiver.specs.NewHeads.{scoreboard_head};
 ghost use Rattle.std.specs.Prelude.{◌↔◌, List};
 ghost use Rattle.net_ends.specs.Ends.{IsSegment, kept, has_dropped};
 ghost use Rattle.net_ends.specs.Buffers.{new_buffer, buffer_of, board_of, marked, remaining, is_repeat};
+ghost use Rattle.net_ends.specs.Buffers.{lost_range, is_to_resend};
+ghost use Rattle.std.specs.Prelude.{nat_eq, nat_lt};
 ghost use Rattle.net_ends.specs.Buffers.{is_window_probe, is_tail_probe, ack_of, blocks_of, Takes};
 ghost use Rattle.net_ends.specs.Acknowledgements.{with_block, is_new, after_blocks, reported_by, has_block};
 ghost use Rattle.net_ends.specs.Acknowledgements.{doubted, is_duplicated};
@@ -62,12 +64,14 @@ pub struct BufferHead {
 ///
 /// ```
 /// use net_base::ends::{AckKind, SendBuffer, Sending};
+/// use net_base::tcp::Sack;
 ///
 /// let mut storage = [0u8; 64];
 /// let mut buffer = SendBuffer::<4>::new_at(&mut storage[..], 0);
 /// assert_eq!(buffer.write(&[7; 32]), 32);
 /// assert!(buffer.mark(0..32, Sending::Segment));
 /// // Three acknowledgements of nothing new, from a peer that reports no blocks: the first segment is lost.
+/// buffer.expect_reports(Sack::Absent);
 /// for _ in 0..3 {
 ///     buffer.acknowledge(0, &[], 8, AckKind::Repeat).expect("0 isn't beyond what was sent");
 /// }
@@ -151,6 +155,15 @@ pub struct SegmentBytes<'a> {
 }
 
 /// What a stream that ends has sent, over storage that is lent or owned.
+///
+/// ```
+/// use net_base::ends::SendBuffer;
+///
+/// // 64 bytes may wait, and at most 4 ranges are remembered that were acknowledged out of order.
+/// let mut storage = [0u8; 64];
+/// let buffer = SendBuffer::<4>::new_at(&mut storage[..], 0);
+/// assert_eq!((buffer.window(), buffer.numbers_end()), (64, 0));
+/// ```
 pub type SendBuffer<'a, const N: usize> = SendBufferOver<ManagedSlice<'a, u8>, N>;
 
 /// A [`SendBuffer`] over any storage: a sender, a scoreboard and a recovery. It knows bytes, what was reported and what
@@ -238,6 +251,15 @@ impl<S: Storage<u8>, const N: usize> SendBufferOver<S, N> {
     /// # Requires
     ///
     /// `first` is below `u64::MAX`: an end there would have no number after it.
+    ///
+    /// ```
+    /// # use net_base::ends::{SendBuffer};
+    /// # let mut storage = [0u8; 64];
+    /// # let mut buffer = SendBuffer::<4>::new_at(&mut storage[..], 0);
+    /// assert_eq!(buffer.write(b"abc"), 3);
+    /// buffer.reset_at(100);
+    /// assert_eq!((buffer.window(), buffer.numbers_end()), (64, 100));
+    /// ```
     #[track_caller]
     pub fn reset_at(&mut self, first: u64)
         requires { first < no_end }
@@ -294,6 +316,16 @@ impl<S: Storage<u8>, const N: usize> SendBufferOver<S, N> {
     }
 
     /// Ends the stream after what was written.
+    ///
+    /// ```
+    /// # use net_base::ends::{SendBuffer};
+    /// # let mut storage = [0u8; 64];
+    /// # let mut buffer = SendBuffer::<4>::new_at(&mut storage[..], 0);
+    /// assert_eq!(buffer.write(b"abc"), 3);
+    /// buffer.close();
+    /// // The end has a number too, and nothing is written after it.
+    /// assert_eq!((buffer.numbers_end(), buffer.write(b"d")), (4, 0));
+    /// ```
     pub fn close(&mut self)
         ensures { self.new ≡ record self.old {
           sender =
@@ -481,6 +513,33 @@ impl BufferHead {
         self.recovery.find_overdue(numbers, &board)
     }
 
+    /// Returns whether something is lost that wasn't sent again.
+    fn has_unsent(&self, runs: &[Run], numbers: SentNumbers) -> bool
+        requires { IsSoundBoard self.now.scoreboard runs.now }
+        ensures { result ≡ not (nat_eq (unsent_at numbers.first_unacknowledged
+            (board_of self.now runs.now) (recovery_of self.now.recovery)) 0) }
+    {
+        self.recovery.unsent(numbers, &self.board(runs)) != 0
+    }
+
+    /// Loses a range, as `SendBufferOver::lose` says.
+    fn lose(&mut self, numbers: SentNumbers, range: Range<u64>)
+        ensures rest { self.new.scoreboard ≡ self.old.scoreboard }
+        ensures recovery { recovery_of self.new.recovery
+            ≡ lost_range numbers range.start range.end (recovery_of self.old.recovery) }
+    {
+        let first = numbers.first_unacknowledged;
+        if range.end <= first {
+            return;
+        }
+        self.recovery.lose_all(SentNumbers {
+            first_unacknowledged: first,
+            sent: range.end,
+        });
+        // What is below the range counts as sent again.
+        self.recovery.sent(numbers, first..range.start);
+    }
+
     /// Returns what to send next below `limit`, as `SendBufferOver::next` says.
     pub fn next(
         &self,
@@ -568,6 +627,16 @@ impl BufferHead {
 
 impl<S: Storage<u8>, const N: usize> SendBufferOver<S, N> {
     /// Returns the first number that isn't acknowledged, and the one after the last that was sent.
+    ///
+    /// ```
+    /// # use net_base::ends::{SendBuffer, Sending};
+    /// # let mut storage = [0u8; 64];
+    /// # let mut buffer = SendBuffer::<4>::new_at(&mut storage[..], 0);
+    /// assert_eq!(buffer.write(b"abc"), 3);
+    /// assert!(buffer.mark(0..3, Sending::Segment));
+    /// buffer.acknowledge_range(0..2, 8).expect("it was sent");
+    /// assert_eq!((buffer.numbers().first_unacknowledged, buffer.numbers().sent), (2, 3));
+    /// ```
     #[must_use]
     pub fn numbers(&self) -> SentNumbers
         ensures value { result ≡ numbers_of self.now.sender }
@@ -594,6 +663,16 @@ impl<S: Storage<u8>, const N: usize> SendBufferOver<S, N> {
     }
 
     /// Returns whether a position was reported.
+    ///
+    /// ```
+    /// # use net_base::ends::{SendBuffer, Sending};
+    /// # let mut storage = [0u8; 64];
+    /// # let mut buffer = SendBuffer::<4>::new_at(&mut storage[..], 0);
+    /// assert_eq!(buffer.write(&[7; 16]), 16);
+    /// assert!(buffer.mark(0..16, Sending::Segment));
+    /// buffer.acknowledge_range(8..16, 8).expect("it was sent");
+    /// assert!(!buffer.contains(7) && buffer.contains(8));
+    /// ```
     #[must_use]
     pub fn contains(&self, pos: u64) -> bool
         ensures { result ≡ contains self.now.reported pos }
@@ -618,6 +697,16 @@ impl<S: Storage<u8>, const N: usize> SendBufferOver<S, N> {
     }
 
     /// Takes notice whether the peer reports what arrives, in blocks.
+    ///
+    /// ```
+    /// # use net_base::ends::{SendBuffer};
+    /// # let mut storage = [0u8; 64];
+    /// # let mut buffer = SendBuffer::<4>::new_at(&mut storage[..], 0);
+    /// use net_base::tcp::Sack;
+    ///
+    /// buffer.expect_reports(Sack::Absent); // one of the SYNs had no SACK-permitted
+    /// assert!(buffer.is_blind());
+    /// ```
     pub fn expect_reports(&mut self, sack: Sack)
         ensures { self.new ≡ record self.old {
           recovery = record self.old.recovery { is_blind = not (is_permitted sack); unknown = 0 };
@@ -742,6 +831,23 @@ impl<S: Storage<u8>, const N: usize> SendBufferOver<S, N> {
     }
 
     /// Returns whether the last recovery was for nothing, and ends it then.
+    ///
+    /// ```
+    /// # use net_base::ends::{AckKind, SendBuffer, Sending};
+    /// # let mut storage = [0u8; 64];
+    /// # let mut buffer = SendBuffer::<4>::new_at(&mut storage[..], 0);
+    /// assert_eq!(buffer.write(&[7; 64]), 64);
+    /// while let Some(range) = buffer.next(u64::MAX, u64::MAX, 8) {
+    ///     assert!(buffer.mark(range, Sending::Segment));
+    /// }
+    /// // Three segments beyond the first were reported, so that it is sent again.
+    /// buffer.acknowledge(0, &[8..32], 8, AckKind::Other).expect("it was sent");
+    /// assert!(buffer.mark(0..8, Sending::Segment) && buffer.is_recovering());
+    /// // It came twice: the first one was late, and not lost.
+    /// buffer.acknowledge(32, &[0..8], 8, AckKind::Other).expect("it was sent");
+    /// assert!(buffer.take_back() && !buffer.is_recovering());
+    /// ```
+    #[must_use]
     pub fn take_back(&mut self) -> bool
         ensures value { result ≡ is_wrong self.old.recovery (first_number self.old.sender)
             self.old.reported }
@@ -752,7 +858,21 @@ impl<S: Storage<u8>, const N: usize> SendBufferOver<S, N> {
         let numbers = self.numbers();
         self.head.take_back(&self.runs, numbers)
     }
+
     /// Finds what is overdue, where nothing was reported for two round trips, and returns whether a recovery begins.
+    ///
+    /// ```
+    /// # use net_base::ends::{SendBuffer, Sending};
+    /// # let mut storage = [0u8; 64];
+    /// # let mut buffer = SendBuffer::<4>::new_at(&mut storage[..], 0);
+    /// assert_eq!(buffer.write(&[7; 16]), 16);
+    /// assert!(buffer.mark(0..8, Sending::Segment) && buffer.mark(8..16, Sending::Segment));
+    /// // Less than three segments beyond the first were reported.
+    /// buffer.acknowledge_range(8..16, 8).expect("it was sent");
+    /// assert_eq!(buffer.next(u64::MAX, u64::MAX, 8), None);
+    /// assert!(buffer.find_overdue());
+    /// assert_eq!(buffer.next(u64::MAX, u64::MAX, 8), Some(0..8));
+    /// ```
     pub fn find_overdue(&mut self) -> bool
         ensures state { self.new ≡ record self.old { recovery = self.new.recovery } }
         ensures recovery { (highest : ℕ) → IsEnd self.old.reported highest →
@@ -763,6 +883,48 @@ impl<S: Storage<u8>, const N: usize> SendBufferOver<S, N> {
     {
         self.head
             .find_overdue(&self.runs, self.sender.sent_numbers())
+    }
+
+    /// Loses a range, as a scheme of packets finds it (RFC 9002, section 6), and returns true: what of it isn't
+    /// acknowledged is sent again, and nothing else is.
+    ///
+    /// Returns false, and changes nothing, if the range ends above what was sent, or if something that was lost before
+    /// waits to be sent again. Send that first: a recovery knows one range at a time.
+    ///
+    /// ```
+    /// # use net_base::ends::{SendBuffer, Sending};
+    /// # let mut storage = [0u8; 64];
+    /// # let mut buffer = SendBuffer::<4>::new_at(&mut storage[..], 0);
+    /// # assert_eq!(buffer.write(&[7; 32]), 32);
+    /// # while let Some(range) = buffer.next(u64::MAX, u64::MAX, 8) {
+    /// #     assert!(buffer.mark(range, Sending::Segment));
+    /// # }
+    /// // Of four packets the second is lost, and another one with it.
+    /// assert!(buffer.lose(8..16));
+    /// assert!(!buffer.lose(24..32)); // not yet
+    /// let range = buffer.next(u64::MAX, u64::MAX, 8).expect("what was lost");
+    /// assert!(range == (8..16) && buffer.mark(range, Sending::Segment));
+    /// assert!(buffer.lose(24..32));
+    /// assert_eq!(buffer.next(u64::MAX, u64::MAX, 8), Some(24..32));
+    /// ```
+    #[must_use]
+    pub fn lose(&mut self, range: Range<u64>) -> bool
+        ensures accepted { result ≡ (nat_le range.end self.old.sender.sent
+            && nat_eq (unsent_of self.old.sender self.old.reported self.old.recovery) 0) }
+        ensures state { IsTrue result → self.new ≡ record self.old {
+          recovery = lost_range (numbers_of self.old.sender) range.start range.end self.old.recovery;
+        } }
+        ensures again { IsTrue result → first_number self.old.sender < range.end → (p : ℕ) →
+            is_to_resend self.new.recovery (first_number self.old.sender) p
+            ≡ (nat_le (max (first_number self.old.sender) range.start) p && nat_lt p range.end) }
+        ensures refused { IsFalse result → self.new ≡ self.old }
+    {
+        let numbers = self.numbers();
+        if numbers.sent < range.end || self.head.has_unsent(&self.runs, numbers) {
+            return false;
+        }
+        self.head.lose(numbers, range);
+        true
     }
 
     /// Loses all that was sent and isn't reported.
@@ -964,7 +1126,7 @@ pub(crate) fn lend<S: Storage<u8>>(
 
 /// Finds what is lost by an acknowledgement, and returns whether a recovery begins. If the peer has dropped what it had
 /// reported, that is lost: else it would acknowledge it (RFC 2018, section 8). Nothing counts as reported any more
-/// then.
+/// then. A function of its own, since the search doesn't find what the head leaves with this test in it.
 fn find_losses(
     recovery: &mut LossRecovery,
     board: &mut ScoreboardHead,
@@ -1022,7 +1184,7 @@ fn report_blocks(
 }
 
 /// Reports a block, if it begins beyond the first position that wasn't reported. Returns whether that wasn't known:
-/// what is refused is sent again.
+/// what is refused is sent again. A function of its own, so that a step of the loop is one call.
 fn report_block(board: &mut ScoreboardHead, runs: &mut [Run], block: &Range<u64>, sent: u64) -> bool
     requires { IsSoundBoard board.old runs.old }
     ensures sound { IsSoundBoard board.new runs.new }

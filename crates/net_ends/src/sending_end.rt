@@ -207,6 +207,17 @@ fn is_pure(segment: AckSegment) -> bool
 }
 
 /// What sends a stream that ends, over storage that is lent or owned.
+///
+/// ```
+/// use net_base::ends::SendingEnd;
+/// use net_base::tcp::TimeoutBounds;
+/// use net_base::time::Duration;
+///
+/// // 64 bytes may wait, and at most 4 runs are remembered of what the peer reports.
+/// let (mut storage, bounds) = ([0u8; 64], TimeoutBounds::default());
+/// let sending = SendingEnd::<4>::new_at(&mut storage[..], 100, Duration::from_secs(1), bounds);
+/// assert_eq!((sending.window(), sending.flight_size()), (64, 0));
+/// ```
 pub type SendingEnd<'a, const N: usize> = SendingEndOver<ManagedSlice<'a, u8>, N>;
 
 /// A [`SendingEnd`] over any storage: a sender, and all else in its head.
@@ -301,6 +312,19 @@ impl<S: Storage<u8>, const N: usize> SendingEndOver<S, N> {
     /// # Requires
     ///
     /// `first` is below `u64::MAX`: an end there would have no number after it.
+    ///
+    /// ```
+    /// # use net_base::ends::{SendingEnd};
+    /// # use net_base::tcp::{Announcement, Sack, TimeoutBounds};
+    /// # use net_base::time::{Duration, Instant};
+    /// # let mut storage = [0u8; 64];
+    /// # let (second, bounds) = (Duration::from_secs(1), TimeoutBounds::default());
+    /// # let mut sending = SendingEnd::<4>::new_at(&mut storage[..], 100, second, bounds);
+    /// # sending.open(Announcement { seq: 1, ack: 100, window: 1000 }, 8, Sack::Permitted, Instant::ZERO);
+    /// let _taken = sending.write(b"abc");
+    /// sending.reset_at(5_000);
+    /// assert_eq!((sending.window(), sending.numbers().sent), (64, 5_000));
+    /// ```
     #[track_caller]
     pub fn reset_at(&mut self, first: u64)
         requires { first < no_end }
@@ -588,6 +612,22 @@ impl<S: Storage<u8>, const N: usize> SendingEndOver<S, N> {
 
     /// Returns whether the timer has ended, and what that means. If it has, it starts again, and `next_segment` returns
     /// what is then to be sent.
+    ///
+    /// ```
+    /// # use net_base::ends::{Expired, SendingEnd};
+    /// # use net_base::tcp::{Announcement, Sack, TimeoutBounds};
+    /// # use net_base::time::{Duration, Instant};
+    /// # let mut storage = [0u8; 64];
+    /// # let (second, bounds) = (Duration::from_secs(1), TimeoutBounds::default());
+    /// # let mut sending = SendingEnd::<4>::new_at(&mut storage[..], 100, second, bounds);
+    /// # sending.open(Announcement { seq: 1, ack: 100, window: 1000 }, 8, Sack::Permitted, Instant::ZERO);
+    /// let _taken = sending.write(b"abc");
+    /// let _segment_to_send = sending.next_segment(1200, Instant::ZERO);
+    /// let now = sending.expires_at().expect("something is in flight");
+    /// assert_eq!((sending.expired(now), sending.timeouts()), (Expired::Lost, 1));
+    /// let it = sending.next_segment(1200, now).expect("what was lost");
+    /// assert!(it.is_again);
+    /// ```
     pub fn expired(&mut self, now: Instant) -> Expired
         ensures no { (result ≡ Expired.No) ↔ IsFalse (is_overdue self.old now) }
         ensures unchanged { IsFalse (has_expired self.old.timer now) → self.new ≡ self.old }
@@ -730,6 +770,26 @@ impl<S: Storage<u8>, const N: usize> SendingEndOver<S, N> {
     /// what was sent again, and all that was sent again came twice (RFC 3708). Then the congestion window may be what
     /// it was when the recovery began. Ask it after each acknowledgement, an old one too. It is true once: not before
     /// another recovery begins.
+    ///
+    /// ```
+    /// # use net_base::ends::{AckSegment, SendingEnd};
+    /// # use net_base::tcp::{Announcement, Sack, TimeoutBounds};
+    /// # use net_base::time::{Duration, Instant};
+    /// # let mut storage = [0u8; 64];
+    /// # let (second, bounds) = (Duration::from_secs(1), TimeoutBounds::default());
+    /// # let mut sending = SendingEnd::<4>::new_at(&mut storage[..], 100, second, bounds);
+    /// # sending.open(Announcement { seq: 1, ack: 100, window: 1000 }, 8, Sack::Permitted, Instant::ZERO);
+    /// let (now, _taken) = (Instant::ZERO, sending.write(&[7; 64]));
+    /// while let Some(_segment_to_send) = sending.next_segment(1200, now) {}
+    /// // Three segments beyond the first were reported: halve the congestion window, and send it again.
+    /// let it = Announcement { seq: 1, ack: 100, window: 1000 };
+    /// let _taken = sending.acknowledged(it, &[108..132], AckSegment::Pure, now);
+    /// let _segment_to_send = sending.next_segment(1200, now).expect("what was lost");
+    /// // It came twice: the first one was late, and not lost.
+    /// let it = Announcement { seq: 1, ack: 132, window: 1000 };
+    /// let _taken = sending.acknowledged(it, &[100..108], AckSegment::Pure, now);
+    /// assert!(sending.take_back()); // so undo that
+    /// ```
     #[must_use]
     pub fn take_back(&mut self) -> bool
         ensures value { result ≡ is_wrong self.old.recovery (first self.old) self.old.reported }
@@ -743,6 +803,21 @@ impl<S: Storage<u8>, const N: usize> SendingEndOver<S, N> {
     }
 
     /// Returns whether a recovery lasts.
+    ///
+    /// ```
+    /// # use net_base::ends::{AckSegment, SendingEnd};
+    /// # use net_base::tcp::{Announcement, Sack, TimeoutBounds};
+    /// # use net_base::time::{Duration, Instant};
+    /// # let mut storage = [0u8; 64];
+    /// # let (second, bounds) = (Duration::from_secs(1), TimeoutBounds::default());
+    /// # let mut sending = SendingEnd::<4>::new_at(&mut storage[..], 100, second, bounds);
+    /// # sending.open(Announcement { seq: 1, ack: 100, window: 1000 }, 8, Sack::Permitted, Instant::ZERO);
+    /// let (now, _taken) = (Instant::ZERO, sending.write(&[7; 32]));
+    /// while let Some(_segment_to_send) = sending.next_segment(1200, now) {}
+    /// let it = Announcement { seq: 1, ack: 100, window: 1000 };
+    /// let _taken = sending.acknowledged(it, &[108..132], AckSegment::Pure, now);
+    /// assert!(sending.is_recovering()); // until all is acknowledged that was sent by now
+    /// ```
     #[must_use]
     pub fn is_recovering(&self) -> bool
         ensures { result ≡ is_active self.now.recovery (first self.now) }

@@ -272,6 +272,15 @@ impl ReceivingHead {
 }
 
 /// What receives a stream that ends, over storage that is lent or owned.
+///
+/// ```
+/// use net_base::ends::ReceivingEnd;
+///
+/// // 64 bytes may wait, and at most 4 ranges that arrived out of order. A segment has at most 8 bytes.
+/// let mut storage = [0u8; 64];
+/// let mut receiving = ReceivingEnd::<4>::empty_at(&mut storage[..], 100, 8);
+/// assert_eq!(receiving.open(100, 0), 64);
+/// ```
 pub type ReceivingEnd<'a, const N: usize> = ReceivingEndOver<ManagedSlice<'a, u8>, N>;
 
 /// A [`ReceivingEnd`] over any storage: a receiver, and what it announced.
@@ -395,7 +404,7 @@ impl<S: Storage<u8>, const N: usize> ReceivingEndOver<S, N> {
         self.take(pos, bytes, is_last)
     }
 
-    /// Takes a segment that has a byte or the end.
+    /// Takes a segment that has a byte or the end. A function of its own: `arrived` says what one of neither does.
     fn take(&mut self, pos: u64, bytes: &[u8], is_last: bool) -> Result<KeptBytes, FiniteError> {
         let part = pair_of(self.receiver.receiver().duplicate_of(pos, bytes.len()));
         let held = self.receiver.receiver().held_count();
@@ -405,6 +414,15 @@ impl<S: Storage<u8>, const N: usize> ReceivingEndOver<S, N> {
     }
 
     /// Has an acknowledgement sent at once.
+    ///
+    /// ```
+    /// # use net_base::ends::ReceivingEnd;
+    /// # let mut storage = [0u8; 64];
+    /// # let mut receiving = ReceivingEnd::<4>::empty_at(&mut storage[..], 100, 8);
+    /// let _window = receiving.open(100, 0);
+    /// receiving.answer(); // a segment was out of the window
+    /// assert!(receiving.is_due());
+    /// ```
     pub fn answer(&mut self) {
         self.head.answer();
     }
@@ -492,7 +510,8 @@ impl<S: Storage<u8>, const N: usize> ReceivingEndOver<S, N> {
         }
     }
 
-    /// Lists the newest runs, at most four.
+    /// Lists the newest runs, at most four. A function of its own, since the iterator borrows what `acknowledgement`
+    /// reads.
     fn runs(&mut self) -> [Option<(u64, u64)>; 4] {
         let mut runs = self
             .receiver
@@ -533,7 +552,8 @@ impl<S: Storage<u8>, const N: usize> ReceivingEndOver<S, N> {
         answer
     }
 
-    /// Lends the first part of the queue, which is empty only if the queue is.
+    /// Lends the first part of the queue, which is empty only if the queue is. A function of its own, since what `f` is
+    /// lent has to be known before it is called.
     fn first_part(&self) -> &[u8] {
         let receiver = self.receiver.receiver();
         receiver.peek(0, receiver.queued())

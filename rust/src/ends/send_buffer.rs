@@ -39,12 +39,14 @@ pub struct BufferHead {
 ///
 /// ```
 /// use net_base::ends::{AckKind, SendBuffer, Sending};
+/// use net_base::tcp::Sack;
 ///
 /// let mut storage = [0u8; 64];
 /// let mut buffer = SendBuffer::<4>::new_at(&mut storage[..], 0);
 /// assert_eq!(buffer.write(&[7; 32]), 32);
 /// assert!(buffer.mark(0..32, Sending::Segment));
 /// // Three acknowledgements of nothing new, from a peer that reports no blocks: the first segment is lost.
+/// buffer.expect_reports(Sack::Absent);
 /// for _ in 0..3 {
 ///     buffer.acknowledge(0, &[], 8, AckKind::Repeat).expect("0 isn't beyond what was sent");
 /// }
@@ -128,6 +130,15 @@ pub struct SegmentBytes<'a> {
 }
 
 /// What a stream that ends has sent, over storage that is lent or owned.
+///
+/// ```
+/// use net_base::ends::SendBuffer;
+///
+/// // 64 bytes may wait, and at most 4 ranges are remembered that were acknowledged out of order.
+/// let mut storage = [0u8; 64];
+/// let buffer = SendBuffer::<4>::new_at(&mut storage[..], 0);
+/// assert_eq!((buffer.window(), buffer.numbers_end()), (64, 0));
+/// ```
 pub type SendBuffer<'a, const N: usize> = SendBufferOver<ManagedSlice<'a, u8>, N>;
 
 /// A [`SendBuffer`] over any storage: a sender, a scoreboard and a recovery. It knows bytes, what was reported and what
@@ -195,6 +206,15 @@ impl<S: Storage<u8>, const N: usize> SendBufferOver<S, N> {
     /// # Panics
     ///
     /// Panics unless `first` is below `u64::MAX`: an end there would have no number after it.
+    ///
+    /// ```
+    /// # use net_base::ends::{SendBuffer};
+    /// # let mut storage = [0u8; 64];
+    /// # let mut buffer = SendBuffer::<4>::new_at(&mut storage[..], 0);
+    /// assert_eq!(buffer.write(b"abc"), 3);
+    /// buffer.reset_at(100);
+    /// assert_eq!((buffer.window(), buffer.numbers_end()), (64, 100));
+    /// ```
     #[track_caller]
     pub fn reset_at(&mut self, first: u64) {
         prove!(first < u64::MAX, "no number is left for an end");
@@ -239,6 +259,16 @@ impl<S: Storage<u8>, const N: usize> SendBufferOver<S, N> {
     }
 
     /// Ends the stream after what was written.
+    ///
+    /// ```
+    /// # use net_base::ends::{SendBuffer};
+    /// # let mut storage = [0u8; 64];
+    /// # let mut buffer = SendBuffer::<4>::new_at(&mut storage[..], 0);
+    /// assert_eq!(buffer.write(b"abc"), 3);
+    /// buffer.close();
+    /// // The end has a number too, and nothing is written after it.
+    /// assert_eq!((buffer.numbers_end(), buffer.write(b"d")), (4, 0));
+    /// ```
     pub fn close(&mut self) {
         self.sender.close();
     }
@@ -360,6 +390,25 @@ impl BufferHead {
         self.recovery.find_overdue(numbers, &board)
     }
 
+    /// Returns whether something is lost that wasn't sent again.
+    fn has_unsent(&self, runs: &[Run], numbers: SentNumbers) -> bool {
+        self.recovery.unsent(numbers, &self.board(runs)) != 0
+    }
+
+    /// Loses a range, as `SendBufferOver::lose` says.
+    fn lose(&mut self, numbers: SentNumbers, range: Range<u64>) {
+        let first = numbers.first_unacknowledged;
+        if range.end <= first {
+            return;
+        }
+        self.recovery.lose_all(SentNumbers {
+            first_unacknowledged: first,
+            sent: range.end,
+        });
+        // What is below the range counts as sent again.
+        self.recovery.sent(numbers, first..range.start);
+    }
+
     /// Returns what to send next below `limit`, as `SendBufferOver::next` says.
     pub(crate) fn next(
         &self,
@@ -406,6 +455,16 @@ impl BufferHead {
 
 impl<S: Storage<u8>, const N: usize> SendBufferOver<S, N> {
     /// Returns the first number that isn't acknowledged, and the one after the last that was sent.
+    ///
+    /// ```
+    /// # use net_base::ends::{SendBuffer, Sending};
+    /// # let mut storage = [0u8; 64];
+    /// # let mut buffer = SendBuffer::<4>::new_at(&mut storage[..], 0);
+    /// assert_eq!(buffer.write(b"abc"), 3);
+    /// assert!(buffer.mark(0..3, Sending::Segment));
+    /// buffer.acknowledge_range(0..2, 8).expect("it was sent");
+    /// assert_eq!((buffer.numbers().first_unacknowledged, buffer.numbers().sent), (2, 3));
+    /// ```
     #[must_use]
     pub fn numbers(&self) -> SentNumbers {
         self.sender.sent_numbers()
@@ -424,6 +483,16 @@ impl<S: Storage<u8>, const N: usize> SendBufferOver<S, N> {
     }
 
     /// Returns whether a position was reported.
+    ///
+    /// ```
+    /// # use net_base::ends::{SendBuffer, Sending};
+    /// # let mut storage = [0u8; 64];
+    /// # let mut buffer = SendBuffer::<4>::new_at(&mut storage[..], 0);
+    /// assert_eq!(buffer.write(&[7; 16]), 16);
+    /// assert!(buffer.mark(0..16, Sending::Segment));
+    /// buffer.acknowledge_range(8..16, 8).expect("it was sent");
+    /// assert!(!buffer.contains(7) && buffer.contains(8));
+    /// ```
     #[must_use]
     pub fn contains(&self, pos: u64) -> bool {
         self.head.contains(&self.runs, pos)
@@ -442,6 +511,16 @@ impl<S: Storage<u8>, const N: usize> SendBufferOver<S, N> {
     }
 
     /// Takes notice whether the peer reports what arrives, in blocks.
+    ///
+    /// ```
+    /// # use net_base::ends::{SendBuffer};
+    /// # let mut storage = [0u8; 64];
+    /// # let mut buffer = SendBuffer::<4>::new_at(&mut storage[..], 0);
+    /// use net_base::tcp::Sack;
+    ///
+    /// buffer.expect_reports(Sack::Absent); // one of the SYNs had no SACK-permitted
+    /// assert!(buffer.is_blind());
+    /// ```
     pub fn expect_reports(&mut self, sack: Sack) {
         self.head.recovery.expect_reports(sack);
     }
@@ -533,14 +612,77 @@ impl<S: Storage<u8>, const N: usize> SendBufferOver<S, N> {
     }
 
     /// Returns whether the last recovery was for nothing, and ends it then.
+    ///
+    /// ```
+    /// # use net_base::ends::{AckKind, SendBuffer, Sending};
+    /// # let mut storage = [0u8; 64];
+    /// # let mut buffer = SendBuffer::<4>::new_at(&mut storage[..], 0);
+    /// assert_eq!(buffer.write(&[7; 64]), 64);
+    /// while let Some(range) = buffer.next(u64::MAX, u64::MAX, 8) {
+    ///     assert!(buffer.mark(range, Sending::Segment));
+    /// }
+    /// // Three segments beyond the first were reported, so that it is sent again.
+    /// buffer.acknowledge(0, &[8..32], 8, AckKind::Other).expect("it was sent");
+    /// assert!(buffer.mark(0..8, Sending::Segment) && buffer.is_recovering());
+    /// // It came twice: the first one was late, and not lost.
+    /// buffer.acknowledge(32, &[0..8], 8, AckKind::Other).expect("it was sent");
+    /// assert!(buffer.take_back() && !buffer.is_recovering());
+    /// ```
+    #[must_use]
     pub fn take_back(&mut self) -> bool {
         let numbers = self.numbers();
         self.head.take_back(&self.runs, numbers)
     }
+
     /// Finds what is overdue, where nothing was reported for two round trips, and returns whether a recovery begins.
+    ///
+    /// ```
+    /// # use net_base::ends::{SendBuffer, Sending};
+    /// # let mut storage = [0u8; 64];
+    /// # let mut buffer = SendBuffer::<4>::new_at(&mut storage[..], 0);
+    /// assert_eq!(buffer.write(&[7; 16]), 16);
+    /// assert!(buffer.mark(0..8, Sending::Segment) && buffer.mark(8..16, Sending::Segment));
+    /// // Less than three segments beyond the first were reported.
+    /// buffer.acknowledge_range(8..16, 8).expect("it was sent");
+    /// assert_eq!(buffer.next(u64::MAX, u64::MAX, 8), None);
+    /// assert!(buffer.find_overdue());
+    /// assert_eq!(buffer.next(u64::MAX, u64::MAX, 8), Some(0..8));
+    /// ```
     pub fn find_overdue(&mut self) -> bool {
         self.head
             .find_overdue(&self.runs, self.sender.sent_numbers())
+    }
+
+    /// Loses a range, as a scheme of packets finds it (RFC 9002, section 6), and returns true: what of it isn't
+    /// acknowledged is sent again, and nothing else is.
+    ///
+    /// Returns false, and changes nothing, if the range ends above what was sent, or if something that was lost before
+    /// waits to be sent again. Send that first: a recovery knows one range at a time.
+    ///
+    /// ```
+    /// # use net_base::ends::{SendBuffer, Sending};
+    /// # let mut storage = [0u8; 64];
+    /// # let mut buffer = SendBuffer::<4>::new_at(&mut storage[..], 0);
+    /// # assert_eq!(buffer.write(&[7; 32]), 32);
+    /// # while let Some(range) = buffer.next(u64::MAX, u64::MAX, 8) {
+    /// #     assert!(buffer.mark(range, Sending::Segment));
+    /// # }
+    /// // Of four packets the second is lost, and another one with it.
+    /// assert!(buffer.lose(8..16));
+    /// assert!(!buffer.lose(24..32)); // not yet
+    /// let range = buffer.next(u64::MAX, u64::MAX, 8).expect("what was lost");
+    /// assert!(range == (8..16) && buffer.mark(range, Sending::Segment));
+    /// assert!(buffer.lose(24..32));
+    /// assert_eq!(buffer.next(u64::MAX, u64::MAX, 8), Some(24..32));
+    /// ```
+    #[must_use]
+    pub fn lose(&mut self, range: Range<u64>) -> bool {
+        let numbers = self.numbers();
+        if numbers.sent < range.end || self.head.has_unsent(&self.runs, numbers) {
+            return false;
+        }
+        self.head.lose(numbers, range);
+        true
     }
 
     /// Loses all that was sent and isn't reported.
@@ -675,7 +817,7 @@ pub(crate) fn lend<S: Storage<u8>>(
 
 /// Finds what is lost by an acknowledgement, and returns whether a recovery begins. If the peer has dropped what it had
 /// reported, that is lost: else it would acknowledge it (RFC 2018, section 8). Nothing counts as reported any more
-/// then.
+/// then. A function of its own, since the search doesn't find what the head leaves with this test in it.
 fn find_losses(
     recovery: &mut LossRecovery,
     board: &mut ScoreboardHead,
@@ -715,7 +857,7 @@ fn report_blocks(
 }
 
 /// Reports a block, if it begins beyond the first position that wasn't reported. Returns whether that wasn't known:
-/// what is refused is sent again.
+/// what is refused is sent again. A function of its own, so that a step of the loop is one call.
 fn report_block(board: &mut ScoreboardHead, runs: &mut [Run], block: &Range<u64>, sent: u64) -> bool {
     if block.start <= board.first_unreported() {
         return false;
