@@ -2,9 +2,9 @@
 -- whole runs. What a queue with no packets takes.
 use Rattle.std.proofs.Common.{◌≢◌, ◌≡◌, ℕ, ◌+◌, ◌≤◌, List, [], ◌∷◌, ◌++◌, length, take, drop, refl, sym, ap, ap₂, ◌∙◌}
 use Rattle.std.proofs.Common.{arith, length-drop, ◌-◌, subst, inl, append_assoc, length-append, suc, ◌↔◌, Bool, true}
-use Rattle.std.proofs.Common.{false, if◌then◌else◌, ◌==◌, Result, Ok, Err, IfOk, min, zero, ◌<◌}
+use Rattle.std.proofs.Common.{false, if◌then◌else◌, ◌==◌, Result, Ok, Err, IfOk, zero, ◌<◌}
 use Rattle.std.proofs.lemmas.List.{take_at, drop_at, nil_from_length, take_all, take-take, drop-drop, length-take-le}
-use Rattle.std.proofs.lemmas.List.{take-append-le, drop-append-le, append-nil, drop_all}
+use Rattle.std.proofs.lemmas.List.{take-append-le, drop-append-le, append-nil}
 use Rattle.std.specs.Prelude.{Option, set}
 use Rattle.std.specs.declared.option.Option.TheVariants.{Some, None}
 use Rattle.net_ring.specs.Overwrite.{overwrite}
@@ -255,12 +255,6 @@ pub if_both : {X E : Type 0} {P Q R : X → Type 0} (r : Result X E) → ((x : X
     → IfOk r R
 if_both (Ok x) both p q = both x p q
 if_both (Err e) both p q = tt
-
--- what is copied over a list that is as long
-pub copied_whole : (bs xs ys : List ℕ) (k : ℕ) → k ≡ min (length bs) (length xs) → ys ≡ take k bs ++ drop k xs
-    → length bs ≡ length xs → ys ≡ bs
-copied_whole bs xs ys k count is long =
-    is ∙ ap₂ (λ (a b : List ℕ). a ++ b) (take_all k bs (omega arith)) (drop_all k xs (omega arith)) ∙ append-nil bs
 
 module _ {H : Type 0} where
   -- ---- each step leaves the packets well placed

@@ -661,8 +661,6 @@ impl<H: Drop, M: Storage<PacketMetadata<H>>, B: Storage<u8>> PacketsOver<H, M, B
         // Guarantee.
         ensures bytes { IfOk result
             (λ r. into.new ≡ take r.1 (head_bytes (contents self.old)) ++ drop r.1 into.old) }
-        ensures whole { length (head_bytes (contents self.old)) ≡ length into.old
-            → OnOk result (into.new ≡ head_bytes (contents self.old)) }
         // Guarantee.
         ensures left { OnOk result (contents self.new ≡ drop 1 (contents self.old)) }
         ensures no_packet { IsErr result ↔ (length self.old.packets ≡ 0) }
@@ -718,8 +716,7 @@ impl<H, M: Storage<PacketMetadata<H>>, B: Storage<u8>> PacketsOver<H, M, B> {
     /// Returns the gap before a packet of `size` bytes, if it can be placed.
     #[inline]
     fn placement(&self, size: usize) -> Option<usize>
-        ensures gap { result ≡ placement self.now size }
-        ensures well_placed { IsWellPlaced self.now }
+        ensures { result ≡ placement self.now size }
     {
         self.head
             .placement(self.slots.count(), self.bytes.count(), size)

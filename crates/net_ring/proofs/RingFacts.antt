@@ -1,5 +1,4 @@
 -- What the clauses of a ring's calls say, from its storage.
--- Parts of lists by index.
 -- Spans of a storage, as parts of the ring of that storage and of the numbers by which they were found.
 -- One more element of a list is reset.
 -- Sets of lemmas on a storage, a read index and a count, which close the goals of heads and of rings.
@@ -15,7 +14,7 @@ use Rattle.std.specs.Prelude.{Result, IsOk, IsErr, is_ok, slice_get}
 use Rattle.std.specs.Borrow.{MutBor}
 use Rattle.std.specs.Fn.{Once, FnOnceReturnsAtMut}
 use denote.MutBor.{at_last}
-use Rattle.std.proofs.lemmas.Option.{gets, slice_get_within}
+use Rattle.std.proofs.lemmas.Option.{gets}
 use Rattle.std.specs.declared.result.Result.TheVariants.{Ok, Err}
 use Rattle.net_ring.specs.{overwrite, RingState, rotation, ring, capacity, window, queue, index_after, spare}
 use Rattle.net_ring.specs.{storage_index, write_at, IsWellFormed, with_elements, with_elements_wrapping, with_enqueued}
@@ -530,27 +529,6 @@ module _ {T : Type 0} where
       ∙ ap (drop n) t.1 ∙ ap (λ i. drop i (overwrite (spare g) 0 ws)) (sym l) ∙ f.1 in
       subst (Enqueues g ws) (sym e) (q, p, t.2)
 
-  -- ---- laws
-  -- the storage, from the rotated list
-  abbrev back : List T → ℕ → List T
-  back l r = drop (length l - r) l ++ take (length l - r) l
-
-  back_rotation : (b : List T) (r : ℕ) → r ≤ length b → back (rotation b r) r ≡ b
-  back_rotation b r le = same_lists _ _ (grind (arith, places)) (λ m d h. grind (arith, places))
-
-  back_is : (g : RingState T) → IsWellFormed g → g.storage ≡ back (queue g ++ spare g) g.read_at
-  back_is g wf =
-      let turned : back (rotation g.storage g.read_at) g.read_at ≡ g.storage = back_rotation g.storage g.read_at
-      (read_at_le g wf) in
-      sym (ap (λ l. back l g.read_at) (sym (whole g wf)) ∙ turned)
-
-  pub parts_are : (g h : RingState T) → IsWellFormed g → IsWellFormed h → g.read_at ≡ h.read_at → queue g ≡ queue h
-      → spare g ≡ spare h → g ≡ h
-  parts_are g h wg wh er eq es =
-      let n : g.count ≡ h.count = sym (length-queue g wg) ∙ ap length eq ∙ length-queue h wh in
-      let b : g.storage ≡ h.storage = back_is g wg ∙ ap₂ (λ l r. back l r) (ap₂ ◌++◌ eq es) er ∙ sym (back_is h wh) in
-      ring_is g h b er n
-
 -- a ring with an empty queue is read from the storage's beginning on, and any other is as it was
 pub rewind_cases : {T : Type 0} (b : RingState T) → ((b.count ≡ 0) × (rewind_if_empty b ≡ ring b.storage 0 0)) ⊎
     ((b.count ≢ 0) × (rewind_if_empty b ≡ b))
@@ -623,18 +601,6 @@ first_in_queue g wf i n now long is =
     let some : i < g.count → 0 < n → 0 < length now = λ l m. (let h = contiguous_in_queue_some g i n wf.1 l m in omega
     arith) in
     (some, λ m. first_shown (queue g) now i is (λ l. some (omega (arith, length-queue g wf)) m))
-
--- ---- parts of lists by index; the queue in its two contiguous parts, and its last element
-module _ {X : Type 0} where
-  -- the elements of a part of a list, which begins at the index i
-  pub each_of : (xs part : List X) (i : ℕ) → part ≡ take (length part) (drop i xs) →
-      (k : ℕ) (d : X) → i ≤ k → k < i + length part → get_or xs k d ≡ get_or part (k - i) d
-  each_of xs part i is k d from below = grind (arith, places)
-
-  -- it ends within the list
-  pub end_of : (xs part : List X) (i : ℕ) → part ≡ take (length part) (drop i xs) →
-      i ≤ length xs → i + length part ≤ length xs
-  end_of xs part i is le = omega (arith, simp (length-take, length-drop) at (ap length is))
 
 module _ {T : Type 0} where
   -- elements of the queue
@@ -709,12 +675,6 @@ module _ {T : Type 0} where
           ++ z ≡ take n (drop r b ++ take r b)
       queue-joined a z ea ez = ap₂ ◌++◌ ea ez ∙ queue-cut
 
-      pub queue-first : take k (take n (drop r b ++ take r b)) ≡ take k (drop r b)
-      queue-first = same_lists _ _ (grind (arith, places)) (λ m d h. grind (arith, places))
-
-      pub queue-second : drop k (take n (drop r b ++ take r b)) ≡ take (n - k) b
-      queue-second = same_lists _ _ (grind (arith, places)) (λ m d h. grind (arith, places))
-
     -- k elements are dequeued
     module _ (k : ℕ) (few : k ≤ n) where
       pub queue-read_on : take (n - k) (drop (index_after (length b) r k) b ++ take (index_after (length b) r k) b)
@@ -763,4 +723,4 @@ pub ruleset rings = (
 -- those of calls that show a part of the queue, or all of it in two parts
 pub ruleset shown_parts = (queue-shown, first-shown, places, nat_tests)
 
-pub ruleset cut_parts = (queue-joined, queue-first, queue-second, places, nat_tests)
+pub ruleset cut_parts = (queue-joined, places, nat_tests)

@@ -1,10 +1,9 @@
 -- Elements leave a ring in the order in which they came, over any calls.
 use Rattle.std.proofs.Common.{◌≡◌, ℕ, ◌+◌, ◌-◌, ◌≤◌, List, [], ◌∷◌, ◌++◌, length, take, drop, refl, sym, ap, ap₂, ◌∙◌}
-use Rattle.std.proofs.Common.{subst, inl, inr, arith, append_assoc, length-append, length-drop}
-use Rattle.std.proofs.lemmas.List.{take_at, append-nil, nil_from_length, take-take, take_all, places, same_lists}
-use Rattle.std.proofs.lemmas.Bool.{cases_lt}
+use Rattle.std.proofs.Common.{subst, inl, arith, append_assoc, length-drop}
+use Rattle.std.proofs.lemmas.List.{append-nil, take-take, take_all, places, same_lists}
 use Rattle.net_ring.specs.{overwrite, RingState, IsWellFormed, ring, capacity, window, queue, write_at, storage_index}
-use Rattle.net_ring.specs.{contiguous_window, contiguous_queued, contiguous_queue, spare_index, queue_index}
+use Rattle.net_ring.specs.{contiguous_window, contiguous_queued, contiguous_queue, spare_index}
 use Rattle.net_ring.specs.{with_elements, with_elements_wrapping, with_enqueued, rewind_if_empty, RingCall, Clear}
 use Rattle.net_ring.specs.{Reset, RewindIfEmpty, EnqueueSlice, EnqueueUnallocated, EnqueueMany}
 use Rattle.net_ring.specs.{EnqueueManyWith, EnqueueOne, EnqueueErr, GetUnallocated, WriteUnallocated, Dequeue}

@@ -1,5 +1,5 @@
 -- Counts that go round.
-use Rattle.std.proofs.Common.{◌≡◌, ℕ, ◌+◌, ◌-◌, ◌<◌, ◌≤◌, ◌⊎◌, ◌≢◌, arith}
+use Rattle.std.proofs.Common.{◌≡◌, ℕ, ◌+◌, ◌-◌, ◌<◌, ◌≤◌, ◌⊎◌, arith}
 use Rattle.std.proofs.lemmas.Bool.Decides.{nat_tests}
 use Rattle.net_ring.specs.Ring.{index_after}
 use Rattle.net_ring.specs.SplitRing.{IsCount, count_after, ahead, index_of}
@@ -12,10 +12,6 @@ after_is c i k is le = grind (arith, nat_tests)
 
 pub ahead_of_after : (c i k : ℕ) → IsCount c i → k ≤ c → ahead c i (count_after c i k) ≡ k
 ahead_of_after c i k is le = grind (arith, nat_tests)
-
-pub index_of_after : (c i k : ℕ) → IsCount c i → k ≤ c →
-    index_of c (count_after c i k) ≡ index_after c (index_of c i) k
-index_of_after c i k is le = grind (arith, nat_tests)
 
 pub ahead_twice : (c i j k : ℕ) → IsCount c i → IsCount c j → IsCount c k → ahead c i j + ahead c j k ≤ c →
     ahead c i k ≡ ahead c i j + ahead c j k

@@ -7,7 +7,7 @@ use Rattle.std.proofs.lemmas.Bool.Decides.{nat_tests}
 use Rattle.std.specs.Prelude.{All}
 use Rattle.net_ring.specs.Width.{IsUsize}
 use Rattle.net_ring.specs.Ring.{ring, index_after, queue, spare, window, spare_index, storage_index}
-use Rattle.net_ring.specs.Ring.{IsWellFormed, with_enqueued, with_dequeued}
+use Rattle.net_ring.specs.Ring.{IsWellFormed}
 use Rattle.net_ring.specs.Overwrite.{overwrite}
 use Rattle.net_ring.specs.SplitRing.{IsCount, AreCounts, counts, count_after, ahead, index_of, SplitState, Step}
 use Rattle.net_ring.specs.SplitRing.{LooksForRoom, Writes, Counts, LooksForElements, Takes, IsOfWriter, IsOfReader}

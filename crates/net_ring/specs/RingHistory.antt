@@ -1,7 +1,7 @@
 -- The elements of a ring over many calls.
 --     RingCall T, Makes call g h, MakesAll calls g h      what one call did, and what calls make
 --     log_after call log, log_after_all calls log, history calls      the log after calls
-use Rattle.std.specs.Prelude.{◌≡◌, ◌≢◌, ◌≤◌, ℕ, ◌+◌, ◌-◌, List, [], ◌∷◌, ◌++◌, length, take, drop}
+use Rattle.std.specs.Prelude.{◌≡◌, ◌≢◌, ◌≤◌, ℕ, ◌+◌, ◌-◌, List, [], ◌∷◌, length, take, drop}
 use Rattle.net_ring.specs.Overwrite.{overwrite}
 use Rattle.net_ring.specs.Log.{Log, empty_log, log_accepted, log_left, log_dropped}
 use Rattle.net_ring.specs.Ring.{RingState, ring, capacity, window, queue, spare, write_at, contiguous_window}

@@ -270,8 +270,6 @@ impl<T, S: Storage<T>> RingOver<T, S> {
     #[must_use]
     pub fn contiguous_window(&self) -> usize
         ensures count { result ≡ contiguous_window self.now }
-        ensures within { (result ≤ window self.now)
-            × (write_at self.now + result ≤ capacity self.now) }
     {
         self.head.contiguous_window(self.capacity())
     }
@@ -320,10 +318,7 @@ impl<T, S: Storage<T>> RingOver<T, S> {
     pub fn rewind_if_empty(&mut self)
         ensures ring { self.new ≡ rewind_if_empty self.old }
         ensures call { Makes RewindIfEmpty self.old self.new }
-        ensures fits { capacity self.new < 2 ^ 64 }
     {
-        // Called only for its clause, by which `fits` is known.
-        let _capacity = self.capacity();
         self.head.rewind_if_empty();
     }
 }
@@ -592,8 +587,6 @@ impl<T, S: Storage<T>> RingOver<T, S> {
         // Guarantee.
         ensures not_empty { window self.old ≢ 0 → 0 < size → 0 < length result.now }
         ensures value { result.now ≡ take (length result.now) (spare (rewind_if_empty self.old)) }
-        ensures stored { let g = rewind_if_empty self.old in
-            result.now ≡ take (length result.now) (drop (write_at g) g.storage) }
         ensures enqueued { let g = rewind_if_empty self.old in
             let k = min size (contiguous_window g) in
             (ws : List T) → length ws ≡ k → Enqueues g ws
@@ -704,8 +697,6 @@ impl<T, S: Storage<T>> RingOver<T, S> {
         ensures not_empty { self.old.count ≢ 0 → 0 < size → 0 < length result.now }
         // Guarantee.
         ensures value { result.now ≡ take (length result.now) (queue self.old) }
-        ensures stored { result.now
-            ≡ take (length result.now) (drop self.old.read_at self.old.storage) }
         ensures dequeued { let k = min size (contiguous_queued self.old) in
             (ws : List T) → length ws ≡ k → Dequeues self.old k ws
             (with_elements (with_dequeued k self.old) self.old.read_at ws) }
@@ -795,12 +786,6 @@ impl<T, S: Storage<T>> RingOver<T, S> {
         ensures not_empty { offset < window self.old → 0 < size → 0 < length result.now }
         // Guarantee.
         ensures value { result.now ≡ take (length result.now) (drop offset (spare self.old)) }
-        ensures each { (k : ℕ) (d : T) → offset ≤ k → k < offset + length result.now →
-            slice_index_or (spare self.old) k d ≡ slice_index_or result.now (k - offset) d }
-        ensures end { offset ≤ length (spare self.old) →
-            offset + length result.now ≤ length (spare self.old) }
-        ensures stored { result.now
-            ≡ take (length result.now) (drop (spare_index self.old offset) self.old.storage) }
         ensures written { (ws : List T) → length ws ≡ contiguous_unallocated self.old offset size →
             WritesSpare self.old offset ws
             (with_elements self.old (spare_index self.old offset) ws) }
@@ -861,7 +846,6 @@ impl<T, S: Storage<T>> RingOver<T, S> {
         requires window { count ≤ window self.old }
         ensures ring { self.new ≡ with_enqueued count self.old }
         ensures enqueued { Enqueues self.old (take count (spare self.old)) self.new }
-        ensures of_spare { spare self.new ≡ drop count (spare self.old) }
         ensures call { Makes (EnqueueUnallocated (take count (spare self.old))) self.old self.new }
     {
         prove!(count <= self.window(), "no room for so many elements");
@@ -887,12 +871,6 @@ impl<T, S: Storage<T>> RingOver<T, S> {
         // Guarantee.
         ensures value { result.now ≡ take (length result.now) (drop offset (queue self.now)) }
         ensures first { 0 < size → slice_get result.now 0 ≡ slice_get (queue self.now) offset }
-        ensures each { (k : ℕ) (d : T) → offset ≤ k → k < offset + length result.now →
-            slice_index_or (queue self.now) k d ≡ slice_index_or result.now (k - offset) d }
-        ensures end { offset ≤ length (queue self.now) →
-            offset + length result.now ≤ length (queue self.now) }
-        ensures stored { result.now
-            ≡ take (length result.now) (drop (queue_index self.now offset) self.now.storage) }
     {
         let span = self.head.allocated(self.capacity(), offset, size);
         self.storage.part(span.from, span.from + span.contiguous)
@@ -978,16 +956,6 @@ impl<T, S: Storage<T>> RingOver<T, S> {
         ensures fits { self.now.count < 2 ^ 64 }
         // Guarantee.
         ensures not_empty { self.now.count ≢ 0 → 0 < length result.0.now }
-        ensures value { (result.0.now ≡ contiguous_queue self.now)
-            × (result.1.now ≡ drop (length result.0.now) (queue self.now)) }
-        ensures first { (k : ℕ) (d : T) → k < length result.0.now →
-            slice_index_or (queue self.now) k d ≡ slice_index_or result.0.now k d }
-        ensures second { (k : ℕ) (d : T) → length result.0.now ≤ k →
-            slice_index_or (queue self.now) k d
-            ≡ slice_index_or result.1.now (k - length result.0.now) d }
-        ensures stored { let n = length result.0.now in
-            (result.0.now ≡ take n (drop self.now.read_at self.now.storage))
-            × (result.1.now ≡ take (self.now.count - n) self.now.storage) }
     {
         // [ e f . . c d ] is c d and then e f.
         let from = self.head.read_at;

@@ -1,7 +1,7 @@
 use Rattle.std.proofs.Common.{◌≡◌, ◌∷◌, ◌++◌, ◌∙◌, ℕ, List, length, min, take, drop, sym, ap, subst}
 use Rattle.net_packets.specs.{without_first_and_gap, last_dequeued_bytes_index, last_dequeued_bytes, with_bytes}
 use Rattle.net_packets.specs.{contents, head_bytes, Makes, Take}
-use Rattle.net_packets.proofs.PacketOrder.{last_dequeued_stay, copied_whole}
+use Rattle.net_packets.proofs.PacketOrder.{last_dequeued_stay}
 use Rattle.net_packets.proofs.packet_buffer.PacketsOver.pop_slice.Given as given
 use Rattle.net_packets.proofs.packet_buffer.PacketsOver.pop_slice.Goals as goal
 
@@ -49,11 +49,6 @@ pub returns-clause-bytes : goal.returns-clause-bytes
 returns-clause-bytes g c =
     c.copy-count.ensures.copied ∙ ap (λ (l : List ℕ). take c.copy-count.result l ++ drop c.copy-count.result
     c.args.into.now) (before g c)
-
-pub returns-clause-whole : goal.returns-clause-whole
-returns-clause-whole g c = λ long.
-    copied_whole c.last_dequeued_mut.result.now c.args.into.now c.copy-count.new.into c.copy-count.result
-    c.copy-count.ensures.count c.copy-count.ensures.copied (ap length (before g c) ∙ long) ∙ before g c
 
 pub returns-clause-left : goal.returns-clause-left
 returns-clause-left g c = ap contents (made g c) ∙ ap (drop 1) (sym (first g c))

@@ -30,7 +30,6 @@ returns g c =
         count = lent.0 ∙ count;
         not_empty = λ l m. (let h = contiguous_head_some old (well _ _ is c.self.invariant) l in omega (arith, lent.0));
         value = lent.1;
-        stored = lent.2;
         dequeued = dequeued_law _ (well _ _ is c.self.invariant) _ (omega arith);
         call = λ w long. (
           omega (arith, lent.0),

@@ -35,7 +35,6 @@ returns g c =
         count = lent.0 ∙ count;
         not_empty = λ l m. (let h = contiguous_rewound_some c.args.self.now l in omega (arith, lent.0));
         value = lent.1;
-        stored = lent.2;
         enqueued = enqueued_law _ (well _ _ is wf) _ (omega arith);
         call = λ w long. (omega arith, ap (λ k. with_elements (with_enqueued k old) (write_at old) w) (sym long));
         room = λ w. (let long = length-overwrite old.storage (write_at old) w in let counts = same.1 in
