@@ -83,6 +83,14 @@ impl<H, M: Storage<PacketMetadata<H>>, B: Storage<u8>> Model for PacketsOver<H, 
 impl<H, M: Storage<PacketMetadata<H>>, B: Storage<u8>> PacketsOver<H, M, B> {
     /// Returns a queue with no packets over storages of any type. smoltcp has no such call:
     /// [`PacketBuffer::new`] is the one for two [`ManagedSlice`].
+    ///
+    /// ```
+    /// # use net_base::storage::{PacketMetadata, PacketsOver};
+    /// let mut slots = [PacketMetadata::EMPTY; 4];
+    /// let mut bytes = [0u8; 16];
+    /// let mut queue = PacketsOver::over(&mut slots[..], &mut bytes[..]);
+    /// assert_eq!(queue.push_slice(53u16, b"abc"), Ok(()));
+    /// ```
     #[tactic(auto, using(crate::proofs::PacketOrder::no_contents))]
     pub const fn over(slots: M, bytes: B) -> Self
         ensures empty { contents result ≡ [] }
@@ -363,6 +371,17 @@ impl<H: Drop, M: Storage<PacketMetadata<H>>, B: Storage<u8>> PacketsOver<H, M, B
     }
 
     /// Lends the bytes of the last packet, or none if the queue has no packets.
+    ///
+    /// ```
+    /// # use net_base::storage::{PacketBuffer, PacketMetadata};
+    /// # let mut slots = [PacketMetadata::EMPTY; 4];
+    /// # let mut bytes = [0u8; 16];
+    /// # let mut queue = PacketBuffer::new(&mut slots[..], &mut bytes[..]);
+    /// assert_eq!(queue.last_mut(), b"");
+    /// assert_eq!(queue.push_slice(1, b"abc"), Ok(()));
+    /// queue.last_mut()[0] = b'x';
+    /// assert_eq!(queue.peek(), Ok((&1, &b"xbc"[..])));
+    /// ```
     pub fn last_mut(&mut self) -> &mut [u8]
         ensures* writes_back { sem 𝓛 (lends_bytes H.row M.row B.row M.Storage B.Storage
             self.entry result (with_last_bytes self.old)) }
@@ -382,6 +401,15 @@ impl<H: Drop, M: Storage<PacketMetadata<H>>, B: Storage<u8>> PacketsOver<H, M, B
 
     /// Appends a packet whose bytes are `data`, as [`PacketsOver::enqueue`] does. smoltcp has no
     /// such call.
+    ///
+    /// ```
+    /// # use net_base::storage::{Full, PacketBuffer, PacketMetadata};
+    /// # let mut slots = [PacketMetadata::EMPTY; 4];
+    /// # let mut bytes = [0u8; 16];
+    /// # let mut queue = PacketBuffer::new(&mut slots[..], &mut bytes[..]);
+    /// assert_eq!(queue.push_slice(1, b"abc"), Ok(()));
+    /// assert_eq!(queue.push_slice(2, &[0; 14]), Err(Full));
+    /// ```
     ///
     /// # Errors
     ///
@@ -603,6 +631,18 @@ impl<H: Drop, M: Storage<PacketMetadata<H>>, B: Storage<u8>> PacketsOver<H, M, B
     }
 
     /// Lends the `size` bytes before the read index: those of the packet that was taken off last.
+    ///
+    /// ```
+    /// # use net_base::storage::{Empty, PacketBuffer, PacketMetadata};
+    /// # let mut slots = [PacketMetadata::EMPTY; 4];
+    /// # let mut bytes = [0u8; 16];
+    /// # let mut queue = PacketBuffer::new(&mut slots[..], &mut bytes[..]);
+    /// assert_eq!(queue.push_slice(1, b"abc"), Ok(()));
+    /// let (_header, size) = queue.take()?;
+    /// queue.last_dequeued_mut(size).make_ascii_uppercase();
+    /// assert_eq!(queue.last_dequeued_mut(size), b"ABC");
+    /// # Ok::<(), Empty>(())
+    /// ```
     ///
     /// # Requires
     ///

@@ -18,6 +18,13 @@ pub struct Full;
 /// The error of a call that dequeues: the ring or the packet queue is empty.
 ///
 /// Its text is "buffer empty".
+///
+/// ```
+/// use net_base::storage::{Empty, RingBuffer};
+///
+/// let mut storage = [0u8; 4];
+/// assert_eq!(RingBuffer::new(&mut storage[..]).dequeue_one(), Err(Empty));
+/// ```
 #[derive(Debug, Clone, Copy, PartialEq, Eq, Hash, Drop, Error)]
 #[error("buffer empty")]
 pub struct Empty;

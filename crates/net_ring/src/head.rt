@@ -33,8 +33,16 @@ pub struct RingHead {
 
 /// A range of a ring: `contiguous` elements from the index `from` on, and the rest of `count` from
 /// index 0 on.
+///
+/// ```
+/// use net_base::storage::SplitCounts;
+///
+/// // An empty ring of four elements that is written from index 3 on.
+/// let span = SplitCounts { written: 3, taken: 3 }.free(4, 9).span;
+/// assert_eq!((span.from, span.contiguous, span.count), (3, 1, 4));
+/// ```
 #[repr(C)]
-#[derive(Debug, Clone, Copy)]
+#[derive(Debug, Clone, Copy, PartialEq, Eq)]
 pub struct Span {
     /// The index of the first one.
     pub from: usize,

@@ -8,6 +8,16 @@ ghost use Rattle.net_ring.specs.ManagedLends.{lends_lent, lends_owned};
 use std::ops::IndexMut;
 
 /// A list of elements, parts of which can be shown and lent: the storage of a ring.
+///
+/// ```
+/// use net_base::storage::{RingOver, Storage};
+///
+/// fn first_free<S: Storage<u8>>(ring: &mut RingOver<u8, S>) -> Option<&mut u8> {
+///     ring.enqueue_one().ok()
+/// }
+/// let mut lent = [1, 2];
+/// assert_eq!(first_free(&mut RingOver::over(&mut lent[..])), Some(&mut 1));
+/// ```
 pub trait Storage<T> {
     /// The elements, in order.
     ghost elements: { Self → List T };
@@ -272,6 +282,11 @@ impl<'a, T> ManagedSlice<'a, T> {
     ghost use Rattle.net_ring.specs.ManagedLends.{lends_elements};
 
     /// Returns how many elements the storage has.
+    ///
+    /// ```
+    /// # use net_base::managed::ManagedSlice;
+    /// assert_eq!(ManagedSlice::from(&mut [1u8, 2, 3]).len(), 3);
+    /// ```
     #[must_use]
     pub fn len(&self) -> usize
         ensures { result ≡ length (elements self.now) }
@@ -280,6 +295,11 @@ impl<'a, T> ManagedSlice<'a, T> {
     }
 
     /// Shows all elements.
+    ///
+    /// ```
+    /// # use net_base::managed::ManagedSlice;
+    /// assert_eq!(ManagedSlice::from(&mut [1u8, 2, 3]).as_slice(), [1, 2, 3]);
+    /// ```
     #[must_use]
     pub fn as_slice(&self) -> &[T]
         ensures { result.now ≡ elements self.now }
@@ -292,6 +312,13 @@ impl<'a, T> ManagedSlice<'a, T> {
     ///
     /// A caller's proof learns what was written, here or by the calls of [`Storage`], only through a
     /// type parameter `S: Storage<T>`: a function that has to know it takes such a parameter.
+    ///
+    /// ```
+    /// # use net_base::managed::ManagedSlice;
+    /// let mut bytes = [1u8, 2, 3];
+    /// ManagedSlice::from(&mut bytes).as_mut_slice().fill(7);
+    /// assert_eq!(bytes, [7, 7, 7]);
+    /// ```
     pub fn as_mut_slice(&mut self) -> &mut [T]
         ensures* writes_back { sem 𝓛 (lends_elements T.row self.entry result) }
         ensures value { result.now ≡ elements self.old }

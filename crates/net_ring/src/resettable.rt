@@ -23,6 +23,15 @@ pub trait Resettable {
     ghost IsReset: { Self → Self → Type 0 };
 
     /// Resets the value.
+    ///
+    /// ```
+    /// # use net_base::storage::Resettable;
+    /// # struct Slot(u32);
+    /// # impl Resettable for Slot { fn reset(&mut self) { self.0 = 0; } }
+    /// let mut slot = Slot(7);
+    /// slot.reset();
+    /// assert_eq!(slot.0, 0);
+    /// ```
     fn reset(&mut self)
         ensures { IsReset self.old self.new };
 }

@@ -98,6 +98,15 @@ impl<T, S: Storage<T>> RingOver<T, S> {
     /// Returns an empty ring over storage of any type, whose elements stay as they are.
     ///
     /// smoltcp has no such call: [`RingBuffer::new`] is the one for a [`ManagedSlice`].
+    ///
+    /// ```
+    /// # use net_base::storage::RingOver;
+    /// let mut storage = *b"abcd";
+    /// let mut ring = RingOver::over(&mut storage[..]);
+    /// // What was in the storage is free, and is enqueued as it is.
+    /// ring.enqueue_unallocated(2);
+    /// assert_eq!(ring.as_slices(), (&b"ab"[..], &b""[..]));
+    /// ```
     pub const fn over(storage: S) -> Self
         ensures ring { result ≡ ring (S.elements storage) 0 0 }
         ensures parts { (queue result ≡ []) × (spare result ≡ S.elements storage) }
@@ -314,6 +323,17 @@ impl<T, S: Storage<T>> RingOver<T, S> {
     /// are contiguous. A ring with queued elements stays as it is.
     ///
     /// smoltcp has no such call. It is for callers that write free elements before these are enqueued.
+    ///
+    /// ```
+    /// # use net_base::storage::RingBuffer;
+    /// # let mut storage = [0u8; 4];
+    /// # let mut ring = RingBuffer::new(&mut storage[..]);
+    /// ring.enqueue_unallocated(3);
+    /// ring.dequeue_allocated(3);
+    /// assert_eq!(ring.contiguous_window(), 1);
+    /// ring.rewind_if_empty();
+    /// assert_eq!(ring.contiguous_window(), 4);
+    /// ```
     #[inline]
     pub fn rewind_if_empty(&mut self)
         ensures ring { self.new ≡ rewind_if_empty self.old }
@@ -754,6 +774,16 @@ impl<T, S: Storage<T>> RingOver<T, S> {
 
     /// Returns the length of what `get_unallocated` lends. smoltcp has no such call. A caller needs it,
     /// since a ring can't be asked anything while a part of it is lent.
+    ///
+    /// ```
+    /// # use net_base::storage::RingBuffer;
+    /// # let mut storage = [0u8; 4];
+    /// # let mut ring = RingBuffer::new(&mut storage[..]);
+    /// ring.enqueue_unallocated(3);
+    /// ring.dequeue_allocated(2);
+    /// // The first free element is at the storage's end, the others at its beginning.
+    /// assert_eq!((ring.contiguous_unallocated(0, 3), ring.contiguous_unallocated(1, 3)), (1, 2));
+    /// ```
     #[must_use]
     pub fn contiguous_unallocated(&self, offset: usize, size: usize) -> usize
         ensures count { result ≡ contiguous_unallocated self.now offset size }

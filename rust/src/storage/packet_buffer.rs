@@ -57,6 +57,14 @@ pub type PacketBuffer<'a, H> = PacketsOver<
 impl<H, M: Storage<PacketMetadata<H>>, B: Storage<u8>> PacketsOver<H, M, B> {
     /// Returns a queue with no packets over storages of any type. smoltcp has no such call:
     /// [`PacketBuffer::new`] is the one for two [`ManagedSlice`].
+    ///
+    /// ```
+    /// # use net_base::storage::{PacketMetadata, PacketsOver};
+    /// let mut slots = [PacketMetadata::EMPTY; 4];
+    /// let mut bytes = [0u8; 16];
+    /// let mut queue = PacketsOver::over(&mut slots[..], &mut bytes[..]);
+    /// assert_eq!(queue.push_slice(53u16, b"abc"), Ok(()));
+    /// ```
     pub const fn over(slots: M, bytes: B) -> Self {
         PacketsOver {
             head: PacketsHead::new(),
@@ -287,6 +295,17 @@ impl<H: Sized, M: Storage<PacketMetadata<H>>, B: Storage<u8>> PacketsOver<H, M, 
     }
 
     /// Lends the bytes of the last packet, or none if the queue has no packets.
+    ///
+    /// ```
+    /// # use net_base::storage::{PacketBuffer, PacketMetadata};
+    /// # let mut slots = [PacketMetadata::EMPTY; 4];
+    /// # let mut bytes = [0u8; 16];
+    /// # let mut queue = PacketBuffer::new(&mut slots[..], &mut bytes[..]);
+    /// assert_eq!(queue.last_mut(), b"");
+    /// assert_eq!(queue.push_slice(1, b"abc"), Ok(()));
+    /// queue.last_mut()[0] = b'x';
+    /// assert_eq!(queue.peek(), Ok((&1, &b"xbc"[..])));
+    /// ```
     pub fn last_mut(&mut self) -> &mut [u8] {
         let size = self.last_size();
         self.last_part_mut(size)
@@ -294,6 +313,15 @@ impl<H: Sized, M: Storage<PacketMetadata<H>>, B: Storage<u8>> PacketsOver<H, M, 
 
     /// Appends a packet whose bytes are `data`, as [`PacketsOver::enqueue`] does. smoltcp has no
     /// such call.
+    ///
+    /// ```
+    /// # use net_base::storage::{Full, PacketBuffer, PacketMetadata};
+    /// # let mut slots = [PacketMetadata::EMPTY; 4];
+    /// # let mut bytes = [0u8; 16];
+    /// # let mut queue = PacketBuffer::new(&mut slots[..], &mut bytes[..]);
+    /// assert_eq!(queue.push_slice(1, b"abc"), Ok(()));
+    /// assert_eq!(queue.push_slice(2, &[0; 14]), Err(Full));
+    /// ```
     ///
     /// # Errors
     ///
@@ -463,6 +491,18 @@ impl<H: Sized, M: Storage<PacketMetadata<H>>, B: Storage<u8>> PacketsOver<H, M, 
     }
 
     /// Lends the `size` bytes before the read index: those of the packet that was taken off last.
+    ///
+    /// ```
+    /// # use net_base::storage::{Empty, PacketBuffer, PacketMetadata};
+    /// # let mut slots = [PacketMetadata::EMPTY; 4];
+    /// # let mut bytes = [0u8; 16];
+    /// # let mut queue = PacketBuffer::new(&mut slots[..], &mut bytes[..]);
+    /// assert_eq!(queue.push_slice(1, b"abc"), Ok(()));
+    /// let (_header, size) = queue.take()?;
+    /// queue.last_dequeued_mut(size).make_ascii_uppercase();
+    /// assert_eq!(queue.last_dequeued_mut(size), b"ABC");
+    /// # Ok::<(), Empty>(())
+    /// ```
     ///
     /// # Panics
     ///

@@ -41,7 +41,7 @@ use crate::storage::width::most;
 /// assert_eq!(SplitCounts { written, taken }.free(4, 4).span.count, 4);
 /// ```
 #[repr(C)]
-#[derive(Debug, Clone, Copy)]
+#[derive(Debug, Default, Clone, Copy, PartialEq, Eq)]
 pub struct SplitCounts {
     /// How many elements were written, modulo twice the capacity.
     pub written: usize,
@@ -51,8 +51,16 @@ pub struct SplitCounts {
 
 /// The elements that one end may write or read, and its count after them. An end that wrote or read fewer of them
 /// stores the count that it gets for so many, by the same counts.
+///
+/// ```
+/// use net_base::storage::SplitCounts;
+///
+/// // Room for one element. After it the count is twice the capacity, and so 0 again.
+/// let lent = SplitCounts { written: 7, taken: 4 }.free(4, 9);
+/// assert_eq!((lent.span.from, lent.span.count, lent.next), (3, 1, 0));
+/// ```
 #[repr(C)]
-#[derive(Debug, Clone, Copy)]
+#[derive(Debug, Clone, Copy, PartialEq, Eq)]
 pub struct SplitSpan {
     /// Where they are.
     pub span: Span,
@@ -62,6 +70,11 @@ pub struct SplitSpan {
 
 impl SplitCounts {
     /// Returns the counts of an empty ring.
+    ///
+    /// ```
+    /// # use net_base::storage::SplitCounts;
+    /// assert_eq!(SplitCounts::new().free(4, 9).span.count, 4);
+    /// ```
     #[inline]
     #[must_use]
     pub const fn new() -> Self {
@@ -73,6 +86,12 @@ impl SplitCounts {
 
     /// Returns whether the counts are those of a ring of `capacity` elements: twice the capacity is a `usize`, each
     /// count is below it, or 0, and at most `capacity` elements were written and not taken.
+    ///
+    /// ```
+    /// # use net_base::storage::SplitCounts;
+    /// let full = SplitCounts { written: 4, taken: 0 };
+    /// assert!(full.is_sound(4) && !full.is_sound(3));
+    /// ```
     #[inline(always)]
     #[must_use]
     pub fn is_sound(self, capacity: usize) -> bool {
@@ -95,6 +114,12 @@ impl SplitCounts {
 
     /// Returns where the end that writes may write at most `size` elements, and the count to store once it has.
     ///
+    /// ```
+    /// # use net_base::storage::SplitCounts;
+    /// let lent = SplitCounts { written: 3, taken: 1 }.free(4, 9);
+    /// assert_eq!((lent.span.from, lent.span.count, lent.next), (3, 2, 5));
+    /// ```
+    ///
     /// # Panics
     ///
     /// Panics unless the counts are those of a ring of `capacity` elements, as `is_sound` tests.
@@ -111,6 +136,12 @@ impl SplitCounts {
     }
 
     /// Returns where the end that reads finds at most `size` elements, and the count to store once it has read them.
+    ///
+    /// ```
+    /// # use net_base::storage::SplitCounts;
+    /// let lent = SplitCounts { written: 3, taken: 1 }.queued(4, 9);
+    /// assert_eq!((lent.span.from, lent.span.count, lent.next), (1, 2, 3));
+    /// ```
     ///
     /// # Panics
     ///
@@ -130,6 +161,13 @@ impl SplitCounts {
     /// Writes as many elements of `data` as there is room for, and returns the count to store: the steps of the end
     /// that writes, where nothing else uses the storage meanwhile.
     ///
+    /// ```
+    /// # use net_base::storage::SplitCounts;
+    /// let mut storage = *b"----";
+    /// let ends = SplitCounts { written: 3, taken: 3 };
+    /// assert_eq!((ends.write(&mut storage, b"abcde"), &storage), (7, b"bcda"));
+    /// ```
+    ///
     /// # Panics
     ///
     /// Panics unless the counts are those of a ring of as many elements as the storage has, as
@@ -148,6 +186,13 @@ impl SplitCounts {
 
     /// Copies as many elements as there are and `into` has room for to its beginning, and returns the count to store:
     /// the step of the end that reads. The rest of `into` stays as it is.
+    ///
+    /// ```
+    /// # use net_base::storage::SplitCounts;
+    /// let mut into = *b"------";
+    /// let ends = SplitCounts { written: 7, taken: 3 };
+    /// assert_eq!((ends.read(b"bcda", &mut into), &into), (7, b"abcd--"));
+    /// ```
     ///
     /// # Panics
     ///

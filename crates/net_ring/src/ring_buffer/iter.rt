@@ -2,6 +2,17 @@
 use std::marker::Model;
 
 /// An iterator over the elements of a queue, the first one first, made by `RingOver::iter`.
+///
+/// ```
+/// use net_base::storage::RingBuffer;
+///
+/// let mut storage = [0u8; 4];
+/// let mut ring = RingBuffer::new(&mut storage[..]);
+/// assert_eq!(ring.enqueue_slice(b"abc"), 3);
+/// let mut left = ring.iter();
+/// assert_eq!((left.next(), left.next_back()), (Some(&b'a'), Some(&b'c')));
+/// assert!(left.eq(b"b"));
+/// ```
 #[derive(Drop)]
 pub struct Iter<'a, T> {
     pub(super) first: &'a [T],
