@@ -21,8 +21,10 @@ The rules:
    `Model`, which has ghost members alone, goes too. A `clone` whose body is `Ok(..)` gives what that holds, and no
    `Result`; no other one is erased. A bound by `Drop` is one by `Sized`.
 4. A public item becomes `pub(crate)`, unless an import of a root by hand gives its name, or its module, to users or to
-   C's exports. So do functions whose signature names a head, or a type of snapshots alone, and all of a type that users
-   can't name. An export loses `extern "C"` and its documentation, and becomes `inline(always)`.
+   C's exports. So do functions whose signature names a head, or a type of snapshots alone, all of a type that users
+   can't name, and `CLOSED` of `erase_list.py`. What is closed has no example, since examples are another crate's. The
+   lint `unreachable_pub` leaves out what C's exports alone name. An export loses `extern "C"` and its documentation, and
+   becomes `inline(always)`.
 5. `erase_list.py` has what else differs, with its files and how often: lifetimes, attributes, and types.
 6. What does nothing goes, as `erase_ghosts.py` finds it: modules of laws; a function that gives nothing, and whose body
    names places at most; a module with a type of snapshots alone; each parameter and argument of that type; and
@@ -181,8 +183,8 @@ class Eraser(Text):
         is_of_head = re.search(r'Head\b', signature) or owner and self.public and not self.public(owner, True)
         if is_of_head or self.ghosts.types & {*words(signature)}:
             self.close(head, k)
-        elif not owner:
-            self.close(head, k, [self.name(k)])
+        elif not owner or self.name(k) in given.CLOSED.get(self.key, ()):
+            self.close(head, k, [] if owner else [self.name(k)])
         is_idle = (owner or Path(self.key).stem, self.name(k)) in self.ghosts.idle
         if (is_idle or self.name(k) in self.uncalled) and not OF_TRAIT.search(impl):
             self.gone.add(self.name(k))
@@ -270,10 +272,18 @@ class Eraser(Text):
         self.cut |= {*range(result[0], begin)} | {self.next(body + 1)}
 
     def close(self, head, k, names=()):
-        """Makes an item `pub(crate)` if none of these names is public."""
+        """Makes an item `pub(crate)` if none of these names is public, and takes out its examples."""
         pub = next((j for j in range(head, k) if self.tokens[j][1] == 'pub' and self.tokens[j + 1][1] != '('), None)
-        if pub is not None and self.public and self.crate != given.EXPORTS and not any(map(self.public, names)):
+        if pub is None or not self.public or self.crate == given.EXPORTS:
+            return
+        if not any(map(self.public, names)):
             self.put(pub, pub + 1, 'pub(crate)')
+            docs = [j for j in range(head, k) if self.tokens[j][0] == 'doc']
+            fences = [i for i, j in enumerate(docs) if self.tokens[j][1].startswith('/// ```')]
+            for start, end in zip(fences[::2], fences[1::2]):
+                self.new.update(dict.fromkeys(docs[max(start - 1, 0):end + 1], GONE))
+        elif not any(self.public(name, True) for name in names):
+            self.put(pub, pub + 1, f'#[allow(unreachable_pub)]\n{self.margin(head)}pub')
 
     def name(self, k):
         """The name after `fn`."""

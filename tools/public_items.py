@@ -47,8 +47,11 @@ def items(pages):
             continue
         if page.name == "index.html":
             yield f"mod {path or 'net_base'}"
-        for said in re.findall(r'<pre class="rust item-decl"><code>(.*?)</code></pre>', text, re.S):
-            yield f"{path}: {plain(said)}"
+        declared = re.findall(r'<pre class="rust item-decl"><code>(.*?)</code></pre>', text, re.S)
+        if page.name.startswith("type."):           # then the struct that it names, which has a page of its own
+            yield f"{path}: {plain(declared[0])}"
+            continue
+        yield from (f"{path}: {plain(said)}" for said in declared)
         name = f"{path}::{page.stem.partition('.')[2]}"
         for said in re.findall(r'<section id="method[^"]*" class="method"><.*?<h4 [^>]*>(.*?)</h4>', text, re.S):
             yield f"{name}: {plain(said)}"

@@ -17,6 +17,7 @@ erased! {
     pub mod sequence_number;
 }
 
+pub use crate::checksum::PartsSum;
 pub use crate::ends::receiving_end::{ReceivingHead, Room};
 pub use crate::ends::send_buffer::{BufferHead, Queued};
 pub use crate::ends::sending_end::SendingHead;
@@ -32,5 +33,5 @@ pub use crate::stream::receiver_head::ReceiverHead;
 pub use crate::stream::scoreboard_head::ScoreboardHead;
 pub use crate::stream::sender_head::SenderHead;
 pub use crate::stream::sent_numbers::SentNumbers;
-pub use crate::tcp::{AdvertisedWindow, Announcement, LossRecovery, PartsSum, PeerWindow};
+pub use crate::tcp::{AdvertisedWindow, Announcement, LossRecovery, PeerWindow};
 pub use crate::tcp::{RetransmissionTimer, Segment};

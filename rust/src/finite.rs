@@ -40,7 +40,6 @@ use core::fmt;
 use crate::managed::ManagedSlice;
 use crate::storage::{Listed, Storage, TooManyHolesError};
 
-pub use crate::stream::SentNumbers;
 pub use crate::stream::{
     FiniteError, FiniteReceiver, FiniteReceiverOver, FiniteSender, FiniteSenderOver, LentBytes,
     Part,

@@ -66,7 +66,7 @@ compile_error!("a `usize` has 32 or 64 bits");
 
 /// Declares modules that `tools/erase.py` writes, the proved text, which rustfmt leaves as it is. A parameter may be for
 /// contracts alone; the other lints are of what Rattle has no other form for. Some calls and names are for the exports
-/// for C alone, which are no part of this crate: what `with_exports.rs` lacks of these three lints holds.
+/// for C alone, which are no part of this crate: that nothing else is unused is tested with `with_exports.rs`.
 macro_rules! erased {
     ($($visibility:vis mod $name:ident;)*) => {$(
         #[allow(unused_variables)]
@@ -75,7 +75,7 @@ macro_rules! erased {
         #[allow(clippy::needless_range_loop, clippy::new_without_default, clippy::precedence)]
         #[allow(clippy::question_mark, clippy::redundant_closure)]
         #[allow(clippy::redundant_pattern_matching, clippy::too_many_arguments)]
-        #[allow(dead_code, unreachable_pub, unused_imports)]
+        #[allow(dead_code, unused_imports)]
         $visibility mod $name;
     )*};
 }

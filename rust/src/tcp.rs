@@ -1,18 +1,13 @@
-//! Small machines that a TCP needs beside its two queues: the Internet checksum, what to do with an arriving
-//! segment, the windows of both sides, the time until a retransmission, its timer, and what is sent next. (Not in
-//! smoltcp's lowest layer.)
+//! Small machines that a TCP needs beside its two queues and the [`checksum`](crate::checksum): what to do with an
+//! arriving segment, the windows of both sides, the time until a retransmission, its timer, and what is sent next. (Not
+//! in smoltcp's lowest layer.)
 //!
 //! ```
-//! use net_base::tcp::{checksum, classify, is_valid, AdvertisedWindow, Announcement, Arrival, Expiry, PeerWindow};
+//! use net_base::tcp::{classify, AdvertisedWindow, Announcement, Arrival, Expiry, PeerWindow};
 //! use net_base::tcp::{RetransmissionTimeout, RetransmissionTimer, Sack, Segment, SentNumbers, TimeoutBounds};
 //! use net_base::tcp::Transmission;
 //! use net_base::time::{Duration, Instant};
 //!
-//! // RFC 1071's example: the words 0001, f203, f4f5 and f6f7.
-//! let mut bytes = [0x00, 0x01, 0xf2, 0x03, 0xf4, 0xf5, 0xf6, 0xf7, 0, 0];
-//! let sum = checksum(&bytes);
-//! bytes[8..].copy_from_slice(&sum.to_be_bytes());
-//! assert_eq!((sum, is_valid(&bytes)), (0x220d, true));
 //! // A segment has a part of a window of 10 from 100 on, or it is answered; a probe of a shut window acknowledges.
 //! let text = |seq, bytes| Segment::new(seq, bytes, 0x10);
 //! assert_eq!(classify(100, 10, 10, text(95, 6)), Arrival::Take);
@@ -75,9 +70,6 @@ erased! {
 pub use advertised_window::{scale_for, AdvertisedWindow, MAX_SCALE};
 pub use answer_limit::AnswerLimit;
 pub use arriving::{classify, is_acceptable, is_acknowledgement, Arrival, Segment};
-pub use duplicate_block::is_duplicate_block;
-pub use equal_acknowledgement::is_equal_acknowledgement;
-pub use internet_sum::{checksum, is_valid, updated_checksum, PartsSum};
 pub use loss_recovery::{Answer, LossRecovery};
 pub use peer_window::{scaled, Announcement, PeerWindow};
 pub use reported::Reported;
@@ -85,7 +77,14 @@ pub use retransmission::{RetransmissionTimeout, RttEstimate, TimeoutBounds, Tran
 pub use retransmission_timer::{Expiry, RetransmissionTimer, TimedSegment};
 pub use sack::Sack;
 
+// Names for other modules.
+pub(crate) use duplicate_block::is_duplicate_block;
+pub(crate) use equal_acknowledgement::is_equal_acknowledgement;
+pub(crate) use internet_sum::PartsSum;
 pub(crate) use reported::LentScoreboard;
+// Names for the exports for C alone.
+#[allow(unused_imports)]
+pub(crate) use internet_sum::{checksum, is_valid, updated_checksum};
 
 use crate::time::Duration;
 
@@ -169,5 +168,50 @@ impl Default for TimeoutBounds {
 impl Default for PartsSum {
     fn default() -> Self {
         PartsSum::new()
+    }
+}
+
+#[cfg(test)]
+mod tests {
+    use super::*;
+
+    /// Eight times the smoothed time, and four times its variation (RFC 6298, 2). After a sample of 800 ms the variation
+    /// is 400 ms. After one of 400 ms more the time is 750 ms, and the variation 400 ms. No sample is above 2^60
+    /// microseconds.
+    #[test]
+    fn estimates() {
+        let first = |time| RttEstimate::first(Duration::from_micros(time)).scaled();
+        assert_eq!(first(100_000), (800_000, 200_000));
+        assert_eq!(first(800_000), (6_400_000, 1_600_000));
+        assert_eq!(first(u64::MAX), (1 << 63, 1 << 61));
+        let next = |srtt_8, rttvar_4, time| {
+            let before = RttEstimate::from_scaled(srtt_8, rttvar_4);
+            before.with_sample(Duration::from_micros(time)).scaled()
+        };
+        assert_eq!(next(800_000, 200_000, 100_000), (800_000, 150_000));
+        assert_eq!(next(6_400_000, 1_600_000, 400_000), (6_000_000, 1_600_000));
+        assert_eq!(next(15, 7, 0), (14, 7));
+        assert_eq!(next((1 << 63) + 1, 440_639_728_830, 1 << 60), (1 << 63, 330_479_796_623));
+        assert_eq!(RttEstimate::from_scaled(u64::MAX, u64::MAX).scaled(), (1 << 63, 1 << 62));
+    }
+
+    /// The time and four times its variation, or one tick. The least timeout may be above the greatest one.
+    #[test]
+    fn timeouts_of_estimates() {
+        let timeout = |srtt_8, rttvar_4, least, most, tick| {
+            let mut bounds = TimeoutBounds::new();
+            [bounds.least, bounds.most, bounds.tick] =
+                [least, most, tick].map(Duration::from_micros);
+            RttEstimate::from_scaled(srtt_8, rttvar_4).timeout(bounds).total_micros()
+        };
+        let (least, most) = (1_000_000, 60_000_000);
+        assert_eq!(timeout(6_400_000, 1_600_000, least, most, 1), 2_400_000);
+        assert_eq!(timeout(6_000_000, 1_600_000, least, most, 1), 2_350_000);
+        assert_eq!(timeout(800_000, 200_000, 0, most, 1), 300_000);
+        assert_eq!(timeout(800_000, 200_000, least, most, 1), 1_000_000);
+        assert_eq!(timeout(800_000, 200_000, 2_000_000, 1_500_000, 1), 2_000_000);
+        assert_eq!(timeout(8_000, 0, 0, most, 10), 1_010);
+        let made = RetransmissionTimeout::from_parts(None, Duration::from_micros(7));
+        assert_eq!((made.rtt(), made.timeout()), (None, Duration::from_micros(7)));
     }
 }

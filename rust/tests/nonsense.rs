@@ -1,19 +1,20 @@
 //! Calls that take numbers from a packet, with any numbers: none panics, also where sums are checked. `CALLS` says how
 //! many calls are made of each kind.
+use net_base::checksum::{checksum, is_valid, updated_checksum, PartsSum};
 use net_base::ends::{
     AckKind, AckSegment, Acknowledged, Expired, ReceivingEndOver, SegmentBytes, SendBufferOver,
     Sending, SendingEndOver,
 };
-use net_base::finite::{FiniteReceiver, FiniteSender, SentNumbers};
+use net_base::finite::{FiniteReceiver, FiniteSender};
 use net_base::receiver::Receiver;
 use net_base::scoreboard::Scoreboard;
 use net_base::sequence_number::SequenceNumber;
 use net_base::storage::fragment_table::{accept, remove_expired, take_complete, FragmentSlot};
 use net_base::storage::FragmentBuffer;
 use net_base::tcp::{
-    checksum, classify, is_acceptable, is_acknowledgement, is_valid, scaled, updated_checksum,
-    AdvertisedWindow, Announcement, Answer, Expiry, LossRecovery, PartsSum, PeerWindow,
-    RetransmissionTimer, Sack, Segment, TimeoutBounds, Transmission,
+    classify, is_acceptable, is_acknowledgement, scaled, AdvertisedWindow, Announcement, Answer,
+    Expiry, LossRecovery, PeerWindow, RetransmissionTimer, Sack, Segment, SentNumbers,
+    TimeoutBounds, Transmission,
 };
 use net_base::time::{Duration, Instant};
 use std::ops::Range;

@@ -6,6 +6,7 @@ use std::fmt::Debug;
 use std::hash::{Hash, Hasher};
 use std::sync::Mutex;
 
+use net_base::checksum::PartsSum;
 use net_base::ends::{ReceivingEndOver, SendingEndOver};
 use net_base::finite::{
     FiniteError, FiniteReceiver, FiniteReceiverOver, FiniteSender, FiniteSenderOver, Part,
@@ -25,7 +26,7 @@ use net_base::storage::{
     PacketMetadata, PacketsOver, RingBuffer, RingOver, Storage, TooManyHolesError,
 };
 use net_base::tcp::{
-    AdvertisedWindow, Announcement, Arrival, PartsSum, PeerWindow, RetransmissionTimeout,
+    AdvertisedWindow, Announcement, Arrival, PeerWindow, RetransmissionTimeout,
     RetransmissionTimer, RttEstimate, Segment, TimeoutBounds, Transmission, MAX_SCALE,
 };
 use net_base::time::{Duration, Instant};

@@ -38,11 +38,21 @@ UNERASED = {
 # Functions that nothing of Rust calls, by rustc's word: in Rattle laws, proofs and tests do.
 UNCALLED = {
     'net_ring/ring_buffer': ['from_parts', 'into_parts'],
+    'net_packets/packet_buffer': ['last_mut', 'last_size'],
     'net_receiver/receiver': ['from_parts'],
     'net_receiver/schedule': ['replay', 'replay_core'],
     'net_receiver/scoreboard': ['is_sound'],
     'net_receiver/finite_receiver': ['from_parts', 'into_parts', 'is_sound'],
     'net_receiver/finite_sender': ['from_parts', 'into_parts'],
+}
+
+# Methods that only the Cargo crate calls: Rust's callers have `enqueue`, `dequeue`, `Deref` and `From` in their place, or
+# need none.
+CLOSED = {
+    'net_packets/packet_buffer': ['has_room', 'place', 'take', 'last_dequeued_mut'],
+    'net_ring/managed': ['len', 'as_slice', 'as_mut_slice'],
+    'net_base/time/duration': ['from_core'],
+    'net_tcp/retransmission': ['from_parts', 'from_scaled', 'srtt_8', 'rttvar_4'],
 }
 
 # The exports for C, which the shim of `c` calls: only the crate in rust/exports has them, and they have no

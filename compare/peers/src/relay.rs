@@ -4,7 +4,7 @@ use std::io;
 use std::iter::from_fn;
 
 use net_base::rand::Rand;
-use net_base::tcp::PartsSum;
+use net_base::checksum::PartsSum;
 use net_base::time::{Duration, Instant};
 
 use crate::channel::{Channel, Fates};
@@ -188,7 +188,7 @@ fn forge(packet: &[u8], end: u32, rand: &mut Rand) -> Vec<u8> {
     let len = forged.len() as u16;
     forged[2..4].copy_from_slice(&len.to_be_bytes());
     forged[10..12].fill(0);
-    let sum = net_base::tcp::checksum(&forged[..20]);
+    let sum = net_base::checksum::checksum(&forged[..20]);
     forged[10..12].copy_from_slice(&sum.to_be_bytes());
     seal(&mut forged);
     forged

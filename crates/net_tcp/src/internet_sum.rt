@@ -16,7 +16,7 @@ use net_ring::width::most;
 /// One of zeros is that of no bytes.
 ///
 /// ```
-/// use net_base::tcp::{checksum, PartsSum};
+/// use net_base::checksum::{checksum, PartsSum};
 ///
 /// // A header and its text, in two pieces.
 /// let mut sum = PartsSum::new();

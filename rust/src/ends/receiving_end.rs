@@ -108,6 +108,7 @@ pub struct AckFields {
 
 /// What the rules of a receiving end know of its receiver: numbers.
 #[derive(Copy, Clone, Debug, PartialEq, Eq)]
+#[allow(unreachable_pub)]
 pub struct Room {
     /// The number that an acknowledgement names.
     pub next: u64,
@@ -126,6 +127,7 @@ pub struct Room {
 /// segments of no bytes.
 #[repr(C)]
 #[derive(Debug, Clone, Copy)]
+#[allow(unreachable_pub)]
 pub struct ReceivingHead {
     /// What was announced.
     pub advertised: AdvertisedWindow,

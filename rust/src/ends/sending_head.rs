@@ -19,6 +19,7 @@ use crate::rattle::std::ops::Range;
 /// the scoreboard is, with its runs.
 #[repr(C)]
 #[derive(Copy, Clone, Debug)]
+#[allow(unreachable_pub)]
 pub struct SendingHead {
     /// What was reported and what is lost.
     pub buffer: BufferHead,

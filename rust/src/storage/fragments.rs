@@ -9,6 +9,7 @@ use crate::storage::{ManagedSlice, Storage};
 mod head;
 pub mod table;
 
+#[allow(unreachable_pub)]
 pub use head::FragmentsHead;
 
 /// Why a fragment or a size is refused. Nothing changes then.

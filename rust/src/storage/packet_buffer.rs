@@ -109,18 +109,9 @@ impl<H, M: Storage<PacketMetadata<H>>, B: Storage<u8>> PacketsOver<H, M, B> {
     }
 
     /// Returns whether a packet of `size` bytes can be appended. smoltcp has no such call.
-    ///
-    /// ```
-    /// # use net_base::storage::{PacketBuffer, PacketMetadata};
-    /// # let mut slots = [PacketMetadata::EMPTY; 4];
-    /// # let mut bytes = [0u8; 16];
-    /// # let mut queue = PacketBuffer::new(&mut slots[..], &mut bytes[..]);
-    /// assert!(queue.enqueue(3, ()).is_ok());
-    /// assert!(queue.has_room(13) && !queue.has_room(14));
-    /// ```
     #[inline]
     #[must_use]
-    pub fn has_room(&self, size: usize) -> bool {
+    pub(crate) fn has_room(&self, size: usize) -> bool {
         self.placement(size).is_some()
     }
 
@@ -261,16 +252,6 @@ impl<H: Sized, M: Storage<PacketMetadata<H>>, B: Storage<u8>> PacketsOver<H, M, 
     /// Appends a packet of `size` bytes, as [`PacketsOver::enqueue`] does, of which this is the
     /// first step: [`PacketsOver::last_mut`] lends the bytes.
     ///
-    /// ```
-    /// # use net_base::storage::{PacketBuffer, PacketMetadata};
-    /// # let mut slots = [PacketMetadata::EMPTY; 4];
-    /// # let mut bytes = [0u8; 16];
-    /// # let mut queue = PacketBuffer::new(&mut slots[..], &mut bytes[..]);
-    /// assert_eq!(queue.place(3, 1), Ok(()));
-    /// queue.last_mut().copy_from_slice(b"abc");
-    /// assert_eq!(queue.peek().ok(), Some((&1, &b"abc"[..])));
-    /// ```
-    ///
     /// # Errors
     ///
     /// `Full` if [`PacketsOver::enqueue`] returns it. Then the header is dropped, and nothing
@@ -280,7 +261,7 @@ impl<H: Sized, M: Storage<PacketMetadata<H>>, B: Storage<u8>> PacketsOver<H, M, 
     ///
     /// - on `Ok`: `self.contents == old(self).contents ++ [(header, self.last_bytes)]`
     /// - on `Err`: `self == old(self)`
-    pub fn place(&mut self, size: usize, header: H) -> Result<(), Full> {
+    pub(crate) fn place(&mut self, size: usize, header: H) -> Result<(), Full> {
         let slot_count = self.slots.count();
         let capacity = self.bytes.count();
         let mut head = self.head;
@@ -292,23 +273,6 @@ impl<H: Sized, M: Storage<PacketMetadata<H>>, B: Storage<u8>> PacketsOver<H, M, 
         write_slots(&mut self.slots, place, size, header);
         self.head = head;
         Ok(())
-    }
-
-    /// Lends the bytes of the last packet, or none if the queue has no packets.
-    ///
-    /// ```
-    /// # use net_base::storage::{PacketBuffer, PacketMetadata};
-    /// # let mut slots = [PacketMetadata::EMPTY; 4];
-    /// # let mut bytes = [0u8; 16];
-    /// # let mut queue = PacketBuffer::new(&mut slots[..], &mut bytes[..]);
-    /// assert_eq!(queue.last_mut(), b"");
-    /// assert_eq!(queue.push_slice(1, b"abc"), Ok(()));
-    /// queue.last_mut()[0] = b'x';
-    /// assert_eq!(queue.peek(), Ok((&1, &b"xbc"[..])));
-    /// ```
-    pub fn last_mut(&mut self) -> &mut [u8] {
-        let size = self.last_size();
-        self.last_part_mut(size)
     }
 
     /// Appends a packet whose bytes are `data`, as [`PacketsOver::enqueue`] does. smoltcp has no
@@ -464,16 +428,6 @@ impl<H: Sized, M: Storage<PacketMetadata<H>>, B: Storage<u8>> PacketsOver<H, M, 
     /// [`PacketsOver::dequeue`] does, of which this is the first step:
     /// [`PacketsOver::last_dequeued_mut`] lends the bytes.
     ///
-    /// ```
-    /// # use net_base::storage::{PacketBuffer, PacketMetadata};
-    /// # let mut slots = [PacketMetadata::EMPTY; 4];
-    /// # let mut bytes = [0u8; 16];
-    /// # let mut queue = PacketBuffer::new(&mut slots[..], &mut bytes[..]);
-    /// assert_eq!(queue.push_slice(1, b"abc"), Ok(()));
-    /// assert_eq!(queue.take(), Ok((1, 3)));
-    /// assert_eq!(queue.last_dequeued_mut(3), b"abc");
-    /// ```
-    ///
     /// # Errors
     ///
     /// `Empty` if the queue has no packets. Then nothing changes.
@@ -482,7 +436,7 @@ impl<H: Sized, M: Storage<PacketMetadata<H>>, B: Storage<u8>> PacketsOver<H, M, 
     ///
     /// - on `Ok(r)`: `old(self).contents == [(r.0, last_dequeued_bytes(self, r.1))] ++ self.contents`
     /// - on `Ok`: `self.contents == old(self).contents[1..]`
-    pub fn take(&mut self) -> Result<(H, usize), Empty> {
+    pub(crate) fn take(&mut self) -> Result<(H, usize), Empty> {
         self.skip();
         let Some((header, size)) = self.take_first() else {
             return Err(Empty);
@@ -492,24 +446,12 @@ impl<H: Sized, M: Storage<PacketMetadata<H>>, B: Storage<u8>> PacketsOver<H, M, 
 
     /// Lends the `size` bytes before the read index: those of the packet that was taken off last.
     ///
-    /// ```
-    /// # use net_base::storage::{Empty, PacketBuffer, PacketMetadata};
-    /// # let mut slots = [PacketMetadata::EMPTY; 4];
-    /// # let mut bytes = [0u8; 16];
-    /// # let mut queue = PacketBuffer::new(&mut slots[..], &mut bytes[..]);
-    /// assert_eq!(queue.push_slice(1, b"abc"), Ok(()));
-    /// let (_header, size) = queue.take()?;
-    /// queue.last_dequeued_mut(size).make_ascii_uppercase();
-    /// assert_eq!(queue.last_dequeued_mut(size), b"ABC");
-    /// # Ok::<(), Empty>(())
-    /// ```
+    /// # Requires
     ///
-    /// # Panics
-    ///
-    /// Panics unless the `size` bytes before the read index are contiguous and none is a packet's,
-    /// as after a call of [`PacketsOver::take`] that returned `size`.
+    /// The `size` bytes before the read index are contiguous and none is a packet's, as after a
+    /// call of [`PacketsOver::take`] that returned `size`.
     #[track_caller]
-    pub fn last_dequeued_mut(&mut self, size: usize) -> &mut [u8] {
+    pub(crate) fn last_dequeued_mut(&mut self, size: usize) -> &mut [u8] {
         let capacity = self.bytes.count();
         prove!(
             size <= capacity - self.head.bytes.length,
@@ -618,18 +560,6 @@ impl<H, M: Storage<PacketMetadata<H>>, B: Storage<u8>> PacketsOver<H, M, B> {
             Some(header) => Ok((header, self.bytes.part(from, from + slot.size))),
             None => Err(Empty),
         }
-    }
-
-    /// Returns the size of the last packet, or 0 if there is none.
-    fn last_size(&self) -> usize {
-        if self.head.slots.length == 0 {
-            return 0;
-        }
-        let last = self
-            .head
-            .slots
-            .index(self.slots.count(), self.head.slots.length - 1);
-        self.slots.element(last).size
     }
 }
 

@@ -20,6 +20,7 @@ use crate::storage::RingHead;
 /// such type.
 #[repr(C)]
 #[derive(Debug, Clone, Copy)]
+#[allow(unreachable_pub)]
 pub struct PacketsHead {
     /// The head of the ring of slots.
     pub slots: RingHead,
@@ -30,6 +31,7 @@ pub struct PacketsHead {
 /// Where a packet was placed.
 #[repr(C)]
 #[derive(Debug, Clone, Copy)]
+#[allow(unreachable_pub)]
 pub struct PacketPlace {
     /// How many bytes are skipped before the packet: 0, or those up to the storage's end.
     pub gap: usize,
@@ -44,6 +46,7 @@ pub struct PacketPlace {
 /// Where the first packet is.
 #[repr(C)]
 #[derive(Debug, Clone, Copy)]
+#[allow(unreachable_pub)]
 pub struct FirstPacket {
     /// How many bytes are skipped before the packet.
     pub gap: usize,

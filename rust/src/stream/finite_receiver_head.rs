@@ -19,6 +19,7 @@ pub(crate) const NO_END: u64 = u64::MAX;
 /// that begins at position 0. smoltcp has no such type.
 #[repr(C)]
 #[derive(Debug, Clone, Copy)]
+#[allow(unreachable_pub)]
 pub struct FiniteReceiverHead {
     /// The receiver of the bytes.
     pub receiver: ReceiverHead,

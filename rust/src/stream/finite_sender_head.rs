@@ -10,6 +10,7 @@ use crate::storage::Span;
 /// is sent, reported and acknowledged as a byte is, and takes no room. smoltcp has no such type.
 #[repr(C)]
 #[derive(Debug, Clone, Copy)]
+#[allow(unreachable_pub)]
 pub struct FiniteSenderHead {
     /// The sender of the bytes.
     pub sender: SenderHead,

@@ -7,16 +7,8 @@ use crate::stream::SentNumbers;
 /// acknowledged, while something isn't; its segment `is_bare`, that is, it has no byte, no SYN, no FIN and no block;
 /// and it announces `is_same` the window that was announced last. Something has arrived then, and the peer doesn't say
 /// where.
-///
-/// ```
-/// use net_base::tcp::{is_equal_acknowledgement, SentNumbers};
-///
-/// let numbers = SentNumbers { first_unacknowledged: 10, sent: 30 };
-/// assert!(is_equal_acknowledgement(numbers, 10, true, true));
-/// assert!(!is_equal_acknowledgement(numbers, 20, true, true));
-/// ```
 #[must_use]
-pub fn is_equal_acknowledgement(
+pub(crate) fn is_equal_acknowledgement(
     numbers: SentNumbers,
     next: u64,
     is_bare: bool,

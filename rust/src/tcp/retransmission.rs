@@ -97,7 +97,7 @@ impl RttEstimate {
     /// count, and four times its variation, of which no more than 2^62 do. Samples give no more.
     #[inline]
     #[must_use]
-    pub fn from_scaled(srtt_8: u64, rttvar_4: u64) -> Self {
+    pub(crate) fn from_scaled(srtt_8: u64, rttvar_4: u64) -> Self {
         RttEstimate {
             srtt_8: srtt_8.min(1 << 63),
             rttvar_4: rttvar_4.min(1 << 62),
@@ -106,13 +106,13 @@ impl RttEstimate {
 
     /// Returns eight times the smoothed time, in microseconds.
     #[must_use]
-    pub const fn srtt_8(self) -> u64 {
+    pub(crate) const fn srtt_8(self) -> u64 {
         self.srtt_8
     }
 
     /// Returns four times its variation, in microseconds.
     #[must_use]
-    pub const fn rttvar_4(self) -> u64 {
+    pub(crate) const fn rttvar_4(self) -> u64 {
         self.rttvar_4
     }
 
@@ -163,7 +163,7 @@ impl RetransmissionTimeout {
 
     /// Returns a timeout with the estimate of the samples so far, if there were any.
     #[must_use]
-    pub const fn from_parts(estimate: Option<RttEstimate>, timeout: Duration) -> Self {
+    pub(crate) const fn from_parts(estimate: Option<RttEstimate>, timeout: Duration) -> Self {
         RetransmissionTimeout { estimate, timeout }
     }
 

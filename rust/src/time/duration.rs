@@ -194,18 +194,12 @@ impl Duration {
     /// Returns the whole microseconds of a duration of the standard library; the nanoseconds beyond
     /// them are dropped.
     ///
-    /// ```
-    /// # use net_base::time::Duration;
-    /// let duration = Duration::from_core(core::time::Duration::from_nanos(1_999));
-    /// assert_eq!(duration, Duration::from_micros(1));
-    /// ```
+    /// # Requires
     ///
-    /// # Panics
-    ///
-    /// Panics unless so many microseconds fit 64 bits, as `fits_core` tests.
+    /// So many microseconds fit 64 bits, as `fits_core` tests.
     #[track_caller]
     #[must_use]
-    pub fn from_core(duration: crate::rattle::std::time::Duration) -> Duration {
+    pub(crate) fn from_core(duration: crate::rattle::std::time::Duration) -> Duration {
         prove!(
             Self::fits_core(duration),
             "attempt to multiply with overflow"

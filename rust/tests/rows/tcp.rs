@@ -1,10 +1,10 @@
 //! What a TCP needs beside its queues. No call changes what another sees.
 use crate::show::{pattern, truth};
 use crate::{Call, Subject};
+use net_base::checksum::{checksum, updated_checksum, PartsSum};
 use net_base::tcp::{
-    checksum, classify, is_acceptable, is_acknowledgement, scale_for, scaled, updated_checksum,
-    AdvertisedWindow, Announcement, AnswerLimit, Arrival, PartsSum, PeerWindow,
-    RetransmissionTimeout, RttEstimate, Segment, SentNumbers, TimeoutBounds,
+    classify, is_acceptable, is_acknowledgement, scale_for, scaled, AdvertisedWindow, Announcement,
+    AnswerLimit, Arrival, PeerWindow, RetransmissionTimeout, Segment, SentNumbers, TimeoutBounds,
 };
 use net_base::time::{Duration, Instant};
 
@@ -38,15 +38,6 @@ impl Subject for Tcp {
             "checksum_parts" => parts(&pattern(call.size(0), two), call.size(2), call.size(3)),
             "updated_checksum" => {
                 updated_checksum(one as u16, two as u16, three as u16).to_string()
-            }
-            "first_sample" => estimate(RttEstimate::first(Duration::from_micros(one))),
-            "next_sample" => {
-                let before = RttEstimate::from_scaled(one, two);
-                estimate(before.with_sample(Duration::from_micros(three)))
-            }
-            "timeout" => {
-                let bounds = bounds(three, four, call.at(4));
-                RttEstimate::from_scaled(one, two).timeout(bounds).total_micros().to_string()
             }
             "expired" => {
                 let mut timer = RetransmissionTimeout::new(Duration::from_micros(one));
@@ -120,10 +111,6 @@ fn parts(bytes: &[u8], one: usize, other: usize) -> String {
     sum.add(&bytes[..one]);
     let sum = sum.with(&bytes[one..other]).with(&bytes[other..]);
     sum.checksum().to_string()
-}
-
-fn estimate(estimate: RttEstimate) -> String {
-    format!("{} {}", estimate.srtt_8(), estimate.rttvar_4())
 }
 
 fn bounds(least: u64, most: u64, tick: u64) -> TimeoutBounds {
