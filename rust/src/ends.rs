@@ -34,7 +34,14 @@ pub(crate) use {
 };
 
 impl<'a, const N: usize> SendBuffer<'a, N> {
-    /// Returns what `over_at` does.
+    /// Returns a buffer of a stream that begins at position `first`, to which nothing was written.
+    ///
+    /// ```
+    /// # use net_base::ends::SendBuffer;
+    /// let mut storage = [0; 16];
+    /// let mut buffer = SendBuffer::<4>::new_at(&mut storage[..], 1);
+    /// assert_eq!((buffer.write(b"hello"), buffer.window()), (5, 11));
+    /// ```
     ///
     /// # Panics
     ///
@@ -47,7 +54,17 @@ impl<'a, const N: usize> SendBuffer<'a, N> {
 }
 
 impl<'a, const N: usize> SendingEnd<'a, N> {
-    /// Returns what `over_at` does.
+    /// Returns an end of a stream that begins at position `first`, to which nothing was written. Its timeout is
+    /// `first_timeout` until a round trip is known, and then within the bounds.
+    ///
+    /// ```
+    /// # use net_base::ends::SendingEnd;
+    /// # use net_base::tcp::TimeoutBounds;
+    /// # use net_base::time::Duration;
+    /// let (mut storage, second) = ([0; 16], Duration::from_secs(1));
+    /// let mut end = SendingEnd::<4>::new_at(&mut storage[..], 1, second, TimeoutBounds::new());
+    /// assert_eq!((end.write(b"hello"), end.window(), end.expires_at()), (5, 11, None));
+    /// ```
     ///
     /// # Panics
     ///
@@ -65,7 +82,17 @@ impl<'a, const N: usize> SendingEnd<'a, N> {
 }
 
 impl<'a, const N: usize> ReceivingEnd<'a, N> {
-    /// Returns what `over_at` does.
+    /// Returns an end of a stream whose first byte has position `first`, to which nothing came. Segments have at most
+    /// `segment_size` bytes: the window is announced in steps of so many.
+    ///
+    /// ```
+    /// # use net_base::ends::ReceivingEnd;
+    /// let mut storage = [0; 16];
+    /// let mut end = ReceivingEnd::<4>::empty_at(&mut storage[..], 1, 8);
+    /// assert!(end.arrived(1, b"hello", false).is_ok());
+    /// let mut into = [0; 8];
+    /// assert_eq!((end.read(&mut into), &into[..5]), (5, &b"hello"[..]));
+    /// ```
     ///
     /// # Panics
     ///

@@ -54,6 +54,14 @@ impl From<TooManyHolesError> for FiniteError {
 impl<'a, const N: usize> FiniteReceiver<'a, N> {
     /// Returns a receiver of a stream that ends, whose first byte has position `first`, with room for `N` held runs.
     ///
+    /// ```
+    /// # use net_base::finite::FiniteReceiver;
+    /// let mut storage = [0; 16];
+    /// let mut receiver = FiniteReceiver::<4>::empty_at(&mut storage[..], 1);
+    /// assert!(receiver.keep(1, b"abc", true).is_ok());
+    /// assert_eq!((receiver.is_complete(), receiver.end()), (true, Some(4)));
+    /// ```
+    ///
     /// # Panics
     ///
     /// Panics if `first` is `u64::MAX`: no number is left for the end.
@@ -65,6 +73,15 @@ impl<'a, const N: usize> FiniteReceiver<'a, N> {
 
 impl<'a> FiniteSender<'a> {
     /// Returns a sender of a stream that begins at position `first`, to which nothing was written.
+    ///
+    /// ```
+    /// # use net_base::finite::FiniteSender;
+    /// let mut storage = [0; 16];
+    /// let mut sender = FiniteSender::new_at(&mut storage[..], 1);
+    /// assert_eq!((sender.write(b"abc"), sender.numbers_end()), (3, 4));
+    /// sender.close();
+    /// assert_eq!(sender.send_at(1, 9), (&b"abc"[..], true));
+    /// ```
     ///
     /// # Panics
     ///

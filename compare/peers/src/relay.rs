@@ -3,8 +3,8 @@ use std::collections::VecDeque;
 use std::io;
 use std::iter::from_fn;
 
-use net_base::rand::Rand;
 use net_base::checksum::PartsSum;
+use net_base::rand::Rand;
 use net_base::time::{Duration, Instant};
 
 use crate::channel::{Channel, Fates};

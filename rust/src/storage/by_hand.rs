@@ -14,6 +14,13 @@ use crate::time::Instant;
 
 impl<'a, T> RingBuffer<'a, T> {
     /// Returns an empty ring over the storage, whose elements stay as they are.
+    ///
+    /// ```
+    /// # use net_base::storage::RingBuffer;
+    /// let mut storage = [0; 4];
+    /// let mut ring = RingBuffer::new(&mut storage[..]);
+    /// assert_eq!((ring.enqueue_slice(b"abcde"), ring.window()), (4, 0));
+    /// ```
     pub fn new<S: Into<ManagedSlice<'a, T>>>(storage: S) -> Self {
         RingOver::over(storage.into())
     }
@@ -61,6 +68,14 @@ impl<T, S: Storage<T>> fmt::Debug for RingOver<T, S> {
 impl<'a, H> PacketBuffer<'a, H> {
     /// Returns a queue with no packets, which has as many slots as `slots` has elements, and room for as many bytes as
     /// `bytes` has.
+    ///
+    /// ```
+    /// # use net_base::storage::{PacketBuffer, PacketMetadata};
+    /// let (mut slots, mut bytes) = ([PacketMetadata::EMPTY; 4], [0; 64]);
+    /// let mut queue = PacketBuffer::new(&mut slots[..], &mut bytes[..]);
+    /// queue.enqueue(3, 7).expect("there is room").copy_from_slice(b"abc");
+    /// assert_eq!(queue.dequeue(), Ok((7, &mut b"abc".to_owned()[..])));
+    /// ```
     pub fn new<M, B>(slots: M, bytes: B) -> Self
     where
         M: Into<ManagedSlice<'a, PacketMetadata<H>>>,

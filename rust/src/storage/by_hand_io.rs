@@ -23,6 +23,17 @@ fn lent(bytes: &[u8], is_for_now: bool) -> Result<&[u8]> {
 
 /// Reads what is queued. An empty ring is refused as [`ErrorKind::WouldBlock`]: a queue has no end, and more may be
 /// enqueued. So `read_to_end` appends all that is queued, and then is refused; `dequeue_slice` isn't.
+///
+/// ```
+/// use net_base::storage::RingOver;
+/// use std::io::{ErrorKind, Read, Write};
+///
+/// let mut ring = RingOver::over([0; 4]);
+/// assert_eq!(ring.write(b"abcde").expect("there is room"), 4);
+/// let mut into = [0; 8];
+/// assert_eq!((ring.read(&mut into).expect("bytes are queued"), &into[..4]), (4, &b"abcd"[..]));
+/// assert_eq!(ring.read(&mut into).unwrap_err().kind(), ErrorKind::WouldBlock);
+/// ```
 impl<S: Storage<u8>> Read for RingOver<u8, S> {
     fn read(&mut self, into: &mut [u8]) -> Result<usize> {
         moved(self.dequeue_slice(into), into.len(), true)
@@ -30,6 +41,17 @@ impl<S: Storage<u8>> Read for RingOver<u8, S> {
 }
 
 /// Lends the contiguous part of what is queued. An empty ring is refused as [`ErrorKind::WouldBlock`].
+///
+/// ```
+/// use net_base::storage::RingOver;
+/// use std::io::BufRead;
+///
+/// let mut ring = RingOver::over([0; 16]);
+/// assert_eq!(ring.enqueue_slice(b"one\ntwo"), 7);
+/// let mut line = String::new();
+/// assert_eq!(ring.read_line(&mut line).expect("a whole line"), 4);
+/// assert_eq!((line.as_str(), ring.fill_buf().expect("the rest")), ("one\n", &b"two"[..]));
+/// ```
 impl<S: Storage<u8>> BufRead for RingOver<u8, S> {
     fn fill_buf(&mut self) -> Result<&[u8]> {
         lent(self.get_allocated(0, usize::MAX), true)
@@ -45,6 +67,20 @@ impl<S: Storage<u8>> BufRead for RingOver<u8, S> {
 
 /// Reads what is queued. Where nothing is it is refused as [`ErrorKind::WouldBlock`]: this stream doesn't end. One that
 /// does is a [`FiniteReceiver`](crate::finite::FiniteReceiver).
+///
+/// ```
+/// use net_base::receiver::Receiver;
+/// use std::io::{ErrorKind, Read};
+///
+/// let mut storage = [0; 16];
+/// let mut receiver = Receiver::new(&mut storage[..]);
+/// assert!(receiver.segment(2, b"cd").is_ok());
+/// let mut into = [0; 4];
+/// assert_eq!(receiver.read_exact(&mut into).unwrap_err().kind(), ErrorKind::WouldBlock);
+/// assert!(receiver.segment(0, b"ab").is_ok());
+/// receiver.read_exact(&mut into).expect("four bytes are queued");
+/// assert_eq!(&into, b"abcd");
+/// ```
 impl<S: Storage<u8>, const N: usize> Read for ReceiverOver<S, N> {
     fn read(&mut self, into: &mut [u8]) -> Result<usize> {
         moved(ReceiverOver::read(self, into), into.len(), true)
@@ -105,6 +141,16 @@ impl<S: Storage<u8>, const N: usize> BufRead for FiniteReceiverOver<S, N> {
 
 /// Enqueues as many bytes as there is room for. A full ring is refused as [`ErrorKind::WouldBlock`]; one without
 /// storage takes nothing ever, which is `Ok(0)`.
+///
+/// ```
+/// use net_base::storage::RingOver;
+/// use std::io::{ErrorKind, Write};
+///
+/// let mut ring = RingOver::over([0; 4]);
+/// assert_eq!(ring.write(b"abcde").expect("there is room"), 4);
+/// assert_eq!(ring.write(b"e").unwrap_err().kind(), ErrorKind::WouldBlock);
+/// assert_eq!(RingOver::over([0; 0]).write(b"a").expect("no room ever"), 0);
+/// ```
 impl<S: Storage<u8>> Write for RingOver<u8, S> {
     fn write(&mut self, bytes: &[u8]) -> Result<usize> {
         moved(self.enqueue_slice(bytes), bytes.len(), self.capacity() != 0)
@@ -118,6 +164,18 @@ impl<S: Storage<u8>> Write for RingOver<u8, S> {
 /// Takes as many bytes as there is room for. A closed sender is refused as [`ErrorKind::BrokenPipe`], and a full one as
 /// [`ErrorKind::WouldBlock`]; one without storage, or of whose positions none is left, takes nothing ever, which is
 /// `Ok(0)`. `flush` doesn't wait for acknowledgements.
+///
+/// ```
+/// use net_base::finite::FiniteSender;
+/// use std::io::{ErrorKind, Write};
+///
+/// let mut storage = [0; 16];
+/// let mut sender = FiniteSender::new_at(&mut storage[..], 0);
+/// write!(sender, "GET {}", 7).expect("there is room");
+/// sender.close();
+/// assert_eq!(sender.send_at(0, 9), (&b"GET 7"[..], true));
+/// assert_eq!(Write::write(&mut sender, b"more").unwrap_err().kind(), ErrorKind::BrokenPipe);
+/// ```
 impl<S: Storage<u8>> Write for FiniteSenderOver<S> {
     fn write(&mut self, bytes: &[u8]) -> Result<usize> {
         if self.is_closed() && !bytes.is_empty() {

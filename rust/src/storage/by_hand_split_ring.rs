@@ -34,15 +34,41 @@ pub struct SplitRing<const N: usize> {
 }
 
 /// The end of a [`SplitRing`] that writes.
+///
+/// ```
+/// use net_base::storage::{SplitRing, SplitWriter};
+///
+/// fn put<const N: usize>(mut writer: SplitWriter<'_, N>) -> usize {
+///     writer.write(b"abc")
+/// }
+///
+/// assert_eq!(put(SplitRing::<2>::new().split().0), 2);
+/// ```
 #[derive(Debug)]
 pub struct SplitWriter<'a, const N: usize>(&'a SplitRing<N>);
 
 /// The end of a [`SplitRing`] that reads.
+///
+/// ```
+/// use net_base::storage::{SplitReader, SplitRing};
+///
+/// fn take<const N: usize>(mut reader: SplitReader<'_, N>) -> usize {
+///     reader.read(&mut [0; 8])
+/// }
+///
+/// assert_eq!(take(SplitRing::<2>::new().split().1), 0);
+/// ```
 #[derive(Debug)]
 pub struct SplitReader<'a, const N: usize>(&'a SplitRing<N>);
 
 impl<const N: usize> SplitRing<N> {
     /// Returns an empty ring.
+    ///
+    /// ```
+    /// # use net_base::storage::SplitRing;
+    /// static RING: SplitRing<8> = SplitRing::new();
+    /// assert_eq!(RING.read(&mut [0; 8]), 0);
+    /// ```
     #[must_use]
     pub const fn new() -> Self {
         SplitRing {
@@ -70,6 +96,12 @@ impl<const N: usize> SplitRing<N> {
     }
 
     /// Writes the first of these bytes, as many as there is room for, and returns how many: a call of one side alone.
+    ///
+    /// ```
+    /// # use net_base::storage::SplitRing;
+    /// static RING: SplitRing<4> = SplitRing::new();
+    /// assert_eq!((RING.write(b"abc"), RING.write(b"de")), (3, 1));
+    /// ```
     pub fn write(&self, data: &[u8]) -> usize {
         let written = self.written.load(Ordering::Relaxed);
         let taken = self.taken.load(Ordering::Acquire);
@@ -87,6 +119,15 @@ impl<const N: usize> SplitRing<N> {
 
     /// Takes as many bytes as there are and `into` has room for, and returns how many: a call of the other side alone.
     /// The rest of `into` stays as it is.
+    ///
+    /// ```
+    /// # use net_base::storage::SplitRing;
+    /// static RING: SplitRing<4> = SplitRing::new();
+    /// assert_eq!(RING.write(b"abc"), 3);
+    /// let mut into = *b"--";
+    /// assert_eq!((RING.read(&mut into), into), (2, *b"ab"));
+    /// assert_eq!((RING.read(&mut into), into), (1, *b"cb"));
+    /// ```
     pub fn read(&self, into: &mut [u8]) -> usize {
         let taken = self.taken.load(Ordering::Relaxed);
         let written = self.written.load(Ordering::Acquire);
