@@ -542,10 +542,10 @@ fn a_send_buffer() {
     // It was never written, and so nothing changes.
     assert!(!buffer.mark(12..13, Sending::Segment) && !buffer.mark(7..13, Sending::WindowProbe));
     assert_eq!(buffer.numbers(), SentNumbers { first_unacknowledged: 7, sent: 12 });
-    let it = SegmentBytes { front: b"cd", back: &[], is_last: true };
-    assert_eq!(buffer.bytes(9..12), it);
-    let taken = TakenAck { new: 0, reports: true, begins: false };
-    assert_eq!(buffer.acknowledge(7, &[9..11], 2, AckKind::Other), Some(taken));
+    let it = buffer.bytes(9..12);
+    assert_eq!((it.front, it.back, it.is_last), (&b"cd"[..], &[][..], true));
+    let taken = Some((0, true, false));
+    assert_eq!(buffer.acknowledge(7, &[9..11], 2, AckKind::Other).map(fields), taken);
     assert!(buffer.contains(9) && !buffer.is_blind() && !buffer.is_recovering());
     // No answer for two round trips.
     assert!(buffer.find_overdue() && buffer.is_recovering());
@@ -553,14 +553,18 @@ fn a_send_buffer() {
     assert_eq!(buffer.acknowledge(13, &[], 2, AckKind::Other), None);
     buffer.lose_all();
     assert_eq!(buffer.next(12, 10, 2), Some(7..9));
-    let taken = TakenAck { new: 5, reports: false, begins: false };
-    assert_eq!(buffer.acknowledge(12, &[], 2, AckKind::Repeat), Some(taken));
+    let taken = Some((5, false, false));
+    assert_eq!(buffer.acknowledge(12, &[], 2, AckKind::Repeat).map(fields), taken);
     assert!(buffer.is_done());
     buffer.reset_at(5);
     let text =
         "SendBuffer { numbers: SentNumbers { first_unacknowledged: 5, sent: 5 }, window: 8, .. }";
     assert_eq!(format!("{buffer:?}"), text);
     assert_eq!((buffer.numbers_end(), buffer.window(), buffer.is_recovering()), (5, 8, false));
+}
+
+fn fields(it: TakenAck) -> (u64, bool, bool) {
+    (it.new, it.reports, it.begins)
 }
 
 /// A loss that was none: what was sent again comes twice, as an acknowledgement says that is too old to be taken.
@@ -571,8 +575,8 @@ fn a_send_buffer_takes_a_recovery_back() {
     while let Some(range) = buffer.next(90, 90, 10) {
         assert!(buffer.mark(range, Sending::Segment));
     }
-    let taken = TakenAck { new: 10, reports: true, begins: true };
-    assert_eq!(buffer.acknowledge(10, &[20..50], 10, AckKind::Other), Some(taken));
+    let taken = Some((10, true, true));
+    assert_eq!(buffer.acknowledge(10, &[20..50], 10, AckKind::Other).map(fields), taken);
     assert_eq!((buffer.next(90, 90, 10), buffer.take_back()), (Some(10..20), false));
     assert!(buffer.mark(10..20, Sending::Segment));
     assert!(buffer.acknowledge(60, &[], 10, AckKind::Other).is_some() && !buffer.take_back());

@@ -242,6 +242,10 @@ fn moments_of_timers() {
     timer.stop();
     timer.start(Instant::from_micros(i64::MAX));
     assert_eq!(timer.expires_at(), Some(Instant::from_micros(i64::MAX)));
+    // After a sample of 800 ms and one of 400 ms: 750 ms, and four times 400 ms.
+    let [first, second, timeout] = [800, 400, 2_350].map(Duration::from_millis);
+    let estimate = RttEstimate::first(first).with_sample(second);
+    assert_eq!((estimate.timeout(TimeoutBounds::new()), timer.rtt()), (timeout, None));
 }
 
 #[test]

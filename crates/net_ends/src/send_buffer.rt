@@ -88,14 +88,15 @@ pub enum AckKind {
 /// What an acknowledgement said that was taken.
 ///
 /// ```
-/// use net_base::ends::{SendBuffer, Sending, TakenAck};
+/// use net_base::ends::{SendBuffer, Sending};
 ///
 /// let mut storage = [0u8; 64];
 /// let mut buffer = SendBuffer::<4>::new_at(&mut storage[..], 0);
 /// assert_eq!(buffer.write(b"abc"), 3);
 /// assert!(buffer.mark(0..3, Sending::Segment));
 /// let taken = buffer.acknowledge_range(0..2, 8);
-/// assert_eq!(taken, Some(TakenAck { new: 2, reports: false, begins: false }));
+/// let taken = taken.expect("of what was sent");
+/// assert_eq!((taken.new, taken.reports, taken.begins), (2, false, false));
 /// ```
 #[derive(Copy, Clone, Debug, PartialEq, Eq)]
 pub struct TakenAck {

@@ -165,7 +165,7 @@ pub enum Expired {
 /// A segment to send now, whose bytes `SendingEnd::bytes` lends.
 ///
 /// ```
-/// # use net_base::ends::{Outgoing, SendingEnd};
+/// # use net_base::ends::SendingEnd;
 /// # use net_base::tcp::{Announcement, Sack, TimeoutBounds};
 /// # use net_base::time::{Duration, Instant};
 /// # let mut storage = [0u8; 64];
@@ -174,7 +174,7 @@ pub enum Expired {
 /// # sending.open(Announcement { seq: 1, ack: 100, window: 1000 }, 8, Sack::Permitted, Instant::ZERO);
 /// let _taken = sending.write(b"abc");
 /// let it = sending.next_segment(1200, Instant::ZERO);
-/// assert_eq!(it, Some(Outgoing { pos: 100, end: 103, is_again: false }));
+/// assert_eq!(it.map(|it| (it.pos, it.end, it.is_again)), Some((100, 103, false)));
 /// ```
 #[derive(Copy, Clone, Debug, PartialEq, Eq)]
 pub struct Outgoing {

@@ -10,16 +10,17 @@ use crate::rattle::std::ops::Range;
 /// What a segment without bytes tells the peer.
 ///
 /// ```
-/// use net_base::ends::{Acknowledgement, ReceivingEnd};
+/// use net_base::ends::ReceivingEnd;
 ///
 /// let mut storage = [0u8; 64];
 /// let mut receiving = ReceivingEnd::<4>::empty_at(&mut storage[..], 100, 8);
 /// let _window = receiving.open(100, 0);
 /// receiving.arrived(108, &[7; 8], false).expect("one range may wait");
-/// let Acknowledgement { next, window, blocks } = receiving.acknowledgement();
-/// assert_eq!((next, window, blocks.as_slice()), (100, 64, &[108..116][..]));
+/// let told = receiving.acknowledgement();
+/// assert_eq!((told.next, told.window, told.blocks.as_slice()), (100, 64, &[108..116][..]));
 /// ```
 #[derive(Clone, Debug, PartialEq, Eq)]
+#[non_exhaustive]
 pub struct Acknowledgement {
     /// The first number that is missing.
     pub next: u64,

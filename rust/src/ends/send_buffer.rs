@@ -55,6 +55,7 @@ pub struct BufferHead {
 /// assert_eq!(buffer.next(u64::MAX, u64::MAX, 8), Some(0..8));
 /// ```
 #[derive(Copy, Clone, Debug, PartialEq, Eq)]
+#[non_exhaustive]
 pub enum AckKind {
     /// It has no byte and no FIN, and announces the window that was announced last.
     Repeat,
@@ -65,16 +66,18 @@ pub enum AckKind {
 /// What an acknowledgement said that was taken.
 ///
 /// ```
-/// use net_base::ends::{SendBuffer, Sending, TakenAck};
+/// use net_base::ends::{SendBuffer, Sending};
 ///
 /// let mut storage = [0u8; 64];
 /// let mut buffer = SendBuffer::<4>::new_at(&mut storage[..], 0);
 /// assert_eq!(buffer.write(b"abc"), 3);
 /// assert!(buffer.mark(0..3, Sending::Segment));
 /// let taken = buffer.acknowledge_range(0..2, 8);
-/// assert_eq!(taken, Some(TakenAck { new: 2, reports: false, begins: false }));
+/// let taken = taken.expect("of what was sent");
+/// assert_eq!((taken.new, taken.reports, taken.begins), (2, false, false));
 /// ```
 #[derive(Copy, Clone, Debug, PartialEq, Eq)]
+#[non_exhaustive]
 pub struct TakenAck {
     /// How many numbers it acknowledged that weren't before.
     pub new: u64,
@@ -100,6 +103,7 @@ pub struct TakenAck {
 /// assert!(buffer.mark(range, Sending::TailProbe));
 /// ```
 #[derive(Copy, Clone, Debug, PartialEq, Eq)]
+#[non_exhaustive]
 pub enum Sending {
     /// As `SendBufferOver::next` returned it: a segment, or a part of it from its start on.
     Segment,

@@ -47,6 +47,7 @@ use crate::rattle::std::ops::Range;
 /// }
 /// ```
 #[derive(Copy, Clone, Debug, PartialEq, Eq)]
+#[non_exhaustive]
 pub enum Acknowledged {
     /// One that no peer sends: of what was never sent, or too far below what is acknowledged. Nothing of its segment is
     /// to be taken, and it is answered (RFC 5961, section 5).
@@ -104,6 +105,7 @@ pub enum AckSegment {
 /// assert_eq!(sending.expired(Instant::from_secs(1)), Expired::Lost);
 /// ```
 #[derive(Copy, Clone, Debug, PartialEq, Eq)]
+#[non_exhaustive]
 pub enum Expired {
     /// It hasn't ended, or a probe is due and the peer reports nothing, so that it couldn't answer.
     No,
@@ -123,7 +125,7 @@ pub enum Expired {
 /// A segment to send now, whose bytes `SendingEnd::bytes` lends.
 ///
 /// ```
-/// # use net_base::ends::{Outgoing, SendingEnd};
+/// # use net_base::ends::SendingEnd;
 /// # use net_base::tcp::{Announcement, Sack, TimeoutBounds};
 /// # use net_base::time::{Duration, Instant};
 /// # let mut storage = [0u8; 64];
@@ -132,9 +134,10 @@ pub enum Expired {
 /// # sending.open(Announcement { seq: 1, ack: 100, window: 1000 }, 8, Sack::Permitted, Instant::ZERO);
 /// let _taken = sending.write(b"abc");
 /// let it = sending.next_segment(1200, Instant::ZERO);
-/// assert_eq!(it, Some(Outgoing { pos: 100, end: 103, is_again: false }));
+/// assert_eq!(it.map(|it| (it.pos, it.end, it.is_again)), Some((100, 103, false)));
 /// ```
 #[derive(Copy, Clone, Debug, PartialEq, Eq)]
+#[non_exhaustive]
 pub struct Outgoing {
     /// The position of its first byte, or of the end.
     pub pos: u64,

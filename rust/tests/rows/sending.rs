@@ -93,6 +93,7 @@ impl<S: Storage<u8>, const N: usize> Subject for Sending<S, N> {
                     Acknowledged::Taken { new, reports, begins } => {
                         format!("taken {new} {} {}", truth(reports), truth(begins))
                     }
+                    other => format!("{other:?}"),
                 }
             }
             "expired" => match end.expired(now) {
@@ -100,6 +101,7 @@ impl<S: Storage<u8>, const N: usize> Subject for Sending<S, N> {
                 Expired::Overdue { begins } => format!("overdue {}", truth(begins)),
                 Expired::Probe => "probe".to_string(),
                 Expired::Lost => "lost".to_string(),
+                other => format!("{other:?}"),
             },
             name => panic!("no call {name}"),
         };
