@@ -1,4 +1,3 @@
 pub mod AnyPathFacts
 pub mod FrameFacts
-pub mod KeptPiecesFacts
 pub mod SocketFacts
