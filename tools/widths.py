@@ -15,11 +15,11 @@ numbers of a `usize` is one. Any other operation has a cover:
               since it is proved of numbers of any size
     end       it is the end of the range of a slice, or of `part`: the index is proved to be at most a length
     cut       a cast of the lesser of two numbers, one of which was a `usize`
-    wrapped   the negative of a number: only `wrapping_add` is given it, whose value has a bound
+    wrapped   the negative of a number, as the last argument of a function of `WRAPS`: `wrapping_add` alone is given it,
+              whose value has a bound
     index     one less than a number, in numbers that wrap, as the whole argument of `get`: of 0 it is the greatest
               `usize`, an index that no slice has
     greatest  the body of `most`
-    turn      one more than what a `for` over a range counts: at most the end of the range
     lesser    a sum or product that stops at the greatest `usize`, of which the lesser and another number is taken
     constant  a literal that has 32 bits
     derived hash  a field that a derived `Hash` gives to a hasher, of which no clause says the bytes
@@ -66,6 +66,8 @@ OWN = re.compile(r'(?!core::)[a-z_]+\w*::|<.* as (?!core::)\w+::|<(?!core::)\w+:
                  r'core::iter::(?:Iterator|DoubleEndedIterator)>::(?:next|next_back|size_hint)$')
 # A pattern that has a name: of `let`, of `for`, of a closure, of an arm.
 HIDES = r'\blet\b[^=;]*{0}|\bfor\b[^{{]*{0}[^{{]*\bin\b|\|[^|;]*{0}[^|;]*\||{0}[^;{{]*=>'
+# What follows each use of the last parameter, `by`, of these functions: they pass it on, or add it in numbers that wrap.
+WRAPS = {'take_out': [':', ')'], 'wrapped': [':', '.wrapping_add', '.wrapping_add']}
 # The proofs that say how many bits a `usize` has.
 KNOWING = {'net_ring/proofs/width/most/Answers.antt', 'net_ring/proofs/laws/is_usize/Answers.antt'}
 FLAGS = ['--emit=mir', '-Coverflow-checks=on', '-Zmir-opt-level=0', '-Zmir-include-spans=on',
@@ -233,8 +235,6 @@ class Reader:
             return 'lesser'
         if kind not in ('Add', 'Mul', 'call wrapping_add') and not kind.startswith('cast u64'):
             return None
-        if kind == 'Add' and self.is_turn(file, start, text):
-            return 'turn'
         if kind == 'Add' and self.is_end(file, start, end):
             return 'end'
         if kind.startswith('cast') and self.is_cut(at, text):
@@ -264,16 +264,6 @@ class Reader:
             opened = max(o for o, c in file.close.items() if o < start <= c)
             return file.code[opened] == '[' and bool(re.search(r'[\w)\]]$', file.code[:opened]))
         return bool(re.search(r'\.part(?:_mut)?\(\s*[\w.]+,$', before) and re.match(r',?\s*\)', after))
-
-    @staticmethod
-    def is_turn(file, start, text):
-        """Whether an expression is one more than what a `for` over a range counts, which nothing else has the name
-        of."""
-        counted = re.fullmatch(r'(\w+)\+1', text)
-        for brace in file.blocks(start) if counted else ():
-            if re.search(rf'\bfor {counted[1]} in (?:[\w.]*\w)?\.\.(?!=)[^{{}};]*$', file.code[:brace]):
-                return not re.search(HIDES.format(rf'\b{counted[1]}\b'), file.code[brace:start])
-        return False
 
     def is_cut(self, at, text):
         """Whether a cast is of the lesser of two numbers, one of which was a `usize`."""
@@ -423,52 +413,13 @@ class Reader:
         made = [m.start() for m in re.finditer(rf'\blet (?:mut )?{variable}\b', file.code[body:file.close[body]])]
         return all(body + m < start for m in made)
 
-    def is_wrapped(self, file, start, end):
-        """Whether a number that wraps is an argument whose parameter only `wrapping_add` is given."""
-        opened = max(o for o, c in file.close.items() if o < start <= c)
-        function = re.search(r'(?<![\w.:])(\w+)$', file.code[:opened])
-        arguments = self.parts(file, opened)
-        index = next((k for k, (a, b) in enumerate(arguments) if a <= start and end <= b and
-                      file.code[a:b].strip() == file.code[start:end]), None)
-        return bool(function and index is not None and self.only_adds(file, function[1], index, ()))
-
     @staticmethod
-    def parts(file, opened):
-        """The arguments, or the parameters, in a bracket."""
-        found, start, k = [], opened + 1, opened + 1
-        while k < file.close[opened]:
-            if file.code[k] in '([{':
-                k = file.close[k]
-            elif file.code[k] == ',':
-                found.append((start, k))
-                start = k + 1
-            k += 1
-        return found + [(start, k)] * bool(file.code[start:k].strip())
-
-    def only_adds(self, file, function, index, seen):
-        """Whether a parameter of a function of the file goes to `wrapping_add` alone, or to such parameters."""
-        if (function, index) in seen:
-            return True
-        head = re.search(rf'(?m)^ *fn {function}\(', file.code)
-        if not head:
-            return False
-        opened = head.end() - 1
-        a, b = self.parts(file, opened)[index]
-        name = file.code[a:b].split(':')[0].strip()
-        body = file.code.index('{', file.close[opened])
-        for use in re.finditer(rf'(?<![\w.]){name}\b', file.code[body:file.close[body]]):
-            at = body + use.start()
-            if re.match(r'\.wrapping_add\(', file.code[at + len(name):]):
-                continue
-            around = max(o for o, c in file.close.items() if o < at <= c)
-            callee = re.search(r'(?<![\w.:])(\w+)$', file.code[:around])
-            place = next((k for k, (x, y) in enumerate(self.parts(file, around)) if file.code[x:y].strip() == name),
-                         None)
-            if file.code[around] != '(' or not callee or place is None:
-                return False
-            if not self.only_adds(file, callee[1], place, (*seen, (function, index))):
-                return False
-        return True
+    def is_wrapped(file, start, end):
+        """Whether a number that wraps is the last argument of `take_out`, and `wrapping_add` alone is given it."""
+        given = re.search(r'\b(\w+)\([^()]*$', file.code[:start])
+        bodies = {name: re.search(rf'(?ms)^fn {name}\(.*?^\}}', file.code) for name in WRAPS}
+        return bool(given and given[1] in WRAPS and file.code[end] == ')' and all(
+            body and re.findall(r'\bby\b(\W\w*)', body[0]) == WRAPS[name] for name, body in bodies.items()))
 
 
 def laws(paths):
