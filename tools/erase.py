@@ -508,23 +508,12 @@ def by_hand_root(out, file):
     return next(root.read_text() for root in roots if root.is_file())
 
 
-def inexact(rust, rattle):
-    """The types that are an `ExactSizeIterator` in Rust, and of whose `size_hint` no clause says what it returns: their
-    `len` panics if it returns anything else than how many items are left."""
-    told = {name for name, body in re.findall(r'^impl\b[^{]*\bIterator for (\w+)[^{]*\{\n(.*?)^\}', rattle, re.M | re.S)
-            if re.search(r'fn size_hint\(&self\)[^{]*\n(?: {8}.*\n)*? {8}ensures \w+ \{ \(?result(?:\.0)? ≡ ', body)}
-    return [name for name in re.findall(r'^impl\b[^{]*\bExactSizeIterator for (\w+)', rust, re.M) if name not in told]
-
-
 def main(arguments):
     said = []
     files, old = erased(said), {file: file.read_text() for out in (OUT, EXAMPLE) for file in out.rglob('*.rs')}
     old = {file: text for file, text in old.items() if text.startswith(WRITTEN)}
     differ = [path for path in sorted(files.keys() | old.keys()) if files.get(path) != old.get(path)]
     if arguments == ['--check']:
-        rust = ''.join(file.read_text() for file in sorted((REPOSITORY / 'rust/src').rglob('*.rs')))
-        said += [f'rust/src: {name} is an ExactSizeIterator, and no clause of its size_hint says what it returns'
-                 for name in inexact(rust, ''.join(text for *_, text in sources()))]
         said += [f'{path} is not as tools/erase.py writes it: run python3 tools/erase.py' for path in differ]
     for path in differ if not said else []:
         path.parent.mkdir(parents=True, exist_ok=True)

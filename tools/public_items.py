@@ -6,8 +6,7 @@ Each line is what rustdoc shows of a module, a type, a trait, a function, a cons
 attributes, fields and automatic traits. Impls that differ in the trait alone are one line, where `_` is the trait. `+`
 are those that only all features give, `-` those that are there without features alone.
 
-Status 1 if the lists differ, if a link in the documentation leads nowhere, or if the page of a type lacks a public
-method that rust/src has of it.
+Status 1 if the lists differ, or if a link in the documentation leads nowhere.
 """
 import difflib
 import html
@@ -27,9 +26,6 @@ TRAIT = re.compile(r"(.*: impl(?:<.*?>)?) (.*?)( for .*)")
 UNNAMED = re.compile(r"\b(?:Freeze|UnsafeUnpin|StructuralPartialEq) for ")
 # Of a page: methods of what a type derefs to, and impls for all types.
 OF_STD = re.compile(r'<h2 id="deref-methods.*?(?=<h2 id="(?:trait|synthetic)-)|<h2 id="blanket-implementations.*', re.S)
-# The methods of a type, in a source; what a page is that shows none of its own.
-IMPL = re.compile(r"^impl(?:<[^\n]*>)? (\w+)(?:<[^\n]*>)? \{\n(.*?)^\}", re.M | re.S)
-METHOD = re.compile(r"^    pub (?:const )?fn (\w+)", re.M)
 
 
 def plain(text):
@@ -59,23 +55,6 @@ def items(pages):
             for said in re.findall(r'<h3 class="code-header">(impl.*?)</h3>', text, re.S):
                 if " for " in plain(said) and not UNNAMED.search(plain(said)):
                     yield f"{path}: {plain(said)}"
-
-
-def unshown(pages):
-    """Public methods of types with pages, and those that a page lacks. An alias's page shows those of its struct's."""
-    methods, lacking = set(), []
-    for source in sorted((ROOT / "rust/src").rglob("*.rs")):
-        for name, body in IMPL.findall(source.read_text()):
-            for page in pages.rglob(f"*.{name}.html"):
-                text = page.read_text()
-                struct = page.name.startswith("type.") and re.search(r'class="struct" href="([^"]*)"', text)
-                text = (page.parent / struct[1]).read_text() if struct else text
-                if "Redirecting to" in text:
-                    continue
-                own = METHOD.findall(body)
-                methods.update(f"{name}::{method}" for method in own)
-                lacking += [f"{page.name} has no {method}" for method in own if f'id="method.{method}"' not in text]
-    return methods, lacking
 
 
 def documented(features, folder):
@@ -111,15 +90,14 @@ def listed(pages):
 def main(way):
     with tempfile.TemporaryDirectory() as folder:
         pages = {mark: documented(features, f"{folder}/{mark}") for mark, features in SETS.items()}
-        now, (methods, lacking) = listed(pages), unshown(pages["+"])
+        now = listed(pages)
     if way == "--write":
         LIST.write_text("\n".join(now) + "\n")
     was = LIST.read_text().splitlines() if LIST.is_file() else [""]
     names = f"tools/public_items.txt, by {was[0]}", now[0]
     different = list(difflib.unified_diff(was[1:], now[1:], *names, n=0, lineterm=""))
     print("\n".join(different) or f"{len(now) - 1} public items, as listed")
-    print("\n".join(lacking) or f"{len(methods)} methods, each on the page of its type")
-    return bool(different or lacking)
+    return bool(different)
 
 
 if __name__ == "__main__":
