@@ -639,6 +639,7 @@ def main():
         for path in filter(None, programs):
             path.write_text(programs[path](library))
         return
+    exports.program(library)  # which stops at a row that is wrong
     header = c_part(library, EXPORTS)
     texts = {HEADER: header, ABI: abi(header), CONFIG: config(), checks.OUT: checks.text(library),
              shim.OUT: shim.text(library), PAGE: page(EXPORTS, PAGE)}

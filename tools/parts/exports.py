@@ -59,7 +59,7 @@ int main(int count, char **words) {
 
 
 def stop(line, message):
-    sys.exit(f"exports.txt:{line}: {message}")
+    sys.exit(f"tools/exports.txt:{line}: {message}")
 
 
 # A call of an export: its arguments, its result and what it leaves, as trees of texts and lists.
@@ -78,14 +78,14 @@ class Table:
         constants = {it.name for _, section, _ in library.sections for item in section
                      for it in ([item] if item.kind == "const" else item.members if item.kind == "enum" else [])}
         for name in sorted(constants - {f"NET_BASE_{name}" for name in self.numbers}):
-            sys.exit(f"exports.txt: no number of {name}")
+            sys.exit(f"tools/exports.txt: no number of {name}")
         for name, rows in self.rows.items():
             if not rows:
-                sys.exit(f"exports.txt: no row of {name}")
+                sys.exit(f"tools/exports.txt: no row of {name}")
             returned = [row.result[1] if isinstance(row.result, list) else row.result for row in rows]
             for answer in self.answers(self.exports[name]):
                 if answer not in returned:
-                    sys.exit(f"exports.txt: no row of {name} returns {answer}")
+                    sys.exit(f"tools/exports.txt: no row of {name} returns {answer}")
 
     def answers(self, item):
         """What rows return at least: each status but what null alone is answered, both of a `bool`, or else that a call
@@ -142,7 +142,7 @@ class Table:
         value = values[word] if word in values else 2 ** int(word[2:]) if word[1:2] == "^" else int(word, 0)
         value = (-value if sign else value) + int(more or 0)
         if not least <= value < least + 2**bits:
-            sys.exit(f"exports.txt: {text} is no {kind}")
+            sys.exit(f"tools/exports.txt: {text} is no {kind}")
         return value
 
 
@@ -169,7 +169,7 @@ class C:
     def fields(self, tree, kind):
         fields = self.structs[kind].members
         if not isinstance(tree, list) or tree[0] != "{" or len(tree) != len(fields) + 1:
-            sys.exit(f"exports.txt: {tree} is no {kind}")
+            sys.exit(f"tools/exports.txt: {tree} is no {kind}")
         return fields
 
     def numbers(self, path, kind, tree=None):

@@ -117,7 +117,7 @@ class Method:
 
 
 def stop(message):
-    sys.exit(f"heads: {message}")
+    sys.exit(f"tools/heads.txt: {message}")
 
 
 def methods_of(path, kind):
