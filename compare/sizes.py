@@ -18,7 +18,6 @@ from pathlib import Path
 
 sys.dont_write_bytecode = True
 import common
-import same_output
 
 MANIFEST = """[package]
 name = "program"
@@ -32,7 +31,8 @@ panic = "abort"
 lto = true
 codegen-units = 1
 """
-EXAMPLES = same_output.CRATE / "examples"
+CRATE = common.REPOSITORY / "rust"
+EXAMPLES = CRATE / "examples"
 RECEIVE = Path(__file__).parent / "receive.rs"
 HANDLER = "fn panic(_: &core::panic::PanicInfo) -> ! {\n    loop {}"
 READS_PLACES = "fn panic(info: &core::panic::PanicInfo) -> ! {\n    core::hint::black_box(info.location());\n    loop {}"
@@ -58,18 +58,30 @@ def said(*words, **options):
     return subprocess.run(words, stdout=subprocess.PIPE, text=True, check=True, **options).stdout
 
 
+def smoltcp_crate(sources, folder):
+    """Makes a crate of smoltcp's files, of which one is changed: what `rand.rs` has for its own crate alone is public."""
+    shutil.copytree(common.REPOSITORY / "overlay/checkout", folder)
+    (folder / "src/storage").mkdir()
+    for file in common.FILES:
+        if not file.startswith("phy/"):
+            shutil.copy2(sources / file, folder / "src" / file)
+    for file, old, new in [("rand.rs", "pub(crate) ", "pub "), ("lib.rs", "\nmod rand;", "\npub mod rand;")]:
+        path = folder / "src" / file
+        path.write_text(path.read_text().replace(old, new))
+
+
 class Sizes:
     def __init__(self, smoltcp, folder):
         self.folder, self.kit = folder, os.environ.get("RUST_KIT") and Path(os.environ["RUST_KIT"]).resolve()
-        same_output.smoltcp_crate(smoltcp / "src", folder / "smoltcp")
+        smoltcp_crate(smoltcp / "src", folder / "smoltcp")
         self.crates = {"smoltcp": f'path = "{folder / "smoltcp"}"',
-                       "net-base": f'package = "net-base", path = "{same_output.CRATE}"'}
+                       "net-base": f'package = "net-base", path = "{CRATE}"'}
 
     def has(self, target):
         """Whether there is a compiler and a linker, with the core library, which kit.sh builds from its source."""
         prefix, _ = TARGETS[target]
         return not prefix or bool(self.kit and shutil.which(f"{prefix}ld")) and not subprocess.run(
-            ["sh", same_output.CRATE / "kit.sh", self.kit, target]).returncode
+            ["sh", CRATE / "kit.sh", self.kit, target]).returncode
 
     def built(self, crate, text, target, level, flags):
         """The program of a text, over a crate."""
@@ -79,7 +91,7 @@ class Sizes:
         (folder / "src/main.rs").write_text(text)
         words = "cargo build --release --offline --quiet --ignore-rust-version --target"
         # Places have paths, which shouldn't depend on where the crates are.
-        paths = f"--remap-path-prefix={self.folder}=. --remap-path-prefix={same_output.CRATE}=./net-base"
+        paths = f"--remap-path-prefix={self.folder}=. --remap-path-prefix={CRATE}=./net-base"
         variables = {"CARGO_PROFILE_RELEASE_OPT_LEVEL": level, "RUSTFLAGS": f"{flags.format(prefix)} {paths}",
                      "CARGO_TARGET_DIR": str(self.folder / "target" / crate)}
         if prefix:
