@@ -2,14 +2,15 @@
 """SMOLTCP=path timing.py [--once] [--samples N] [--milliseconds N] [--only WORD]
 
 Times workloads over the crate net-base and over smoltcp in turns, each side linked once for each placement of its code,
-both built as a user builds a program, in cargo's default profile without flags; counts instructions and mispredicted
-branches, if valgrind is there. Prints a table in Markdown. Status 1 if results differ. --once: one placement.
+both built as a user builds a program, in cargo's default profile without flags; counts instructions, if valgrind is
+there. Prints a table in Markdown. Status 1 if results differ. --once: one placement.
 """
 import argparse
 import datetime
 import math
 import os
 import platform
+import re
 import shutil
 import statistics
 import subprocess
@@ -60,35 +61,24 @@ def workloads(built, sides, arguments):
 
 
 def counted(built, sides, arguments):
-    """Of each row: instructions and mispredicted branches a call, of the port and of smoltcp. None without valgrind."""
+    """Of each row the instructions of a call, of the port and of smoltcp; nothing without valgrind."""
     if not shutil.which("valgrind"):
-        return None
+        return {}
     with tempfile.TemporaryDirectory() as folder:
         out = Path(folder) / "counts"
-        words = ["valgrind", "--tool=callgrind", "--branch-sim=yes", f"--callgrind-out-file={out}"]
+        words = ["valgrind", "--tool=callgrind", f"--callgrind-out-file={out}"]
         words += ["--zero-before=count_begin", "--dump-before=count_end"]
         words += driver(built, sides, arguments, "--count")
         done = subprocess.run(words, stdout=subprocess.PIPE, stderr=subprocess.DEVNULL, text=True, check=True)
         counts = {}
-        at = 0
-        for line in done.stdout.splitlines():
+        for at, line in enumerate(done.stdout.splitlines()):
             name, calls = line.split("\t")
-            totals = []
-            for _ in range(4):
-                at += 1
-                totals.append(total(Path(f"{out}.{at}")))
-            difference = lambda short, long: [(b - a) / int(calls) for a, b in zip(totals[short], totals[long])]
-            counts[name] = difference(0, 1) + difference(2, 3)
+            # Of each side one of few rounds, and one of more.
+            dumps = ((out.parent / f"{out.name}.{4 * at + k}").read_text() for k in (1, 2, 3, 4))
+            few, more, few_there, more_there = (
+                int(re.search(r"^(?:totals|summary): (\d+)", dump, re.M)[1]) for dump in dumps)
+            counts[name] = f"{(more - few) / int(calls):.1f}/{(more_there - few_there) / int(calls):.1f}"
         return counts
-
-
-def total(dump):
-    """The instructions and the mispredicted branches, conditional and indirect, of a file of callgrind."""
-    lines = dump.read_text().splitlines()
-    names = next(line for line in lines if line.startswith("events:")).split()[1:]
-    numbers = next(line for line in lines if line.startswith(("totals:", "summary:"))).split()[1:]
-    known = dict(zip(names, map(int, numbers)))
-    return known["Ir"], known["Bcm"] + known["Bim"]
 
 
 def mean(ratios):
@@ -105,21 +95,16 @@ def groups_of(rows, at):
 
 def workload_table(rows, counts):
     """Over placements: the median of the ratios, the lowest and the highest, and smoltcp by itself."""
-    print("| Row | Original, ns | Here, ns | Median | Lowest | Highest | smoltcp by itself "
-          "| Instructions, original | Here | Mispredicted branches, original | Here |")
-    print("|---|---:|---:|---:|---:|---:|---:|---:|---:|---:|---:|")
+    print("| Row | in Rust | lowest | highest | smoltcp by itself | instructions in Rust |")
+    print("|---|---:|---:|---:|---:|---:|")
     columns = [groups_of(rows, at) for at in (4, 5, 6, 9)]
-    number = lambda value: "not counted" if value is None else f"{value:.1f}"
     large = [group for group, count in Counter(row[0] for row in rows).items() if count > 2]
     shown = None
-    for group, name, original, port, median, lowest, highest, _, _, itself in rows:
+    for group, name, _, _, *ratios, _, _, itself in rows:
         if group != shown and group in large:
-            means = " | ".join(f"**{column[group]:.2f}**" for column in columns)
-            print(f"| **group {group}** | | | {means} | | | | |")
+            print(f"| **group {group}** | {' | '.join(f'**{column[group]:.2f}**' for column in columns)} | |")
         shown = group
-        here, missed, there, other = counts[name] if counts else [None] * 4
-        print(f"| {name} | {original:.2f} | {port:.2f} | {median:.2f} | {lowest:.2f} | {highest:.2f} | {itself:.2f} "
-              f"| {number(there)} | {number(here)} | {number(other)} | {number(missed)} |")
+        print(f"| {name} | {' | '.join(f'{it:.2f}' for it in (*ratios, itself))} | {counts.get(name, 'not counted')} |")
 
 
 def machine():
