@@ -388,7 +388,7 @@ def c_item(item, library, more=()):
     structs, answer = library.structs, library.answer(item.type)
     lines = c_comment([*said(item.doc, answer), *more], structs)
     if item.kind == "const":
-        return lines + [f"#define {item.name} {c_constant(item)}"]
+        return lines + [f"#define {item.name} {c_limits(item.text)}"]
     if item.kind == "struct":
         lines.append(f"{c_struct(item.name)} {{")
         for field in item.members:
@@ -411,14 +411,6 @@ def c_item(item, library, more=()):
 def c_limits(text):
     """A text with C's names of the greatest and least numbers of a type."""
     return re.sub(r"\b([iu](?:\d+|size))::(MAX|MIN)\b", lambda it: f"{C_LIMITS[it[1]]}_{it[2]}", text)
-
-
-def c_constant(item):
-    """The value of a constant, as C writes it: usable in `#if`."""
-    if "::" in item.text:
-        return c_limits(item.text)
-    bits = re.sub(r"\D", "", item.type) or "64"
-    return f"{'U' * (item.type[0] == 'u')}INT{bits}_C({item.text.replace('_', '')})"
 
 
 def root_sections(crate):

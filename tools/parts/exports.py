@@ -176,10 +176,7 @@ class C:
         """The numbers of a struct and of those in it: where each is, its part of a value, and its type."""
         parts = self.fields(tree, kind) and tree[1:] if tree else [None] * len(self.structs[kind].members)
         for field, part in zip(self.structs[kind].members, parts):
-            if field.type in self.structs:
-                yield from self.numbers(f"{path}.{field.name}", field.type, part)
-            else:
-                yield f"{path}.{field.name}", part, field.type
+            yield f"{path}.{field.name}", part, field.type
 
     def compared(self, name, tree, kind):
         """Comparisons of what has a name with a value."""

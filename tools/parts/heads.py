@@ -12,7 +12,6 @@ import dataclasses
 import pathlib
 import re
 import sys
-import textwrap
 
 import ffi
 
@@ -287,17 +286,9 @@ class Export:
         lines = [f"/// {it}".rstrip() for it in rows(self.comment())]
         lines += ["#[unsafe(no_mangle)]"]
         result = f" -> {self.result.type}" if self.result.type else ""
-        head = f'pub extern "C" fn net_base_{self.head.section}_{self.name}('
-        parameters = [f"{name}: {kind}" for name, kind in self.parameters]
-        line = f"{head}{', '.join(parameters)}){result}"
-        lines += [line] if len(line) <= 100 else [head, *[f"    {it}," for it in parameters], f"){result}"]
-        for word, name, clause in self.clauses():
-            begin = f"{word} {name} {{" if name else f"{word} {{"
-            # A record stays on a line: broken, `rt fmt` lays it out by fields.
-            whole = re.sub(r"\{[^{}]{,60}\}", lambda it: it[0].replace(" ", "\0"), f"{begin} {clause} }}")
-            lines += [it.replace("\0", " ") for it in textwrap.wrap(
-                whole, 99, initial_indent="    ", subsequent_indent="        ", break_long_words=False,
-                break_on_hyphens=False)]
+        parameters = ", ".join(f"{name}: {kind}" for name, kind in self.parameters)
+        lines += [f'pub extern "C" fn net_base_{self.head.section}_{self.name}({parameters}){result}']
+        lines += [f"    {' '.join(filter(None, (word, name)))} {{ {clause} }}" for word, name, clause in self.clauses()]
         lines.append("{")
         if self.tests:
             lines += [f"    if {' || '.join(it[1] for it in self.tests)} {{", f"        return {self.result.refusal};",
@@ -418,80 +409,19 @@ def comment_after(lines, at):
     return [it.strip() if it.strip() != "." else "" for it in lines[at + 1 : end]]
 
 
-# Names of clauses that no head's file cites.
-OWN = {
-    "Rattle.std.specs.Prelude": "◌≡◌ ◌≢◌ ◌↔◌ ◌≤◌ ◌<◌ ◌-◌ ◌+◌ ◌^◌ ◌++◌ IsTrue IsFalse length unwrap_or if◌then◌else◌",
-    "Rattle.net_ffi.specs.Refusals": "no_number nowhere",
-    "Rattle.net_ffi.specs.Results": "done_or_many length_or_many done_or_error IsStatus",
-}
-
-
-def is_cited(name, text):
-    """Whether a text has a name; that of an operator is between blanks."""
-    short = name.split(" as ")[-1]
-    if short == "if◌then◌else◌":
-        return " then " in text
-    if "◌" in short:
-        return f" {short.strip('◌')} " in text
-    if short == "[]":
-        return bool(re.search(r"(?<!\S)\[\](?!\S)", text))
-    return bool(re.search(rf"(?<![\w.]){re.escape(short)}\b", text))
-
-
-def imported(begin, names):
-    """Lines that import names."""
-    chunks = textwrap.wrap(", ".join(name.replace(" ", "\0") for name in names), 115 - len(begin),
-                           break_on_hyphens=False)
-    return [f"{begin}{chunk.rstrip(',')}}};".replace("\0", " ") for chunk in chunks]
-
-
-def file_of(head, exports):
-    """The file of a head's exports."""
-    body = [line for it in exports for line in ["", *it.text()]]
-    clauses = "\n".join(clause for it in exports for _, _, clause in it.clauses())
-    clauses = f" {clauses} ".replace("(", "( ").replace(")", " )")
-    uses = {}
-    own = {name: (module, name) for module, names in OWN.items() for name in names.split()}
-    if head.name in head.uses:
-        own[head.name] = (head.uses[head.name][0], f"{head.name} as {head.name}_of")
-    plausible = {"FragmentsHead": "Rattle.net_base.specs.Fragments",
-                 "FiniteReceiverHead": "Rattle.net_ffi.specs.ReceiverParts"}
-    if head.type in plausible:
-        own |= {it: (plausible[head.type], it) for it in ("IsPlausible", "HasRuns")}
-    for module, name in (head.uses | own).values():
-        if is_cited(name, clauses):
-            uses.setdefault(module, []).append(name)
+def file_of(head, exports, old):
+    """The file of a head's exports. Its imports are by hand: they stay."""
+    imports = re.search(r"^// Written by .*\n((?:(?:ghost )?use [^;]*;\n|\n(?=use))*)", old, re.M)
     lines = [f"//! {it}".rstrip() for it in rows(head.doc)] + ["// Written by tools/ffi.py."]
-    for module, names in sorted(uses.items()):
-        lines += imported(f"ghost use {module}.{{", sorted(set(names)))
-    code = "\n".join(line for line in body if not line.startswith("///"))
-    imports = {}
-    for name, module in (CODE | {"is_plausible": f"crate::{head.section.removeprefix('finite_')}"}).items():
-        if re.search(rf"\b{name}\b{'[(]' * name.islower()}", code):
-            imports.setdefault(module, []).append(name)
-    lines += [""] * bool(imports)
-    for module, names in sorted(imports.items()):
-        lines.append(f"use {module}::{{{', '.join(sorted(names))}}};")
-    return "\n".join(lines + body) + "\n"
-
-
-CODE = {name: module for module, names in {
-    "crate::refusals": "NET_BASE_DONE NET_BASE_REFUSED FragmentStatus RoomStatus SizeStatus "
-                       "no_number refused_front_length refused_run refused_span",
-    "crate::results": "FrontLength front_length run_of status_of status_of_fragment",
-    "crate::receiver": "has_next has_runs", "crate::finite_receiver": "has_number",
-    "net_assembler": "AssemblerHead Run", "net_ring": "RingHead Span",
-    "net_base::storage": "FragmentsHead",
-    "net_packets": "PacketSlot PacketsHead",
-    "net_receiver": "FiniteReceiverHead FiniteSenderHead",
-    "net_tcp": "PartsSum",
-}.items() for name in names.split()}
+    return "\n".join([*lines, (imports[1] if imports else "").rstrip("\n"),
+                      *[line for it in exports for line in ["", *it.text()]]]) + "\n"
 
 
 def written():
     """The files, with their texts."""
     found = heads_of(TABLE.read_text())
-    files = {WRITTEN / f"{head.section}.rt": file_of(head, exports) for head, exports in found}
+    paths = [(WRITTEN / f"{head.section}.rt", head, exports) for head, exports in found]
+    files = {path: file_of(head, exports, path.read_text() if path.is_file() else "") for path, head, exports in paths}
     files[ffi.EXPORTS / "src/heads.rt"] = "\n".join(
         ["//! Exports that are methods of heads: each is a line of tools/heads.txt. Written by tools/ffi.py.",
          *sorted(f"pub mod {head.section};" for head, _ in found)]) + "\n"

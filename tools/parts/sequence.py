@@ -120,9 +120,7 @@ class Memory:
     def name(self, subject, member, kind, size=None):
         """The variable of a parameter."""
         name = f"{subject}_{member}"
-        if self.kinds.setdefault(name, kind) != kind:
-            name += "_" + re.sub(r"\W", "_", kind)
-            self.kinds[name] = kind
+        self.kinds[name] = kind
         if size:
             self.sizes[name] = size
         return name
@@ -281,11 +279,6 @@ class Call:
             head = f"now.{self.subject}_{member.name}"
             if kind in sounds:
                 found.append(self.unless(sounds[kind], self.given[member.name], head, runs))
-            for field in self.memory.library.structs[kind].members if kind in self.memory.library.structs else ():
-                slices = [it for it in members if it.type.endswith("[Run]")]
-                if kind not in sounds and field.type in sounds and slices:
-                    given = f"&({self.given[member.name]})->{field.name}"
-                    found.append(self.unless(sounds[field.type], given, head, slices[0]))
         return found
 
     def unless(self, sound, given, head, after):
