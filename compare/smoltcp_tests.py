@@ -1,10 +1,9 @@
 #!/usr/bin/env python3
 """SMOLTCP=path python3 compare/smoltcp_tests.py
 
-Runs smoltcp's own tests of `storage` and `time`, and the examples of its page on `phy`, over this crate. It copies the
-crate, appends to each of these files the test module of smoltcp's file of that name with the changes of overlay.py,
-makes the page's examples those of a module, and runs `cargo test` there. Status 1 if one fails or they are not as many
-as the checkout has.
+Runs smoltcp's own tests of `storage` and `time` over this crate. It copies the crate, appends to each of these files the
+test module of smoltcp's file of that name with the changes of overlay.py, and runs `cargo test` there. Status 1 if one
+fails or they are not as many as the checkout has.
 """
 import os
 import re
@@ -28,17 +27,6 @@ FILES = ["storage/ring_buffer", "storage/packet_buffer", "storage/assembler", "t
 RUNS = "\n#[cfg(test)]\nconst ASSEMBLER_MAX_SEGMENT_COUNT: usize = 4;\n"
 
 
-def add_phy_page(sources, crate):
-    """Makes the examples of smoltcp's `phy` those of a module, and returns how many there are."""
-    text = re.sub(r"^/// ?", "", (sources / "phy/mod.rs").read_text(), flags=re.M)
-    examples = re.findall(r"^```rust\n.*?^```$", text, flags=re.M | re.S)
-    page = "\n\n".join(examples).replace("smoltcp::", "net_base::")
-    (crate / "src/phy_page.md").write_text(page + "\n")
-    with (crate / "src/lib.rs").open("a") as file:
-        file.write('\n#[doc = include_str!("phy_page.md")]\npub mod phy_page {}\n')
-    return len(examples)
-
-
 def prepare(sources, crate):
     """Copies the crate, appends the tests, and returns how many there are."""
     shutil.copytree(CRATE, crate, ignore=shutil.ignore_patterns("target", "examples", "tests"))
@@ -58,17 +46,17 @@ def prepare(sources, crate):
     return count
 
 
-def run(crate, what, count, words):
-    """Runs `cargo test`, of which `count` tests are to pass."""
+def run(crate, count):
+    """Runs the tests, of which so many are to pass."""
     # The crate's lints are about its own text.
     environment = {"CARGO_TARGET_DIR": str(crate / "target"), "RUSTFLAGS": "--cap-lints allow"} | os.environ
-    words = ["cargo", "test", "--offline", "--quiet", *words]
+    words = ["cargo", "test", "--offline", "--quiet", "--lib", "--", "::test::"]
     done = subprocess.run(words, cwd=crate, env=environment, stdout=subprocess.PIPE, text=True)
     passed = re.search(r"(\d+) passed; (\d+) failed", done.stdout)
     if done.returncode or not passed or int(passed[1]) != count:
         print(done.stdout)
-        sys.exit(f"of {count} {what}, {passed[1] if passed else 0} passed")
-    print(f"{count} {what}, {passed[1]} passed")
+        sys.exit(f"of {count} tests, {passed[1] if passed else 0} passed")
+    print(f"{count} tests, {passed[1]} passed")
 
 
 def main():
@@ -76,9 +64,7 @@ def main():
     with tempfile.TemporaryDirectory() as folder:
         crate = Path(folder) / "net-base"
         count = prepare(sources, crate)
-        examples = add_phy_page(sources, crate)
-        run(crate, "tests", count, ["--lib", "--", "::test::"])
-        run(crate, "examples of `phy`", examples, ["--doc", "--", "phy_page"])
+        run(crate, count)
 
 
 if __name__ == "__main__":

@@ -1,16 +1,7 @@
-"""What the code of a library or of a program does, as objdump shows it: what a target may not have, and the stack that
-functions take."""
+"""The stack that the functions of a program take, by their code as objdump shows it."""
 import re
 import subprocess
 
-FLOATS = r"(?<![\w.])[vqdsbh]\d+\b(?!:)"
-# What the code of a target may not have: a pattern of an instruction, and what that is.
-FORBIDDEN = [
-    (r"x86_64-unknown-none", r"-0x[0-9a-f]+\(%rsp", "memory below the stack pointer"),
-    (r"x86_64-unknown-none", r"%[xyz]?mm\d|%st\b", "a vector or floating-point register"),
-    (r"aarch64-unknown-none|thumb", FLOATS, "a vector or floating-point register"),
-    (r"riscv32", r"(?<![\w.])f(?:[ats]\d+|\d+)\b", "a floating-point register"),
-]
 # What an instruction takes off the stack pointer: a number, or registers of this number of bytes.
 TAKEN = [
     (re.compile(r"sub[lq]?\s+\$(0x[0-9a-f]+),%[re]sp"), None),
@@ -40,17 +31,6 @@ def functions(objdump, path):
             said = re.sub(r"^j(?:al)?r\s.*#\s(\w+) <.*$", r"call \1 <>", row[1])
             lines.append(re.sub(r"\s+(?:;|//|@|#\s).*$", "", said).strip())
     return found
-
-
-def problem_of(target, objdump, path):
-    """An instruction that a target's library may not have, and why; nothing if there is none."""
-    for (_, name), lines in functions(objdump, path).items():
-        for line in lines:
-            bare = re.sub(r"\b[0-9a-f]+ <.*$", "", line)
-            for of, pattern, what in FORBIDDEN:
-                if re.match(of, target) and re.search(pattern, bare):
-                    return f"{name} has {what}: {line}"
-    return ""
 
 
 def frame_of(lines, name):

@@ -349,8 +349,6 @@ def lines_of_page(programs):
 def tests(programs, generated, options):
     """Runs the tests. Returns what is printed of them."""
     way = programs.way
-    if problem := disassembly.problem_of(way.target, way.tool("objdump"), programs.library.object):
-        raise Failed(problem)
     layouts = programs.folder / "layouts.rs"
     layouts.write_text(programs.run("layouts", [generated / "layouts.c"]))
     status, said = shell([programs.rustc, "--target", way.target, "--edition", "2024", "--crate-type", "rlib",
