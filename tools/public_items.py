@@ -6,7 +6,7 @@ Each line is what rustdoc shows of a module, a type, a trait, a function, a cons
 attributes, fields and automatic traits. Impls that differ in the trait alone are one line, where `_` is the trait. `+`
 are those that only all features give, `-` those that are there without features alone.
 
-Status 1 if the lists differ, or if a link in the documentation leads nowhere.
+Status 1 if the lists differ, if a link in the documentation leads nowhere, or if no test and no example names a call.
 """
 import difflib
 import html
@@ -87,6 +87,17 @@ def listed(pages):
     return [f"rustdoc {version}", *own, *sorted(together(lines), key=lambda line: (line[2:], line))]
 
 
+def untold(lines):
+    """A line for each public call that neither tests and examples nor the examples of documentation name."""
+    texts = [path.read_text() for folder in ("tests", "examples") for path in (ROOT / "rust" / folder).rglob("*.rs")]
+    docs = "".join(re.findall(r"^ *//[/!](.*\n)", "".join(
+        path.read_text() for path in (ROOT / "rust/src").rglob("*.rs")), re.M))
+    texts += [block for mark, block in re.findall(r"```(.*?)\n(.*?)```", docs, re.S) if not mark]
+    known = {*re.findall(r"\w+", " ".join(texts))}
+    calls = re.findall(r"^. ([\w:]+): pub (?:const )?fn (\w+)", "\n".join(lines), re.M)
+    return [f"{path}::{name}: no test and no example names it" for path, name in calls if name not in known]
+
+
 def main(way):
     with tempfile.TemporaryDirectory() as folder:
         pages = {mark: documented(features, f"{folder}/{mark}") for mark, features in SETS.items()}
@@ -96,8 +107,9 @@ def main(way):
     was = LIST.read_text().splitlines() if LIST.is_file() else [""]
     names = f"tools/public_items.txt, by {was[0]}", now[0]
     different = list(difflib.unified_diff(was[1:], now[1:], *names, n=0, lineterm=""))
-    print("\n".join(different) or f"{len(now) - 1} public items, as listed")
-    return bool(different)
+    missing = untold(now)
+    print("\n".join([*different, *missing]) or f"{len(now) - 1} public items, as listed; tests or examples name each call")
+    return bool(different or missing)
 
 
 if __name__ == "__main__":
