@@ -1,15 +1,14 @@
 #!/usr/bin/env python3
 """Runs the commands that pages tell users, as the pages have them, in a copy of this folder without what git ignores:
 
-    python3 tools/pages_run.py [--proved|--all]
+    python3 tools/pages_run.py [--proved]
 
 A command is a line of a block of a page, or a text of two words or more between backquotes, that begins with one of
 FIRST. A block that changes the folder is one command, which ends at the first of its lines that fails. A block of text
 after a block of commands is what the last of them prints, but for what is after three spaces in a line of it, a remark;
-and so is a text after `# prints`. `my.c` is the program in C of docs/C.md. Commands that take more than seconds, SLOW,
-are run with `--all` alone, and may say by status 2 that something is missing here; with `--proved` those that prove
-something are run alone; those of ELSEWHERE never. Both lists have the reasons; a name that ends in ` ..` is the
-beginning of commands. Status 1 if a command fails, or if a name of a list is on no page.
+and so is a text after `# prints`. `my.c` is the program in C of docs/C.md. With `--proved` commands that prove something
+are run alone; those of ELSEWHERE never, which has the reasons; a name that ends in ` ..` is the beginning of commands.
+Status 1 if a command fails, or if a name of the list is on no page.
 """
 import os
 import pathlib
@@ -31,7 +30,9 @@ BLOCK = re.compile(r"(?<=\n\n)(?:    .*\n|\n(?=    ))+")
 PROVES = "it proves what it uses first"
 GATE = "the gate runs it too, in the repository"
 EMULATORS = "it wants compilers and emulators, and takes minutes"
-SLOW = {
+CHECKOUT = "it wants a checkout of smoltcp; overlay/test.py runs the script over its modules alone"
+TARGET = "it wants Rust's library, or a compiler, for another processor; c/targets.sh runs it, or builds for it"
+ELSEWHERE = {
     ".ci/run": "it is the gate",
     "rt new crates/my_crate start_lib ..": PROVES,
     "(cd rust && cargo test --offline) && sh c/run.sh": GATE,
@@ -43,10 +44,6 @@ SLOW = {
     "sh rust/examples/endpoint/run.sh": "it wants a TUN device, and takes minutes",
     "sh rust/examples/endpoint/run.sh --runs": "it wants a TUN device, and takes an hour",
     "sh compare/peers/run.sh --runs": "it wants lwIP and a TUN device, and takes an hour",
-}
-CHECKOUT = "it wants a checkout of smoltcp; overlay/test.py runs the script over its modules alone"
-TARGET = "it wants Rust's library, or a compiler, for another processor; c/targets.sh runs it, or builds for it"
-ELSEWHERE = {
     "cargo cinstall": "it wants cargo-c",
     "rt lemma ..": "a reader gives the words",
     "rt check": "a reader is in a crate's folder",
@@ -85,9 +82,9 @@ def commands(text):
             yield re.sub(r"\s+", " ", quoted), None
 
 
-def listed(command, names):
-    """The name of a list that a command is, or begins with."""
-    return next((n for n in names if command == n or n.endswith(" ..") and command.startswith(n[:-2])), None)
+def listed(command):
+    """The name of the list that a command is, or begins with."""
+    return next((n for n in ELSEWHERE if command == n or n.endswith(" ..") and command.startswith(n[:-2])), None)
 
 
 def main():
@@ -105,10 +102,9 @@ def main():
         seen, run, failed, lacking = set(), 0, [], []
         for page, place in PAGES.items():
             for command, said in dict.fromkeys(commands((clone / page).read_text())):
-                seen |= {name for name in (listed(command, SLOW), listed(command, ELSEWHERE)) if name}
-                why = SLOW.get(listed(command, SLOW))
-                is_run = why == PROVES if "--proved" in sys.argv[1:] else why is None or "--all" in sys.argv[1:]
-                if listed(command, ELSEWHERE) or not is_run:
+                why = ELSEWHERE.get(listed(command))
+                seen.add(listed(command))
+                if why != (PROVES if "--proved" in sys.argv[1:] else None):
                     continue
                 at = clone if f" {place}/" in command else clone / place
                 done = subprocess.run(["sh", "-ec", command], cwd=at, env=environment, capture_output=True, text=True)
@@ -118,9 +114,9 @@ def main():
                     failed.append(f"{told}\nThe page has:\n{said}")
                 if done.returncode == 127:
                     lacking.append(f"not run, for want of a program, whose package has its name: {told}")
-                elif done.returncode and not (why and done.returncode == 2):
+                elif done.returncode:
                     failed.append(told)
-    failed += [f"{name}: on no page" for name in (*SLOW, *ELSEWHERE) if name not in seen]
+    failed += [f"{name}: on no page" for name in ELSEWHERE if name not in seen]
     print("\n".join([*failed, *lacking, f"{run} commands of {len(PAGES)} pages run"]))
     sys.exit(1 if failed else 2 if lacking else 0)
 

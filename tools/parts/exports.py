@@ -172,12 +172,6 @@ class C:
             sys.exit(f"tools/exports.txt: {tree} is no {kind}")
         return fields
 
-    def numbers(self, path, kind, tree=None):
-        """The numbers of a struct and of those in it: where each is, its part of a value, and its type."""
-        parts = self.fields(tree, kind) and tree[1:] if tree else [None] * len(self.structs[kind].members)
-        for field, part in zip(self.structs[kind].members, parts):
-            yield f"{path}.{field.name}", part, field.type
-
     def compared(self, name, tree, kind):
         """Comparisons of what has a name with a value."""
         if tree in (ANY, *EMPTY):
@@ -261,9 +255,8 @@ class C:
             lines.append(f"{ffi.c_type(row.item.type)} refused = {call};")
             lines.append(f"CHECK({' && '.join(f'refused{field} == {value}' for field, value in refused)});")
         elif row.item.type in self.structs:
-            values = ", ".join(self.value(part, kind)
-                               for _, part, kind in self.numbers("it", row.item.type, row.result))
-            lines.append(f"CHECK({is_name(row.item.type)}({call}, {values}));")
+            lines.append(f"{ffi.c_type(row.item.type)} returned = {call};")
+            lines.append(f"CHECK({' && '.join(self.compared('returned', row.result, row.item.type))});")
         else:
             lines.append(f"CHECK({call} == {self.value(row.result, row.item.type)});")
         left = self.left(row)
@@ -278,12 +271,6 @@ class C:
             lines.append(f'_Static_assert(sizeof({ffi.c_type(answer)}) == 4, "an enum isn\'t as wide as a number of the library");')
         lines += [f'_Static_assert({name} == {self.literal(it, "usize")}, "a number of net_base.h isn\'t that of the table");'
                   for name, it in named.items()]
-        for name in sorted({item.type for item in self.table.exports.values()} & set(self.structs)):
-            numbers = [(path, path.removeprefix("it.").replace(".", "_"), kind)
-                       for path, _, kind in self.numbers("it", name)]
-            parameters = [f"{ffi.c_type(name)} it", *[f"{ffi.c_type(kind)} {given}" for _, given, kind in numbers]]
-            lines += [""] + ffi.filled(f"static bool {is_name(name)}(", parameters, ") {")
-            lines += [f"    return {' && '.join(f'{path} == {given}' for path, given, _ in numbers)};", "}"]
         for name, rows in self.table.rows.items():
             lines += ["", f"static void check_{name.removeprefix('net_base_')}(void) {{"]
             lines += [line for row in rows for line in self.row(row)] + self.nulls(rows[0]) + ["}"]
@@ -299,10 +286,6 @@ def length_of(tree):
 
 def pointee(member):
     return re.sub(r"^&(mut )?", "", member.type)
-
-
-def is_name(struct):
-    return ffi.c_struct(struct).removeprefix("struct net_base_") + "_is"
 
 
 def program(library):
