@@ -67,15 +67,6 @@ equal_assemblers s t b c =
 pub range_again : (s : Positions) (o n : ℕ) → with_range (with_range s o n) o n ≡ with_range s o n
 range_again s o n = same_positions _ _ (λ q. grind (arith, sets))
 
--- a set that has a range already has no more runs with it
-again_runs : (most_runs o n : ℕ) (s once : Positions) → once ≡ with_range s o n → runs once ≤ most_runs →
-    MakesTooManyRuns most_runs once o n → ⊥
-again_runs most_runs o n s once e l over =
-    let same : runs (with_range once o n) ≡ runs once =
-    ap (λ (t : Positions). runs (with_range t o n)) e ∙ ap runs (range_again s o n) ∙ ap runs (sym e) in
-    let more = ((too_many most_runs once o n).0 over).1 in
-    omega arith
-
 pub adding_again : (most_runs o n : ℕ) (s once twice : Positions) (again : Result (Unit {0}) TooManyHolesError) →
     once ≡ with_range s o n → runs once ≤ most_runs → OnOk again (twice ≡ with_range once o n) →
     OnErr again (twice ≡ once) →
@@ -83,7 +74,10 @@ pub adding_again : (most_runs o n : ℕ) (s once twice : Positions) (again : Res
 adding_again most_runs o n s once twice (Ok u) e l ok err refused =
     (refl, ok ∙ ap (λ (t : Positions). with_range t o n) e ∙ range_again s o n ∙ sym e)
 adding_again most_runs o n s once twice (Err x) e l ok err refused =
-    absurd (again_runs most_runs o n s once e l (refused.0 refl))
+    let same : runs (with_range once o n) ≡ runs once =
+    ap (λ (t : Positions). runs (with_range t o n)) e ∙ ap runs (range_again s o n) ∙ ap runs (sym e) in
+    let more = ((too_many most_runs once o n).0 (refused.0 refl)).1 in
+    absurd (omega arith)
 
 -- counts that stay as they are
 pub no_turn : (looks moves : ℕ) (t : ℕ × ℕ) → TurnsWithin looks moves t t

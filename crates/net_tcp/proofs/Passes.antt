@@ -52,7 +52,7 @@ answer_keeps size before first sent reports equal unsent s r p again =
     let kept = if_keeps (r.is_blind && equal && (not reports && answers_copy first r)) (after_duplicate first sent r) r
     first p (duplicate_keeps r first sent p again) again in
     let h = after_hearing size before first sent reports (r.is_blind && equal) c in
-    if_keeps (not h.is_blind && nat_lt (unsent_lost h first s) unsent)
+    if_keeps (not h.is_blind && nat_lt (unsent_lost h first s) (unsent - 1))
     (after_duplicate first sent (withdrawn h)) h first p
     (duplicate_keeps (withdrawn h) first sent p (withdrawn_keeps h first p kept)) kept
 

@@ -307,11 +307,11 @@ impl LossRecovery {
     /// What was sent once is lost as `Scoreboard::lost_below` says for as many segments as `duplicates` has. What was
     /// sent before a pass is lost, and what was sent again in it again, once more than `duplicates() - 1` segments are
     /// reported of what was sent after it. Once a probe is answered, all that was sent before it, and isn't reported,
-    /// is lost. If what was lost and wasn't sent again has arrived, it wasn't: nothing that wasn't sent again is lost,
-    /// and it is as if something came twice, as `duplicated` says. If the peer reports nothing, as `expect_reports` says,
-    /// the first segment is lost after `duplicates` equal acknowledgements, and in a recovery where something new is
-    /// acknowledged. An equal one of what a recovery lasted for answers a copy then: it counts as a report of what came
-    /// twice.
+    /// is lost. If more than one position has arrived that was lost and wasn't sent again, it wasn't lost: nothing that
+    /// wasn't sent again is, and it is as if something came twice, as `duplicated` says. One position may be the byte
+    /// that asks for a window. If the peer reports nothing, as `expect_reports` says, the first segment is lost after
+    /// `duplicates` equal acknowledgements, and in a recovery where something new is acknowledged. An equal one of what
+    /// a recovery lasted for answers a copy then: it counts as a report of what came twice.
     ///
     /// Returns whether this call begins a recovery: then halve the congestion window, until `take_back` says that this
     /// was wrong.
@@ -360,10 +360,10 @@ impl LossRecovery {
             self.duplicated(numbers);
         }
         self.count_unreported(numbers, segment_size, Answer { is_equal, ..answer });
-        // Nothing that wasn't sent again is lost, if such a thing has arrived.
-        if answer.unsent > 0
+        // Nothing that wasn't sent again is lost, if such a thing has arrived: more than the byte of a window's probe.
+        if answer.unsent > 1
             && !self.is_blind()
-            && self.unsent_lost(numbers, scoreboard) < answer.unsent
+            && self.unsent_lost(numbers, scoreboard) < answer.unsent - 1
         {
             self.turn = self.again;
             self.lost = self.lost.min(self.again.max(self.resume));
