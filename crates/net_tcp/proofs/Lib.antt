@@ -1,4 +1,3 @@
-mod CanonicalTimers
 pub mod WordSums
 pub mod WindowFacts
 pub mod Timers

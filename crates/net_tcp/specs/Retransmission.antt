@@ -11,7 +11,6 @@
 --     prompt_wait delay e      how long it does then if none is expected to be late
 --     prompt_after delay r t      how many samples in a row weren't late, after one more
 --     Timer, timer_of t      what a timer knows, and what its numbers say
---     IsCanonicalTimer t      its numbers are the only ones that say so, but for a timeout of 1 second
 --     restarted delay alone now t, waiting now t, started now t, stopped t      it runs from now on; so without a
 --         probe; that unless it runs; it doesn't run
 --     running delay alone new now t, hastened now t      what sending leaves; a probe is due two round trips from now
@@ -134,16 +133,6 @@ timer_of t = record {
 }
 
 -- it doesn't run, and no segment is timed
--- its flags are 0 or 1, and the numbers of what isn't there are 0
-pub record IsCanonicalTimer (t : RetransmissionTimer) : Type 0 where
-  pub estimate : (t.has_estimate ≡ 1) ⊎ ((t.has_estimate ≡ 0) × (t.srtt_8 ≡ 0) × (t.rttvar_4 ≡ 0))
-  pub small : (t.srtt_8 ≤ 2 ^ 63) × (t.rttvar_4 ≤ 2 ^ 62)
-  pub timeout : (t.has_timeout ≡ 1) ⊎ ((t.has_timeout ≡ 0) × (t.timeout ≡ 0))
-  pub running : (t.is_running ≡ 1) ⊎ ((t.is_running ≡ 0) × (t.ends_at ≡ whole 0))
-  pub alone : t.is_alone ≤ 1
-  pub timing : (t.is_timing ≡ 1) ⊎ ((t.is_timing ≡ 0) × (t.timed ≡ 0) × (t.timed_since ≡ whole 0))
-  pub reports : t.reports ≤ 1
-
 abbrev pub new_timer : ℕ → Bool → Timer
 new_timer t reports = record {
   timeout = before_samples t;

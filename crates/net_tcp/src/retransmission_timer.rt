@@ -10,7 +10,7 @@ ghost use Rattle.net_tcp.specs.Retransmission.{after_sending, with_sample, after
 ghost use Rattle.net_tcp.specs.Retransmission.{after_report, after_expiry, expiry, expires_at, first_wait, allowance};
 ghost use Rattle.std.specs.Prelude.{IsFalse, Some};
 ghost use Rattle.net_base.specs.Time.{moment_after};
-ghost use Rattle.net_tcp.specs.Retransmission.{IsCanonicalTimer, new_fields, timer_of, untimed, running, probed};
+ghost use Rattle.net_tcp.specs.Retransmission.{new_fields, timer_of, untimed, running, probed};
 ghost use Rattle.net_tcp.specs.Retransmission.{timed_out, waiting, after_news};
 ghost use Rattle.net_tcp.specs.Retransmission.{prompt_after};
 ghost use Rattle.net_tcp.specs.Sack.{is_permitted};
@@ -150,7 +150,6 @@ impl RetransmissionTimer {
     pub const fn new(timeout: Duration, sack: Sack) -> Self
         ensures state { timer_of result ≡ new_timer timeout (is_permitted sack) }
         ensures numbers { result ≡ new_fields timeout (is_permitted sack) }
-        ensures canonical { IsCanonicalTimer result }
     {
         RetransmissionTimer {
             srtt_8: 0,
@@ -242,7 +241,6 @@ impl RetransmissionTimer {
     /// probe is due.
     pub fn start(&mut self, now: Instant)
         ensures state { timer_of self.new ≡ started now (timer_of self.old) }
-        ensures canonical { IsCanonicalTimer self.old → IsCanonicalTimer self.new }
     {
         if self.is_running == 0 {
             self.wait_for_timeout(now);
@@ -252,7 +250,6 @@ impl RetransmissionTimer {
     /// Stops the timer. A segment that is timed stays so.
     pub fn stop(&mut self)
         ensures state { timer_of self.new ≡ stopped (timer_of self.old) }
-        ensures canonical { IsCanonicalTimer self.old → IsCanonicalTimer self.new }
     {
         self.is_running = 0;
         self.ends_at = 0;
@@ -275,7 +272,6 @@ impl RetransmissionTimer {
     )
         ensures state { timer_of self.new ≡ after_sending bounds positions.start positions.end
             numbers.first_unacknowledged numbers.sent now (timer_of self.old) }
-        ensures canonical { IsCanonicalTimer self.old → IsCanonicalTimer self.new }
     {
         if positions.start >= positions.end {
             return;
@@ -293,7 +289,6 @@ impl RetransmissionTimer {
     /// Otherwise a second segment that `is_new` brings the probe of one that was alone.
     fn run(&mut self, ack_delay: Duration, is_alone: bool, is_new: bool, now: Instant)
         ensures state { timer_of self.new ≡ running ack_delay is_alone is_new now (timer_of self.old) }
-        ensures canonical { IsCanonicalTimer self.old → IsCanonicalTimer self.new }
     {
         if self.is_running == 0 || is_alone {
             self.restart(ack_delay, is_alone, now);
@@ -309,7 +304,6 @@ impl RetransmissionTimer {
     /// Times a range that is sent now, or no longer times one that is in it.
     fn time(&mut self, pos: u64, end: u64, sent: u64, now: Instant)
         ensures state { timer_of self.new ≡ timed_after pos end sent now (timer_of self.old) }
-        ensures canonical { IsCanonicalTimer self.old → IsCanonicalTimer self.new }
     {
         if self.times(pos, end) {
             self.untime();
@@ -323,7 +317,6 @@ impl RetransmissionTimer {
     /// Times no segment.
     fn untime(&mut self)
         ensures state { timer_of self.new ≡ untimed (timer_of self.old) }
-        ensures canonical { IsCanonicalTimer self.old → IsCanonicalTimer self.new }
     {
         self.timed = 0;
         self.timed_since = 0;
@@ -334,7 +327,6 @@ impl RetransmissionTimer {
     /// finds out, and as a SACK block may say.
     pub fn take_sample(&mut self, bounds: TimeoutBounds, now: Instant)
         ensures state { timer_of self.new ≡ with_sample bounds now (timer_of self.old) }
-        ensures canonical { IsCanonicalTimer self.old → IsCanonicalTimer self.new }
     {
         if let Some(segment) = self.timed() {
             let time = now.saturating_duration_since(segment.since);
@@ -349,7 +341,6 @@ impl RetransmissionTimer {
     /// Sets the timeout, and the estimate.
     fn set_timeout(&mut self, timeout: RetransmissionTimeout)
         ensures state { timer_of self.new ≡ record (timer_of self.old) { timeout = timeout } }
-        ensures canonical { IsCanonicalTimer self.old → IsCanonicalTimer self.new }
     {
         match timeout.rtt() {
             Some(estimate) => {
@@ -401,7 +392,6 @@ impl RetransmissionTimer {
     )
         ensures state { timer_of self.new ≡ after_acknowledged bounds
             numbers.first_unacknowledged numbers.sent next now (timer_of self.old) }
-        ensures canonical { IsCanonicalTimer self.old → IsCanonicalTimer self.new }
     {
         if numbers.sent < next {
             return;
@@ -419,7 +409,6 @@ impl RetransmissionTimer {
     /// Takes an acknowledgement of something new, below `next`.
     fn take_news(&mut self, ack_delay: Duration, sent: u64, next: u64, now: Instant)
         ensures state { timer_of self.new ≡ after_news ack_delay sent next now (timer_of self.old) }
-        ensures canonical { IsCanonicalTimer self.old → IsCanonicalTimer self.new }
     {
         let is_alone = self.last <= next;
         self.timeouts = 0;
@@ -434,7 +423,6 @@ impl RetransmissionTimer {
     /// reports delays no acknowledgement.
     pub fn reported(&mut self, now: Instant)
         ensures state { timer_of self.new ≡ after_report now (timer_of self.old) }
-        ensures canonical { IsCanonicalTimer self.old → IsCanonicalTimer self.new }
     {
         self.timeouts = 0;
         if self.is_running != 0 {
@@ -451,7 +439,6 @@ impl RetransmissionTimer {
         ensures result { result ≡ expiry (timer_of self.old) now }
         ensures state { timer_of self.new ≡ after_expiry bounds now (timer_of self.old) }
         ensures unchanged { IsFalse (has_expired (timer_of self.old) now) → self.new ≡ self.old }
-        ensures canonical { IsCanonicalTimer self.old → IsCanonicalTimer self.new }
     {
         if self.is_running == 0 {
             return None;
@@ -470,7 +457,6 @@ impl RetransmissionTimer {
     /// Doubles the timeout, and starts the timer again.
     fn time_out(&mut self, bounds: TimeoutBounds, now: Instant)
         ensures state { timer_of self.new ≡ timed_out bounds now (timer_of self.old) }
-        ensures canonical { IsCanonicalTimer self.old → IsCanonicalTimer self.new }
     {
         if self.has_timeout == 0 {
             self.timeout = FIRST_TIMEOUT;
@@ -488,7 +474,6 @@ impl RetransmissionTimer {
     /// since the search doesn't find what `expire` leaves with this in it.
     fn probe(&mut self, now: Instant)
         ensures state { timer_of self.new ≡ probed now (timer_of self.old) }
-        ensures canonical { IsCanonicalTimer self.old → IsCanonicalTimer self.new }
     {
         self.prompt = self.prompt.min(PROMPT - 1);
         self.wait = self.wait.saturating_mul(2);
@@ -499,7 +484,6 @@ impl RetransmissionTimer {
     /// Starts the timer, whether it runs or not. At most one segment is on the way if one `is_alone`.
     fn restart(&mut self, ack_delay: Duration, is_alone: bool, now: Instant)
         ensures state { timer_of self.new ≡ restarted ack_delay is_alone now (timer_of self.old) }
-        ensures canonical { IsCanonicalTimer self.old → IsCanonicalTimer self.new }
     {
         let wait = first_wait(self.rtt());
         self.end_after_timeout(now);
@@ -516,7 +500,6 @@ impl RetransmissionTimer {
         ensures state { timer_of self.new ≡ record (timer_of self.old) {
           ends_at = Some (moment_after now (timer_of self.old).timeout.timeout);
         } }
-        ensures canonical { IsCanonicalTimer self.old → IsCanonicalTimer self.new }
     {
         self.ends_at = now.saturating_add(self.timeout()).total_micros();
         self.is_running = 1;
@@ -525,7 +508,6 @@ impl RetransmissionTimer {
     /// Starts the timer without a probe.
     fn wait_for_timeout(&mut self, now: Instant)
         ensures state { timer_of self.new ≡ waiting now (timer_of self.old) }
-        ensures canonical { IsCanonicalTimer self.old → IsCanonicalTimer self.new }
     {
         self.end_after_timeout(now);
         self.wait = u64::MAX;
