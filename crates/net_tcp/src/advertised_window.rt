@@ -66,6 +66,13 @@ impl AdvertisedWindow {
     /// Returns what to do with a segment, as `net_tcp::classify` says, in the window that was announced: from
     /// `next`, the first missing position, up to the edge, whatever is free now. No window is greater than the
     /// receiver's capacity.
+    ///
+    /// ```
+    /// # use net_base::tcp::{AdvertisedWindow, Arrival, Segment};
+    /// let advertised = AdvertisedWindow::new(110);
+    /// let last = Segment::new(105, 5, 0x10);
+    /// assert_eq!(advertised.classify(100, 10, last), Arrival::Take);
+    /// ```
     #[must_use]
     pub fn classify(&self, next: u64, capacity: u64, segment: Segment) -> Arrival
         ensures { IsArrival Arrival.Take Arrival.AcknowledgementOnly Arrival.Answer Arrival.Reset

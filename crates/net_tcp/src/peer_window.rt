@@ -86,6 +86,12 @@ impl PeerWindow {
     }
 
     /// Returns the window that a segment announced.
+    ///
+    /// ```
+    /// # use net_base::tcp::{Announcement, PeerWindow};
+    /// let window = PeerWindow::of(Announcement { seq: 7, ack: 100, window: 60 });
+    /// assert_eq!(window.edge(), 160);
+    /// ```
     #[must_use]
     pub fn of(it: Announcement) -> Self
         ensures { result ≡ window_from it.seq it.ack it.window }

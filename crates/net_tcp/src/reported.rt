@@ -8,6 +8,19 @@ use net_receiver::{Scoreboard, ScoreboardHead};
 use std::marker::Model;
 
 /// Which positions a sender knows that the other end has: a `Scoreboard`, or a head and lent runs.
+///
+/// ```
+/// use net_base::scoreboard::Scoreboard;
+/// use net_base::tcp::Reported;
+///
+/// fn missing<B: Reported>(reported: &B) -> u64 {
+///     reported.missing_between(0, 60)
+/// }
+///
+/// let mut scoreboard = Scoreboard::<4>::empty();
+/// assert_eq!(scoreboard.report(20, 40, 60), Ok(()));
+/// assert_eq!(missing(&scoreboard), 40);
+/// ```
 pub trait Reported {
     /// The positions.
     ghost set: { Self → Positions };

@@ -88,6 +88,12 @@ pub enum Transmission {
 
 impl RttEstimate {
     /// Returns the estimate after the first sample.
+    ///
+    /// ```
+    /// # use net_base::tcp::{RttEstimate};
+    /// # use net_base::time::Duration;
+    /// assert_eq!(RttEstimate::first(Duration::from_millis(80)).srtt(), Duration::from_millis(80));
+    /// ```
     #[must_use]
     pub fn first(time: Duration) -> Self
         ensures { result ≡ first_estimate (sample time) }
@@ -100,6 +106,13 @@ impl RttEstimate {
     }
 
     /// Returns the estimate after one more sample.
+    ///
+    /// ```
+    /// # use net_base::tcp::{RttEstimate};
+    /// # use net_base::time::Duration;
+    /// let estimate = RttEstimate::first(Duration::from_millis(80));
+    /// assert_eq!(estimate.with_sample(Duration::from_millis(160)).srtt(), Duration::from_millis(90));
+    /// ```
     #[must_use]
     pub fn with_sample(self, time: Duration) -> Self
         ensures { result ≡ next_estimate self (sample time) }
@@ -113,6 +126,14 @@ impl RttEstimate {
 
     /// Returns the estimate of these numbers: eight times the smoothed time, of which no more than 2^63
     /// count, and four times its variation, of which no more than 2^62 do. Samples give no more.
+    ///
+    /// ```
+    /// # use net_base::tcp::{RttEstimate};
+    /// # use net_base::time::Duration;
+    /// let estimate = RttEstimate::first(Duration::from_micros(10));
+    /// assert_eq!((estimate.srtt_8(), estimate.rttvar_4()), (80, 20));
+    /// assert_eq!(RttEstimate::from_scaled(80, 20), estimate);
+    /// ```
     #[inline]
     #[must_use]
     pub fn from_scaled(srtt_8: u64, rttvar_4: u64) -> Self
@@ -143,6 +164,12 @@ impl RttEstimate {
     }
 
     /// Returns the smoothed time.
+    ///
+    /// ```
+    /// # use net_base::tcp::{RttEstimate};
+    /// # use net_base::time::Duration;
+    /// assert_eq!(RttEstimate::from_scaled(87, 20).srtt(), Duration::from_micros(10));
+    /// ```
     #[inline]
     #[must_use]
     pub fn srtt(self) -> Duration
@@ -152,6 +179,13 @@ impl RttEstimate {
     }
 
     /// Returns the timeout that it gives: at least the smoothed time, but for the greatest timeout.
+    ///
+    /// ```
+    /// # use net_base::tcp::{RttEstimate, TimeoutBounds};
+    /// # use net_base::time::Duration;
+    /// let estimate = RttEstimate::first(Duration::from_millis(400));
+    /// assert_eq!(estimate.timeout(TimeoutBounds::default()), Duration::from_millis(1_200));
+    /// ```
     #[must_use]
     pub fn timeout(self, bounds: TimeoutBounds) -> Duration
         ensures { result ≡ timeout_of bounds self }
@@ -183,6 +217,13 @@ pub struct RetransmissionTimeout {
 
 impl RetransmissionTimeout {
     /// Returns a timeout before any sample. The RFC has 1 second.
+    ///
+    /// ```
+    /// # use net_base::tcp::{RetransmissionTimeout};
+    /// # use net_base::time::Duration;
+    /// let timeout = RetransmissionTimeout::new(Duration::from_secs(1));
+    /// assert_eq!((timeout.rtt(), timeout.timeout()), (None, Duration::from_secs(1)));
+    /// ```
     #[must_use]
     pub const fn new(timeout: Duration) -> Self
         ensures { result ≡ before_samples timeout }
@@ -194,6 +235,14 @@ impl RetransmissionTimeout {
     }
 
     /// Returns a timeout with the estimate of the samples so far, if there were any.
+    ///
+    /// ```
+    /// # use net_base::tcp::{RetransmissionTimeout, RttEstimate};
+    /// # use net_base::time::Duration;
+    /// let rtt = RttEstimate::first(Duration::from_millis(80));
+    /// let timeout = RetransmissionTimeout::from_parts(Some(rtt), Duration::from_secs(3));
+    /// assert_eq!((timeout.rtt(), timeout.timeout()), (Some(rtt), Duration::from_secs(3)));
+    /// ```
     #[must_use]
     pub const fn from_parts(estimate: Option<RttEstimate>, timeout: Duration) -> Self
         ensures { result ≡ record { estimate = estimate; timeout = timeout } }
@@ -218,6 +267,15 @@ impl RetransmissionTimeout {
     }
 
     /// Takes over the sample of a segment that was acknowledged now, if it was sent once.
+    ///
+    /// ```
+    /// # use net_base::tcp::{RetransmissionTimeout, TimeoutBounds, Transmission};
+    /// # use net_base::time::{Duration, Instant};
+    /// let mut timeout = RetransmissionTimeout::default();
+    /// let sent = Transmission::Once(Instant::ZERO);
+    /// timeout.acknowledged(TimeoutBounds::default(), sent, Instant::from_millis(400));
+    /// assert_eq!(timeout.timeout(), Duration::from_millis(1_200));
+    /// ```
     pub fn acknowledged(&mut self, bounds: TimeoutBounds, sent: Transmission, now: Instant)
         ensures { self.new ≡ after_acknowledgement bounds sent now self.old }
     {
@@ -230,6 +288,14 @@ impl RetransmissionTimeout {
     /// Takes over a sample, the time from when a segment was sent until it was acknowledged. The
     /// segment was sent once: of one that was sent again it is not known which of the copies was
     /// acknowledged.
+    ///
+    /// ```
+    /// # use net_base::tcp::{RetransmissionTimeout, TimeoutBounds};
+    /// # use net_base::time::Duration;
+    /// let mut timeout = RetransmissionTimeout::default();
+    /// timeout.take_sample(TimeoutBounds::default(), Duration::from_millis(400));
+    /// assert_eq!(timeout.timeout(), Duration::from_millis(1_200));
+    /// ```
     pub fn take_sample(&mut self, bounds: TimeoutBounds, time: Duration)
         ensures { self.new ≡ after_sample bounds time self.old }
     {
@@ -242,6 +308,14 @@ impl RetransmissionTimeout {
     }
 
     /// Doubles the timeout within the bounds, after it passed.
+    ///
+    /// ```
+    /// # use net_base::tcp::{RetransmissionTimeout, TimeoutBounds};
+    /// # use net_base::time::Duration;
+    /// let mut timeout = RetransmissionTimeout::default();
+    /// timeout.expired(TimeoutBounds::default());
+    /// assert_eq!(timeout.timeout(), Duration::from_secs(2));
+    /// ```
     pub fn expired(&mut self, bounds: TimeoutBounds)
         ensures timeout { self.new.timeout ≡ doubled bounds self.old.timeout }
         ensures estimate { self.new.estimate ≡ self.old.estimate }

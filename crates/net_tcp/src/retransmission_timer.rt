@@ -185,6 +185,16 @@ impl RetransmissionTimer {
     }
 
     /// Returns the estimate of the time of a round trip, if there was a sample.
+    ///
+    /// ```
+    /// # use net_base::tcp::{RetransmissionTimer, Sack, SentNumbers, TimeoutBounds};
+    /// # use net_base::time::{Duration, Instant};
+    /// # let (bounds, numbers) = (TimeoutBounds::default(), SentNumbers { first_unacknowledged: 0, sent: 0 });
+    /// # let mut timer = RetransmissionTimer::new(Duration::from_secs(1), Sack::Permitted);
+    /// timer.sent(bounds, 0..10, numbers, Instant::ZERO);
+    /// timer.acknowledged(bounds, SentNumbers { sent: 10, ..numbers }, 10, Instant::from_millis(80));
+    /// assert_eq!(timer.rtt().map(|it| it.srtt()), Some(Duration::from_millis(80)));
+    /// ```
     #[inline]
     #[must_use]
     pub fn rtt(&self) -> Option<RttEstimate>
@@ -230,6 +240,16 @@ impl RetransmissionTimer {
     /// Returns how often the timeout has passed in a row, without anything new that was acknowledged or reported in
     /// between: enough of them, and the peer is gone. Those at a window that is shut count too, though each is
     /// answered.
+    ///
+    /// ```
+    /// # use net_base::tcp::{Expiry, RetransmissionTimer, Sack, SentNumbers, TimeoutBounds};
+    /// # use net_base::time::{Duration, Instant};
+    /// # let (bounds, numbers) = (TimeoutBounds::default(), SentNumbers { first_unacknowledged: 0, sent: 0 });
+    /// # let mut timer = RetransmissionTimer::new(Duration::from_secs(1), Sack::Permitted);
+    /// timer.sent(bounds, 0..10, numbers, Instant::ZERO);
+    /// assert_eq!(timer.expire(bounds, Instant::from_secs(1)), Some(Expiry::Timeout));
+    /// assert_eq!((timer.timeouts(), timer.timeout()), (1, Duration::from_secs(2)));
+    /// ```
     #[must_use]
     pub fn timeouts(&self) -> u64
         ensures { result ≡ (timer_of self.now).timeouts }
@@ -239,6 +259,16 @@ impl RetransmissionTimer {
 
     /// Starts the timer, unless it runs, where nothing is on the way: the timeout from `now` on it expires, and no
     /// probe is due.
+    ///
+    /// ```
+    /// # use net_base::tcp::{RetransmissionTimer, Sack};
+    /// # use net_base::time::{Duration, Instant};
+    /// # let mut timer = RetransmissionTimer::new(Duration::from_secs(1), Sack::Permitted);
+    /// timer.start(Instant::ZERO); // the peer's window is shut
+    /// assert_eq!(timer.expires_at(), Some(Instant::from_secs(1)));
+    /// timer.stop();
+    /// assert_eq!(timer.expires_at(), None);
+    /// ```
     pub fn start(&mut self, now: Instant)
         ensures state { timer_of self.new ≡ started now (timer_of self.old) }
     {
@@ -263,6 +293,15 @@ impl RetransmissionTimer {
     ///
     /// Where nothing else is on the way, the probe waits longer by `ack_delay`, or by a quarter of it. The second
     /// segment that has something new brings it to two round trips from `now`.
+    ///
+    /// ```
+    /// # use net_base::tcp::{RetransmissionTimer, Sack, SentNumbers, TimeoutBounds};
+    /// # use net_base::time::{Duration, Instant};
+    /// # let (bounds, numbers) = (TimeoutBounds::default(), SentNumbers { first_unacknowledged: 0, sent: 0 });
+    /// # let mut timer = RetransmissionTimer::new(Duration::from_secs(1), Sack::Permitted);
+    /// timer.sent(bounds, 0..10, numbers, Instant::from_millis(5));
+    /// assert_eq!(timer.expires_at(), Some(Instant::from_millis(1_005)));
+    /// ```
     pub fn sent(
         &mut self,
         bounds: TimeoutBounds,
@@ -325,6 +364,16 @@ impl RetransmissionTimer {
 
     /// Takes the sample of the timed segment, if there is one, since it has arrived: as `acknowledged`
     /// finds out, and as a SACK block may say.
+    ///
+    /// ```
+    /// # use net_base::tcp::{RetransmissionTimer, Sack, SentNumbers, TimeoutBounds};
+    /// # use net_base::time::{Duration, Instant};
+    /// # let (bounds, numbers) = (TimeoutBounds::default(), SentNumbers { first_unacknowledged: 0, sent: 0 });
+    /// # let mut timer = RetransmissionTimer::new(Duration::from_secs(1), Sack::Permitted);
+    /// timer.sent(bounds, 0..10, numbers, Instant::ZERO);
+    /// timer.take_sample(bounds, Instant::from_millis(400)); // a block reports it
+    /// assert_eq!(timer.timeout(), Duration::from_millis(1_200));
+    /// ```
     pub fn take_sample(&mut self, bounds: TimeoutBounds, now: Instant)
         ensures state { timer_of self.new ≡ with_sample bounds now (timer_of self.old) }
     {
@@ -383,6 +432,16 @@ impl RetransmissionTimer {
     /// sent changes nothing.
     ///
     /// `numbers` are the sender's before it takes the acknowledgement.
+    ///
+    /// ```
+    /// # use net_base::tcp::{RetransmissionTimer, Sack, SentNumbers, TimeoutBounds};
+    /// # use net_base::time::{Duration, Instant};
+    /// # let (bounds, numbers) = (TimeoutBounds::default(), SentNumbers { first_unacknowledged: 0, sent: 0 });
+    /// # let mut timer = RetransmissionTimer::new(Duration::from_secs(1), Sack::Permitted);
+    /// timer.sent(bounds, 0..10, numbers, Instant::ZERO);
+    /// timer.acknowledged(bounds, SentNumbers { sent: 10, ..numbers }, 10, Instant::from_millis(400));
+    /// assert_eq!((timer.expires_at(), timer.timeout()), (None, Duration::from_millis(1_200)));
+    /// ```
     pub fn acknowledged(
         &mut self,
         bounds: TimeoutBounds,
@@ -421,6 +480,16 @@ impl RetransmissionTimer {
 
     /// Takes notice that a block has reported what wasn't known: a timer that runs is started again. A peer that
     /// reports delays no acknowledgement.
+    ///
+    /// ```
+    /// # use net_base::tcp::{RetransmissionTimer, Sack, SentNumbers, TimeoutBounds};
+    /// # use net_base::time::{Duration, Instant};
+    /// # let (bounds, numbers) = (TimeoutBounds::default(), SentNumbers { first_unacknowledged: 0, sent: 0 });
+    /// # let mut timer = RetransmissionTimer::new(Duration::from_secs(1), Sack::Permitted);
+    /// timer.sent(bounds, 0..10, numbers, Instant::ZERO);
+    /// timer.reported(Instant::from_millis(300));
+    /// assert_eq!(timer.expires_at(), Some(Instant::from_millis(1_300)));
+    /// ```
     pub fn reported(&mut self, now: Instant)
         ensures state { timer_of self.new ≡ after_report now (timer_of self.old) }
     {
@@ -435,6 +504,17 @@ impl RetransmissionTimer {
     /// After a probe the next one waits twice as long, and the timeout passes when it would have passed. After the
     /// timeout that is doubled within the bounds, and the timer starts again; no segment is timed any longer, and no
     /// probe is due until something new is acknowledged or reported.
+    ///
+    /// ```
+    /// # use net_base::tcp::{Expiry, RetransmissionTimer, Sack, SentNumbers, TimeoutBounds};
+    /// # use net_base::time::{Duration, Instant};
+    /// # let (bounds, numbers) = (TimeoutBounds::default(), SentNumbers { first_unacknowledged: 0, sent: 0 });
+    /// # let mut timer = RetransmissionTimer::new(Duration::from_secs(1), Sack::Permitted);
+    /// timer.sent(bounds, 0..10, numbers, Instant::ZERO);
+    /// assert_eq!(timer.expire(bounds, Instant::from_millis(999)), None);
+    /// assert_eq!(timer.expire(bounds, Instant::from_secs(1)), Some(Expiry::Timeout));
+    /// assert_eq!(timer.expires_at(), Some(Instant::from_secs(3)));
+    /// ```
     pub fn expire(&mut self, bounds: TimeoutBounds, now: Instant) -> Option<Expiry>
         ensures result { result ≡ expiry (timer_of self.old) now }
         ensures state { timer_of self.new ≡ after_expiry bounds now (timer_of self.old) }

@@ -5,12 +5,11 @@ ghost use Rattle.net_tcp.specs.Sack.{is_permitted};
 /// Whether both ends have agreed to selective acknowledgements: the option SACK-permitted of RFC 2018, in both SYNs.
 ///
 /// ```
-/// use net_base::tcp::{RetransmissionTimer, Sack};
-/// use net_base::time::Duration;
+/// use net_base::tcp::{LossRecovery, Sack};
 ///
-/// // Neither end's probes would be answered by a block.
-/// let timer = RetransmissionTimer::new(Duration::from_secs(1), Sack::Absent);
-/// assert_eq!(timer.expires_at(), None);
+/// let mut recovery = LossRecovery::new();
+/// recovery.expect_reports(Sack::Absent);
+/// assert!(recovery.is_blind());
 /// ```
 #[derive(Copy, Clone, Debug, PartialEq, Eq, Hash)]
 pub enum Sack {

@@ -63,6 +63,14 @@ impl AnswerLimit {
     /// Returns whether to answer a segment of which nothing is taken, and takes notice that it is answered. Moments are
     /// those of one clock; if that is set back, the limit stays until the moment that it was.
     ///
+    /// ```
+    /// # use net_base::tcp::{AnswerLimit, Segment};
+    /// # use net_base::time::Instant;
+    /// let (mut limit, text) = (AnswerLimit::new(), Segment::new(7, 1, 1 << 4));
+    /// // A segment with bytes is answered each time.
+    /// assert!(limit.allows(text, Instant::ZERO) && limit.allows(text, Instant::ZERO));
+    /// ```
+    ///
     /// # [Guarantees](crate#guarantees)
     ///
     /// - if `!segment.syn` and `1 <= segment.len`, then `result`

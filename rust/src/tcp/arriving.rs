@@ -38,6 +38,12 @@ pub struct Segment {
 impl Segment {
     /// Returns the segment of so many bytes, with the flags of a TCP header: bit 0 is FIN, bit 1 SYN, bit 2
     /// RST and bit 4 ACK, and others don't count. A SYN and a FIN have a position each.
+    ///
+    /// ```
+    /// # use net_base::tcp::Segment;
+    /// let opening = Segment { seq: 95, len: 1, syn: true, ack: false, rst: false };
+    /// assert_eq!(Segment::new(95, 0, 0x02), opening);
+    /// ```
     #[must_use]
     pub const fn new(seq: u64, bytes: usize, flags: u8) -> Self {
         Segment {

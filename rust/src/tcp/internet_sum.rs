@@ -35,11 +35,25 @@ impl PartsSum {
     }
 
     /// Adds the bytes that follow those which were added.
+    ///
+    /// ```
+    /// # use net_base::tcp::PartsSum;
+    /// let mut sum = PartsSum::new();
+    /// sum.add(&[1]);
+    /// sum.add(&[2, 3]);
+    /// assert_eq!(sum, PartsSum::new().with(&[1, 2, 3]));
+    /// ```
     pub fn add(&mut self, part: &[u8]) {
         *self = self.with(part);
     }
 
     /// Returns the sum of the bytes that were added and of those that follow them.
+    ///
+    /// ```
+    /// # use net_base::tcp::{checksum, PartsSum};
+    /// let header = PartsSum::new().with(b"head");
+    /// assert_eq!(header.with(b"text").checksum(), checksum(b"headtext"));
+    /// ```
     #[must_use]
     pub fn with(self, part: &[u8]) -> Self {
         let sum = u32::from(swapped(self.sum));
@@ -73,6 +87,13 @@ impl PartsSum {
     /// Returns the checksum of the bytes that were added. It is a number: in a message its high byte comes
     /// first. UDP sends 65535 in place of 0, which says there that there is none (RFC 768): a message with either is
     /// valid.
+    ///
+    /// ```
+    /// # use net_base::tcp::PartsSum;
+    /// // RFC 1071's example.
+    /// let sum = PartsSum::new().with(&[0x00, 0x01, 0xf2, 0x03, 0xf4, 0xf5, 0xf6, 0xf7]);
+    /// assert_eq!(sum.checksum(), 0x220d);
+    /// ```
     #[must_use]
     pub fn checksum(&self) -> u16 {
         u16::MAX - self.sum
@@ -80,6 +101,12 @@ impl PartsSum {
 
     /// Returns whether the bytes that were added, with a checksum among them at an even offset, are
     /// valid. No bytes are not.
+    ///
+    /// ```
+    /// # use net_base::tcp::PartsSum;
+    /// let sum = PartsSum::new().with(&[0x00, 0x01, 0xf2, 0x03, 0xf4, 0xf5, 0xf6, 0xf7]);
+    /// assert!(!sum.is_valid() && sum.with(&[0x22, 0x0d]).is_valid());
+    /// ```
     #[must_use]
     pub fn is_valid(&self) -> bool {
         self.sum == u16::MAX
@@ -87,12 +114,23 @@ impl PartsSum {
 }
 
 /// Returns the checksum of these bytes.
+///
+/// ```
+/// # use net_base::tcp::checksum;
+/// // RFC 1071's example.
+/// assert_eq!(checksum(&[0x00, 0x01, 0xf2, 0x03, 0xf4, 0xf5, 0xf6, 0xf7]), 0x220d);
+/// ```
 #[must_use]
 pub fn checksum(bytes: &[u8]) -> u16 {
     u16::MAX - turned(sum_words(0, bytes))
 }
 
 /// Returns whether these bytes, with their checksum among them at an even offset, are valid.
+///
+/// ```
+/// # use net_base::tcp::is_valid;
+/// assert!(is_valid(&[0x00, 0x01, 0xff, 0xfe]) && !is_valid(&[0x00, 0x02, 0xff, 0xfe]));
+/// ```
 #[must_use]
 pub fn is_valid(bytes: &[u8]) -> bool {
     turned(sum_words(0, bytes)) == u16::MAX
@@ -101,6 +139,13 @@ pub fn is_valid(bytes: &[u8]) -> bool {
 /// Returns the checksum of a message in which the word `old`, at an even offset, became `new`, from
 /// its checksum before (RFC 1624, equation 3); of one that is all zeros then, 0 in place of 65535.
 /// Checksums and words are numbers: in a message the high byte comes first.
+///
+/// ```
+/// # use net_base::tcp::{checksum, updated_checksum};
+/// // A router lowers the time to live from 64 to 63.
+/// let before = checksum(&[0x45, 0x00, 0x40, 0x06]);
+/// assert_eq!(updated_checksum(before, 0x4006, 0x3f06), checksum(&[0x45, 0x00, 0x3f, 0x06]));
+/// ```
 #[must_use]
 pub fn updated_checksum(checksum: u16, old: u16, new: u16) -> u16 {
     let without = u32::from(u16::MAX - checksum) + u32::from(u16::MAX - old);

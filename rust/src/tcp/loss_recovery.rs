@@ -30,6 +30,20 @@ const DUPLICATES: usize = 3;
 const MOST_DUPLICATES: usize = 1024;
 
 /// What an acknowledgement answers, for `LossRecovery::find_losses`.
+///
+/// ```
+/// use net_base::scoreboard::Scoreboard;
+/// use net_base::tcp::{Answer, LossRecovery, SentNumbers};
+///
+/// let (mut recovery, mut scoreboard) = (LossRecovery::new(), Scoreboard::<4>::empty());
+/// let before = SentNumbers { first_unacknowledged: 0, sent: 800 };
+/// let unsent = recovery.unsent(before, &scoreboard);
+/// // All below 100 is acknowledged, and no block reports anything.
+/// scoreboard.acknowledge(100);
+/// let answer = Answer { first: 0, unsent, reports: false, is_equal: false };
+/// let numbers = SentNumbers { first_unacknowledged: 100, sent: 800 };
+/// assert!(!recovery.find_losses(numbers, &scoreboard, 100, answer));
+/// ```
 #[derive(Copy, Clone, Debug, PartialEq, Eq)]
 pub struct Answer {
     /// The first number that wasn't acknowledged before it.
@@ -130,6 +144,14 @@ pub struct LossRecovery {
 
 impl LossRecovery {
     /// Returns that no recovery is active, and nothing came twice.
+    ///
+    /// ```
+    /// use net_base::tcp::{LossRecovery, SentNumbers};
+    ///
+    /// let recovery = LossRecovery::new();
+    /// assert!(!recovery.is_active(SentNumbers { first_unacknowledged: 0, sent: 800 }));
+    /// assert_eq!((recovery.duplicates(), recovery.is_blind()), (3, false));
+    /// ```
     #[must_use]
     pub const fn new() -> Self {
         LossRecovery {
@@ -179,6 +201,15 @@ impl LossRecovery {
     /// peer says what, `came_twice` does so. From now on four times as many segments above a position tell that it is
     /// lost, up to 1024. Once that has happened, nothing changes until all is acknowledged that was sent by then: a
     /// round trip makes it four times as many once.
+    ///
+    /// ```
+    /// # use net_base::tcp::{LossRecovery, SentNumbers};
+    /// # let numbers = SentNumbers { first_unacknowledged: 0, sent: 800 };
+    /// # let mut recovery = LossRecovery::new();
+    /// recovery.duplicated(numbers);
+    /// recovery.duplicated(numbers); // within the same round trip
+    /// assert_eq!(recovery.duplicates(), 12);
+    /// ```
     pub fn duplicated(&mut self, numbers: SentNumbers) {
         if numbers.first_unacknowledged < self.round {
             return;
@@ -192,6 +223,16 @@ impl LossRecovery {
     /// may, an old one too (RFC 2883). If they are at or above the first position that wasn't acknowledged when the
     /// last recovery began, and not above what was sent again in it, so many of its copies were for nothing, and it is
     /// as if `duplicated` was called. Else nothing changes: the path has doubled them, or a probe has.
+    ///
+    /// ```
+    /// # use net_base::tcp::{LossRecovery, SentNumbers};
+    /// # let numbers = SentNumbers { first_unacknowledged: 0, sent: 800 };
+    /// # let mut recovery = LossRecovery::new();
+    /// recovery.lose_all(numbers);
+    /// recovery.sent(numbers, 0..100);
+    /// recovery.came_twice(numbers, 0..100); // the copy was for nothing
+    /// assert_eq!(recovery.duplicates(), 12);
+    /// ```
     pub fn came_twice(&mut self, numbers: SentNumbers, positions: Range<u64>) {
         if self.since <= positions.start && positions.end <= self.again.max(self.resume) {
             let count = positions.end.saturating_sub(positions.start);
@@ -213,6 +254,21 @@ impl LossRecovery {
     /// what was sent again, and all that was sent again came twice (RFC 3708). Then the congestion window may be what
     /// it was when the recovery began. Ask it after each acknowledgement, an old one too, once `find_losses` has it.
     /// It is true once: not before another recovery begins.
+    ///
+    /// ```
+    /// # use net_base::scoreboard::Scoreboard;
+    /// # use net_base::tcp::{LossRecovery, SentNumbers};
+    /// # let numbers = SentNumbers { first_unacknowledged: 0, sent: 800 };
+    /// # let mut scoreboard = Scoreboard::<4>::empty();
+    /// # let mut recovery = LossRecovery::new();
+    /// recovery.lose_all(numbers);
+    /// recovery.sent(numbers, 0..100);
+    /// assert!(!recovery.take_back(numbers, &scoreboard));
+    /// // All has arrived, and the copy came twice.
+    /// assert_eq!(scoreboard.report(100, 800, 800), Ok(()));
+    /// recovery.came_twice(numbers, 0..100);
+    /// assert!(recovery.take_back(numbers, &scoreboard));
+    /// ```
     #[must_use]
     pub fn take_back<B: Reported>(&mut self, numbers: SentNumbers, scoreboard: &B) -> bool {
         let is_wrong = self.until > 0 && self.copies == 0 && self.unsent(numbers, scoreboard) == 0;
@@ -224,6 +280,19 @@ impl LossRecovery {
 
     /// Takes notice whether the peer reports what arrives, as the SYNs say. A new recovery expects that it does. Nothing
     /// else changes it: what a peer reports without that is taken, too.
+    ///
+    /// ```
+    /// # use net_base::scoreboard::Scoreboard;
+    /// # use net_base::tcp::{Answer, LossRecovery, Sack, SentNumbers};
+    /// # let numbers = SentNumbers { first_unacknowledged: 0, sent: 800 };
+    /// # let scoreboard = Scoreboard::<4>::empty();
+    /// # let mut recovery = LossRecovery::new();
+    /// recovery.expect_reports(Sack::Absent);
+    /// let answer = Answer { first: 0, unsent: 0, reports: false, is_equal: true };
+    /// // The third equal acknowledgement tells of a loss.
+    /// let begins = [(); 3].map(|()| recovery.find_losses(numbers, &scoreboard, 100, answer));
+    /// assert_eq!(begins, [false, false, true]);
+    /// ```
     pub fn expect_reports(&mut self, sack: Sack) {
         self.is_blind = if is_permitted(sack) { 0 } else { 1 };
         self.unknown = 0;
@@ -237,6 +306,17 @@ impl LossRecovery {
 
     /// Returns how many positions are lost and weren't sent again. `find_losses` wants it as it was before the
     /// acknowledgement.
+    ///
+    /// ```
+    /// # use net_base::scoreboard::Scoreboard;
+    /// # use net_base::tcp::{LossRecovery, SentNumbers};
+    /// # let numbers = SentNumbers { first_unacknowledged: 0, sent: 800 };
+    /// # let scoreboard = Scoreboard::<4>::empty();
+    /// # let mut recovery = LossRecovery::new();
+    /// recovery.lose_all(numbers);
+    /// recovery.sent(numbers, 0..100);
+    /// assert_eq!(recovery.unsent(numbers, &scoreboard), 700);
+    /// ```
     #[must_use]
     pub fn unsent<B: Reported>(&self, numbers: SentNumbers, scoreboard: &B) -> u64 {
         if self.is_active(numbers) {
@@ -267,6 +347,19 @@ impl LossRecovery {
     ///
     /// Returns whether this call begins a recovery: then halve the congestion window, until `take_back` says that this
     /// was wrong.
+    ///
+    /// ```
+    /// # use net_base::scoreboard::Scoreboard;
+    /// # use net_base::tcp::{Answer, LossRecovery, SentNumbers};
+    /// # let numbers = SentNumbers { first_unacknowledged: 0, sent: 800 };
+    /// # let mut scoreboard = Scoreboard::<4>::empty();
+    /// # let mut recovery = LossRecovery::new();
+    /// assert_eq!(scoreboard.report(100, 400, 800), Ok(()));
+    /// let answer = Answer { first: 0, unsent: 0, reports: true, is_equal: false };
+    /// // Three segments above the first one arrived: it is lost.
+    /// assert!(recovery.find_losses(numbers, &scoreboard, 100, answer));
+    /// assert!(recovery.is_active(numbers));
+    /// ```
     pub fn find_losses<B: Reported>(
         &mut self,
         numbers: SentNumbers,
@@ -473,6 +566,17 @@ impl LossRecovery {
     /// nothing was for two round trips. Then send as `next_segment` says; if that sends nothing, `next_probe`.
     ///
     /// Returns whether this call begins a recovery: then halve the congestion window.
+    ///
+    /// ```
+    /// # use net_base::scoreboard::Scoreboard;
+    /// # use net_base::tcp::{LossRecovery, SentNumbers};
+    /// # let numbers = SentNumbers { first_unacknowledged: 0, sent: 800 };
+    /// # let mut scoreboard = Scoreboard::<4>::empty();
+    /// # let mut recovery = LossRecovery::new();
+    /// assert_eq!(scoreboard.report(100, 200, 800), Ok(()));
+    /// assert!(recovery.find_overdue(numbers, &scoreboard));
+    /// assert_eq!(recovery.next_segment(numbers, &scoreboard, 800, 800, 100), Some(0..100));
+    /// ```
     pub fn find_overdue<B: Reported>(&mut self, numbers: SentNumbers, scoreboard: &B) -> bool {
         let lost = scoreboard.highest_reported();
         if self.is_active(numbers) {
@@ -490,6 +594,16 @@ impl LossRecovery {
     /// or, if the limit allows none, the last one that was sent above all that was reported. If there is neither, in a
     /// recovery, or if the last position that was sent is reported, it is the first segment that isn't reported. A
     /// `segment_size` of 0 counts as 1. Call `probed` once it is sent.
+    ///
+    /// ```
+    /// # use net_base::scoreboard::Scoreboard;
+    /// # use net_base::tcp::{LossRecovery, SentNumbers};
+    /// # let numbers = SentNumbers { first_unacknowledged: 0, sent: 800 };
+    /// # let scoreboard = Scoreboard::<4>::empty();
+    /// # let recovery = LossRecovery::new();
+    /// assert_eq!(recovery.next_probe(numbers, &scoreboard, 1_000, 100), Some(800..900)); // a new segment
+    /// assert_eq!(recovery.next_probe(numbers, &scoreboard, 800, 100), Some(700..800)); // the last one
+    /// ```
     #[must_use]
     pub fn next_probe<B: Reported>(
         &self,
@@ -518,6 +632,20 @@ impl LossRecovery {
     }
 
     /// Takes notice that a probe of these positions is sent. `numbers` are the sender's before that.
+    ///
+    /// ```
+    /// # use net_base::scoreboard::Scoreboard;
+    /// # use net_base::tcp::{Answer, LossRecovery, SentNumbers};
+    /// # let numbers = SentNumbers { first_unacknowledged: 0, sent: 800 };
+    /// # let mut scoreboard = Scoreboard::<4>::empty();
+    /// # let mut recovery = LossRecovery::new();
+    /// recovery.probed(numbers, 700..800);
+    /// // Its answer tells that all before is lost.
+    /// assert_eq!(scoreboard.report(700, 800, 800), Ok(()));
+    /// let answer = Answer { first: 0, unsent: 0, reports: true, is_equal: false };
+    /// assert!(recovery.find_losses(numbers, &scoreboard, 100, answer));
+    /// assert_eq!(recovery.unsent(numbers, &scoreboard), 700);
+    /// ```
     pub fn probed(&mut self, numbers: SentNumbers, positions: Range<u64>) {
         self.probe = positions.start;
         self.has_probe = 1;
@@ -530,6 +658,19 @@ impl LossRecovery {
     /// scoreboard begins again.
     ///
     /// Returns whether none lasted: then halve the congestion window.
+    ///
+    /// ```
+    /// # use net_base::scoreboard::Scoreboard;
+    /// # use net_base::tcp::{LossRecovery, SentNumbers};
+    /// # let mut numbers = SentNumbers { first_unacknowledged: 0, sent: 800 };
+    /// # let mut scoreboard = Scoreboard::<4>::empty();
+    /// # let mut recovery = LossRecovery::new();
+    /// assert_eq!(scoreboard.report(100, 400, 800), Ok(()));
+    /// // The peer acknowledges up to 100, which it had reported.
+    /// numbers.first_unacknowledged = 100;
+    /// assert!(recovery.lose_dropped(numbers, &scoreboard));
+    /// scoreboard.reset_at(100);
+    /// ```
     pub fn lose_dropped<B: Reported>(&mut self, numbers: SentNumbers, scoreboard: &B) -> bool {
         let begins = !self.is_active(numbers);
         let lost = self.lost.max(scoreboard.highest_reported());
@@ -539,6 +680,17 @@ impl LossRecovery {
 
     /// Begins a recovery in which all that was sent and isn't reported is lost, as when the timer has expired. Three
     /// segments above a position tell again that it is lost.
+    ///
+    /// ```
+    /// # use net_base::scoreboard::Scoreboard;
+    /// # use net_base::tcp::{LossRecovery, SentNumbers};
+    /// # let numbers = SentNumbers { first_unacknowledged: 0, sent: 800 };
+    /// # let scoreboard = Scoreboard::<4>::empty();
+    /// # let mut recovery = LossRecovery::new();
+    /// recovery.lose_all(numbers);
+    /// assert_eq!(recovery.in_flight(numbers, &scoreboard), 0);
+    /// assert_eq!(recovery.next_segment(numbers, &scoreboard, 800, 100, 100), Some(0..100));
+    /// ```
     pub fn lose_all(&mut self, numbers: SentNumbers) {
         self.set_duplicates(DUPLICATES);
         self.unknown = 0;
@@ -565,6 +717,16 @@ impl LossRecovery {
     /// Returns how many positions may be in flight: of those which were sent and aren't reported, the ones that
     /// aren't lost or were sent again, less those that have arrived and the peer doesn't report. Half of it is the new
     /// congestion window where a recovery begins (RFC 5681's FlightSize).
+    ///
+    /// ```
+    /// # use net_base::scoreboard::Scoreboard;
+    /// # use net_base::tcp::{LossRecovery, SentNumbers};
+    /// # let numbers = SentNumbers { first_unacknowledged: 0, sent: 800 };
+    /// # let mut scoreboard = Scoreboard::<4>::empty();
+    /// # let recovery = LossRecovery::new();
+    /// assert_eq!(scoreboard.report(100, 400, 800), Ok(()));
+    /// assert_eq!(recovery.in_flight(numbers, &scoreboard), 500);
+    /// ```
     #[must_use]
     pub fn in_flight<B: Reported>(&self, numbers: SentNumbers, scoreboard: &B) -> u64 {
         let first = numbers.first_unacknowledged;
@@ -596,6 +758,17 @@ impl LossRecovery {
     ///
     /// `None` if there is nothing to send, or if with a whole segment more than `window` positions, the
     /// congestion window, would be in flight. The first unacknowledged number is sent whatever is in flight.
+    ///
+    /// ```
+    /// # use net_base::scoreboard::Scoreboard;
+    /// # use net_base::tcp::{LossRecovery, SentNumbers};
+    /// # let numbers = SentNumbers { first_unacknowledged: 0, sent: 800 };
+    /// # let scoreboard = Scoreboard::<4>::empty();
+    /// # let recovery = LossRecovery::new();
+    /// // 800 positions are in flight.
+    /// assert_eq!(recovery.next_segment(numbers, &scoreboard, 1_000, 900, 100), Some(800..900));
+    /// assert_eq!(recovery.next_segment(numbers, &scoreboard, 1_000, 899, 100), None);
+    /// ```
     ///
     /// # [Guarantees](crate#guarantees)
     ///
@@ -645,6 +818,17 @@ impl LossRecovery {
     /// Takes notice that these positions are sent now: those of `next_segment`, or fewer from its start on. All
     /// that is lost below their end then counts as sent again. `numbers` are the sender's before that. Nothing
     /// changes outside of a recovery, or if none of them was sent before.
+    ///
+    /// ```
+    /// # use net_base::scoreboard::Scoreboard;
+    /// # use net_base::tcp::{LossRecovery, SentNumbers};
+    /// # let numbers = SentNumbers { first_unacknowledged: 0, sent: 800 };
+    /// # let scoreboard = Scoreboard::<4>::empty();
+    /// # let mut recovery = LossRecovery::new();
+    /// recovery.lose_all(numbers);
+    /// recovery.sent(numbers, 0..100);
+    /// assert_eq!(recovery.next_segment(numbers, &scoreboard, 800, 200, 100), Some(100..200));
+    /// ```
     pub fn sent(&mut self, numbers: SentNumbers, positions: Range<u64>) {
         if self.is_active(numbers) && positions.start < positions.end.min(numbers.sent) {
             let Range { start, end } = positions;

@@ -5,6 +5,19 @@ use crate::storage::Run;
 use crate::stream::{Scoreboard, ScoreboardHead};
 
 /// Which positions a sender knows that the other end has: a `Scoreboard`, or a head and lent runs.
+///
+/// ```
+/// use net_base::scoreboard::Scoreboard;
+/// use net_base::tcp::Reported;
+///
+/// fn missing<B: Reported>(reported: &B) -> u64 {
+///     reported.missing_between(0, 60)
+/// }
+///
+/// let mut scoreboard = Scoreboard::<4>::empty();
+/// assert_eq!(scoreboard.report(20, 40, 60), Ok(()));
+/// assert_eq!(missing(&scoreboard), 40);
+/// ```
 pub trait Reported {
     /// Returns whether a position was reported.
     fn contains(&self, pos: u64) -> bool;

@@ -74,6 +74,12 @@ pub enum Transmission {
 
 impl RttEstimate {
     /// Returns the estimate after the first sample.
+    ///
+    /// ```
+    /// # use net_base::tcp::{RttEstimate};
+    /// # use net_base::time::Duration;
+    /// assert_eq!(RttEstimate::first(Duration::from_millis(80)).srtt(), Duration::from_millis(80));
+    /// ```
     #[must_use]
     pub fn first(time: Duration) -> Self {
         let time = time.total_micros().min(LONGEST_SAMPLE);
@@ -84,6 +90,13 @@ impl RttEstimate {
     }
 
     /// Returns the estimate after one more sample.
+    ///
+    /// ```
+    /// # use net_base::tcp::{RttEstimate};
+    /// # use net_base::time::Duration;
+    /// let estimate = RttEstimate::first(Duration::from_millis(80));
+    /// assert_eq!(estimate.with_sample(Duration::from_millis(160)).srtt(), Duration::from_millis(90));
+    /// ```
     #[must_use]
     pub fn with_sample(self, time: Duration) -> Self {
         let time = time.total_micros().min(LONGEST_SAMPLE);
@@ -117,6 +130,12 @@ impl RttEstimate {
     }
 
     /// Returns the smoothed time.
+    ///
+    /// ```
+    /// # use net_base::tcp::{RttEstimate};
+    /// # use net_base::time::Duration;
+    /// assert_eq!(RttEstimate::from_scaled(87, 20).srtt(), Duration::from_micros(10));
+    /// ```
     #[inline]
     #[must_use]
     pub fn srtt(self) -> Duration {
@@ -124,6 +143,13 @@ impl RttEstimate {
     }
 
     /// Returns the timeout that it gives: at least the smoothed time, but for the greatest timeout.
+    ///
+    /// ```
+    /// # use net_base::tcp::{RttEstimate, TimeoutBounds};
+    /// # use net_base::time::Duration;
+    /// let estimate = RttEstimate::first(Duration::from_millis(400));
+    /// assert_eq!(estimate.timeout(TimeoutBounds::default()), Duration::from_millis(1_200));
+    /// ```
     #[must_use]
     pub fn timeout(self, bounds: TimeoutBounds) -> Duration {
         let variation = bounds.tick.total_micros().max(self.rttvar_4);
@@ -153,6 +179,13 @@ pub struct RetransmissionTimeout {
 
 impl RetransmissionTimeout {
     /// Returns a timeout before any sample. The RFC has 1 second.
+    ///
+    /// ```
+    /// # use net_base::tcp::{RetransmissionTimeout};
+    /// # use net_base::time::Duration;
+    /// let timeout = RetransmissionTimeout::new(Duration::from_secs(1));
+    /// assert_eq!((timeout.rtt(), timeout.timeout()), (None, Duration::from_secs(1)));
+    /// ```
     #[must_use]
     pub const fn new(timeout: Duration) -> Self {
         RetransmissionTimeout {
@@ -180,6 +213,15 @@ impl RetransmissionTimeout {
     }
 
     /// Takes over the sample of a segment that was acknowledged now, if it was sent once.
+    ///
+    /// ```
+    /// # use net_base::tcp::{RetransmissionTimeout, TimeoutBounds, Transmission};
+    /// # use net_base::time::{Duration, Instant};
+    /// let mut timeout = RetransmissionTimeout::default();
+    /// let sent = Transmission::Once(Instant::ZERO);
+    /// timeout.acknowledged(TimeoutBounds::default(), sent, Instant::from_millis(400));
+    /// assert_eq!(timeout.timeout(), Duration::from_millis(1_200));
+    /// ```
     pub fn acknowledged(&mut self, bounds: TimeoutBounds, sent: Transmission, now: Instant) {
         match sent {
             Transmission::Once(at) => self.take_sample(bounds, now.saturating_duration_since(at)),
@@ -190,6 +232,14 @@ impl RetransmissionTimeout {
     /// Takes over a sample, the time from when a segment was sent until it was acknowledged. The
     /// segment was sent once: of one that was sent again it is not known which of the copies was
     /// acknowledged.
+    ///
+    /// ```
+    /// # use net_base::tcp::{RetransmissionTimeout, TimeoutBounds};
+    /// # use net_base::time::Duration;
+    /// let mut timeout = RetransmissionTimeout::default();
+    /// timeout.take_sample(TimeoutBounds::default(), Duration::from_millis(400));
+    /// assert_eq!(timeout.timeout(), Duration::from_millis(1_200));
+    /// ```
     pub fn take_sample(&mut self, bounds: TimeoutBounds, time: Duration) {
         let estimate = match self.estimate {
             Some(estimate) => estimate.with_sample(time),
@@ -200,6 +250,14 @@ impl RetransmissionTimeout {
     }
 
     /// Doubles the timeout within the bounds, after it passed.
+    ///
+    /// ```
+    /// # use net_base::tcp::{RetransmissionTimeout, TimeoutBounds};
+    /// # use net_base::time::Duration;
+    /// let mut timeout = RetransmissionTimeout::default();
+    /// timeout.expired(TimeoutBounds::default());
+    /// assert_eq!(timeout.timeout(), Duration::from_secs(2));
+    /// ```
     pub fn expired(&mut self, bounds: TimeoutBounds) {
         self.timeout = bounded(bounds, self.timeout.total_micros().saturating_mul(2));
     }

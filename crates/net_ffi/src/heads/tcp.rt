@@ -34,6 +34,10 @@ pub extern "C" fn net_base_tcp_scaled(field: u16, scale: u8) -> u64
 /// Returns the checksum of a message in which the word `old`, at an even offset, became `value`,
 /// from its checksum before (RFC 1624, equation 3); of one that is all zeros then, 0 in place of
 /// 65535. Checksums and words are numbers: in a message the high byte comes first.
+///
+/// ``` # use net_base::tcp::{checksum, updated_checksum}; // A router lowers the time to live from
+/// 64 to 63. let before = checksum(&[0x45, 0x00, 0x40, 0x06]); assert_eq!(updated_checksum(before,
+/// 0x4006, 0x3f06), checksum(&[0x45, 0x00, 0x3f, 0x06])); ```
 #[unsafe(no_mangle)]
 pub extern "C" fn net_base_tcp_updated_checksum(checksum: u16, old: u16, value: u16) -> u16
     ensures { result ≡ updated checksum old value }
