@@ -28,7 +28,7 @@ MOST = {"looks": 1.1, "searches": 2.2, "passes": 36}
 # How many times more it has to take, since its class would else be a better one; and calls whose case isn't their
 # worst.
 LEAST, BETTER = {"looks": 0, "searches": 1, "passes": 2.2}, {"sending_end_next_segment"}
-# How many instructions an export may take besides; one of an acknowledgement, which copies its runs as pairs. The copy
+# How many instructions an export may take besides; one of an acknowledgement, which copies its runs as ranges. The copy
 # takes 10 of these, and 14 with two runs.
 OVER, OVER_OF_RUNS = 30, 45
 # What the calls of a type, or of a module, begin with in growth/src/main.rs: then comes the method's name, and the

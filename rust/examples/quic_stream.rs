@@ -68,6 +68,7 @@ impl Sender {
 
     /// Takes an ACK frame. Three frames that are acknowledged above a range tell that it is lost, and so that
     /// `SendBuffer::next` returns it again.
+    /// A scheme that counts packets gives what it finds lost to `SendBuffer::lose`.
     fn acknowledged(&mut self, packets: &[u64], now: u64) {
         for range in packets.iter().filter_map(|number| self.ranges.remove(number)) {
             self.stream.acknowledge_range(range, SIZE).expect("it was sent");

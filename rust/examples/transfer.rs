@@ -3,7 +3,7 @@
 use std::collections::VecDeque;
 
 use net_base::ends::{
-    AckSegment, Acknowledged, Acknowledgement, Expired, ReceivingEnd, SendingEnd,
+    AckSegment, Acknowledged, Acknowledgement, Expired, ReceivingEnd, SegmentBytes, SendingEnd,
 };
 use net_base::rand::Rand;
 use net_base::tcp::{Announcement, Sack, TimeoutBounds};
@@ -89,11 +89,8 @@ fn main() {
             window = (window / 2).max(2 * SIZE as u64);
         }
         while let Some(it) = sending.next_segment(window, now) {
-            let bytes = sending.bytes(it.range());
-            path.send(
-                now,
-                Datagram::Text(it.pos, [bytes.front, bytes.back].concat(), bytes.is_last),
-            );
+            let SegmentBytes { front, back, is_last } = sending.bytes(it.range());
+            path.send(now, Datagram::Text(it.pos, [front, back].concat(), is_last));
         }
         // The next thing that happens: a datagram arrives, or the timer expires.
         let arrival = path.datagrams.front().map(|it| it.0);

@@ -20,7 +20,7 @@ erased! {
 pub use crate::checksum::PartsSum;
 pub use crate::ends::receiving_end::{ReceivingHead, Room};
 pub use crate::ends::send_buffer::{BufferHead, Queued};
-pub use crate::ends::sending_end::SendingHead;
+pub use crate::ends::sending_head::SendingHead;
 pub use crate::storage::assembler::{AssemblerHead, Run};
 pub use crate::storage::fragments::FragmentsHead;
 pub use crate::storage::packet_slot::PacketSlot;

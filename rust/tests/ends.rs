@@ -619,6 +619,32 @@ fn a_stream_of_ranges() {
     }
 }
 
+/// A range that is followed by its prefix isn't taken for one that the peer dropped. What packets lose is sent again, as
+/// far as it isn't acknowledged, and nothing else is.
+#[test]
+fn what_packets_lose() {
+    let mut stream = SendBuffer::<4>::new_at(vec![0; 40], 0);
+    assert_eq!(stream.write(&[7; 40]), 40);
+    while let Some(range) = stream.next(u64::MAX, u64::MAX, 10) {
+        assert!(stream.mark(range, Sending::Segment));
+    }
+    let begins = |it: Option<TakenAck>| it.map(|it| it.begins);
+    assert_eq!(begins(stream.acknowledge_range(10..20, 10)), Some(false));
+    assert_eq!(begins(stream.acknowledge_range(0..10, 10)), Some(false));
+    assert_eq!((stream.next(u64::MAX, u64::MAX, 10), stream.is_recovering()), (None, false));
+    assert!(!stream.lose(30..41) && stream.lose(0..20));
+    assert_eq!(stream.next(u64::MAX, u64::MAX, 10), None);
+    // Only one range at a time is to be sent again.
+    for (lost, again, other) in [(25..35, 25..35, 20..25), (15..25, 20..25, 30..40)] {
+        assert!(stream.lose(lost) && !stream.lose(other));
+        assert_eq!(stream.next(u64::MAX, u64::MAX, 10), Some(again.clone()));
+        assert!(stream.mark(again, Sending::Segment));
+        assert_eq!(stream.next(u64::MAX, u64::MAX, 10), None);
+    }
+    assert!(stream.acknowledge_range(20..40, 10).is_some_and(|it| it.new == 20));
+    assert!(stream.lose(30..40) && stream.next(u64::MAX, u64::MAX, 10).is_none());
+}
+
 /// What an end that begins again knows of the stream before: nothing but whether Nagle's rule is enabled.
 #[test]
 fn an_end_begins_again() {

@@ -306,6 +306,7 @@ fn send_buffers() {
                 let taken = buffer.acknowledge_range(from..to, size);
                 assert_eq!(taken.is_some(), to <= before.sent);
             }
+            17 => assert!(!buffer.lose(from..to) || to <= before.sent),
             _ => {
                 if let Some(range) = buffer.next(to, window, size) {
                     assert!(before.first_unacknowledged <= range.start && !range.is_empty());
