@@ -1114,19 +1114,11 @@ NET_BASE_MUST_USE size_t net_base_finite_sender_room(
 
 /** Returns the least scale by which this capacity, rounded down to a unit, can be announced, or 14
  * if none can.
- *
- * ``` use net_base::tcp::scale_for;
- *
- * assert_eq!((scale_for(65_535), scale_for(65_536), scale_for(1 << 20)), (0, 1, 5)); ```
  */
 uint8_t net_base_tcp_scale_for(uint64_t capacity) NET_BASE_LINK(tcp_scale_for);
 
 /** Returns how many bytes the field of a segment announces. A scale above 14 counts as 14, as RFC
  * 7323, section 2.3, has it.
- *
- * ``` use net_base::tcp::scaled;
- *
- * assert_eq!((scaled(50, 2), scaled(50, 0)), (200, 50)); ```
  */
 NET_BASE_MUST_USE uint64_t net_base_tcp_scaled(
     uint16_t field, uint8_t scale) NET_BASE_LINK(tcp_scaled);
@@ -1134,10 +1126,6 @@ NET_BASE_MUST_USE uint64_t net_base_tcp_scaled(
 /** Returns the checksum of a message in which the word `old`, at an even offset, became `value`,
  * from its checksum before (RFC 1624, equation 3); of one that is all zeros then, 0 in place of
  * 65535. Checksums and words are numbers: in a message the high byte comes first.
- *
- * ``` # use net_base::tcp::{checksum, updated_checksum}; // A router lowers the time to live from
- * 64 to 63. let before = checksum(&[0x45, 0x00, 0x40, 0x06]); assert_eq!(updated_checksum(before,
- * 0x4006, 0x3f06), checksum(&[0x45, 0x00, 0x3f, 0x06])); ```
  */
 uint16_t net_base_tcp_updated_checksum(
     uint16_t checksum, uint16_t old, uint16_t value) NET_BASE_LINK(tcp_updated_checksum);
@@ -1218,11 +1206,7 @@ struct net_base_parts_sum {
 /** Makes `sum` the sum of no bytes. */
 void net_base_parts_sum_init(struct net_base_parts_sum *sum) NET_BASE_LINK(parts_sum_init);
 
-/** Adds the bytes that follow those which were added.
- *
- * ``` # use net_base::tcp::PartsSum; let mut sum = PartsSum::new(); sum.add(&[1]); sum.add(&[2,
- * 3]); assert_eq!(sum, PartsSum::new().with(&[1, 2, 3])); ```
- */
+/** Adds the bytes that follow those which were added. */
 void net_base_parts_sum_add(
     struct net_base_parts_sum *NET_BASE_RESTRICT sum, const uint8_t *NET_BASE_RESTRICT part,
     size_t part_length) NET_BASE_LINK(parts_sum_add);
@@ -1230,18 +1214,12 @@ void net_base_parts_sum_add(
 /** Returns the checksum of the bytes that were added. It is a number: in a message its high byte
  * comes first. UDP sends 65535 in place of 0, which says there that there is none (RFC 768): a
  * message with either is valid.
- *
- * ``` # use net_base::tcp::PartsSum; // RFC 1071's example. let sum = PartsSum::new().with(&[0x00,
- * 0x01, 0xf2, 0x03, 0xf4, 0xf5, 0xf6, 0xf7]); assert_eq!(sum.checksum(), 0x220d); ```
  */
 uint16_t net_base_parts_sum_checksum(
     const struct net_base_parts_sum *sum) NET_BASE_LINK(parts_sum_checksum);
 
 /** Returns whether the bytes that were added, with a checksum among them at an even offset, are
  * valid. No bytes are not.
- *
- * ``` # use net_base::tcp::PartsSum; let sum = PartsSum::new().with(&[0x00, 0x01, 0xf2, 0x03,
- * 0xf4, 0xf5, 0xf6, 0xf7]); assert!(!sum.is_valid() && sum.with(&[0x22, 0x0d]).is_valid()); ```
  */
 NET_BASE_MUST_USE bool net_base_parts_sum_is_valid(
     const struct net_base_parts_sum *sum) NET_BASE_LINK(parts_sum_is_valid);

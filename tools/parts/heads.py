@@ -134,7 +134,9 @@ def methods_of(path, kind):
         for clause in re.finditer(r"^ +(requires|ensures) ?(\w*) ?\{", text[end:body], flags=re.M):
             opening = end + clause.end() - 1
             clauses[clause[1]].append((clause[2], " ".join(text[opening + 1 : ffi.closing(text, opening)].split())))
-        found[match[2]] = Method(ffi.doc_of(match[1]), parameters, result[1] if result else "", **clauses)
+        # An example is one in Rust.
+        doc = re.sub(r"^ *///\n */// ```\n.*?^ */// ```\n", "", match[1], flags=re.M | re.S)
+        found[match[2]] = Method(ffi.doc_of(doc), parameters, result[1] if result else "", **clauses)
     return found
 
 

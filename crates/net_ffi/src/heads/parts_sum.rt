@@ -17,9 +17,6 @@ pub extern "C" fn net_base_parts_sum_init(sum: &mut PartsSum)
 }
 
 /// Adds the bytes that follow those which were added.
-///
-/// ``` # use net_base::tcp::PartsSum; let mut sum = PartsSum::new(); sum.add(&[1]); sum.add(&[2,
-/// 3]); assert_eq!(sum, PartsSum::new().with(&[1, 2, 3])); ```
 #[unsafe(no_mangle)]
 pub extern "C" fn net_base_parts_sum_add(sum: &mut PartsSum, part: &[u8])
     ensures value { sum.new ≡ sum_with sum.old part.now }
@@ -31,9 +28,6 @@ pub extern "C" fn net_base_parts_sum_add(sum: &mut PartsSum, part: &[u8])
 /// Returns the checksum of the bytes that were added. It is a number: in a message its high byte
 /// comes first. UDP sends 65535 in place of 0, which says there that there is none (RFC 768): a
 /// message with either is valid.
-///
-/// ``` # use net_base::tcp::PartsSum; // RFC 1071's example. let sum = PartsSum::new().with(&[0x00,
-/// 0x01, 0xf2, 0x03, 0xf4, 0xf5, 0xf6, 0xf7]); assert_eq!(sum.checksum(), 0x220d); ```
 #[unsafe(no_mangle)]
 pub extern "C" fn net_base_parts_sum_checksum(sum: &PartsSum) -> u16
     ensures value { result ≡ 65535 - sum.now.sum }
@@ -44,13 +38,11 @@ pub extern "C" fn net_base_parts_sum_checksum(sum: &PartsSum) -> u16
 
 /// Returns whether the bytes that were added, with a checksum among them at an even offset, are
 /// valid. No bytes are not.
-///
-/// ``` # use net_base::tcp::PartsSum; let sum = PartsSum::new().with(&[0x00, 0x01, 0xf2, 0x03,
-/// 0xf4, 0xf5, 0xf6, 0xf7]); assert!(!sum.is_valid() && sum.with(&[0x22, 0x0d]).is_valid()); ```
 #[unsafe(no_mangle)]
 pub extern "C" fn net_base_parts_sum_is_valid(sum: &PartsSum) -> bool
     ensures value { IsTrue result ↔ (sum.now.sum ≡ 65535) }
-    ensures bytes { (xs : List ℕ) → Sums sum.now xs → (IsTrue result ↔ (folded (word_sum xs) ≡ 65535)) }
+    ensures bytes { (xs : List ℕ) → Sums sum.now xs → (IsTrue result ↔ (folded (word_sum xs) ≡
+        65535)) }
 {
     sum.is_valid()
 }
