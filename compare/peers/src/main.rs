@@ -110,7 +110,7 @@ fn sample(word: &str, seed: u64) {
         ("1 % lost", path(100, 0, 0, 1_000), mib, (1.2, 1, 5)),
         ("1 % lost, without blocks", hidden, mib, (1.2, 1, 10)),
         ("20 % delayed", path(0, 2_000, 0, 1_000), mib, (1.5, 1, 80)),
-        // Acknowledgements that the path doubles are equal ones without a block: three of a number tell of a loss.
+        // Of lwIP, which sends no blocks, three acknowledgements of a number tell of a loss, doubled ones too.
         ("20 % doubled", path(0, 0, 2_000, 1_000), mib, (1.0, 0, 15)),
         ("both send, 1 % lost", path(100, 0, 0, 1_000), both(500_000, 0x1_0000, 0), (4.0, 1, 5)),
         ("both send to slow readers", path(0, 0, 0, 1_000), both(200_000, 2_000, 5_000), (5.0, 1, 10)),

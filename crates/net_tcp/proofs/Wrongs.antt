@@ -1,8 +1,7 @@
 -- When a recovery was for nothing.
-use Rattle.std.proofs.Common.{◌≡◌, ℕ, ◌<◌, ◌≤◌, ◌+◌, ◌-◌, zero, suc, true, false, arith, ap, ◌∙◌}
+use Rattle.std.proofs.Common.{ℕ, ◌<◌, ◌-◌, zero, suc, arith}
 use Rattle.std.proofs.lemmas.Bool.Decides.{nat_tests}
-use Rattle.std.specs.Prelude.{IsTrue, IsFalse, min, not}
-use Rattle.std.specs.Int.{from_bool}
+use Rattle.std.specs.Prelude.{IsTrue, IsFalse, min}
 use Rattle.net_assembler.specs.Positions.{Positions, contains, missing_count}
 use Rattle.net_tcp.specs.LossRecovery.{is_active, is_wrong, taken_back, begun, after_sending, after_copies}
 use Rattle.net_tcp.specs.LossRecovery.{Recovery as LossRecovery}
