@@ -23,30 +23,15 @@ pub enum Step {
     Runs(&'static [(usize, usize)]),
     /// The run of a number, as `run_at` answers it.
     RunAt(usize, Option<(usize, usize)>),
-    /// The hole of a number, as `hole_at` answers it.
-    HoleAt(usize, Option<(usize, usize)>),
-    /// How many holes there are.
-    Holes(usize),
     /// Whether a position is in the set.
     Contains(usize, bool),
     /// Whether a range of an offset and a size fits.
     Fits(usize, usize, bool),
-    /// `shift` of a count.
-    Shift(usize),
-    /// `clear`.
-    Clear,
-    /// A clone is made.
-    Keep,
-    /// Whether the assembler equals the clone.
-    Equals(bool),
     /// The text.
     Text(&'static str),
 }
 
-use Step::{
-    Add, AddCounted, AddThenRemove, Clear, Contains, Equals, Fill, Fits, HoleAt, Holes, Keep,
-    Remove, RunAt, Runs, Shift, Text,
-};
+use Step::{Add, AddCounted, AddThenRemove, Contains, Fill, Fits, Remove, RunAt, Runs, Text};
 
 /// A name, how many runs there may be, and the steps on a new assembler.
 pub type Row = (&'static str, usize, &'static [Step]);
@@ -127,15 +112,6 @@ fn adds_counted<const N: usize>(assembler: &mut Assembler<N>, offset: usize, siz
             .is_ok()
 }
 
-/// Counts the holes.
-fn count_holes<const N: usize>(assembler: &Assembler<N>) -> usize {
-    let mut count = 0usize;
-    for _hole in assembler.holes() {
-        count = count.saturating_add(1);
-    }
-    count
-}
-
 /// Does a step that changes the assembler, and returns whether it has the answer that it must have.
 fn changes<const N: usize>(assembler: &mut Assembler<N>, step: &Step) -> bool {
     match step {
@@ -144,28 +120,17 @@ fn changes<const N: usize>(assembler: &mut Assembler<N>, step: &Step) -> bool {
         Fill => fills(assembler),
         AddThenRemove(offset, size, removed) => removes(assembler, *offset, *size) == *removed,
         Remove(removed) => assembler.remove_front() == *removed,
-        Shift(count) => {
-            assembler.shift(*count);
-            true
-        }
-        Clear => {
-            assembler.clear();
-            true
-        }
         _ => false,
     }
 }
 
 /// Returns whether a question has the answer that it must have.
-fn answers<const N: usize>(assembler: &Assembler<N>, kept: &Assembler<N>, step: &Step) -> bool {
+fn answers<const N: usize>(assembler: &Assembler<N>, step: &Step) -> bool {
     match step {
         Runs(runs) => has_runs(assembler, runs),
         RunAt(number, run) => assembler.run_at(*number) == *run,
-        HoleAt(number, hole) => assembler.hole_at(*number) == *hole,
-        Holes(count) => count_holes(assembler) == *count,
         Contains(position, is_in) => assembler.contains(*position) == *is_in,
         Fits(offset, size, fits) => Assembler::<N>::fits(*offset, *size) == *fits,
-        Equals(is_same) => (*assembler == *kept) == *is_same,
         Text(text) => has_text(assembler, text),
         _ => false,
     }
@@ -175,14 +140,8 @@ fn answers<const N: usize>(assembler: &Assembler<N>, kept: &Assembler<N>, step: 
 fn goes<const N: usize>(assembler: &mut Assembler<N>, steps: &[Step]) -> Option<usize>
     requires { 1 ≤ N }
 {
-    let mut kept = Assembler::<N>::empty();
     for (number, step) in steps.iter().enumerate() {
-        if let Keep = step {
-            match assembler.clone() {
-                Ok(same) => kept = same,
-                Err(_) => return Some(number),
-            }
-        } else if !answers(assembler, &kept, step) && !changes(assembler, step) {
+        if !answers(assembler, step) && !changes(assembler, step) {
             return Some(number);
         }
     }

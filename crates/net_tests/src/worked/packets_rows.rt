@@ -6,7 +6,7 @@ use crate::worked::packets::Step::{
 };
 
 /// Packets that come and leave, before which there is a gap or none.
-pub static ROWS: [Row; 18] = [
+pub static ROWS: [Row; 16] = [
     (
         "test_simple",
         4,
@@ -178,12 +178,5 @@ pub static ROWS: [Row; 18] = [
         2,
         0,
         &[Enqueue(0, b""), Refuse(1), Enqueue(0, b""), Refuse(0)],
-    ),
-    ("no_slot", 0, 16, &[Refuse(0), Is(true, true), Nothing]),
-    (
-        "a_shorter_packet_than_was_placed",
-        1,
-        3,
-        &[Enqueue(2, b""), DequeueLength(2), EnqueueWith(2, 2)],
     ),
 ];

@@ -4,7 +4,7 @@ use crate::worked::receiver::Part::{Read, Segment};
 use crate::worked::receiver::{Pair, Row, Twenty};
 
 /// Schedules that `replay` answers so.
-pub static ROWS: [Row; 13] = [
+pub static ROWS: [Row; 12] = [
     (
         "bytes_are_read_in_parts",
         (
@@ -166,11 +166,10 @@ pub static ROWS: [Row; 13] = [
             ],
         ),
     ),
-    ("a_read_of_an_empty_stream", (8, 0, &[Reads(1, b"")])),
 ];
 
 /// Two schedules each, and whether their ends are the same.
-pub static PAIRS: [Pair; 6] = [
+pub static PAIRS: [Pair; 4] = [
     (
         "bytes_in_another_order",
         &[Segment(0, b"a"), Segment(1, b"b"), Segment(2, b"c")],
@@ -194,13 +193,6 @@ pub static PAIRS: [Pair; 6] = [
         &[Segment(2, b"A")],
         &[Segment(2, b"B")],
         true,
-    ),
-    ("two_fresh_receivers", &[], &[], true),
-    (
-        "a_second_schedule_without_lines",
-        &[Segment(0, b"a")],
-        &[],
-        false,
     ),
 ];
 

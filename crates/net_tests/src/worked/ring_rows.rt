@@ -10,7 +10,7 @@ use crate::worked::ring::Step::{
 const DOTS: &[u8] = b"............";
 
 /// Slices that are copied, elements that are lent, and closures.
-pub static QUEUED: [Row; 12] = [
+pub static QUEUED: [Row; 11] = [
     (
         "test_buffer_dequeue_slice",
         DOTS,
@@ -125,21 +125,6 @@ pub static QUEUED: [Row; 12] = [
             EnqueueSlice(b"abcd", 4),
             DequeueManyWith(4, b"x", 0),
             DequeueSlice(4, b"xbcd"),
-        ],
-    ),
-    (
-        "test_buffer_enqueue_dequeue_one",
-        b"...",
-        &[
-            DequeueOne(None),
-            EnqueueOne(Some(b'a')),
-            EnqueueOne(Some(b'b')),
-            EnqueueOne(Some(b'c')),
-            EnqueueOne(None),
-            DequeueOne(Some(b'a')),
-            DequeueOne(Some(b'b')),
-            DequeueOne(Some(b'c')),
-            DequeueOne(None),
         ],
     ),
 ];
