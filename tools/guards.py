@@ -36,32 +36,19 @@ use net_tcp::{AdvertisedWindow, TimeoutBounds};
 use std::ops::{Add, AddAssign, Div, DivAssign, Mul, MulAssign, Shl, ShlAssign, Shr, ShrAssign, Sub, SubAssign};
 
 '''
-# Functions with a precondition that no guard at their beginning tests, so that there is no checked call of them:
-# why, and the beginnings of what tests it. What a closure counted is known once it has returned.
-SLICES = 'a slice of Rust tests its indices',
-CLOSURE = 'Rust knows that a closure can be called',
-COUNT = 'Rust knows that a closure can be called; what it counts is tested after the call'
-READ = COUNT, 'let lent = part.len(); let answer = f(part); prove!(answer.0 <= lent,'
-MANY = COUNT, 'let answer = f(self.storage.part_mut(from, to)); prove!(answer.0 <= to - from,'
+# Functions with a precondition that no guard at their beginning tests, so that there is no checked call of them: why.
+# What a closure counted is known once it has returned. Of those of `TESTED` the body has a guard further on, which tests
+# in rust/tests break.
 UNGUARDED = {
-    'Storage::part': SLICES,
-    'Storage::part_mut': SLICES,
-    'Storage::element': SLICES,
-    'Storage::element_mut': SLICES,
-    'RingOver::enqueue_one_with': CLOSURE,
-    'RingOver::dequeue_one_with': CLOSURE,
-    'PacketsOver::dequeue_with': CLOSURE,
-    'RingOver::enqueue_many_with': MANY,
-    'RingOver::dequeue_many_with': MANY,
-    'PacketsOver::enqueue_with_infallible':
-        (COUNT, 'f(self.bytes.part_mut(place.from, place.from + max_size)); prove!(count <= max_size,'),
-    'ReceiverOver::read_with': READ,
-    'FiniteReceiverOver::read_with': READ,
-    'ReceivingEndOver::read_with': READ,
-    'PacketsOver::last_dequeued_mut':
-        ('no public call tells where the bytes before the read index begin',
-         'let capacity = self.bytes.count(); prove!(size <= capacity - self.head.bytes.length,',
-         'self.head.bytes.last_dequeued_index(capacity, size); prove!(size <= capacity - from,'),
+    'a slice of Rust tests its indices': 'Storage::part Storage::part_mut Storage::element Storage::element_mut',
+    'Rust knows that a closure can be called':
+        'RingOver::enqueue_one_with RingOver::dequeue_one_with PacketsOver::dequeue_with',
+}
+TESTED = {
+    'Rust knows that a closure can be called; what it counts is tested after the call':
+        'RingOver::enqueue_many_with RingOver::dequeue_many_with PacketsOver::enqueue_with_infallible '
+        'ReceiverOver::read_with FiniteReceiverOver::read_with ReceivingEndOver::read_with',
+    'no public call tells where the bytes before the read index begin': 'PacketsOver::last_dequeued_mut',
 }
 BOUND = '"in any `usize`"'
 HEADER = re.compile(r'impl(?:<(.*?)>)? (?:\S+ for )?(\w+)(<.*>)?\s*')
@@ -82,7 +69,8 @@ def guards_of(eraser, body):
 def guarded():
     """The functions that can be called from outside and require something, or have guards: name, header of the impl,
     signature, what the guards test."""
-    left = set(UNGUARDED)
+    tested = {*' '.join(TESTED.values()).split()}
+    unguarded = left = tested | {*' '.join(UNGUARDED.values()).split()}
     for crate, path, text in erase.sources():
         eraser = erase.Eraser(text, crate)
         eraser.run()
@@ -98,19 +86,16 @@ def guarded():
             asked = any(word[:1] == 'r' for kind, word, _ in eraser.tokens[begin:body] if kind == 'clause')
             end = eraser.group(body) if eraser.tokens[body][1] == '{' else body
             tests = [*guards_of(eraser, body)] if end > body else []
-            if name in UNGUARDED:
-                left -= {name}
-                said = ' '.join(erase.words(eraser.source(body, end)))
-                for test in UNGUARDED[name][1:]:
-                    if ' '.join(erase.words(test)) not in said:
-                        where = f'crates/{crate}/src/{path}: {name}'
-                        raise SystemExit(f'{where} has no `{test} ..`: UNGUARDED of tools/guards.py')
+            if name in unguarded:
+                left = left - {name}
+                if name in tested and not re.search(rf'prove!\((?:(?!prove!|{BOUND})[^;])*;', eraser.source(body, end)):
+                    raise SystemExit(f'crates/{crate}/src/{path}: {name} has no guard: TESTED of tools/guards.py')
             elif asked or is_operator or tests:
                 if {*tests} - {'N >= 1'} and 'track_caller' not in eraser.source(head, k):
-                    raise SystemExit(f'guards: {name} has no #[track_caller]')
+                    raise SystemExit(f'crates/{crate}/src/{path}: {name} has no #[track_caller]')
                 yield name, header, signature, tests
     if left:
-        raise SystemExit(f'guards: no such functions: {left}')
+        raise SystemExit(f'tools/guards.py: there are no such functions: {left}')
 
 
 def weaker(test):
