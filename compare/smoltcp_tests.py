@@ -59,13 +59,7 @@ def run(crate, count):
     print(f"{count} tests, {passed[1]} passed")
 
 
-def main():
+if __name__ == "__main__":
     sources = common.need(["cargo"]) / "src"
     with tempfile.TemporaryDirectory() as folder:
-        crate = Path(folder) / "net-base"
-        count = prepare(sources, crate)
-        run(crate, count)
-
-
-if __name__ == "__main__":
-    main()
+        run(Path(folder) / "net-base", prepare(sources, Path(folder) / "net-base"))

@@ -97,7 +97,7 @@ class Tests:
         self.refused("has no Cargo.toml of smoltcp", HERE / "checkout/managed")
         for what, file, old, new in [
             ("is smoltcp 0.13.0", "Cargo.toml", b'version = "0.14.0"', b'version = "0.13.0"'),
-            ("has no version", "Cargo.toml", b'version = "0.14.0"', b"version.workspace = true"),
+            ("is smoltcp of no version", "Cargo.toml", b'version = "0.14.0"', b"version.workspace = true"),
             ("0.14.0 was released: src/time.rs", "src/time.rs", b"use core::", b"use  core::"),
             ("0.14.0 was released: src/rand.rs", "src/rand.rs", b"\n", b"\n\x80"),
             ("src/lib.rs doesn't fit", "src/lib.rs", b"mod rand;", b"pub mod rand;"),

@@ -204,11 +204,11 @@ class Export:
     def returned(self, word, kind):
         """How the result is returned."""
         self.more = []
+        written = lambda code, name: Result("bool", f"{code}\n    true", "false", "IsFalse result", "false", f"{name}.new")
         if self.is_new:
-            made = f"*{self.head.name} = {{call}};"
-            self.result = (Result("bool", f"{made}\n    true", "false", "IsFalse result", "false",
-                                  f"{self.head.name}.new")
-                           if self.tests else Result("", made, "", "", "", f"{self.head.name}.new"))
+            name = self.head.name
+            self.result = written(f"*{name} = {{call}};", name) if self.tests else \
+                Result("", f"*{name} = {{call}};", "", "", "", f"{name}.new")
         elif word in ffi.ANSWERS:
             self.result = dataclasses.replace(RESULTS[kind], type=word)
         elif word == "true":
@@ -216,8 +216,7 @@ class Export:
         elif word and word.startswith("out "):
             name = word[4:]
             self.parameters.append((name, f"&mut {kind}"))
-            self.result = Result("bool", f"*{name} = {{call}};\n    true", "false", "IsFalse result", "false",
-                                 f"{name}.new")
+            self.result = written(f"*{name} = {{call}};", name)
         elif word:
             struct, field = re.findall(r"\w+", word)
             self.result = Result(struct, f"let {field} = {{call}};\n    {struct} {{ status: NET_BASE_DONE, {field} }}",
