@@ -21,15 +21,9 @@ def text(x, y, said, anchor="start", color=LINE):
     return f'<text x="{x:.0f}" y="{y:.0f}" text-anchor="{anchor}" fill="{color}">{said}</text>'
 
 
-def picture(width, height, title, parts):
-    """A picture that shows on any ground, with a title for those who can't see it."""
-    head = (f'<svg xmlns="http://www.w3.org/2000/svg" width="{width}" height="{height}" viewBox="0 0 {width} {height}" '
-            f'font-family="sans-serif" font-size="12">\n<title>{title}</title>\n<rect width="100%" height="100%" fill="#fff"/>\n')
-    return head + "\n".join(parts) + "\n</svg>\n"
-
-
 def times(rows):
-    """A bar for each row: the time here, where 1 is smoltcp's."""
+    """A bar for each row: the time here, where 1 is smoltcp's. It shows on any ground, and has a title for those who
+    can't see it."""
     left, step, unit = 180, 22, 400
     parts, bottom = [], 34 + step * len(rows)
     for number, (name, ratio, _) in enumerate(rows):
@@ -39,7 +33,10 @@ def times(rows):
                   text(left + unit * float(ratio) - 6, y + 14, ratio, "end", "#fff")]
     parts += [f'<path d="M{left + unit} 28V{bottom}" stroke="{THERE}" stroke-dasharray="4 3"/>',
               text(left + unit, 20, "smoltcp", "middle")]
-    return picture(left + unit + 60, bottom + 10, "Time of each row, where smoltcp's is 1", parts)
+    width, height = left + unit + 60, bottom + 10
+    head = f'<svg xmlns="http://www.w3.org/2000/svg" width="{width}" height="{height}" viewBox="0 0 {width} {height}" ' \
+           f'font-family="sans-serif" font-size="12">\n<title>Time of each row, where smoltcp\'s is 1</title>\n'
+    return head + "\n".join(['<rect width="100%" height="100%" fill="#fff"/>', *parts, "</svg>\n"])
 
 
 def main():

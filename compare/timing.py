@@ -7,7 +7,6 @@ there. Prints a table in Markdown. Status 1 if results differ. --once: one place
 """
 import argparse
 import datetime
-import math
 import os
 import platform
 import re
@@ -81,16 +80,12 @@ def counted(built, sides, arguments):
         return counts
 
 
-def mean(ratios):
-    return math.exp(statistics.fmean(map(math.log, ratios)))
-
-
 def groups_of(rows, at):
-    """The mean of a column for each group of rows."""
+    """The geometric mean of a column for each group of rows."""
     groups = {}
     for row in rows:
         groups.setdefault(row[0], []).append(row[at])
-    return {group: mean(column) for group, column in groups.items()}
+    return {group: statistics.geometric_mean(column) for group, column in groups.items()}
 
 
 def workload_table(rows, counts):

@@ -94,7 +94,6 @@ class Tests:
             stop(f"changed are {differ}, or the checkout: {refused}")
         self.refused("overlaid exists", self.original, "overlaid")
         self.refused("has no Cargo.toml of smoltcp", self.folder / "none")
-        self.refused("has no Cargo.toml of smoltcp", HERE / "checkout/managed")
         for what, file, old, new in [
             ("is smoltcp 0.13.0", "Cargo.toml", b'version = "0.14.0"', b'version = "0.13.0"'),
             ("is smoltcp of no version", "Cargo.toml", b'version = "0.14.0"', b"version.workspace = true"),

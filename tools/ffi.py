@@ -10,9 +10,8 @@
 It reads, in the order of the modules in lib.rt, but those in FIRST before,
 - each `#[unsafe(no_mangle)] pub extern "C" fn`, with its doc comment;
 - the types `..Status`, each an enum in C, whose enumerators are those constants `NET_BASE_..` of the type `Status` that
-its
-  comment names, and as `NET_BASE_NONE` what the function `no_number` returns: no constant knows how many bits a `usize`
-  has;
+  its comment names, and as `NET_BASE_NONE` what the function `no_number` returns: no constant knows how many bits a
+  `usize` has;
 - each `#[repr(C)]` struct that one of these takes or returns, of this crate or of one that it uses.
 
 A slice is a pointer and then a length, with `_length` after the slice's name; `&T` and `&mut T` are pointers. In C a

@@ -2,8 +2,7 @@
 """places.py: what a new call of the core lacks, by names. Status 1 if
 
 - a public `&mut self` method of a type with a history has no clause `call`, which says which call of the history it is,
-or if
-  no clause makes a call of the history;
+  or if no clause makes a call of the history;
 - a public call that requires something has no guard (guards.py, which proves that the guards are enough),
 
 but for those that a list has with its reason, or if a list has what isn't so.

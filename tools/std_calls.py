@@ -5,8 +5,7 @@
 
 With --check docs/std-calls.md is to have these lines, and docs/TRUST.md the crates; the status is 1 if one hasn't. With
 --write the page is written. The compiler is that of rust/kit.sh, unpacked in FOLDER, or in a temporary one; the status
-is 2 if there is none. Operators, indices, `?`, calls of closures
-and what derives print aren't listed.
+is 2 if there is none. Operators, indices, `?`, calls of closures and what derives print aren't listed.
 """
 import re
 import sys

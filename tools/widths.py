@@ -27,10 +27,10 @@ numbers of a `usize` is one. Any other operation has a cover:
 What isn't known is open: each value or call with a `usize` or an `isize` in its type, that is none of `FORMS` and
 `KNOWN`.
 
-The law `is_usize` is given a parameter, a field, a length, what a call returned, or a literal: of a sum it would state
-what is to be proved. No proof but those of `most` and of this law unfolds `shortfall`, but for that it is below 2^64.
-The compiler is that of rust/kit.sh, unpacked in FOLDER, or in a temporary one. The status is 1 if an operation is open,
-and 2 if there is no compiler.
+The law `is_usize` is given a parameter, a length, what a method of `self` returned, or a literal: of a sum it would
+state what is to be proved. No proof but those of `most` and of this law unfolds `shortfall`, but for that it is below
+2^64. The compiler is that of rust/kit.sh, unpacked in FOLDER, or in a temporary one. The status is 1 if an operation is
+open, and 2 if there is no compiler.
 """
 import os
 import re
@@ -423,24 +423,16 @@ class Reader:
 
 
 def laws(paths):
-    """Where the law `is_usize` is given something else than a parameter, a field, a length, a result or a literal."""
+    """Where the law `is_usize` is given something else than a literal, or the name of a parameter, a length, or what `self` says."""
     for path in paths:
         file = File(path.read_text())
         for call in re.finditer(r'\bis_usize\(([^;]*)\);', file.code):
-            given = call[1].strip()
-            number = re.fullmatch(NUMBER, given)
-            if number and int(given.replace('_', '').removesuffix('usize')) <= MOST:
+            given, text = call[1].strip(), file.code[file.code.rfind('fn ', 0, call.start()):call.start()]
+            if re.fullmatch(NUMBER, given) and int(given.replace('_', '').removesuffix('usize')) <= MOST:
                 continue
-            body = file.blocks(call.start())[-1]
-            text, name = file.code[body:call.start()], re.escape(given.split('.')[0])
-            plainly = rf'\blet (?:mut )?{name}\b(?:: \w+)? = ([^;]*);'
-            made, other = re.findall(plainly, text), re.search(HIDES.format(rf'\b{name}\b'), re.sub(plainly, '', text))
-            assigned = re.search(rf'(?<![\w.]){re.escape(given)}\s*(?:[-+*/]|<<)?=(?!=)',
-                                 re.sub(r'\blet [^;]*;', '', text))
-            is_plain = re.fullmatch(rf'{PATH}(?:\.(?:len|count)\(\))?', given)
-            is_changed = assigned or re.search(rf'\blet mut {name}\b', text)
-            computes = r'[-+*/]|<<|\bas\b|wrapping|saturating|\bpow\b|\bMAX\b|^\w+$'
-            if not is_plain or is_changed or other or any(re.search(computes, value) for value in made):
+            length = rf'\blet {re.escape(given)} = (?:[\w.]+\.len\(\)|self\.\w+\(\w+\));'
+            is_made = re.fullmatch('[a-z]\\w*', given) and re.search(rf'[(,]\s*{given}: usize\b|{length}', text)
+            if not is_made or re.search(HIDES.format(rf'\b{given}\b'), re.sub(length, '', text)):
                 yield f'{path}:{file.code.count(chr(10), 0, call.start()) + 1}: is_usize({given})'
 
 

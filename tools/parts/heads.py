@@ -3,10 +3,9 @@ part of ffi.py.
 
 An export is a line of heads.txt, whose first lines say what the line says. Of the method it has the comment, with C's
 names (`in_c`); the parameters, where elements are bytes; and each clause `ensures`, after the test that it was not
-refused. What the method requires is tested, and where that isn't so, the
-clause `refused` says what is returned, and that nothing changes. What would cost a look at each run isn't tested: that
-is the export's own `requires`, where the tests hold. `TESTS` says how each is tested, `RESULTS` how a result of the
-method is returned.
+refused. What the method requires is tested, and where that isn't so, the clause `refused` says what is returned, and
+that nothing changes. What would cost a look at each run isn't tested: that is the export's own `requires`, where the
+tests hold. `TESTS` says how each is tested, `RESULTS` how a result of the method is returned.
 """
 import dataclasses
 import pathlib
