@@ -13,7 +13,7 @@ OUT = Path(os.environ.get("COMPARE_OUT") or Path(tempfile.gettempdir()) / "net_b
 DEFAULT_PROFILE = {"CARGO_PROFILE_RELEASE_LTO": "false", "CARGO_PROFILE_RELEASE_CODEGEN_UNITS": "16"}
 FILES = [
     "storage/mod.rs", "storage/assembler.rs", "storage/packet_buffer.rs", "storage/ring_buffer.rs",
-    "phy/mod.rs", "phy/loopback.rs", "rand.rs", "time.rs",
+    "rand.rs", "time.rs",
 ]
 
 

@@ -63,8 +63,7 @@ def smoltcp_crate(sources, folder):
     shutil.copytree(common.REPOSITORY / "overlay/checkout", folder)
     (folder / "src/storage").mkdir()
     for file in common.FILES:
-        if not file.startswith("phy/"):
-            shutil.copy2(sources / file, folder / "src" / file)
+        shutil.copy2(sources / file, folder / "src" / file)
     for file, old, new in [("rand.rs", "pub(crate) ", "pub "), ("lib.rs", "\nmod rand;", "\npub mod rand;")]:
         path = folder / "src" / file
         path.write_text(path.read_text().replace(old, new))

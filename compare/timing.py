@@ -110,22 +110,16 @@ def machine():
     return f"{name}, {os.cpu_count()} processors, load {os.getloadavg()[0]:.1f}"
 
 
-def rust_sides(smoltcp):
-    """Builds what times the crate net-base."""
-    common.cargo("release", ["side_original", "side_rust"], smoltcp, RUSTFLAGS="", **common.DEFAULT_PROFILE)
-    return common.cargo("release", ["driver"], smoltcp, only=["--bin", "driver"], RUSTFLAGS="")
-
-
 def timed(smoltcp, arguments):
     """Times the workloads: tables, and what differs."""
-    built = rust_sides(smoltcp)
+    common.cargo("release", ["side_original", "side_rust"], smoltcp, RUSTFLAGS="", **common.DEFAULT_PROFILE)
+    built = common.cargo("release", ["driver"], smoltcp, only=["--bin", "driver"], RUSTFLAGS="")
     placements = PLACEMENTS[:1] if arguments.once else PLACEMENTS
     sides = [placed(built, "side_rust", placements), placed(built, "side_original", placements)]
     print(f"{datetime.date.today()}; {machine()}; {len(placements)} placements of each side, "
           f"{arguments.samples} samples of {arguments.milliseconds:g} ms a row and placement\n")
     rows, differ = workloads(built, sides, arguments)
-    workload_table([row for row in rows if row[0] != "loopback"],
-                   counted(built, [path.split(":")[0] for path in sides], arguments))
+    workload_table(rows, counted(built, [path.split(":")[0] for path in sides], arguments))
     return differ
 
 

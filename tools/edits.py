@@ -24,7 +24,6 @@ Ends with status 1 if an edit isn't in one row of the table, a row of it names n
 or an edit has neither rows nor a reason, or rows that aren't as they say.
 """
 import collections
-import os
 import pathlib
 import re
 import shutil

@@ -3,17 +3,9 @@
 use std::path::{Path, PathBuf};
 use std::{env, fs, process};
 
-const FILES: [&str; 8] = [
+const FILES: [&str; 6] = [
     "storage/mod.rs", "storage/assembler.rs", "storage/packet_buffer.rs", "storage/ring_buffer.rs",
-    "phy/mod.rs", "phy/loopback.rs", "rand.rs", "time.rs",
-];
-
-/// What `phy/mod.rs` names of files that belong to another layer: nothing of it is called.
-const ABSENT: [(&str, &[&str]); 4] = [
-    ("fault_injector", &["FaultInjector"]),
-    ("fuzz_injector", &["FuzzInjector", "Fuzzer"]),
-    ("pcap_writer", &["PcapLinkType", "PcapMode", "PcapSink", "PcapWriter"]),
-    ("tracer", &["Tracer", "TracerDirection", "TracerPacket"]),
+    "rand.rs", "time.rs",
 ];
 
 const FEATURES: [&str; 9] = [
@@ -27,9 +19,7 @@ fn main() {
         .unwrap_or_else(|| stop("SMOLTCP is not set: it names the folder of a checkout of smoltcp 0.14.0"));
     let sources = PathBuf::from(checkout).join("src");
     let out = PathBuf::from(env::var_os("OUT_DIR").expect("cargo sets OUT_DIR"));
-    for folder in ["storage", "phy"] {
-        fs::create_dir_all(out.join(folder)).expect("OUT_DIR can be written");
-    }
+    fs::create_dir_all(out.join("storage")).expect("OUT_DIR can be written");
     for file in FILES {
         let from = sources.join(file);
         println!("cargo::rerun-if-changed={}", from.display());
@@ -37,22 +27,15 @@ fn main() {
             stop(&format!("SMOLTCP has no file {}", from.display()));
         }
     }
-    for (module, types) in ABSENT {
-        let text: String = types.iter().map(|name| format!("pub struct {name};\n")).collect();
-        write(&out.join(format!("phy/{module}.rs")), &text);
-    }
     for feature in FEATURES {
         println!("cargo::rustc-cfg=feature=\"{feature}\"");
     }
     let package = env::var("CARGO_PKG_NAME").expect("cargo sets CARGO_PKG_NAME");
     let runs = package.trim_start_matches("original");
     let mut root = format!("mod config {{ pub const ASSEMBLER_MAX_SEGMENT_COUNT: usize = {runs}; }}\n");
-    for (module, file) in [
-        ("pub mod storage", "storage/mod.rs"),
-        ("pub mod phy", "phy/mod.rs"),
-        ("pub mod time", "time.rs"),
-        ("mod rand", "rand.rs"),
-    ] {
+    for (module, file) in
+        [("pub mod storage", "storage/mod.rs"), ("pub mod time", "time.rs"), ("mod rand", "rand.rs")]
+    {
         root.push_str(&format!("#[path = {:?}]\n{module};\n", out.join(file)));
     }
     write(&out.join("root.rs"), &root);

@@ -3,7 +3,7 @@ are there for contracts alone. What is one is seen by what the sources declare."
 import collections
 import re
 
-from parts.erase_tokens import SPACE, Refused, Text
+from parts.erase_tokens import Refused, Text
 
 # A type of snapshots alone, which takes no bytes.
 COUNT = re.compile(r'^ *(?:pub(?:\([^)]*\))? )?struct (\w+) \{\n(?: *(?:pub )?\w+: Snapshot<.*>,\n)+ *\}', re.M)

@@ -3,7 +3,7 @@ import re
 
 from parts.mir_text import tables
 from parts.same_side import Branch, Call, Never, Panic, Return, Store, at_local
-from parts.same_terms import (FALSE, UNIT, Differ, Known, Unknown, any_part, discriminant, holds_ref, is_test, mentions,
+from parts.same_terms import (UNIT, Differ, Known, Unknown, any_part, discriminant, holds_ref, is_test, mentions,
                               met, settled, shown, term)
 
 # Names that one of the programs has, and those that both have here.

@@ -1,5 +1,5 @@
 //! Reads the workloads over smoltcp as workloads over the crate net-base: other lines name the types, and the
-//! stream is received by the crate's receiver, not by a join of ring and assembler. The loopback device stays.
+//! stream is received by the crate's receiver, not by a join of ring and assembler.
 use std::path::PathBuf;
 use std::{env, fs};
 

@@ -78,9 +78,6 @@ pub fn rows() -> Vec<Row> {
     for size in [20, 40, 64, 576, 1_460, 9_000, 65_535] {
         all.push(Row { source: size, ..row("checksum", &format!("size {size}")) });
     }
-    for size in [64, 1_514] {
-        all.push(Row { source: size, calls: 2, ..row("loopback", &format!("size {size}")) });
-    }
     all.sort_by_key(|row| row.workload);
     all
 }

@@ -2,9 +2,7 @@
 pub mod receiver;
 
 use original4::doors::Rand;
-use original4::phy::{Device, Loopback, Medium, RxToken, TxToken};
 use original4::storage::{PacketBuffer, PacketMetadata, RingBuffer};
-use original4::time::Instant;
 use receiver::{Assembler, Assembler4, Assembler32, Assembler256, Assembler1024, Receiver, Stream};
 use std::hint::black_box;
 
@@ -38,18 +36,18 @@ pub struct Memory {
 pub type Workload = extern "C" fn(&Memory) -> u64;
 
 /// How many workloads there are.
-pub const COUNT: usize = 14;
+pub const COUNT: usize = 13;
 
 /// Their names, `np_` of `perf` left out.
 pub const NAMES: [&str; COUNT] = [
     "ring_slice", "ring_many", "ring_ahead", "ring_one", "packet", "asm_add", "asm_front", "asm_slide",
-    "stream", "stream_lent", "rand", "port", "checksum", "loopback",
+    "stream", "stream_lent", "rand", "port", "checksum",
 ];
 
 /// The workloads over smoltcp, in the order of their names.
 pub static ORIGINAL: [Workload; COUNT] = [
     ring_slice, ring_many, ring_ahead, ring_one, packet, asm_add, asm_front, asm_slide, stream, stream_lent,
-    rand, port, checksum, loopback,
+    rand, port, checksum,
 ];
 
 /// The checksum of nothing.
@@ -361,21 +359,4 @@ pub fn smoltcp_checksum(bytes: &[u8]) -> u16 {
 extern "C" fn checksum(m: &Memory) -> u64 {
     let bytes = m.source.slice();
     (0..m.rounds).fold(START, |sum, _| mix(sum, smoltcp_checksum(black_box(&*bytes)).into()))
-}
-
-extern "C" fn loopback(m: &Memory) -> u64 {
-    let frame = m.source.slice();
-    let (mut sum, mut device) = (START, Loopback::new(Medium::Ethernet));
-    for round in 0..m.rounds.saturating_add(4) {
-        if let Some(token) = device.transmit(Instant::ZERO) {
-            token.consume(frame.len(), |bytes| bytes.copy_from_slice(frame));
-        }
-        if round >= 4 {
-            sum = match device.receive(Instant::ZERO) {
-                Some((rx, _)) => rx.consume(|bytes| mix_ends(sum, bytes)),
-                None => mix(sum, 1),
-            };
-        }
-    }
-    sum
 }
