@@ -180,19 +180,20 @@ mod tests {
     /// microseconds.
     #[test]
     fn estimates() {
-        let first = |time| RttEstimate::first(Duration::from_micros(time)).scaled();
+        let scaled = |it: RttEstimate| (it.srtt_8(), it.rttvar_4());
+        let first = |time| scaled(RttEstimate::first(Duration::from_micros(time)));
         assert_eq!(first(100_000), (800_000, 200_000));
         assert_eq!(first(800_000), (6_400_000, 1_600_000));
         assert_eq!(first(u64::MAX), (1 << 63, 1 << 61));
         let next = |srtt_8, rttvar_4, time| {
             let before = RttEstimate::from_scaled(srtt_8, rttvar_4);
-            before.with_sample(Duration::from_micros(time)).scaled()
+            scaled(before.with_sample(Duration::from_micros(time)))
         };
         assert_eq!(next(800_000, 200_000, 100_000), (800_000, 150_000));
         assert_eq!(next(6_400_000, 1_600_000, 400_000), (6_000_000, 1_600_000));
         assert_eq!(next(15, 7, 0), (14, 7));
         assert_eq!(next((1 << 63) + 1, 440_639_728_830, 1 << 60), (1 << 63, 330_479_796_623));
-        assert_eq!(RttEstimate::from_scaled(u64::MAX, u64::MAX).scaled(), (1 << 63, 1 << 62));
+        assert_eq!(scaled(RttEstimate::from_scaled(u64::MAX, u64::MAX)), (1 << 63, 1 << 62));
     }
 
     /// The time and four times its variation, or one tick. The least timeout may be above the greatest one.

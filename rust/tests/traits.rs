@@ -19,7 +19,8 @@ use net_base::storage::{
 };
 use net_base::tcp::{
     AdvertisedWindow, Announcement, Answer, LossRecovery, PeerWindow, Reported,
-    RetransmissionTimeout, RetransmissionTimer, Sack, SentNumbers, TimeoutBounds, Transmission,
+    RetransmissionTimeout, RetransmissionTimer, RttEstimate, Sack, SentNumbers, TimeoutBounds,
+    Transmission,
 };
 use net_base::time::{Duration, Instant};
 

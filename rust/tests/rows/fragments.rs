@@ -1,16 +1,11 @@
 //! Buffers of fragments.
 use crate::show::{bytes, pattern, truth};
 use crate::storages::{with_storage, Stored};
+use crate::timer::moment;
 use crate::{Call, Subject};
 use net_base::storage::{FragmentBuffer, FragmentError, FragmentsOver, Storage};
-use net_base::time::Instant;
 
 struct Buffer<S: Storage<u8>, const N: usize>(FragmentsOver<S, N>);
-
-/// The moment of a number of microseconds, whose sum with 2^64 stands for one below zero.
-fn moment(micros: u64) -> Instant {
-    Instant::from_micros(micros as i64)
-}
 
 pub fn with_buffer<const N: usize>(
     first: &Call,

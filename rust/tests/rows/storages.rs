@@ -16,7 +16,6 @@ pub enum Stored {
 impl Stored {
     pub const ALL: [Stored; 5] =
         [Stored::Lent, Stored::Owned, Stored::Slice, Stored::Vector, Stored::Array];
-    pub const CONVERTED: [Stored; 2] = [Stored::Lent, Stored::Owned];
 }
 
 /// A copy that is never freed.

@@ -1,12 +1,13 @@
 //! What a TCP needs beside its queues. No call changes what another sees.
 use crate::show::{pattern, truth};
+use crate::timer::moment;
 use crate::{Call, Subject};
 use net_base::checksum::{checksum, updated_checksum, PartsSum};
 use net_base::tcp::{
     classify, is_acceptable, is_acknowledgement, scale_for, scaled, AdvertisedWindow, Announcement,
     AnswerLimit, Arrival, PeerWindow, RetransmissionTimeout, Segment, SentNumbers, TimeoutBounds,
 };
-use net_base::time::{Duration, Instant};
+use net_base::time::Duration;
 
 pub struct Tcp;
 
@@ -81,10 +82,6 @@ fn announce(call: &Call) -> String {
         _ => return truth(window.is_update_due(scale, next, end, capacity, mss)).to_string(),
     };
     format!("{field} {}", window.edge())
-}
-
-fn moment(micros: u64) -> Instant {
-    Instant::from_micros(micros as i64)
 }
 
 fn peer_update(call: &Call) -> String {

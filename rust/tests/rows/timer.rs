@@ -61,7 +61,7 @@ impl Subject for Timer {
     }
 }
 
-/// A moment so many microseconds after moment 0.
+/// A moment so many microseconds after moment 0, where a sum with 2^64 is of one before.
 pub fn moment(micros: u64) -> Instant {
     Instant::from_micros(micros as i64)
 }
