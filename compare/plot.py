@@ -34,9 +34,10 @@ def times(rows):
     parts += [f'<path d="M{left + unit} 28V{bottom}" stroke="{THERE}" stroke-dasharray="4 3"/>',
               text(left + unit, 20, "smoltcp", "middle")]
     width, height = left + unit + 60, bottom + 10
-    head = f'<svg xmlns="http://www.w3.org/2000/svg" width="{width}" height="{height}" viewBox="0 0 {width} {height}" ' \
-           f'font-family="sans-serif" font-size="12">\n<title>Time of each row, where smoltcp\'s is 1</title>\n'
-    return head + "\n".join(['<rect width="100%" height="100%" fill="#fff"/>', *parts, "</svg>\n"])
+    size = f'width="{width}" height="{height}" viewBox="0 0 {width} {height}"'
+    return "\n".join([f'<svg xmlns="http://www.w3.org/2000/svg" {size} font-family="sans-serif" font-size="12">',
+                      "<title>Time of each row, where smoltcp's is 1</title>",
+                      '<rect width="100%" height="100%" fill="#fff"/>', *parts, "</svg>\n"])
 
 
 def main():

@@ -59,7 +59,7 @@ def said(*words, **options):
 
 
 def smoltcp_crate(sources, folder):
-    """Makes a crate of smoltcp's files, of which one is changed: what `rand.rs` has for its own crate alone is public."""
+    """Makes a crate of smoltcp's files, but that what `rand.rs` has for its own crate alone is public."""
     shutil.copytree(common.REPOSITORY / "overlay/checkout", folder)
     (folder / "src/storage").mkdir()
     for file in common.FILES:

@@ -1,9 +1,9 @@
 #!/usr/bin/env python3
 """SMOLTCP=path python3 compare/smoltcp_tests.py
 
-Runs smoltcp's own tests of `storage` and `time` over this crate. It copies the crate, appends to each of these files the
-test module of smoltcp's file of that name with the changes of overlay.py, and runs `cargo test` there. Status 1 if one
-fails or they are not as many as the checkout has.
+Runs smoltcp's own tests of `storage` and `time` over this crate. It copies the crate, appends to each of these files
+the test module of smoltcp's file of that name with the changes of overlay.py, and runs `cargo test` there. Status 1 if
+one fails or they are not as many as the checkout has.
 """
 import os
 import re

@@ -37,8 +37,8 @@ use std::ops::{Add, AddAssign, Div, DivAssign, Mul, MulAssign, Shl, ShlAssign, S
 
 '''
 # Functions with a precondition that no guard at their beginning tests, so that there is no checked call of them: why.
-# What a closure counted is known once it has returned. Of those of `TESTED` the body has a guard further on, which tests
-# in rust/tests break.
+# What a closure counted is known once it has returned. Of those of `TESTED` the body has a guard further on, which
+# tests in rust/tests break.
 UNGUARDED = {
     'a slice of Rust tests its indices': 'Storage::part Storage::part_mut Storage::element Storage::element_mut',
     'Rust knows that a closure can be called':

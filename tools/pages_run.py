@@ -6,9 +6,9 @@
 A command is a line of a block of a page, or a text of two words or more between backquotes, that begins with one of
 FIRST. A block that changes the folder is one command, which ends at the first of its lines that fails. A block of text
 after a block of commands is what the last of them prints, but for what is after three spaces in a line of it, a remark;
-and so is a text after `# prints`. `my.c` is the program in C of docs/C.md. With `--proved` commands that prove something
-are run alone; those of ELSEWHERE never, which has the reasons; a name that ends in ` ..` is the beginning of commands.
-Status 1 if a command fails, or if a name of the list is on no page.
+and so is a text after `# prints`. `my.c` is the program in C of docs/C.md. With `--proved` commands that prove
+something are run alone; those of ELSEWHERE never, which has the reasons; a name that ends in ` ..` is the beginning of
+commands. Status 1 if a command fails, or if a name of the list is on no page.
 """
 import os
 import pathlib

@@ -108,7 +108,7 @@ def main(way):
     names = f"tools/public_items.txt, by {was[0]}", now[0]
     different = list(difflib.unified_diff(was[1:], now[1:], *names, n=0, lineterm=""))
     missing = untold(now)
-    print("\n".join([*different, *missing]) or f"{len(now) - 1} public items, as listed; tests or examples name each call")
+    print("\n".join([*different, *missing]) or f"{len(now) - 1} public items, as listed; tests name each call")
     return bool(different or missing)
 
 

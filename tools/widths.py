@@ -66,7 +66,7 @@ OWN = re.compile(r'(?!core::)[a-z_]+\w*::|<.* as (?!core::)\w+::|<(?!core::)\w+:
                  r'core::iter::(?:Iterator|DoubleEndedIterator)>::(?:next|next_back|size_hint)$')
 # A pattern that has a name: of `let`, of `for`, of a closure, of an arm.
 HIDES = r'\blet\b[^=;]*{0}|\bfor\b[^{{]*{0}[^{{]*\bin\b|\|[^|;]*{0}[^|;]*\||{0}[^;{{]*=>'
-# What follows each use of the last parameter, `by`, of these functions: they pass it on, or add it in numbers that wrap.
+# What follows each use of the last parameter, `by`, of these functions: they pass it on, or give it to `wrapping_add`.
 WRAPS = {'take_out': [':', ')'], 'wrapped': [':', '.wrapping_add', '.wrapping_add']}
 # The proofs that say how many bits a `usize` has.
 KNOWING = {'net_ring/proofs/width/most/Answers.antt', 'net_ring/proofs/laws/is_usize/Answers.antt'}
@@ -423,7 +423,7 @@ class Reader:
 
 
 def laws(paths):
-    """Where the law `is_usize` is given something else than a literal, or the name of a parameter, a length, or what `self` says."""
+    """Where the law `is_usize` is given something else than a literal, a parameter, a length, or what `self` says."""
     for path in paths:
         file = File(path.read_text())
         for call in re.finditer(r'\bis_usize\(([^;]*)\);', file.code):

@@ -203,10 +203,11 @@ class Export:
     def returned(self, word, kind):
         """How the result is returned."""
         self.more = []
-        written = lambda code, name: Result("bool", f"{code}\n    true", "false", "IsFalse result", "false", f"{name}.new")
+        written = lambda name: Result("bool", f"*{name} = {{call}};\n    true", "false", "IsFalse result", "false",
+                                      f"{name}.new")
         if self.is_new:
             name = self.head.name
-            self.result = written(f"*{name} = {{call}};", name) if self.tests else \
+            self.result = written(name) if self.tests else \
                 Result("", f"*{name} = {{call}};", "", "", "", f"{name}.new")
         elif word in ffi.ANSWERS:
             self.result = dataclasses.replace(RESULTS[kind], type=word)
@@ -215,7 +216,7 @@ class Export:
         elif word and word.startswith("out "):
             name = word[4:]
             self.parameters.append((name, f"&mut {kind}"))
-            self.result = written(f"*{name} = {{call}};", name)
+            self.result = written(name)
         elif word:
             struct, field = re.findall(r"\w+", word)
             self.result = Result(struct, f"let {field} = {{call}};\n    {struct} {{ status: NET_BASE_DONE, {field} }}",
