@@ -1,8 +1,8 @@
 #!/usr/bin/env python3
 """places.py: what a new call of the core lacks, by names. Status 1 if
 
-- a public `&mut self` method of a type with a history has no clause `call`, which says which call of the history it is,
-  or if no clause makes a call of the history;
+- a public `&mut self` method of a packet queue has no clause `call`, which says which call of its history it is, or if no
+  clause makes a call of the history;
 - a public call that requires something has no guard (guards.py, which proves that the guards are enough),
 
 but for those that a list has with its reason, or if a list has what isn't so.
@@ -15,13 +15,10 @@ sys.dont_write_bytecode = True
 import guards
 
 CRATES = Path(__file__).resolve().parent.parent / "crates"
-# The types with a history: its definition, and the methods.
-HISTORIES = {"net_ring": ("RingHistory", "ring_buffer"), "net_packets": ("PacketHistory", "packet_buffer")}
 # Methods without this clause, and why.
 NO_CALLS = {
-    "net_ring: read_allocated": "it changes nothing, and borrows `&mut` as smoltcp's does",
-    "net_packets: dequeue_with": "clause `handed` says it, by HandsPacket",
-    "net_packets: enqueue_with_infallible": "clause `wrote` says it",
+    "dequeue_with": "clause `handed` says it, by HandsPacket",
+    "enqueue_with_infallible": "clause `wrote` says it",
 }
 # A public method of `&mut self`, up to its body.
 METHOD = re.compile(r"^    pub (?:const )?fn (\w+)(?:<[^{}]*?>)?\(\s*&(?:'\w+ )?mut self\b(.*?)(?: \{$|^    \{$)",
@@ -30,16 +27,13 @@ METHOD = re.compile(r"^    pub (?:const )?fn (\w+)(?:<[^{}]*?>)?\(\s*&(?:'\w+ )?
 
 def lacking():
     """A line for each method without a call of its history, and for each call that none makes."""
-    without = set()
-    for crate, (history, file) in HISTORIES.items():
-        text = (CRATES / crate / f"src/{file}.rt").read_text()
-        without |= {f"{crate}: {name}" for name, contract in METHOD.findall(text) if "ensures call {" not in contract}
-        files = [*(CRATES / crate).glob("src/**/*.rt"), *(CRATES / crate).glob("specs/*.antt")]
-        said = "\n".join(it.read_text() for it in files)
-        calls = set(re.findall(r"^ *Makes \(?(\w+)", said, re.M))
-        said = re.sub(r"^ *(?:--|//|Makes|log_after|\w+ :).*", "", said, flags=re.M)
-        yield from (f"{crate}: no clause makes the call {it}"
-                    for it in sorted(calls) if not re.search(rf"\b{it}\b", said))
+    queues = CRATES / "net_packets"
+    methods = METHOD.findall((queues / "src/packet_buffer.rt").read_text())
+    without = {name for name, contract in methods if "ensures call {" not in contract}
+    said = "\n".join(it.read_text() for it in [*queues.glob("src/**/*.rt"), *queues.glob("specs/*.antt")])
+    calls = set(re.findall(r"^ *Makes \(?(\w+)", said, re.M))
+    said = re.sub(r"^ *(?:--|//|Makes|log_after|\w+ :).*", "", said, flags=re.M)
+    yield from (f"no clause makes the call {it}" for it in sorted(calls) if not re.search(rf"\b{it}\b", said))
     yield from (f"{it}: no clause says which call of the history it is" for it in sorted(without - set(NO_CALLS)))
     yield from (f"{it}: NO_CALLS has it, and it has a clause, or there is no such method"
                 for it in sorted(set(NO_CALLS) - without))
@@ -50,7 +44,7 @@ def main():
     wrong = [*lacking(),
              *(f"{name}: requires something, and no guard tests it" for name, _, _, tests in guarded if not tests)]
     print("\n".join([*wrong,
-                     f"{len(HISTORIES)} histories, {len(guarded)} guarded calls: {len(wrong)} places are missing"]))
+                     f"{len(guarded)} guarded calls: {len(wrong)} places are missing"]))
     return 1 if wrong else 0
 
 

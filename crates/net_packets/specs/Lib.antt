@@ -2,6 +2,7 @@ pub mod Packets
 pub mod PacketsHead
 pub mod PacketLends
 pub mod PacketCalls
+pub mod Log
 pub mod PacketHistory
 pub use Packets.*
 pub use PacketsHead.*

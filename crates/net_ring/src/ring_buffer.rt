@@ -1,5 +1,5 @@
 //! A ring of elements over storage that is lent or owned.
-#![tactic(auto, using(crate::proofs::RingFacts::rings), unfolding(crate::specs::RingHistory::Makes))]
+#![tactic(auto, using(crate::proofs::RingFacts::rings))]
 
 ghost use Rattle.std.specs.Prelude.{◌≡◌, ◌≢◌, ◌↔◌, ◌≤◌, ◌<◌, ◌==◌, ◌-◌, ◌+◌, ◌^◌, ◌∷◌, ◌++◌, [], ℕ, List, length, take};
 ghost use Rattle.std.specs.Prelude.{drop, min, slice_get, slice_index_or, IsTrue, IsErr, OnErr};
@@ -13,10 +13,7 @@ ghost use Rattle.net_ring.specs.{contiguous_queue, contiguous_allocated, queue_i
 ghost use Rattle.net_ring.specs.{with_elements_wrapping, with_enqueued, with_dequeued, with_one_enqueued};
 ghost use Rattle.net_ring.specs.{with_one_dequeued, rewind_if_empty, Enqueues, Dequeues, WritesSpare};
 ghost use Rattle.net_ring.specs.{TakesFirstOf, CalledOnNext, CalledOnFirst, CountsWithin, CalledOnSpare, CalledOnQueue};
-ghost use Rattle.net_ring.specs.{place, IsSound, ring_at, Makes, Clear, Reset, RewindIfEmpty, EnqueueOne, EnqueueErr};
-ghost use Rattle.net_ring.specs.{DequeueOne, DequeueErr, EnqueueMany, EnqueueManyWith, DequeueMany};
-ghost use Rattle.net_ring.specs.{DequeueManyWith, EnqueueSlice, Dequeue, GetUnallocated, WriteUnallocated};
-ghost use Rattle.net_ring.specs.{EnqueueUnallocated};
+ghost use Rattle.net_ring.specs.{place, IsSound, ring_at};
 
 use crate::error::{Empty, Full};
 use crate::head::RingHead;
@@ -180,7 +177,6 @@ impl<T, S: Storage<T>> RingOver<T, S> {
     pub fn clear(&mut self)
         ensures ring { self.new ≡ ring self.old.storage 0 0 }
         ensures parts { (queue self.new ≡ []) × (spare self.new ≡ self.old.storage) }
-        ensures call { Makes Clear self.old self.new }
     {
         self.head.clear();
     }
@@ -218,7 +214,6 @@ impl<T, S: Storage<T>> RingOver<T, S> {
         ensures ring { self.new ≡ ring self.new.storage 0 0 }
         ensures parts { (queue self.new ≡ []) × (spare self.new ≡ self.new.storage) }
         ensures reset { AllZip T.IsReset self.old.storage self.new.storage }
-        ensures call { Makes (Reset self.new.storage) self.old self.new }
     {
         let count = self.capacity();
         self.clear();
@@ -337,7 +332,6 @@ impl<T, S: Storage<T>> RingOver<T, S> {
     #[inline]
     pub fn rewind_if_empty(&mut self)
         ensures ring { self.new ≡ rewind_if_empty self.old }
-        ensures call { Makes RewindIfEmpty self.old self.new }
     {
         self.head.rewind_if_empty();
     }
@@ -372,9 +366,6 @@ impl<T, S: Storage<T>> RingOver<T, S> {
         ensures full { IsErr result ↔ (window self.old ≡ 0) }
         ensures unchanged { OnErr result (self.new ≡ self.old) }
         ensures called { IfOk result (λ answer. CalledOnNext F.FnOnce f self.old answer self.new) }
-        ensures call { IfOk result (λ answer. (x : T) × (y : T)
-            × FnOnceReturnsAtMut F.FnOnce f x answer y
-            × Makes (if is_ok answer then EnqueueOne y else EnqueueErr y) self.old self.new) }
         ensures room { IfOk result (λ answer.
             window self.new + (if is_ok answer then 1 else 0) ≡ window self.old) }
         ensures capacity { capacity self.new ≡ capacity self.old }
@@ -412,8 +403,6 @@ impl<T, S: Storage<T>> RingOver<T, S> {
         ensures value { IfOk result (λ r. spare self.old ≡ r.now ∷ drop 1 (spare self.old)) }
         ensures enqueued { window self.old ≢ 0 → (w : T)
             → Enqueues self.old (w ∷ []) (with_one_enqueued self.old w) }
-        ensures call { window self.old ≢ 0 → (w : T)
-            → Makes (EnqueueOne w) self.old (with_one_enqueued self.old w) }
         ensures room { window self.old ≢ 0 → (w : T)
             → window (with_one_enqueued self.old w) + 1 ≡ window self.old }
         ensures capacity { window self.old ≢ 0 → (w : T)
@@ -433,7 +422,6 @@ impl<T, S: Storage<T>> RingOver<T, S> {
             (with_enqueued 1 self.old) (write_at self.old) result) }
         ensures value { spare self.old ≡ result.now ∷ drop 1 (spare self.old) }
         ensures enqueued { (w : T) → Enqueues self.old (w ∷ []) (with_one_enqueued self.old w) }
-        ensures call { (w : T) → Makes (EnqueueOne w) self.old (with_one_enqueued self.old w) }
         ensures room { (w : T) → window (with_one_enqueued self.old w) + 1 ≡ window self.old }
         ensures capacity { (w : T) → capacity (with_one_enqueued self.old w) ≡ capacity self.old }
     {
@@ -469,9 +457,6 @@ impl<T, S: Storage<T>> RingOver<T, S> {
         ensures empty { IsErr result ↔ (self.old.count ≡ 0) }
         ensures unchanged { OnErr result (self.new ≡ self.old) }
         ensures called { IfOk result (λ answer. CalledOnFirst F.FnOnce f self.old answer self.new) }
-        ensures call { IfOk result (λ answer. (x : T) × (y : T)
-            × FnOnceReturnsAtMut F.FnOnce f x answer y
-            × Makes (if is_ok answer then DequeueOne x y else DequeueErr y) self.old self.new) }
         ensures room { IfOk result (λ answer.
             window self.new ≡ window self.old + (if is_ok answer then 1 else 0)) }
         ensures capacity { capacity self.new ≡ capacity self.old }
@@ -509,8 +494,6 @@ impl<T, S: Storage<T>> RingOver<T, S> {
         ensures value { IfOk result (λ r. queue self.old ≡ r.now ∷ drop 1 (queue self.old)) }
         ensures dequeued { self.old.count ≢ 0 → (w : T)
             → Dequeues self.old 1 (w ∷ []) (with_one_dequeued self.old w) }
-        ensures call { IfOk result (λ r. (w : T)
-            → Makes (DequeueOne r.now w) self.old (with_one_dequeued self.old w)) }
         ensures room { self.old.count ≢ 0 → (w : T)
             → window (with_one_dequeued self.old w) ≡ window self.old + 1 }
         ensures capacity { self.old.count ≢ 0 → (w : T)
@@ -530,8 +513,6 @@ impl<T, S: Storage<T>> RingOver<T, S> {
             (with_dequeued 1 self.old) self.old.read_at result) }
         ensures value { queue self.old ≡ result.now ∷ drop 1 (queue self.old) }
         ensures dequeued { (w : T) → Dequeues self.old 1 (w ∷ []) (with_one_dequeued self.old w) }
-        ensures call { (w : T) → Makes (DequeueOne result.now w) self.old
-            (with_one_dequeued self.old w) }
         ensures room { (w : T) → window (with_one_dequeued self.old w) ≡ window self.old + 1 }
         ensures capacity { (w : T) → capacity (with_one_dequeued self.old w) ≡ capacity self.old }
     {
@@ -570,9 +551,6 @@ impl<T, S: Storage<T>> RingOver<T, S> {
         requires count { CountsWithin F.FnOnce f (contiguous_spare (rewind_if_empty self.old))
             (contiguous_window (rewind_if_empty self.old)) }
         ensures called { CalledOnSpare F.FnOnce f (rewind_if_empty self.old) result self.new }
-        ensures call { (ws : List T)
-            × FnOnceReturnsAtMut F.FnOnce f (contiguous_spare (rewind_if_empty self.old)) result ws
-            × Makes (EnqueueManyWith ws result.0) self.old self.new }
     {
         self.rewind_if_empty();
         let capacity = self.capacity();
@@ -611,9 +589,6 @@ impl<T, S: Storage<T>> RingOver<T, S> {
             let k = min size (contiguous_window g) in
             (ws : List T) → length ws ≡ k → Enqueues g ws
             (with_elements (with_enqueued k g) (write_at g) ws) }
-        ensures call { let g = rewind_if_empty self.old in let k = min size (contiguous_window g) in
-            (ws : List T) → length ws ≡ k → Makes (EnqueueMany ws) self.old
-            (with_elements (with_enqueued k g) (write_at g) ws) }
         ensures room { let g = rewind_if_empty self.old in let k = min size (contiguous_window g) in
             (ws : List T) → window (with_elements (with_enqueued k g) (write_at g) ws) + k
             ≡ window self.old }
@@ -651,7 +626,6 @@ impl<T, S: Storage<T>> RingOver<T, S> {
             (take result «data».now) self.new }
         // Guarantee.
         ensures queue { queue self.new ≡ queue self.old ++ take result «data».now }
-        ensures call { Makes (EnqueueSlice (take result «data».now)) self.old self.new }
         ensures same { (self.new.count ≡ self.old.count + result)
             × (capacity self.new ≡ capacity self.old) }
     {
@@ -683,9 +657,6 @@ impl<T, S: Storage<T>> RingOver<T, S> {
         requires count { CountsWithin F.FnOnce f (contiguous_queue self.old)
             (contiguous_queued self.old) }
         ensures called { CalledOnQueue F.FnOnce f self.old result self.new }
-        ensures call { (ws : List T)
-            × FnOnceReturnsAtMut F.FnOnce f (contiguous_queue self.old) result ws
-            × Makes (DequeueManyWith (contiguous_queue self.old) ws result.0) self.old self.new }
     {
         let capacity = self.capacity();
         let from = self.head.read_at;
@@ -719,9 +690,6 @@ impl<T, S: Storage<T>> RingOver<T, S> {
         ensures value { result.now ≡ take (length result.now) (queue self.old) }
         ensures dequeued { let k = min size (contiguous_queued self.old) in
             (ws : List T) → length ws ≡ k → Dequeues self.old k ws
-            (with_elements (with_dequeued k self.old) self.old.read_at ws) }
-        ensures call { let k = min size (contiguous_queued self.old) in
-            (ws : List T) → length ws ≡ k → Makes (DequeueMany result.now ws) self.old
             (with_elements (with_dequeued k self.old) self.old.read_at ws) }
         ensures room { let k = min size (contiguous_queued self.old) in
             (ws : List T) → window (with_elements (with_dequeued k self.old) self.old.read_at ws)
@@ -758,7 +726,6 @@ impl<T, S: Storage<T>> RingOver<T, S> {
         ensures dequeued { Dequeues self.old result (take result (queue self.old)) self.new }
         // Guarantee.
         ensures queue { queue self.new ≡ drop result (queue self.old) }
-        ensures call { Makes (Dequeue (take result (queue self.old))) self.old self.new }
         ensures same { (self.new.count ≡ self.old.count - result)
             × (capacity self.new ≡ capacity self.old) }
     {
@@ -819,9 +786,6 @@ impl<T, S: Storage<T>> RingOver<T, S> {
         ensures written { (ws : List T) → length ws ≡ contiguous_unallocated self.old offset size →
             WritesSpare self.old offset ws
             (with_elements self.old (spare_index self.old offset) ws) }
-        ensures call { (ws : List T) → length ws ≡ contiguous_unallocated self.old offset size →
-            Makes (GetUnallocated offset ws) self.old
-            (with_elements self.old (spare_index self.old offset) ws) }
     {
         let span = self.head.unallocated(self.capacity(), offset, size);
         self.storage
@@ -850,7 +814,6 @@ impl<T, S: Storage<T>> RingOver<T, S> {
             ≡ with_elements_wrapping self.old (spare_index self.old offset)
             (take result «data».now) }
         ensures written { WritesSpare self.old offset (take result «data».now) self.new }
-        ensures call { Makes (WriteUnallocated offset (take result «data».now)) self.old self.new }
         ensures same { (self.new.count ≡ self.old.count) × (capacity self.new ≡ capacity self.old) }
     {
         let capacity = self.storage.count();
@@ -876,7 +839,6 @@ impl<T, S: Storage<T>> RingOver<T, S> {
         requires window { count ≤ window self.old }
         ensures ring { self.new ≡ with_enqueued count self.old }
         ensures enqueued { Enqueues self.old (take count (spare self.old)) self.new }
-        ensures call { Makes (EnqueueUnallocated (take count (spare self.old))) self.old self.new }
     {
         prove!(count <= self.window(), "no room for so many elements");
         self.head.enqueue(self.storage.count(), count);
@@ -955,7 +917,6 @@ impl<T, S: Storage<T>> RingOver<T, S> {
         ensures dequeued { Dequeues self.old count (take count (queue self.old)) self.new }
         // Guarantee.
         ensures room { window self.new ≡ window self.old + count }
-        ensures call { Makes (Dequeue (take count (queue self.old))) self.old self.new }
     {
         prove!(count <= self.len(), "fewer elements are queued");
         self.head.dequeue(self.storage.count(), count);

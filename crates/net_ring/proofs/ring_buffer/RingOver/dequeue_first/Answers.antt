@@ -1,11 +1,10 @@
 use Rattle.std.proofs.Common.{List, ◌∷◌, [], ◌∙◌, refl, ap, slice_index_or, arith}
-use Rattle.net_ring.specs.{capacity, ring_at, Makes}
+use Rattle.net_ring.specs.{capacity, ring_at}
 use Rattle.net_ring.proofs.RingFacts.{well, found, left_off, queue_head, dequeued_one}
 use Rattle.net_ring.proofs.Rotations.{length-overwrite}
 use Rattle.net_ring.proofs.ring_buffer.RingOver.dequeue_first.Goals as goal
 
 pub returns : goal.returns
-unfolding Makes
 returns g c =
     let old = c.args.self.now in
     let is = c.self.view_is in
@@ -24,7 +23,6 @@ returns g c =
         writes_back = tt;
         value = queue_head _ (well _ _ is c.self.invariant) x here c.requires;
         dequeued = λ w. dequeued_one _ (well _ _ is c.self.invariant) w c.requires;
-        call = λ w. (c.requires, queue_head _ (well _ _ is c.self.invariant) x here c.requires, refl);
         room = λ w. omega (
           arith,
           length-overwrite old.storage old.read_at (w ∷ []),

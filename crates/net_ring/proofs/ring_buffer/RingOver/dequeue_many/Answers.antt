@@ -1,11 +1,10 @@
 use Rattle.std.proofs.Common.{List, ◌≡◌, ◌∙◌, refl, sym, ap, min, arith}
-use Rattle.net_ring.specs.{overwrite, capacity, contiguous_queued, with_elements, with_dequeued, ring_at, Makes}
+use Rattle.net_ring.specs.{overwrite, capacity, contiguous_queued, with_elements, with_dequeued, ring_at}
 use Rattle.net_ring.proofs.RingFacts.{well, found, left_off, shown_head, dequeued_law, contiguous_head_some}
 use Rattle.net_ring.proofs.Rotations.{length-overwrite}
 use Rattle.net_ring.proofs.ring_buffer.RingOver.dequeue_many.Goals as goal
 
 pub returns : goal.returns
-unfolding Makes
 returns g c =
     let old = c.args.self.now in
     let is = c.self.view_is in
@@ -31,12 +30,6 @@ returns g c =
         not_empty = λ l m. (let h = contiguous_head_some old (well _ _ is c.self.invariant) l in omega (arith, lent.0));
         value = lent.1;
         dequeued = dequeued_law _ (well _ _ is c.self.invariant) _ (omega arith);
-        call = λ w long. (
-          omega (arith, lent.0),
-          lent.1,
-          omega (arith, lent.0),
-          ap (λ j. with_elements (with_dequeued j old) old.read_at w) (sym (lent.0 ∙ count)),
-        );
         room = λ w. (let long = length-overwrite old.storage old.read_at w in
             omega (arith, long, (well _ _ is c.self.invariant).1));
         capacity = λ w. length-overwrite old.storage old.read_at w;

@@ -1,5 +1,5 @@
 use Rattle.std.proofs.Common.{◌≡◌, take, length, refl, sym, ap, subst, ◌∙◌, arith}
-use Rattle.net_ring.specs.{IsWellFormed, DequeuesFrom, queue, contiguous_queued, ring_at, Makes}
+use Rattle.net_ring.specs.{IsWellFormed, DequeuesFrom, queue, contiguous_queued, ring_at}
 use Rattle.net_ring.proofs.Rotations.{read_at_le}
 use Rattle.net_ring.proofs.RingFacts.{returned, found_head, well, found, off_wf, lent_head, left_off_from}
 use Rattle.net_ring.proofs.ring_buffer.RingOver.dequeue_many_with.Given as given
@@ -62,7 +62,6 @@ invariant_of-self g c =
     (g.met.S.Storage.part_written c.self.inside.storage c.self.inside.head.read_at after))
 
 pub returns : goal.returns
-unfolding Makes
 returns g c =
     let is = c.self.view_is in
     let at = (goal.at.returns g c).After-part_mut in
@@ -77,7 +76,4 @@ returns g c =
     let left = left_off_from _ _ is c.self.invariant n n _ refl next st after law long
     (omega (arith, c.if-prove-2.false, queued_is g at)) in
     let same = ap (ring_at st) c.dequeue_contiguous.ensures.place in
-    record {
-      called = (after, met, long, same ∙ left.0, subst (DequeuesFrom old n after) (sym same) left.1);
-      call = (after, met, (refl, long, omega (arith, c.if-prove-2.false, queued_is g at, long), same ∙ left.0));
-    }
+    record { called = (after, met, long, same ∙ left.0, subst (DequeuesFrom old n after) (sym same) left.1) }

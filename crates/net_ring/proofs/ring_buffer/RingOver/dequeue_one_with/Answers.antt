@@ -1,7 +1,6 @@
 use Rattle.std.proofs.Common.{rules, Bool, length, true, false, ◌≡◌, ◌≢◌, ◌∷◌, [], refl, ap, sym, ◌∙◌, is_ok}
 use Rattle.std.proofs.Common.{if◌then◌else◌, slice_index_or, drop, arith}
-use Rattle.net_ring.specs.{RingState, IsWellFormed, queue, with_dequeued, with_elements, overwrite, Makes, DequeueOne}
-use Rattle.net_ring.specs.{DequeueErr}
+use Rattle.net_ring.specs.{RingState, IsWellFormed, queue, with_dequeued, with_elements, overwrite}
 use Rattle.net_ring.proofs.Rotations.{length-overwrite}
 use Rattle.net_ring.proofs.RingFacts.{returned, well, found, queue_head, head_either, ring_is}
 use Rattle.net_ring.proofs.ring_buffer.RingOver.dequeue_one_with.Given as given
@@ -72,17 +71,3 @@ returns-clause-called g c =
     ] in
     let by_answer = head_either old (wf g at) y (some g at) c.f-answer.result _ left in
     (x, y, returned c.element_mut.result y refl c.f-answer.ensures, first g at, left, by_answer.0, by_answer.1)
-
--- the call that was made, by what the closure returned
-made : {T : Type 0} (b : Bool) (old new : RingState T) (x y : T) → old.count ≢ 0 → queue old ≡ x ∷ drop 1 (queue old) →
-    new ≡ with_elements (if b then with_dequeued 1 old else old) old.read_at (y ∷ []) →
-    Makes (if b then DequeueOne x y else DequeueErr y) old new
-unfolding Makes
-made true old new x y some head_is is = (some, head_is, is)
-made false old new x y some head_is is = (some, is)
-
-pub returns-clause-call : goal.returns-clause-call
-returns-clause-call g c =
-    let did = returns-clause-called g c in
-    let at = (goal.at.returns-clause-call g c).After-element_mut in
-    (did.0, did.1, did.2, made (is_ok c.f-answer.result) _ _ did.0 did.1 (some g at) did.3 did.4)

@@ -1,13 +1,12 @@
 use Rattle.std.proofs.Common.{List, ◌≡◌, ◌∙◌, refl, sym, subst, ap, length, min, arith}
 use Rattle.net_ring.specs.{IsWellFormed, index_after, capacity, rewind_if_empty, contiguous_window, write_at}
-use Rattle.net_ring.specs.{with_enqueued, with_elements, ring_at, rewound, Makes}
+use Rattle.net_ring.specs.{with_enqueued, with_elements, ring_at, rewound}
 use Rattle.net_ring.proofs.RingFacts.{well, found_next, rewind_wf, rewound_ring, left_in, shown_next, enqueued_law}
 use Rattle.net_ring.proofs.RingFacts.{contiguous_rewound_some, rewound_is}
 use Rattle.net_ring.proofs.Rotations.{length-overwrite}
 use Rattle.net_ring.proofs.ring_buffer.RingOver.enqueue_many.Goals as goal
 
 pub returns : goal.returns
-unfolding Makes
 returns g c =
     let old = rewind_if_empty c.args.self.now in
     let same = rewound_is c.args.self.now in
@@ -36,7 +35,6 @@ returns g c =
         not_empty = λ l m. (let h = contiguous_rewound_some c.args.self.now l in omega (arith, lent.0));
         value = lent.1;
         enqueued = enqueued_law _ (well _ _ is wf) _ (omega arith);
-        call = λ w long. (omega arith, ap (λ k. with_elements (with_enqueued k old) (write_at old) w) (sym long));
         room = λ w. (let long = length-overwrite old.storage (write_at old) w in let counts = same.1 in
             let size = ap length same.2 in omega arith);
         capacity = λ w. length-overwrite old.storage (write_at old) w ∙ ap length same.2;

@@ -1,6 +1,5 @@
 use Rattle.std.proofs.Common.{◌≡◌, take, length, refl, sym, ap, subst, ◌∙◌, arith}
 use Rattle.net_ring.specs.{IsWellFormed, EnqueuesFrom, rewind_if_empty, capacity, spare, contiguous_window, ring_at}
-use Rattle.net_ring.specs.{Makes}
 use Rattle.net_ring.proofs.RingFacts.{returned, found_window, found_next, in_wf, lent_next, left_in_from}
 use Rattle.net_ring.proofs.ring_buffer.RingOver.enqueue_many_with.Given as given
 use Rattle.net_ring.proofs.ring_buffer.RingOver.enqueue_many_with.Goals as goal
@@ -52,7 +51,6 @@ invariant_of-self g c =
     (g.met.S.Storage.part_written c.self.inside.storage c.index-from.result after))
 
 pub returns : goal.returns
-unfolding Makes
 returns g c =
     let old = rewind_if_empty c.args.self.now in
     let at = (goal.at.returns g c).After-part_mut in
@@ -67,7 +65,4 @@ returns g c =
     (g.met.S.Storage.part_written c.self.inside.storage c.index-from.result after) long
     (omega (arith, c.if-prove-2.false, window_is g at)) in
     let same = ap (ring_at st) c.enqueue.ensures.place in
-    record {
-      called = (after, met, long, same ∙ left.0, subst (EnqueuesFrom old n after) (sym same) left.1);
-      call = (after, met, (long, omega (arith, c.if-prove-2.false, window_is g at), same ∙ left.0));
-    }
+    record { called = (after, met, long, same ∙ left.0, subst (EnqueuesFrom old n after) (sym same) left.1) }

@@ -1,11 +1,10 @@
 use Rattle.std.proofs.Common.{List, ◌∷◌, [], ◌∙◌, refl, ap, slice_index_or, arith}
-use Rattle.net_ring.specs.{capacity, write_at, ring_at, Makes}
+use Rattle.net_ring.specs.{capacity, write_at, ring_at}
 use Rattle.net_ring.proofs.RingFacts.{well, found_next, left_in, spare_head, enqueued_one}
 use Rattle.net_ring.proofs.Rotations.{length-overwrite}
 use Rattle.net_ring.proofs.ring_buffer.RingOver.enqueue_next.Goals as goal
 
 pub returns : goal.returns
-unfolding Makes
 returns g c =
     let old = c.args.self.now in
     let is = c.self.view_is in
@@ -25,7 +24,6 @@ returns g c =
         writes_back = tt;
         value = spare_head _ (well _ _ is c.self.invariant) x here c.requires;
         enqueued = λ w. enqueued_one _ (well _ _ is c.self.invariant) w c.requires;
-        call = λ w. (c.requires, refl);
         room = λ w. omega (arith, length-overwrite old.storage (write_at old) (w ∷ []), c.requires);
         capacity = λ w. length-overwrite old.storage (write_at old) (w ∷ []);
       },

@@ -1,7 +1,6 @@
 use Rattle.std.proofs.Common.{rules, Bool, true, false, ◌≡◌, ◌≢◌, ◌∷◌, [], refl, ap, sym, ◌∙◌, is_ok, if◌then◌else◌}
 use Rattle.std.proofs.Common.{slice_index_or, drop, arith}
 use Rattle.net_ring.specs.{RingState, IsWellFormed, spare, write_at, window, with_enqueued, with_elements, overwrite}
-use Rattle.net_ring.specs.{Makes, EnqueueOne, EnqueueErr}
 use Rattle.net_ring.proofs.RingFacts.{returned, well, found_next, spare_head, next_either, ring_is}
 use Rattle.net_ring.proofs.ring_buffer.RingOver.enqueue_one_with.Given as given
 use Rattle.net_ring.proofs.ring_buffer.RingOver.enqueue_one_with.Goals as goal
@@ -56,17 +55,3 @@ returns-clause-called g c =
     ] in
     let by_answer = next_either old (wf g before) y (some g before) c.f-answer.result _ left in
     (x, y, returned c.element_mut.result y refl c.f-answer.ensures, next g before, left, by_answer.0, by_answer.1)
-
--- the call that was made, by what the closure returned
-made : {T : Type 0} (b : Bool) (old new : RingState T) (y : T) → window old ≢ 0 →
-    new ≡ with_elements (if b then with_enqueued 1 old else old) (write_at old) (y ∷ []) →
-    Makes (if b then EnqueueOne y else EnqueueErr y) old new
-unfolding Makes
-made true old new y some is = (some, is)
-made false old new y some is = (some, is)
-
-pub returns-clause-call : goal.returns-clause-call
-returns-clause-call g c =
-    let did = returns-clause-called g c in
-    let before = (goal.at.returns-clause-call g c).After-element_mut in
-    (did.0, did.1, did.2, made (is_ok c.f-answer.result) _ _ did.1 (some g before) did.4)

@@ -1,6 +1,6 @@
 use Rattle.std.proofs.Common.{◌≡◌, ◌+◌, ◌++◌, length, take, min, sym, ap, subst, ◌∙◌, arith, length-take}
 use Rattle.net_ring.specs.{IsWellFormed, Enqueues, capacity, window, queue, write_at, rewind_if_empty, with_enqueued}
-use Rattle.net_ring.specs.{with_elements_wrapping, ring_at, Makes}
+use Rattle.net_ring.specs.{with_elements_wrapping, ring_at}
 use Rattle.net_ring.proofs.RingFacts.{lent_whole}
 use Rattle.net_ring.proofs.ring_buffer.RingOver.enqueue_slice.Goals as goal
 
@@ -15,7 +15,6 @@ invariant_of-self g c =
     c.enqueue_slice.ensures.sound
 
 pub returns : goal.returns
-unfolding Makes
 returns g c =
     let s = c.self.inside.storage in
     let p = c.self.inside.head in
@@ -36,12 +35,6 @@ returns g c =
     record {
       count = count;
       ring = ring;
-      call = (
-        omega arith,
-        subst (λ k. new
-            ≡ with_enqueued k (with_elements_wrapping (rewind_if_empty c.args.self.now)
-            (write_at (rewind_if_empty c.args.self.now)) d)) (sym long) ring,
-      );
       enqueued =
           subst (λ o. Enqueues (rewind_if_empty o) d new) before
           (subst (Enqueues (rewind_if_empty (ring_at c.part_mut.result.now p)) d) (sym after) met.enqueued);

@@ -1,10 +1,9 @@
 use Rattle.std.proofs.Common.{◌≡◌, ◌∙◌, refl, ap, arith}
-use Rattle.net_ring.specs.{capacity, spare_index, contiguous_unallocated, Makes}
+use Rattle.net_ring.specs.{capacity, spare_index, contiguous_unallocated}
 use Rattle.net_ring.proofs.RingFacts.{well, found_free, left_at, shown_spare, spare_part_law, contiguous_free_some}
 use Rattle.net_ring.proofs.ring_buffer.RingOver.get_unallocated.Goals as goal
 
 pub returns : goal.returns
-unfolding Makes
 returns g c =
     let old = c.args.self.now in
     let is = c.self.view_is in
@@ -27,7 +26,6 @@ returns g c =
         count = lent.0;
         not_empty = λ l m. (let h = contiguous_free_some old c.args.offset c.args.size l m in omega (arith, lent.0));
         value = lent.1;
-        call = λ w long. (omega arith, refl);
         written = spare_part_law _ (well _ _ is c.self.invariant) c.args.offset c.args.size;
       },
     )

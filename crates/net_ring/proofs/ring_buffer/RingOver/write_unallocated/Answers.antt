@@ -1,5 +1,5 @@
 use Rattle.std.proofs.Common.{◌≡◌, ◌∙◌, ap, ◌-◌, take, drop, ℕ, List, length, min, length-take, arith}
-use Rattle.net_ring.specs.{RingState, capacity, window, spare_index, with_elements_wrapping, ring_at, overwrite, Makes}
+use Rattle.net_ring.specs.{RingState, capacity, window, spare_index, with_elements_wrapping, ring_at, overwrite}
 use Rattle.net_ring.proofs.Rotations.{length-overwrite}
 use Rattle.net_ring.proofs.RingFacts.{ahead_clause, once_wf, lent_whole}
 use Rattle.net_ring.proofs.ring_buffer.RingOver.write_unallocated.Goals as goal
@@ -19,7 +19,6 @@ invariant_of-self g c =
     (g.met.S.Storage.part_written c.self.inside.storage 0 c.write_unallocated.new.storage)
 
 pub returns : goal.returns
-unfolding Makes
 returns g c =
     let q = c.args.self.now in
     let p = c.self.inside.head in
@@ -39,6 +38,5 @@ returns g c =
       count = count;
       ring = ring;
       written = ahead_clause _ _ c.self.view_is c.self.invariant i n c.args.«data».now _ count ring;
-      call = (omega (arith, length-take n c.args.«data».now), ring);
       same = same_after q _ (spare_index q i) d ring;
     }
