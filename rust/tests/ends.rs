@@ -1,6 +1,8 @@
 //! The two ends of a connection: whatever arrives, forged acknowledgements too, what is sent is what was written,
 //! nothing is sent beyond the peer's edge but a probe, and a timer runs while anything waits.
 #![cfg(feature = "alloc")]
+// One block is a slice of one range.
+#![allow(clippy::single_range_in_vec_init)]
 use net_base::ends::{
     AckFields, AckKind, AckSegment, Acknowledged, Expired, ReceivingEnd, SegmentBytes, SendBuffer,
     SendBufferOver, Sending, SendingEnd, TakenAck,
@@ -504,7 +506,7 @@ fn what_is_read_is_what_was_written() {
 #[test]
 fn what_came_twice_is_reported_once() {
     let mut end = ReceivingEnd::<4>::empty_at(vec![0; 40], 100, 8);
-    let blocks = |end: &mut ReceivingEnd<'_, 4>| end.acknowledgement().blocks.to_vec();
+    let blocks = |end: &mut ReceivingEnd<'_, 4>| end.acknowledgement().blocks.as_slice().to_vec();
     assert!(end.arrived(100, b"abcd", false).is_ok());
     assert_eq!(blocks(&mut end), []);
     // Some of it was kept; nothing of it was; no byte of it is in the stream.

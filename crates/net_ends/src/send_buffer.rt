@@ -742,8 +742,6 @@ impl<S: Storage<u8>, const N: usize> SendBufferOver<S, N> {
         kind: AckKind,
     ) -> Option<TakenAck>
         ensures refused { is_some result ≡ accepts self.old.sender ack }
-        ensures within { IfSome result (λ _. (first_number self.old.sender ≤ ack)
-            × (ack ≤ self.old.sender.sent)) }
         ensures unchanged { IfNone result (self.new ≡ self.old) }
         ensures state { IfSome result (λ r. self.new ≡ record {
           sender = sender_after_command self.old.sender (Acknowledges ack);

@@ -793,10 +793,8 @@ impl<S: Storage<u8>, const N: usize> SendingEndOver<S, N> {
     #[must_use]
     pub fn take_back(&mut self) -> bool
         ensures value { result ≡ is_wrong self.old.recovery (first self.old) self.old.reported }
-        ensures state { self.new ≡ record self.old {
-          recovery = taken_back (first self.old) self.old.reported self.old.recovery;
-        } }
-        ensures step { self.new ≡ after_event self.old (Resumed self.new.recovery) }
+        ensures step { self.new ≡ after_event self.old
+            (Resumed (taken_back (first self.old) self.old.reported self.old.recovery)) }
     {
         let numbers = self.numbers();
         self.head.buffer.take_back(&self.runs, numbers)
