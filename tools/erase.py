@@ -23,8 +23,8 @@ The rules:
 4. A public item becomes `pub(crate)`, unless an import of a root by hand gives its name, or its module, to users or to
    C's exports. So do functions whose signature names a head, or a type of snapshots alone, all of a type that users
    can't name, and `CLOSED` of `erase_list.py`. What is closed has no example, since examples are another crate's. The
-   lint `unreachable_pub` leaves out what C's exports alone name. An export loses `extern "C"` and its documentation, and
-   becomes `inline(always)`.
+   lint `unreachable_pub` leaves out what C's exports alone name. An export loses `extern "C"` and its documentation,
+   and becomes `inline(always)`.
 5. `erase_list.py` has what else differs, with its files and how often: lifetimes, attributes, and types.
 6. What does nothing goes, as `erase_ghosts.py` finds it: modules of laws; a function that gives nothing, and whose body
    names places at most; a module with a type of snapshots alone; each parameter and argument of that type; and

@@ -4,7 +4,8 @@ tools/public_items.txt, or writes that list. `git diff` of two versions of it sa
 
 Each line is what rustdoc shows of a module, a type, a trait, a function, a constant, a method or an impl, with
 attributes, fields and automatic traits. Impls that differ in the trait alone are one line, where `_` is the trait. `+`
-are those that only all features give, `-` those that are there without features alone.
+are those that only all features give, `-` those that are there without features alone. An alias is one line: its
+methods are those of the type that it names.
 
 Status 1 if the lists differ, if a link in the documentation leads nowhere, or if no test and no example names a call.
 """

@@ -47,8 +47,8 @@
 //!
 //! `alloc`: storage may own a vector. `std`, which is on unless it is turned off: conversions from std's clocks, and
 //! `alloc`. `segmentation-offload`: a field of `PacketMeta`. `assembler-max-segment-count-..`: a number, which a
-//! program can name as `N` ([`config`]); where it names none, `N` is 4. smoltcp's that a program of these modules can't leave out are accepted.
-//! Targets have 32 or 64 bits.
+//! program can name as `N` ([`config`]); where it names none, `N` is 4. smoltcp's that a program of these modules can't
+//! leave out are accepted. Targets have 32 or 64 bits.
 //!
 //! Overflow panics here in every build, unless an item says otherwise.
 #![no_std]

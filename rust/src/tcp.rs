@@ -175,25 +175,29 @@ impl Default for PartsSum {
 mod tests {
     use super::*;
 
-    /// Eight times the smoothed time, and four times its variation (RFC 6298, 2). After a sample of 800 ms the variation
-    /// is 400 ms. After one of 400 ms more the time is 750 ms, and the variation 400 ms. No sample is above 2^60
-    /// microseconds.
+    /// Eight times the smoothed time, and four times its variation (RFC 6298, 2). After a sample of 800 ms the
+    /// variation is 400 ms. After one of 400 ms more the time is 750 ms, and the variation 400 ms. No sample is above
+    /// 2^60 microseconds.
     #[test]
     fn estimates() {
-        let scaled = |it: RttEstimate| (it.srtt_8(), it.rttvar_4());
-        let first = |time| scaled(RttEstimate::first(Duration::from_micros(time)));
-        assert_eq!(first(100_000), (800_000, 200_000));
-        assert_eq!(first(800_000), (6_400_000, 1_600_000));
-        assert_eq!(first(u64::MAX), (1 << 63, 1 << 61));
-        let next = |srtt_8, rttvar_4, time| {
-            let before = RttEstimate::from_scaled(srtt_8, rttvar_4);
-            scaled(before.with_sample(Duration::from_micros(time)))
-        };
-        assert_eq!(next(800_000, 200_000, 100_000), (800_000, 150_000));
-        assert_eq!(next(6_400_000, 1_600_000, 400_000), (6_000_000, 1_600_000));
-        assert_eq!(next(15, 7, 0), (14, 7));
-        assert_eq!(next((1 << 63) + 1, 440_639_728_830, 1 << 60), (1 << 63, 330_479_796_623));
-        assert_eq!(scaled(RttEstimate::from_scaled(u64::MAX, u64::MAX)), (1 << 63, 1 << 62));
+        let (micros, scaled) = (Duration::from_micros, RttEstimate::from_scaled);
+        for (time, srtt_8, rttvar_4) in [
+            (100_000, 800_000, 200_000),
+            (800_000, 6_400_000, 1_600_000),
+            (u64::MAX, 1 << 63, 1 << 61),
+        ] {
+            assert_eq!(RttEstimate::first(micros(time)), scaled(srtt_8, rttvar_4));
+        }
+        for (before, time, after) in [
+            ((800_000, 200_000), 100_000, (800_000, 150_000)),
+            ((6_400_000, 1_600_000), 400_000, (6_000_000, 1_600_000)),
+            ((15, 7), 0, (14, 7)),
+            (((1 << 63) + 1, 440_639_728_830), 1 << 60, (1 << 63, 330_479_796_623)),
+        ] {
+            let estimate = scaled(before.0, before.1).with_sample(micros(time));
+            assert_eq!(estimate, scaled(after.0, after.1));
+        }
+        assert_eq!(scaled(u64::MAX, u64::MAX), scaled(1 << 63, 1 << 62));
     }
 
     /// The time and four times its variation, or one tick. The least timeout may be above the greatest one.

@@ -1,5 +1,5 @@
-//! The features, by smoltcp 0.14.0's names, and how many runs there are where a number is named, and where none is. `features.sh` runs
-//! this with several sets of features.
+//! The features, by smoltcp 0.14.0's names, and how many runs there are where a number is named, and where none is.
+//! `features.sh` runs this with several sets of features.
 use net_base::config::ASSEMBLER_MAX_SEGMENT_COUNT;
 use net_base::receiver::Receiver;
 use net_base::storage::{Assembler, FragmentBuffer};

@@ -46,8 +46,8 @@ UNCALLED = {
     'net_receiver/finite_sender': ['from_parts', 'into_parts'],
 }
 
-# Methods that only the Cargo crate calls: Rust's callers have `enqueue`, `dequeue`, `Deref` and `From` in their place, or
-# need none.
+# Methods that only the Cargo crate calls: Rust's callers have `enqueue`, `dequeue`, `Deref` and `From` in their place,
+# or need none.
 CLOSED = {
     'net_packets/packet_buffer': ['has_room', 'place', 'take', 'last_dequeued_mut'],
     'net_ring/managed': ['len', 'as_slice', 'as_mut_slice'],
@@ -95,8 +95,8 @@ ATTRIBUTES = [
     ('    pub segmentation_off', '    #[cfg(feature = "segmentation-offload")]\n    pub segmentation_off', {PHY: 1}),
 ]
 
-# The types to which a version may add fields or variants: what smoltcp's are, settings, answers and errors. What programs
-# make of fields of a header, or of numbers that they keep, is open.
+# The types to which a version may add fields or variants: what smoltcp's are, settings, answers and errors. What
+# programs make of fields of a header, or of numbers that they keep, is open.
 GROWING = {
     PHY: ['struct PacketMeta {', 'struct ChecksumCapabilities {', 'struct SegmentationCapabilities {',
           'struct DeviceCapabilities {'],
