@@ -29,8 +29,3 @@ NumbersAdd = (i pos n : ℕ) → number_at i (pos + n) ≡ (number_at i pos + n)
 -- of two positions less than 2^32 apart the numbers differ
 abbrev pub NumbersDiffer : Type 0
 NumbersDiffer = (i p q : ℕ) → p < q → q < p + 2 ^ 32 → number_at i p ≢ number_at i q
-
--- of all positions near a given one, going round at 2^64, only one has its number
-abbrev pub NumbersComeBack : Type 0
-NumbersComeBack = (i near pos found : ℕ) → near < 2 ^ 64 → pos < 2 ^ 64 → found < 2 ^ 64 →
-    number_at i found ≡ number_at i pos → IsNearAround near found → IsNear near pos → found ≡ pos
