@@ -58,7 +58,6 @@ returns g c =
       state = state_is g c;
       counts = counts_are g c;
       unchanged = any.0;
-      kept = any.1;
       queued = any.2;
       accepted = kept_in_order g.row.N v c.args.pos c.args.bytes.now c.keep.result (counts_are g c);
       setting = stays g.row.N v _ (Segment c.args.pos c.args.bytes.now) (state_is g c)
