@@ -829,7 +829,7 @@ matches_cut f x pos n xs h = λ p b from is.
     (sym (slice_get-take n xs (p - pos)) ∙ there.1) in
     h p b from (ap (λ t. cond t (slice_get xs (p - pos)) None) there.0 ∙ cut.1)
 
-first_is : (f : ℕ) (x : List ℕ) (v : ReceiverState) → ReceivesFrom f x v → v.first ≡ f
+pub first_is : (f : ℕ) (x : List ℕ) (v : ReceiverState) → ReceivesFrom f x v → v.first ≡ f
 unfolding ReceivesFrom
 first_is f x v r = r.0
 

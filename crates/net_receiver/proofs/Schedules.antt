@@ -96,7 +96,7 @@ pub has-filter : (g : ℕ → Bool) (ks : List ℕ) (q : ℕ) → has (filter g 
 has-filter g [] q = grind arith
 has-filter g (k ∷ ks) q = let rest = has-filter g ks q in grind (arith, nat_tests)
 
-rises_from : (low high : ℕ) (ks : List ℕ) → low ≤ high → Rises high ks → Rises low ks
+pub rises_from : (low high : ℕ) (ks : List ℕ) → low ≤ high → Rises high ks → Rises low ks
 rises_from low high [] l h = tt
 rises_from low high (k ∷ ks) l h = (let m = h.0 in (omega arith, h.1))
 

@@ -1,15 +1,17 @@
 -- Scoreboards as a base and offsets: their runs and holes, and up to where what isn't reported is lost.
 use Rattle.std.proofs.lemmas.Grind.{common_steps}
-use Rattle.net_receiver.proofs.Words.{position_fits, cond, ◌≡◌, ℕ, ◌+◌, ◌-◌, ◌<◌, ◌≤◌, min, max, nat_lt, true, false}
+use Rattle.net_receiver.proofs.Schedules.{rises_from}
+use Rattle.net_assembler.proofs.Sets.{front-is}
+use Rattle.net_receiver.proofs.Words.{position_fits, ◌≡◌, ℕ, ◌+◌, ◌-◌, ◌<◌, ◌≤◌, min, max, nat_lt, true, false}
 use Rattle.net_receiver.proofs.Words.{Bool, List, [], ◌∷◌, All, refl, arith, sym, subst, ◌^◌, ◌&&◌, ◌||◌, ◌++◌}
 use Rattle.net_receiver.proofs.Words.{length, length-append, zero, suc, ap, ◌∙◌, nat_le, ◌↔◌, IsTrue, ◌⊎◌, inl, inr}
 use Rattle.net_receiver.proofs.Words.{Result, Ok, Err, ◌*◌, list_any, range_with_len, both_ways, cases_Bool, cases_lt}
 use Rattle.net_receiver.proofs.Words.{false_from_ne_true, nat_tests, All-head, All-tail, Positions, contains}
 use Rattle.net_receiver.proofs.Words.{first_missing, maximal_runs, IsMaximalRun, lies_in, positions, runs, with_range}
-use Rattle.net_receiver.proofs.Words.{shift_up, shift_down, runs_shifted_up, nothing, either, first_missing-is}
+use Rattle.net_receiver.proofs.Words.{shift_up, shift_down, runs_shifted_up, nothing, either}
 use Rattle.net_receiver.proofs.Words.{first_missing-misses, Rises, same_positions, contains-nothing}
 use Rattle.net_receiver.proofs.Words.{contains-with_range, contains-shift_up, contains-shift_down, first_missing-has}
-use Rattle.net_receiver.proofs.Words.{first_missing-le, maximal_runs-shift_up, IsNextHole, board, reported_by, sizes}
+use Rattle.net_receiver.proofs.Words.{maximal_runs-shift_up, IsNextHole, board, reported_by, sizes}
 use Rattle.net_receiver.proofs.Words.{beyond, HasNoRoom, IsSoundBoard, IsSoundScoreboard, length-range_with_len}
 use Rattle.net_receiver.proofs.Words.{MakesTooManyRuns, makes_too_many_runs, TooManyHolesError, IsRising, set_of}
 use Rattle.net_receiver.proofs.Words.{length-runs_of, from_bool, sum_by-cons, AssemblerHead, EndBelow, runs_of, no_runs}
@@ -44,14 +46,6 @@ inside s (r ∷ rs) p all h =
     grind (arith, nat_tests)
 
 -- ---- of all of them
-any_counted : (rs : List (ℕ × ℕ)) (p : ℕ) → count_by (lies_in p) rs ≡ 1 → is_in_run rs p ≡ true
-any_counted [] p h = absurd (omega arith)
-any_counted (r ∷ rs) p h = let others = any_counted rs p in grind (arith, nat_tests)
-
--- each position of the set is one of theirs
-pub in_run : (s : Positions) (p : ℕ) → contains s p ≡ true → is_in_run (maximal_runs s) p ≡ true
-in_run s p h = grind (arith, nat_tests, common_steps, are_maximal_runs, any_counted)
-
 pub not_in_run : (s : Positions) (p : ℕ) → contains s p ≡ false → is_in_run (maximal_runs s) p ≡ false
 not_in_run s p h = grind (arith, nat_tests, inside, are_maximal_runs)
 
@@ -68,10 +62,6 @@ contains-board b s p = grind (arith, sets)
 ruleset boards = (contains-board, sets)
 
 -- its front
-pub front_is : (s : Positions) (e : ℕ) → contains s e ≡ false → ((q : ℕ) → q < e → contains s q ≡ true) → front s ≡ e
-unfolding front
-front_is s e misses has = first_missing-is s 0 e (omega arith) misses (λ q _ l. has q l)
-
 pub front_misses : (s : Positions) → contains s (front s) ≡ false
 unfolding front
 front_misses s = first_missing-misses s 0
@@ -102,7 +92,7 @@ pub no_front : (s : Positions) → front s ≡ 0 → contains s 0 ≡ false
 no_front s is = subst (λ (e : ℕ). contains s e ≡ false) is (front_misses s)
 
 pub front_none : (s : Positions) → contains s 0 ≡ false → front s ≡ 0
-front_none s misses = front_is s 0 misses (λ q l. absurd (omega arith))
+front_none s misses = front-is s 0 misses (λ q l. absurd (omega arith))
 
 -- positions that end within 64 bits still do once the base is added
 pub beyond_fits : (b : ℕ) (s : Positions) → ((p : ℕ) → IsTrue (contains s p) → b + p + 1 < 2 ^ 64) → (p : ℕ) →
@@ -119,7 +109,7 @@ module _ (b : ℕ) (s : Positions) (begins : contains s 0 ≡ false) where
   front_board =
       let at = board_at b s 0 in
       let e : b + 0 ≡ b = omega arith in
-      front_is (board b s) b (sym (ap (contains (board b s)) e) ∙ at ∙ begins) (board_below b s)
+      front-is (board b s) b (sym (ap (contains (board b s)) e) ∙ at ∙ begins) (board_below b s)
 
   pub offsets_board : offsets_of (board b s) ≡ s
   offsets_board =
@@ -242,10 +232,6 @@ end_beyond b s n end = record {
 }
 
 -- ---- the number of positions
-weaker_rise : (low high : ℕ) (ks : List ℕ) → low ≤ high → Rises high ks → Rises low ks
-weaker_rise low high [] le h = tt
-weaker_rise low high (k ∷ ks) le h = (omega (arith, le, h.0), h.1)
-
 range_rises : (a n : ℕ) (ks : List ℕ) → Rises (a + n) ks → Rises a (range_with_len a n ++ ks)
 range_rises a zero ks h = let e : a + 0 ≡ a = omega arith in subst (λ (k : ℕ). Rises k ks) e h
 range_rises a (suc n) ks h =
@@ -256,8 +242,8 @@ runs_rise : (low : ℕ) (rs : List (ℕ × ℕ)) → IsRising low rs → Rises l
 runs_rise low [] h = tt
 runs_rise low (r ∷ rs) h =
     let e : r.0 + (r.1 - r.0) ≡ r.1 = omega (arith, h.1) in
-    let rest = weaker_rise r.1 (r.1 + 1) (run_positions rs) (omega arith) (runs_rise (r.1 + 1) rs h.2) in
-    weaker_rise low r.0 (range_with_len r.0 (r.1 - r.0) ++ run_positions rs) h.0
+    let rest = rises_from r.1 (r.1 + 1) (run_positions rs) (omega arith) (runs_rise (r.1 + 1) rs h.2) in
+    rises_from low r.0 (range_with_len r.0 (r.1 - r.0) ++ run_positions rs) h.0
     (range_rises r.0 (r.1 - r.0) (run_positions rs) (subst (λ (k : ℕ). Rises k (run_positions rs)) (sym e) rest))
 
 sizes_are : (rs : List (ℕ × ℕ)) → length (run_positions rs) ≡ sizes rs

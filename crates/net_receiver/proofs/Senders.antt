@@ -9,7 +9,6 @@ use Rattle.net_receiver.specs.{SenderCommand, Writes, Closes, Marks, Acknowledge
 use Rattle.net_receiver.specs.{sender_after_command, sender_after_commands, bytes_written, IsLent, IsSoundSent}
 use Rattle.net_receiver.specs.{FreshSentIsSound, SoundSentStays, ClosedStays, LentIsOfStream, LendsAt}
 use Rattle.net_receiver.specs.{IsSoundFiniteSender}
-use Rattle.net_receiver.specs.{ReceivesFrom}
 use Rattle.net_receiver.proofs.Words.{◌≡◌, ℕ, ◌+◌, ◌-◌, ◌<◌, ◌≤◌, List, [], length, take, drop, ◌++◌, ◌∙◌}
 use Rattle.net_receiver.proofs.Words.{arith, sym, ap, min, max, length-append, length-drop, Bool, true, false, cond}
 use Rattle.net_receiver.proofs.Words.{◌∷◌, nat_eq, nat_le, refl, subst, append_assoc, append-nil, All, ⊎_elim}
@@ -20,7 +19,7 @@ use Rattle.net_receiver.proofs.Words.{FiniteSenderState, first_number, finite_ro
 use Rattle.net_receiver.proofs.Words.{open_room, acknowledged_below, MatchesFinite, next_position, fresh_finite}
 use Rattle.net_receiver.proofs.Words.{acknowledged, fresh_finite_sender, FiniteCommand, Arrives, Reads, CommandMatches}
 use Rattle.net_receiver.proofs.Words.{finite_after_commands, from_bool, queue, ring_at, length-queue, FiniteSenderHead}
-use Rattle.net_receiver.proofs.Words.{All-head, All-tail, All-weaker, ReceiverState}
+use Rattle.net_receiver.proofs.Words.{All-head, All-tail, All-weaker}
 use Rattle.net_receiver.specs.SenderState.{SenderState}
 use Rattle.std.specs.Prelude.{IsTrue, IsFalse}
 use Rattle.net_ring.specs.RingHead.{IsSound, place}
@@ -28,7 +27,7 @@ use Rattle.net_ring.specs.Ring.{ring, index_after, contiguous_allocated}
 use Rattle.net_ring.proofs.RingFacts.{queue_part_value}
 use Rattle.net_receiver.proofs.OneStream.{matches_longer, matches_what_is_there, queue_of}
 use Rattle.net_receiver.specs.FiniteSender.{ComesFrom, SaysAtMost, AnyPathCarries}
-use Rattle.net_receiver.proofs.FiniteReceivers.{reads_the_stream, nexts_grow}
+use Rattle.net_receiver.proofs.FiniteReceivers.{first_is, reads_the_stream, nexts_grow}
 
 -- what a sender lends matches the stream
 pub lent_says : MatchesWhatIsThere → (f : ℕ) (w : List ℕ) (v : SenderState) (pos : ℕ) (xs : List ℕ) → Sends f w v →
@@ -388,10 +387,6 @@ numbers_stay a s (c ∷ cs) all low =
     numbers_stay a (sender_after_command s c) cs (All-tail (SaysAtMost a) c cs all)
     (number_stays a s c (All-head (SaysAtMost a) c cs all) low)
 
-begins_at : (f : ℕ) (x : List ℕ) (v : ReceiverState) → ReceivesFrom f x v → v.first ≡ f
-unfolding ReceivesFrom
-begins_at f x v r = r.0
-
 pub any_path_carries : AnyPathCarries
 any_path_carries N first to_send to_receive ws cs fits from =
     let s = fresh_finite_sender to_send first in
@@ -405,7 +400,7 @@ any_path_carries N first to_send to_receive ws cs fits from =
     let sound = sound_after s ws fresh in
     let sends = (closed_stays s ws first [] fresh (nothing_sent first to_send)).0 in
     let queue = queue_of first x t.receiver read.0.bytes in
-    let at = begins_at first x t.receiver read.0.bytes in
+    let at = first_is first x t.receiver read.0.bytes in
     let within = queue.within in
     let begun = nexts_grow N (fresh_finite first to_receive) cs in (
       read.1,
