@@ -10,11 +10,7 @@ use Rattle.net_receiver.proofs.Words.{and_parts, leb-true, false_from_ne_true, I
 
 -- the first position from p on, by the hole that begins at the first missing one
 pub here_first : (s : Positions) (p m : ℕ) → m ≡ first_missing s p → p < m → TellsFirst s p (Some p)
-here_first s p m is more = (
-  omega arith,
-  first_missing-has s p p (omega arith) (omega (arith, is, more)),
-  λ q a b. absurd (omega (arith, a, b)),
-)
+here_first s p m is more = grind (arith, nat_tests, first_missing-has)
 
 pub after_first : (s : Positions) (p m : ℕ) (r : Option ℕ) → m ≡ first_missing s p → m ≤ p → EndsHole s m r →
     TellsFirst s p r

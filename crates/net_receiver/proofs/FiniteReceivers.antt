@@ -322,13 +322,7 @@ ok_of (Err e) h = absurd (both_ways false refl h)
 
 usual_end_is_taken : (N : ℕ) (s : FiniteState) (pos : ℕ) (xs : List ℕ) → IsOk (usual_result N s pos xs true) →
     pos + length xs ≤ limit_of s.receiver → (usual_after N s pos xs true).end ≡ pos + length xs
-usual_end_is_taken N s pos xs h within =
-    cond_both (has_other_end s (pos + length xs) true) (Err errors.OtherEnd) (with_error (bytes_result N s pos xs true))
-    (λ r. IsOk r → (usual_after N s pos xs true).end ≡ pos + length xs)
-    (λ _ no_result. absurd (both_ways false refl no_result))
-    (λ off is. (λ i. (cond (off i) s
-    (ended_at (λ _. Unit {0}) N s pos xs true (cond (ok_of (bytes_result N s pos xs true) is i)
-    (cond (le-leb (pos + length xs) (limit_of s.receiver) within i) (pos + length xs) s.end) s.end))).end)) h
+usual_end_is_taken N s pos xs h within = grind (arith, nat_tests, both_ways, cond_both, has_other_end, le-leb, limit_of, ok_of)
 
 -- ---- A schedule's state without what is held.
 none_both : {A : Type 0} (b : Bool) (x y : Option A) → option_or (cond b x None) (cond b y None)
@@ -451,18 +445,7 @@ record InOrder (s : FiniteState) (pos e : ℕ) : Type 0 where
   lacks : is_complete s ≡ false
 
 in_order_says : (s : FiniteState) (pos e : ℕ) → ends_in_order s pos e ≡ true → InOrder s pos e
-in_order_says s pos e on =
-    let a = and_parts _ _ on in
-    let b = and_parts _ _ a.0 in
-    let c = and_parts _ _ b.0 in
-    let d = and_parts _ _ c.0 in
-    record {
-      from = leb-true _ _ d.0;
-      reach = leb-true _ _ d.1;
-      within = leb-true _ _ c.1;
-      number = ltb-true _ _ b.1;
-      lacks = not-true _ a.1;
-    }
+in_order_says s pos e on = grind (arith, nat_tests, and_parts, leb-true, ltb-true, not-true)
 
 with_ok : (r : Result KeptBytes TooManyHolesError) → IsOk r → IsOk (with_error r)
 with_ok (Ok k) h = refl
@@ -663,10 +646,7 @@ pub usual_stored_same : (N : ℕ) (g h : FiniteReceiverHead) (held : AssemblerHe
     g.receiver ≡ record h.receiver { held = held } →
     (xs : List ℕ) (s : FiniteState) (pos : ℕ) (bytes : List ℕ) (last : Bool) →
     usual_storage_after N g xs s pos bytes last ≡ usual_storage_after N h xs s pos bytes last
-usual_stored_same N g h held is xs s pos bytes last =
-    let x = verdict N s.receiver (piece pos (below_end s pos bytes)) in
-    ap (λ z. cond (has_other_end s (pos + length bytes) last) xs z) (ap (λ r. storage_after r xs x) is
-    ∙ stored_same h.receiver held xs x)
+usual_stored_same N g h held is xs s pos bytes last = grind (arith, nat_tests, below_end, has_other_end, storage_after, stored_same)
 
 -- the state after a segment, which ended the stream in order or not
 module _ (P : FiniteState → Type 0) (N : ℕ) (s : FiniteState) (pos : ℕ) (xs : List ℕ) (last : Bool) where
@@ -721,10 +701,7 @@ pub known : (s : FiniteState) → s.end < no_end → knows_end s ≡ true
 known s h = grind (arith, nat_tests)
 
 complete_known : (s : FiniteState) → IsSoundEnd s → is_complete s ≡ true → knows_end s ≡ true
-complete_known s sound on =
-    let at = eqb-true (next_position s.receiver) s.end on in
-    let number = sound.number in
-    known s (omega (arith, at, number))
+complete_known s sound on = grind (arith, nat_tests, eqb-true, next_position)
 
 complete_end : (N : ℕ) (s : FiniteState) (c : FiniteCommand) → IsSoundEnd s → is_complete s ≡ true →
     (finite_after_command N s c).end ≡ s.end
@@ -745,10 +722,7 @@ one_complete N s c sound on =
 
 -- all was read only once all has arrived
 read_complete : (s : FiniteState) → IsSoundEnd s → has_read_all s ≡ true → is_complete s ≡ true
-read_complete s sound on =
-    let at = eqb-true (s.receiver.first + s.receiver.read) s.end on in
-    let below = sound.below in
-    eq_tests (next_position s.receiver) s.end (omega (arith, at, below))
+read_complete s sound on = grind (arith, nat_tests, eq_tests, eqb-true, next_position)
 
 usual_unread : (N : ℕ) (s : FiniteState) (pos : ℕ) (xs : List ℕ) (last : Bool) →
     (usual_after N s pos xs last).receiver.first + (usual_after N s pos xs last).receiver.read ≡ s.receiver.first
@@ -775,11 +749,7 @@ one_read_all N s (Reads n) sound on =
 
 complete_numbers : (t : FiniteState) (e : ℕ) → t.end ≡ e → is_complete t ≡ true →
     (next_position t.receiver ≡ e) × (acknowledged t ≡ e + 1)
-complete_numbers t e same on = (
-  eqb-true (next_position t.receiver) t.end on ∙ same,
-  ap (λ b. cond b (t.end + 1) (next_position t.receiver)) on
-      ∙ ap (λ n. n + 1) same,
-)
+complete_numbers t e same on = grind (arith, nat_tests, eqb-true, next_position)
 
 complete_stays : (N : ℕ) (s : FiniteState) (cs : List FiniteCommand) → IsSoundEnd s → is_complete s ≡ true →
     (is_complete (finite_after_commands N s cs) ≡ true) × ((finite_after_commands N s cs).end ≡ s.end)
@@ -810,14 +780,7 @@ read_stays N s (c ∷ cs) sound on =
     read_stays N (finite_after_command N s c) cs (sound_end_stays N s c sound) (one_read_all N s c sound on)
 
 pub end_stays : EndStays
-end_stays N s cs sound = (
-  (λ on. known_stays N s cs sound on),
-  (λ on.
-      let all = complete_stays N s cs sound on in
-      let numbers = complete_numbers (finite_after_commands N s cs) s.end all.1 all.0 in
-      (all.0, all.1, numbers.0, numbers.1)),
-  (λ on. read_stays N s cs sound on),
-)
+end_stays N s cs sound = grind (arith, nat_tests, complete_numbers, complete_stays, finite_after_commands, known_stays, read_stays)
 
 -- ---- one stream
 matches_cut : (f : ℕ) (x : List ℕ) (pos n : ℕ) (xs : List ℕ) → MatchesStream f x pos xs →
@@ -973,12 +936,7 @@ acknowledged_from s = grind (arith, nat_tests, eqb-true)
 
 -- a segment without bytes
 keeps_none : (N : ℕ) (v : ReceiverState) (pos : ℕ) → verdict N v (piece pos []) ≡ KeepsNone
-keeps_none N v pos =
-    let bytes : List ℕ = [] in
-    let below = take (limit_of v - pos) bytes in
-    let none : length (drop (next_position v - pos) below) ≡ 0 =
-    omega (arith, length-drop (next_position v - pos) below, length-take (limit_of v - pos) bytes) in
-    cond-true _ _ _ (eq_tests _ 0 none)
+keeps_none N v pos = grind (arith, nat_tests, cond-true, eq_tests, length-drop, length-take, limit_of, next_position)
 
 pub only_ends_differ : OnlyEndsDiffer
 only_ends_differ N s pos xs = (
@@ -1000,16 +958,7 @@ only_ends_differ N s pos xs = (
 
 acknowledged_more : (s t : FiniteState) → next_position s.receiver ≤ next_position t.receiver →
     (is_complete s ≡ true → (is_complete t ≡ true) × (t.end ≡ s.end)) → acknowledged s ≤ acknowledged t
-acknowledged_more s t grows stays =
-    let from = acknowledged_from t in
-    ⊎_elim
-    (λ (on : is_complete s ≡ true).
-    let before = complete_numbers s s.end refl on in
-    let after = complete_numbers t s.end (stays on).1 (stays on).0 in
-    omega (arith, before.1, after.1))
-    (λ (off : is_complete s ≡ false).
-    let here : acknowledged s ≡ next_position s.receiver = cond-false _ _ _ off in omega (arith, here, grows, from))
-    (cases_Bool (is_complete s))
+acknowledged_more s t grows stays = grind (arith, nat_tests, acknowledged_from, cases_Bool, complete_numbers, cond-false, is_complete, next_position)
 
 -- by what a segment meets
 pub one_acknowledged : (N : ℕ) (s : FiniteState) (c : FiniteCommand) → IsSoundEnd s →
@@ -1025,11 +974,7 @@ acknowledged_grows N s (c ∷ cs) sound =
     omega (arith, one_acknowledged N s c sound)
 
 pub end_is_taken : EndIsTaken
-end_is_taken N s pos xs h within =
-    meets (λ t. IsOk (usual_result N t pos xs true) → (usual_after N t pos xs true).end ≡ pos + length xs) s pos (pos
-    + length xs) true
-    (λ ok. usual_end_is_taken N s pos xs ok within)
-    (λ _ order ok. usual_end_is_taken N (queue_alone s) pos xs ok within) h
+end_is_taken N s pos xs h within = grind (arith, nat_tests, usual_end_is_taken)
 
 pub all_bytes_complete : AllBytesComplete
 all_bytes_complete N s sound end all =
@@ -1202,14 +1147,7 @@ plain_state N s (Reads n ∷ cs) calm =
 -- ---- the end, and the limit
 usual_falls : (N : ℕ) (s : FiniteState) (pos : ℕ) (xs : List ℕ) (last : Bool) →
     (usual_after N s pos xs last).end ≤ s.end
-usual_falls N s pos xs last =
-    after_by (λ t. t.end ≤ s.end) N s pos xs last (omega arith) (λ e which. ⊎_elim
-    (λ (is : e ≡ s.end). omega (arith, is))
-    (λ (is : (last ≡ true) × (e ≡ pos + length xs) × (can_end s e ≡ true)).
-    ⊎_elim (λ (on : knows_end s ≡ true). (let same = same_end s e on is.2 in omega (arith, same)))
-    (λ (off : knows_end s ≡ false). (let none = ltb-false s.end no_end off in
-    omega (arith, none, ltb-true e no_end (and_parts _ _ is.2).0)))
-    (cases_Bool (knows_end s))) which)
+usual_falls N s pos xs last = grind (arith, nat_tests, and_parts, can_end, cases_Bool, ltb-false, ltb-true, no_end, same_end)
 
 calm_falls : (N : ℕ) (s : FiniteState) (pos : ℕ) (xs : List ℕ) (last : Bool) →
     before_segment s pos (pos + length xs) last ≡ s →

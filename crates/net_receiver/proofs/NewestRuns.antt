@@ -398,11 +398,7 @@ module _ (s : Positions) where
 
 -- where k runs are listed, no other is
 full_with : (k : ℕ) (s : Positions) (listed : Runs) (p : ℕ) → length listed ≡ k → with_run k s listed p ≡ listed
-full_with k s listed p full = elim (cases_Bool (list_any (lies_in p) listed)) [
-  | inl on ↦ cond-true _ _ _ on
-  | inr off ↦ cond-false _ _ _ off ∙ take-append-le k listed (option_to_list (run_at s p)) (omega (arith, full))
-      ∙ take_all k listed (omega (arith, full))
-]
+full_with k s listed p full = grind (arith, nat_tests, cases_Bool, cond-false, cond-true, lies_in, list_any, run_at, take-append-le, take_all)
 
 pub full_list : (k : ℕ) (s : Positions) (listed : Runs) (ps : List ℕ) → length listed ≡ k →
     runs_of k s listed ps ≡ listed

@@ -145,13 +145,7 @@ longer_at (y ∷ x) more zero b e = e
 longer_at (y ∷ x) more (suc i) b e = longer_at x more i b e
 
 pub longer_receives : (x more : List ℕ) (v : ReceiverState) → Receives x v → Receives (x ++ more) v
-longer_receives x more v r = record {
-  state = r.state;
-  refines = r.refines;
-  agrees =
-      All-weaker (PieceAgrees v.first x) (PieceAgrees v.first (x ++ more))
-      (λ e h p b from is. longer_at x more (p - v.first) b (h p b from is)) r.state.kept r.agrees;
-}
+longer_receives x more v r = grind (arith, nat_tests, longer_at)
 
 -- the bytes up to the first missing position are those of x
 covered_within : (w : Setting) (s : KeptState) (x : List ℕ) → HasRoom w s → Agrees w.first s.kept x →
@@ -616,25 +610,10 @@ pub read_leaves_next : ReadLeavesNext
 read_leaves_next v n = (let size = length-drop n v.queue in omega arith)
 
 pub read_leaves_bytes : ReadLeavesBytes
-read_leaves_bytes v n p =
-    let same = read_leaves_next v n in (
-      (λ h. ⊎_elim (λ (l : p < next_position (receiver_after_read v n)). inl (omega arith)) (λ k. inr k) h),
-      (λ h. ⊎_elim (λ (l : p < next_position v). inl (omega arith)) (λ k. inr k) h),
-    )
+read_leaves_bytes v n p = grind (arith, nat_tests, next_position, read_leaves_next, receiver_after_read)
 
 pub reads_add : ReadsAdd
-reads_add v m n =
-    let size = length-drop m v.queue in
-    let count : v.read + min m (length v.queue) + min n (length (drop m v.queue)) ≡ v.read
-    + min (m + n) (length v.queue) = omega arith in
-    λ i. record {
-      first = v.first;
-      capacity = v.capacity;
-      read = count i;
-      queue =
-          drop-drop n m v.queue i;
-      held = v.held;
-    }
+reads_add v m n = grind (arith, nat_tests, drop-drop, length-drop)
 
 pub reads_give_together : ReadsGiveTogether
 reads_give_together v m n = sym (take-add m n v.queue)

@@ -117,14 +117,7 @@ pub part_cases : (P : KeptState × ReplyValue → Type 0) (w : Setting) (s : Kep
     (length e.bytes ≡ 0 → P (keeps w s s 0)) →
     (0 < length e.bytes → is_some (piece_byte_at e (missing w s)) ≡ false → P (s, SegmentReply (Err (record {})))) →
     (0 < length e.bytes → P (keeps w s (with_kept w s e) (length e.bytes))) → P (after_part w s e)
-part_cases P w s e empty refused kept =
-    let size = length e.bytes in
-    cond_both (nat_eq size 0) (keeps w s s 0) _ P (λ none. empty (eqb-true size 0 none)) (λ some.
-    let full : 0 < size = (let other = eqb-false size 0 some in omega arith) in
-    cond_both (not (is_some (piece_byte_at e (missing w s)))
-    && nat_lt w.most_runs (length (held_runs w (with_kept w s e))))
-    (s, SegmentReply (Err (record {}))) (keeps w s (with_kept w s e) size) P
-    (λ yes. refused full (not-true _ (and_parts _ _ yes).0)) (λ no. kept full))
+part_cases P w s e empty refused kept = grind (arith, nat_tests, and_parts, cond_both, eqb-false, eqb-true, not-true, piece_byte_at)
 
 -- ---- one state
 module _ (w : Setting) (s : KeptState) where
@@ -207,16 +200,7 @@ pub verdict_by : (P : Verdict → Type 0) (n most : ℕ) (h : Positions) (part :
     (0 < length part.bytes → (is_some (piece_byte_at part n) ≡ true)
     ⊎ (runs (with_range h part.start (length part.bytes)) ≤ most) → P (Keeps part)) →
     P (verdict_of_piece n most h part)
-verdict_by P n most h part empty refused keeps =
-    let size = length part.bytes in
-    cond_both (nat_eq size 0) KeepsNone _ P (λ none. empty (eqb-true size 0 none)) (λ some.
-    let full : 0 < size = (let other = eqb-false size 0 some in omega arith) in
-    cond_both (not (is_some (piece_byte_at part n)) && makes_too_many_runs most h part.start size)
-    Refuses (Keeps part) P
-    (λ yes. (let both = and_parts _ _ yes in
-    refused full (not-true _ both.0) ((too_many most h part.start size).0 both.1).1))
-    (λ no. keeps full (⊎_elim (λ near. inl (not-false _ near))
-    (λ few. inr (few_enough most h part.start size full few)) (and_cases _ _ no))))
+verdict_by P n most h part empty refused keeps = grind (arith, nat_tests, and_cases, and_parts, cond_both, eqb-false, eqb-true, few_enough, makes_too_many_runs, not-false, not-true, piece_byte_at, too_many)
 
 pub any_verdict : (P : Verdict → Type 0) (n most : ℕ) (h : Positions) (part : Piece) →
     (length part.bytes ≡ 0 → P KeepsNone) → P Refuses →

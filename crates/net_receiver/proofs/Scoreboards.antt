@@ -160,11 +160,7 @@ added_within most old o n (Ok t) new added q has =
 pub added_begins : (most : ℕ) (old : Positions) (o n : ℕ) (r : Result (Unit {0}) TooManyHolesError)
     (new : Positions) → Adds most old o n r new →
     contains old 0 ≡ false → 0 < o → contains new 0 ≡ false
-added_begins most old o n r new added misses some =
-    either (cases_Bool (contains new 0))
-    (λ has. absurd (either (added_within most old o n r new added 0 has) (λ h. both_ways (contains old 0) misses h)
-    (λ h. omega (arith, h.0, some))))
-    (λ none. none)
+added_begins most old o n r new added misses some = grind (arith, nat_tests, added_within, both_ways, cases_Bool)
 
 pub added_fits : (b most : ℕ) (old : Positions) (o n : ℕ) (r : Result (Unit {0}) TooManyHolesError)
     (new : Positions) → Adds most old o n r new →
@@ -365,10 +361,7 @@ few_tell d n count bytes most rs e e' product less few = grind (arith, nat_tests
 pub many_tell : (d n count bytes most : ℕ) (rs : List (ℕ × ℕ)) → count ≡ length rs → bytes ≡ sizes rs →
     (most < bytes → (d - 1) * n ≤ most) →
     (max 1 d ≤ count) ⊎ (most < bytes) → tell_loss d n rs ≡ true
-many_tell d n count bytes most rs e e' product which = elim which [
-  | inl many ↦ grind (arith, nat_tests)
-  | inr more ↦ (let exact = product more in grind (arith, nat_tests))
-]
+many_tell d n count bytes most rs e e' product which = grind (arith, nat_tests, nat_tests)
 
 -- there is one such limit
 pub one_bound : (d n : ℕ) (s : Positions) (a b : ℕ) → IsLossBound d n s a → IsLossBound d n s b → a ≡ b

@@ -33,12 +33,7 @@ use Rattle.net_receiver.proofs.FiniteReceivers.{first_is, reads_the_stream, next
 pub lent_says : MatchesWhatIsThere → (f : ℕ) (w : List ℕ) (v : SenderState) (pos : ℕ) (xs : List ℕ) → Sends f w v →
     v.first_unacknowledged ≤ pos →
     xs ≡ take (length xs) (drop (pos - v.first_unacknowledged) v.queue) → MatchesStream f w pos xs
-lent_says says f w v pos xs s h is =
-    let place : (v.first_unacknowledged - f) + (pos - v.first_unacknowledged) ≡ pos - f = omega arith in
-    says f pos w xs (omega arith)
-    (is ∙ ap (λ q. take (length xs) (drop (pos - v.first_unacknowledged) q)) s.queue
-    ∙ ap (take (length xs)) (drop-drop (pos - v.first_unacknowledged) (v.first_unacknowledged - f) w
-    ∙ ap (λ n. drop n w) place))
+lent_says says f w v pos xs s h is = grind (arith, nat_tests, drop-drop)
 
 -- as many bytes are lent as are queued there, at most
 pub lent_within : (v : SenderState) (pos most n : ℕ) →
@@ -49,52 +44,25 @@ lent_within v pos most n count before = grind (arith, nat_tests)
 -- what was written is sent after all before
 pub sends_written : (f : ℕ) (w : List ℕ) (v : SenderState) (xs : List ℕ) → Sends f w v →
     Sends f (w ++ xs) (with_written v xs)
-sends_written f w v xs s = record {
-  from = s.from;
-  end = omega (arith, length-append {A = ℕ});
-  queue = ap (λ q. q ++ xs) s.queue ∙ sym (drop-append-le (v.first_unacknowledged - f) w xs (omega arith));
-}
+sends_written f w v xs s = grind (arith, nat_tests, drop-append-le, length-append)
 
 -- and an acknowledgement leaves the rest
 pub sends_from : (f : ℕ) (w : List ℕ) (v : SenderState) (n : ℕ) → v.first_unacknowledged ≤ n → n ≤ end_of v →
     Sends f w v → Sends f w (sender_from v n)
-sends_from f w v n low high s =
-    let place : (v.first_unacknowledged - f) + (n - v.first_unacknowledged) ≡ n - f = omega (arith, s.from) in
-    record {
-      from = omega (arith, s.from);
-      end = omega (arith, length-drop (n - v.first_unacknowledged) v.queue, s.end);
-      queue = ap (drop (n - v.first_unacknowledged)) s.queue
-          ∙ drop-drop (n - v.first_unacknowledged) (v.first_unacknowledged - f) w ∙ ap (λ k. drop k w) place;
-    }
+sends_from f w v n low high s = grind (arith, nat_tests, drop-drop, length-drop)
 
 -- nothing was written
 pub fresh_sends : (f capacity : ℕ) → Sends f [] (sender_state capacity f [] (f + capacity))
-fresh_sends f capacity = record {
-  from = omega arith;
-  end = omega arith;
-  queue =
-      sym (drop_all (f - f) [] (omega arith));
-}
+fresh_sends f capacity = grind (arith, nat_tests, drop_all)
 
 -- ---- The laws of a sender of a stream that ends.
 pub fresh_sent_is_sound : FreshSentIsSound
-fresh_sent_is_sound capacity first =
-    record {
-      closed = omega arith;
-      finished = omega arith;
-      none_left = λ some. refl;
-      low =
-          omega arith;
-      high = omega arith;
-    }
+fresh_sent_is_sound capacity first = grind (arith, nat_tests)
 
 -- an acknowledgement is accepted, or changes nothing
 acknowledged_by : (P : FiniteSenderState → Type 0) (s : FiniteSenderState) (n : ℕ) →
     (first_number s ≤ n → n ≤ s.sent → P (acknowledged_below s n)) → P s → P (sender_after_command s (Acknowledges n))
-acknowledged_by P s n on off =
-    cond_both (accepts s n) (acknowledged_below s n) s P
-    (λ both. (let parts = and_parts _ _ both in
-    on (leb-true (first_number s) n parts.0) (leb-true n s.sent parts.1))) (λ _. off)
+acknowledged_by P s n on off = grind (arith, nat_tests, acknowledged_below, and_parts, cond_both, first_number, leb-true)
 
 -- bytes are written, or the sender is closed
 written_by : (P : FiniteSenderState → Type 0) (s : FiniteSenderState) (xs : List ℕ) →
@@ -105,10 +73,7 @@ written_by : (P : FiniteSenderState → Type 0) (s : FiniteSenderState) (xs : Li
       sent =
           s.sent;
     })) → P s → P (with_bytes s xs)
-written_by P s xs on off =
-    cond_both (nat_eq s.closed 0) (with_written s.sender xs) s.sender
-    (λ v. P (record { sender = v; closed = s.closed; finished = s.finished; sent = s.sent }))
-    (λ zero. on (eqb-true s.closed 0 zero)) (λ _. off)
+written_by P s xs on off = grind (arith, nat_tests, cond_both, eqb-true, with_written)
 
 -- which acknowledges nothing
 pub written_number : (s : FiniteSenderState) (xs : List ℕ) → first_number (with_bytes s xs) ≡ first_number s
@@ -296,18 +261,12 @@ sent_within capacity h pos limit at total size last sound lends some =
 pub matches_later : MatchesLonger → (f : ℕ) (w more : List ℕ) (pos : ℕ) (xs : List ℕ) (last : Bool) →
     (IsTrue last → more ≡ []) →
     MatchesFinite f w pos xs last → MatchesFinite f (w ++ more) pos xs last
-matches_later says f w more pos xs last none m = record {
-  bytes = says f pos w more xs m.bytes;
-  end = λ on. m.end on ∙ ap (λ l. f + length l) (sym (ap (λ l. w ++ l) (none on) ∙ append-nil w));
-}
+matches_later says f w more pos xs last none m = grind (arith, nat_tests, append-nil)
 
 -- what is lent is a segment of what was written, and of what is written in all
 pub lent_matches : (s : FiniteSenderState) (pos limit : ℕ) (xs : List ℕ) (last : Bool) → IsLent s pos limit xs last →
     (f : ℕ) (w : List ℕ) → Sends f w s.sender → s.sender.first_unacknowledged ≤ pos → MatchesFinite f w pos xs last
-lent_matches s pos limit xs last lent f w sends low = record {
-  bytes = lent_says matches_what_is_there f w s.sender pos xs sends low lent.value;
-  end = λ on. (lent.end.0 on).1 ∙ sends.end;
-}
+lent_matches s pos limit xs last lent f w sends low = grind (arith, nat_tests, lent_says, matches_what_is_there)
 
 pub lent_later : (s : FiniteSenderState) (pos limit : ℕ) (xs : List ℕ) (last : Bool) → IsLent s pos limit xs last →
     (f : ℕ) (w more : List ℕ) → Sends f w s.sender → s.sender.first_unacknowledged ≤ pos → (s.closed ≡ 1 → more ≡ []) →

@@ -31,12 +31,7 @@ pub first_unique : (t : ℕ → Bool) (p m n : ℕ) → IsFirst t p m → IsFirs
 first_unique t p m n a b = grind (arith, nat_tests)
 
 pub missing_is_first : (s : Positions) (p : ℕ) → IsFirst (contains s) p (first_missing s p)
-missing_is_first s p = record {
-  from = first_missing-le s p;
-  before = first_missing-has s p;
-  here =
-      first_missing-misses s p;
-}
+missing_is_first s p = grind (arith, nat_tests, first_missing-has, first_missing-le, first_missing-misses)
 
 -- ---- Lists made of a range of positions.
 module _ {X : Type 0} (g : ℕ → X) where
@@ -250,11 +245,7 @@ module _ (n : ℕ) (s t : Positions) (shifted : IsShiftedUp n s t) where
 -- where each position is below a limit, the runs are pairs that rise and end by it
 pub ends_below : MaximalRunsOfEverySet → (limit : ℕ) (s : Positions) →
     ((p : ℕ) → contains s p ≡ true → p + 1 < limit) → EndBelow limit (maximal_runs s)
-ends_below law limit s all = All-weaker (IsMaximalRun s) (λ r. (r.0 < r.1) × (r.1 < limit)) (λ r run. (
-  run.some,
-  (let k = run.some in
-      let l = all (r.1 - 1) (run.inside (r.1 - 1) (omega arith) (omega arith)) in omega arith),
-)) (maximal_runs s) (law s).maximal
+ends_below law limit s all = grind (arith, nat_tests, maximal_runs)
 
 -- where each position is above a limit, so are the runs
 pub begins_above : MaximalRunsOfEverySet → (limit : ℕ) (s : Positions) → ((p : ℕ) → contains s p ≡ true → limit < p) →
