@@ -3,7 +3,9 @@ use net_base::finite::{FiniteReceiver, FiniteSender, Part};
 use net_base::managed::ManagedSlice;
 use net_base::receiver::Receiver;
 use net_base::scoreboard::Scoreboard;
-use net_base::storage::fragment_table::{accept, remove_expired, AcceptError, FragmentSlot};
+use net_base::storage::fragment_table::{
+    accept, remove_expired, take_complete, AcceptError, FragmentSlot,
+};
 use net_base::storage::{FragmentBuffer, PacketBuffer, PacketMetadata, RingBuffer};
 use net_base::tcp::{RetransmissionTimeout, TimeoutBounds};
 use net_base::time::{Duration, Instant};
@@ -95,8 +97,20 @@ fn slots_of_a_table_of_fragments() {
     assert_eq!(slots.each_ref().map(|slot| slot.key), [Some(6), Some(8)]);
     remove_expired(&mut slots, Instant::from_micros(21));
     assert_eq!(slots.each_ref().map(|slot| slot.key), [Some(6), None]);
-    assert_eq!(slots[1].buffer.get(0, 1), Some(&b"a"[..]));
+    assert_eq!([(0, 1), (4, 0)].map(|(at, len)| slots[1].buffer.get(at, len).is_some()), [true; 2]);
+    for (at, len) in [(0, 2), (1, 1), (4, 1), (5, 0), (1, usize::MAX)] {
+        assert_eq!(slots[1].buffer.get(at, len), None);
+    }
     assert_eq!(begin(&mut slots, 5, 40), Ok(1));
+    assert_eq!((take_complete(&mut slots, 5), take_complete(&mut slots, 8)), (None, None));
+    let mut more = |at, data: &[u8]| accept(&mut slots, 5, at, data, at == 1, Instant::ZERO);
+    assert_eq!(
+        (more(1, b""), more(0, b"c")),
+        (Err(AcceptError::NoBytes), Err(AcceptError::OtherBytes))
+    );
+    assert_eq!(more(1, b"b"), Ok(1));
+    assert_eq!(take_complete(&mut slots, 5), Some(1));
+    assert_eq!((slots[1].key, slots[1].buffer.assemble()), (None, Some(&b"ab"[..])));
     assert_eq!(begin(&mut slots[..0], 5, 40), Err(AcceptError::NoSlot));
 }
 
