@@ -1,5 +1,5 @@
-/* A ring of bytes that two sides share without a lock: threads, or an interrupt and what it interrupts. docs/C.md
- * quotes it.
+/* A ring of bytes that two sides share without a lock: threads, or an interrupt and what it interrupts. Any program may
+ * have a copy; docs/C.md says what it isn't for.
  */
 #ifndef BYTE_RING_H
 #define BYTE_RING_H
