@@ -671,8 +671,8 @@ impl<S: Storage<u8>, const N: usize> ReceivingEndOver<S, N> {
         }
     }
 
-    /// Lists the newest runs, at most four. A function of its own, since the iterator borrows what `acknowledgement`
-    /// reads.
+    /// Lists the newest runs, at most four. A function of its own, since the search doesn't find what `acknowledgement`
+    /// tells with these calls in it.
     fn runs(&mut self) -> [Option<(u64, u64)>; 4]
         ensures value { result ≡ blocks_of (listed self.old) }
         ensures state { self.new ≡ record self.old {

@@ -1,10 +1,10 @@
 -- How many bytes of a segment are kept, by where they are.
 use Rattle.net_receiver.specs.PartsOf.{finite_parts, KeptParts, FiniteKeptParts}
-use Rattle.net_receiver.specs.{existing, bytes_end, before_segment, usual_result, with_error}
+use Rattle.net_receiver.specs.{before_segment, usual_result, with_error}
 use Rattle.net_receiver.proofs.OneStream.{kept_any}
-use Rattle.net_receiver.proofs.Words.{nat_tests, ◌≡◌, ℕ, ◌+◌, ◌-◌, ◌^◌, min, max, List, length, take, drop, length-take}
-use Rattle.net_receiver.proofs.Words.{length-drop, arith, ap, ◌∙◌, refl, subst, Result, Ok, Err, Bool, cases_Bool}
-use Rattle.net_receiver.proofs.Words.{cases_lt, inl, inr, next_position, limit_of, numbers, verdict, piece, below_end}
+use Rattle.net_receiver.proofs.Words.{nat_tests, ◌≡◌, ℕ, ◌+◌, ◌-◌, min, max, List, length, take, drop, length-take}
+use Rattle.net_receiver.proofs.Words.{length-drop, arith, ap, ◌∙◌, Result, Ok, Err, Bool, cases_Bool}
+use Rattle.net_receiver.proofs.Words.{cases_lt, next_position, limit_of, below_end}
 use Rattle.net_receiver.proofs.Words.{has_other_end, TooManyHolesError, KeptBytes, FiniteState}
 use Rattle.std.proofs.Common.{IfOk}
 

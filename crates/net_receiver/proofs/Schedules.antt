@@ -15,7 +15,7 @@ use Rattle.net_receiver.specs.{AreAlike, TellsStates, Converges}
 use Rattle.std.proofs.lemmas.Grind.{common_steps}
 use Rattle.net_receiver.proofs.Words.{◌≡◌, ℕ, zero, suc, ◌+◌, ◌-◌, ◌<◌, ◌≤◌, Bool, true, false, cond, not, ◌&&◌, ◌||◌}
 use Rattle.net_receiver.proofs.Words.{List, [], ◌∷◌, map, filter, length, nat_eq, nat_lt, is_some, Err, refl, sym, ap}
-use Rattle.net_receiver.proofs.Words.{◌∙◌, arith, ⊎_elim, eqb-true, ◌⊎◌, inl, inr, min, ◌++◌, take, drop, nat_le}
+use Rattle.net_receiver.proofs.Words.{◌∙◌, arith, ⊎_elim, eqb-true, ◌⊎◌, min, ◌++◌, take, drop, nat_le}
 use Rattle.net_receiver.proofs.Words.{Option, Some, None, Ok, unwrap_or, subst, append_assoc, get_or, take_at}
 use Rattle.net_receiver.proofs.Words.{length-take, drop_at, All, slice_get, slice_range, take-add, le_trans, max}
 use Rattle.net_receiver.proofs.Words.{length-drop, ◌↔◌, IsTrue, both_ways, cases_lt, and_parts, and_from, ltb-true}

@@ -15,7 +15,7 @@
 -- The others are laws.
 use Rattle.std.specs.Prelude.{◌≡◌, ℕ, ◌+◌, ◌-◌, ◌≤◌, List, [], ◌∷◌, ◌++◌, length, take, drop, slice_get, Some, All}
 use Rattle.std.specs.Prelude.{◌⊎◌, ◌<◌, min, IsTrue, ◌↔◌}
-use Rattle.net_receiver.specs.Schedule.{piece, Setting, KeptState, PieceAgrees, Agrees, piece_byte_at, IsAccepted}
+use Rattle.net_receiver.specs.Schedule.{piece, Setting, KeptState, PieceAgrees, Agrees, IsAccepted}
 use Rattle.net_receiver.specs.Schedule.{piece_within}
 use Rattle.net_receiver.specs.ReceiverState.{CommandValue, Segment, Read, Show, ReceiverState, fresh_receiver}
 use Rattle.net_receiver.specs.ReceiverState.{next_position, receiver_after_command, limit_of, Refines, IsSound}

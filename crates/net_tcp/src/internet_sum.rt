@@ -46,7 +46,7 @@ impl PartsSum {
     /// Adds the bytes that follow those which were added.
     ///
     /// ```
-    /// # use net_base::tcp::PartsSum;
+    /// # use net_base::checksum::PartsSum;
     /// let mut sum = PartsSum::new();
     /// sum.add(&[1]);
     /// sum.add(&[2, 3]);
@@ -62,7 +62,7 @@ impl PartsSum {
     /// Returns the sum of the bytes that were added and of those that follow them.
     ///
     /// ```
-    /// # use net_base::tcp::{checksum, PartsSum};
+    /// # use net_base::checksum::{checksum, PartsSum};
     /// let header = PartsSum::new().with(b"head");
     /// assert_eq!(header.with(b"text").checksum(), checksum(b"headtext"));
     /// ```
@@ -107,7 +107,7 @@ impl PartsSum {
     /// valid.
     ///
     /// ```
-    /// # use net_base::tcp::PartsSum;
+    /// # use net_base::checksum::PartsSum;
     /// // RFC 1071's example.
     /// let sum = PartsSum::new().with(&[0x00, 0x01, 0xf2, 0x03, 0xf4, 0xf5, 0xf6, 0xf7]);
     /// assert_eq!(sum.checksum(), 0x220d);
@@ -124,7 +124,7 @@ impl PartsSum {
     /// valid. No bytes are not.
     ///
     /// ```
-    /// # use net_base::tcp::PartsSum;
+    /// # use net_base::checksum::PartsSum;
     /// let sum = PartsSum::new().with(&[0x00, 0x01, 0xf2, 0x03, 0xf4, 0xf5, 0xf6, 0xf7]);
     /// assert!(!sum.is_valid() && sum.with(&[0x22, 0x0d]).is_valid());
     /// ```
@@ -141,7 +141,7 @@ impl PartsSum {
 /// Returns the checksum of these bytes.
 ///
 /// ```
-/// # use net_base::tcp::checksum;
+/// # use net_base::checksum::checksum;
 /// // RFC 1071's example.
 /// assert_eq!(checksum(&[0x00, 0x01, 0xf2, 0x03, 0xf4, 0xf5, 0xf6, 0xf7]), 0x220d);
 /// ```
@@ -155,7 +155,7 @@ pub fn checksum(bytes: &[u8]) -> u16
 /// Returns whether these bytes, with their checksum among them at an even offset, are valid.
 ///
 /// ```
-/// # use net_base::tcp::is_valid;
+/// # use net_base::checksum::is_valid;
 /// assert!(is_valid(&[0x00, 0x01, 0xff, 0xfe]) && !is_valid(&[0x00, 0x02, 0xff, 0xfe]));
 /// ```
 #[must_use]
@@ -170,7 +170,7 @@ pub fn is_valid(bytes: &[u8]) -> bool
 /// Checksums and words are numbers: in a message the high byte comes first.
 ///
 /// ```
-/// # use net_base::tcp::{checksum, updated_checksum};
+/// # use net_base::checksum::{checksum, updated_checksum};
 /// // A router lowers the time to live from 64 to 63.
 /// let before = checksum(&[0x45, 0x00, 0x40, 0x06]);
 /// assert_eq!(updated_checksum(before, 0x4006, 0x3f06), checksum(&[0x45, 0x00, 0x3f, 0x06]));

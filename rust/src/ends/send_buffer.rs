@@ -823,7 +823,7 @@ pub(crate) fn lend<S: Storage<u8>>(
 
 /// Finds what is lost by an acknowledgement, and returns whether a recovery begins. If the peer has dropped what it had
 /// reported, that is lost: else it would acknowledge it (RFC 2018, section 8). Nothing counts as reported any more
-/// then. A function of its own, since the search doesn't find what the head leaves with this test in it.
+/// then. A function of its own: where something was dropped, nothing is searched.
 fn find_losses(
     recovery: &mut LossRecovery,
     board: &mut ScoreboardHead,

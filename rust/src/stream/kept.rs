@@ -34,8 +34,8 @@ pub struct Kept {
 /// let mut storage = [0u8; 4];
 /// let mut receiver = Receiver::<4>::empty(&mut storage[..]);
 /// // One byte of three is beyond the window, and the first one is missing.
-/// assert_eq!(receiver.keep(2, b"cde"), Ok(KeptBytes { kept: 2, queued: 0 }));
-/// assert_eq!(receiver.keep(0, b"ab"), Ok(KeptBytes { kept: 2, queued: 4 }));
+/// assert_eq!(receiver.keep(2, b"cde").map(|it| (it.kept, it.queued)), Ok((2, 0)));
+/// assert_eq!(receiver.keep(0, b"ab").map(|it| (it.kept, it.queued)), Ok((2, 4)));
 /// ```
 #[derive(Debug, Clone, Copy, PartialEq, Eq)]
 #[non_exhaustive]
@@ -54,7 +54,7 @@ pub struct KeptBytes {
 /// let mut storage = [0u8; 4];
 /// let mut receiver = Receiver::<4>::empty(&mut storage[..]);
 /// assert!(receiver.keep(0, b"ab").is_ok());
-/// let SegmentParts { old, in_window, beyond, past_end: _ } = receiver.parts_of(1, 5);
+/// let SegmentParts { old, in_window, beyond, past_end: _, .. } = receiver.parts_of(1, 5);
 /// assert_eq!((old, in_window, beyond), (1, 2, 2));
 /// ```
 #[derive(Debug, Clone, Copy, PartialEq, Eq)]

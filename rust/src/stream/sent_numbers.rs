@@ -5,7 +5,8 @@
 /// SND.NXT, as positions.
 ///
 /// ```
-/// use net_base::finite::{FiniteSender, SentNumbers};
+/// use net_base::finite::FiniteSender;
+/// use net_base::tcp::SentNumbers;
 ///
 /// let mut storage = [0u8; 8];
 /// let mut sender = FiniteSender::new_at(&mut storage[..], 100);
