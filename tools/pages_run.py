@@ -47,7 +47,6 @@ ELSEWHERE = {
     "cargo cinstall": "it wants cargo-c",
     "rt lemma ..": "a reader gives the words",
     "rt check": "a reader is in a crate's folder",
-    "rt check --margin": "a reader is in a crate's folder",
     "rt version": "it proves nothing",
     "rustup target add": TARGET,
     "sh rust/kit.sh FOLDER TARGET": TARGET,

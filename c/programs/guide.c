@@ -1,6 +1,4 @@
-/* The task of docs/GUIDE.md, which quotes it: segments in any order into one static buffer, read in
- * order; and a ring.
- */
+/* A first program: segments in any order into one static buffer, read in order; and a ring. */
 #include "net_base.h"
 #include <stdio.h>
 

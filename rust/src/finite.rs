@@ -55,10 +55,10 @@ impl<'a, const N: usize> FiniteReceiver<'a, N> {
     /// Returns a receiver of a stream that ends, whose first byte has position `first`, with room for `N` held runs.
     ///
     /// ```
-    /// # use net_base::finite::FiniteReceiver;
+    /// # use net_base::finite::{FiniteReceiver, Part};
     /// let mut storage = [0; 16];
     /// let mut receiver = FiniteReceiver::<4>::empty_at(&mut storage[..], 1);
-    /// assert!(receiver.keep(1, b"abc", true).is_ok());
+    /// assert!(receiver.keep(1, b"abc", Part::Last).is_ok());
     /// assert_eq!((receiver.is_complete(), receiver.end()), (true, Some(4)));
     /// ```
     ///
@@ -80,7 +80,8 @@ impl<'a> FiniteSender<'a> {
     /// let mut sender = FiniteSender::new_at(&mut storage[..], 1);
     /// assert_eq!((sender.write(b"abc"), sender.numbers_end()), (3, 4));
     /// sender.close();
-    /// assert_eq!(sender.send_at(1, 9), (&b"abc"[..], true));
+    /// let sent = sender.send_at(1, 9);
+    /// assert!(sent.bytes == b"abc" && sent.part.is_last());
     /// ```
     ///
     /// # Panics

@@ -299,7 +299,7 @@ impl LossRecovery {
     /// recovery.sent(numbers, 0..100);
     /// assert!(!recovery.take_back(numbers, &scoreboard));
     /// // All has arrived, and the copy came twice.
-    /// assert_eq!(scoreboard.report(100, 800, 800), Ok(()));
+    /// assert_eq!(scoreboard.report(100..800, 800), Ok(()));
     /// recovery.came_twice(numbers, 0..100);
     /// assert!(recovery.take_back(numbers, &scoreboard));
     /// ```
@@ -402,7 +402,7 @@ impl LossRecovery {
     /// # let numbers = SentNumbers { first_unacknowledged: 0, sent: 800 };
     /// # let mut scoreboard = Scoreboard::<4>::empty();
     /// # let mut recovery = LossRecovery::new();
-    /// assert_eq!(scoreboard.report(100, 400, 800), Ok(()));
+    /// assert_eq!(scoreboard.report(100..400, 800), Ok(()));
     /// let answer = Answer { first: 0, unsent: 0, reports: true, is_equal: false };
     /// // Three segments above the first one arrived: it is lost.
     /// assert!(recovery.find_losses(numbers, &scoreboard, 100, answer));
@@ -691,7 +691,7 @@ impl LossRecovery {
     /// # let numbers = SentNumbers { first_unacknowledged: 0, sent: 800 };
     /// # let mut scoreboard = Scoreboard::<4>::empty();
     /// # let mut recovery = LossRecovery::new();
-    /// assert_eq!(scoreboard.report(100, 200, 800), Ok(()));
+    /// assert_eq!(scoreboard.report(100..200, 800), Ok(()));
     /// assert!(recovery.find_overdue(numbers, &scoreboard));
     /// assert_eq!(recovery.next_segment(numbers, &scoreboard, 800, 800, 100), Some(0..100));
     /// ```
@@ -782,7 +782,7 @@ impl LossRecovery {
     /// # let mut recovery = LossRecovery::new();
     /// recovery.probed(numbers, 700..800);
     /// // Its answer tells that all before is lost.
-    /// assert_eq!(scoreboard.report(700, 800, 800), Ok(()));
+    /// assert_eq!(scoreboard.report(700..800, 800), Ok(()));
     /// let answer = Answer { first: 0, unsent: 0, reports: true, is_equal: false };
     /// assert!(recovery.find_losses(numbers, &scoreboard, 100, answer));
     /// assert_eq!(recovery.unsent(numbers, &scoreboard), 700);
@@ -809,7 +809,7 @@ impl LossRecovery {
     /// # let mut numbers = SentNumbers { first_unacknowledged: 0, sent: 800 };
     /// # let mut scoreboard = Scoreboard::<4>::empty();
     /// # let mut recovery = LossRecovery::new();
-    /// assert_eq!(scoreboard.report(100, 400, 800), Ok(()));
+    /// assert_eq!(scoreboard.report(100..400, 800), Ok(()));
     /// // The peer acknowledges up to 100, which it had reported.
     /// numbers.first_unacknowledged = 100;
     /// assert!(recovery.lose_dropped(numbers, &scoreboard));
@@ -878,7 +878,7 @@ impl LossRecovery {
     /// # let numbers = SentNumbers { first_unacknowledged: 0, sent: 800 };
     /// # let mut scoreboard = Scoreboard::<4>::empty();
     /// # let recovery = LossRecovery::new();
-    /// assert_eq!(scoreboard.report(100, 400, 800), Ok(()));
+    /// assert_eq!(scoreboard.report(100..400, 800), Ok(()));
     /// assert_eq!(recovery.in_flight(numbers, &scoreboard), 500);
     /// ```
     #[must_use]

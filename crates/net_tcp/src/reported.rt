@@ -18,7 +18,7 @@ use std::marker::Model;
 /// }
 ///
 /// let mut scoreboard = Scoreboard::<4>::empty();
-/// assert_eq!(scoreboard.report(20, 40, 60), Ok(()));
+/// assert_eq!(scoreboard.report(20..40, 60), Ok(()));
 /// assert_eq!(missing(&scoreboard), 40);
 /// ```
 pub trait Reported {

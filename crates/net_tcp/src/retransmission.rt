@@ -90,7 +90,7 @@ impl RttEstimate {
     /// Returns the estimate after the first sample.
     ///
     /// ```
-    /// # use net_base::tcp::{RttEstimate};
+    /// # use net_base::tcp::RttEstimate;
     /// # use net_base::time::Duration;
     /// assert_eq!(RttEstimate::first(Duration::from_millis(80)).srtt(), Duration::from_millis(80));
     /// ```
@@ -108,7 +108,7 @@ impl RttEstimate {
     /// Returns the estimate after one more sample.
     ///
     /// ```
-    /// # use net_base::tcp::{RttEstimate};
+    /// # use net_base::tcp::RttEstimate;
     /// # use net_base::time::Duration;
     /// let estimate = RttEstimate::first(Duration::from_millis(80));
     /// assert_eq!(estimate.with_sample(Duration::from_millis(160)).srtt(), Duration::from_millis(90));
@@ -126,14 +126,6 @@ impl RttEstimate {
 
     /// Returns the estimate of these numbers: eight times the smoothed time, of which no more than 2^63
     /// count, and four times its variation, of which no more than 2^62 do. Samples give no more.
-    ///
-    /// ```
-    /// # use net_base::tcp::{RttEstimate};
-    /// # use net_base::time::Duration;
-    /// let estimate = RttEstimate::first(Duration::from_micros(10));
-    /// assert_eq!((estimate.srtt_8(), estimate.rttvar_4()), (80, 20));
-    /// assert_eq!(RttEstimate::from_scaled(80, 20), estimate);
-    /// ```
     #[inline]
     #[must_use]
     pub fn from_scaled(srtt_8: u64, rttvar_4: u64) -> Self
@@ -166,9 +158,12 @@ impl RttEstimate {
     /// Returns the smoothed time.
     ///
     /// ```
-    /// # use net_base::tcp::{RttEstimate};
+    /// # use net_base::tcp::RttEstimate;
     /// # use net_base::time::Duration;
-    /// assert_eq!(RttEstimate::from_scaled(87, 20).srtt(), Duration::from_micros(10));
+    /// let estimate = RttEstimate::first(Duration::from_micros(10));
+    /// // A sample moves it by an eighth of the difference.
+    /// let estimate = estimate.with_sample(Duration::from_micros(18));
+    /// assert_eq!(estimate.srtt(), Duration::from_micros(11));
     /// ```
     #[inline]
     #[must_use]
@@ -235,14 +230,6 @@ impl RetransmissionTimeout {
     }
 
     /// Returns a timeout with the estimate of the samples so far, if there were any.
-    ///
-    /// ```
-    /// # use net_base::tcp::{RetransmissionTimeout, RttEstimate};
-    /// # use net_base::time::Duration;
-    /// let rtt = RttEstimate::first(Duration::from_millis(80));
-    /// let timeout = RetransmissionTimeout::from_parts(Some(rtt), Duration::from_secs(3));
-    /// assert_eq!((timeout.rtt(), timeout.timeout()), (Some(rtt), Duration::from_secs(3)));
-    /// ```
     #[must_use]
     pub const fn from_parts(estimate: Option<RttEstimate>, timeout: Duration) -> Self
         ensures { result ≡ record { estimate = estimate; timeout = timeout } }

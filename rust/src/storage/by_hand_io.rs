@@ -173,7 +173,7 @@ impl<S: Storage<u8>> Write for RingOver<u8, S> {
 /// let mut sender = FiniteSender::new_at(&mut storage[..], 0);
 /// write!(sender, "GET {}", 7).expect("there is room");
 /// sender.close();
-/// assert_eq!(sender.send_at(0, 9), (&b"GET 7"[..], true));
+/// assert_eq!(sender.send_at(0, 9).bytes, b"GET 7");
 /// assert_eq!(Write::write(&mut sender, b"more").unwrap_err().kind(), ErrorKind::BrokenPipe);
 /// ```
 impl<S: Storage<u8>> Write for FiniteSenderOver<S> {

@@ -15,7 +15,7 @@ use crate::stream::{Scoreboard, ScoreboardHead};
 /// }
 ///
 /// let mut scoreboard = Scoreboard::<4>::empty();
-/// assert_eq!(scoreboard.report(20, 40, 60), Ok(()));
+/// assert_eq!(scoreboard.report(20..40, 60), Ok(()));
 /// assert_eq!(missing(&scoreboard), 40);
 /// ```
 pub trait Reported {

@@ -76,7 +76,7 @@ impl RttEstimate {
     /// Returns the estimate after the first sample.
     ///
     /// ```
-    /// # use net_base::tcp::{RttEstimate};
+    /// # use net_base::tcp::RttEstimate;
     /// # use net_base::time::Duration;
     /// assert_eq!(RttEstimate::first(Duration::from_millis(80)).srtt(), Duration::from_millis(80));
     /// ```
@@ -92,7 +92,7 @@ impl RttEstimate {
     /// Returns the estimate after one more sample.
     ///
     /// ```
-    /// # use net_base::tcp::{RttEstimate};
+    /// # use net_base::tcp::RttEstimate;
     /// # use net_base::time::Duration;
     /// let estimate = RttEstimate::first(Duration::from_millis(80));
     /// assert_eq!(estimate.with_sample(Duration::from_millis(160)).srtt(), Duration::from_millis(90));
@@ -132,9 +132,12 @@ impl RttEstimate {
     /// Returns the smoothed time.
     ///
     /// ```
-    /// # use net_base::tcp::{RttEstimate};
+    /// # use net_base::tcp::RttEstimate;
     /// # use net_base::time::Duration;
-    /// assert_eq!(RttEstimate::from_scaled(87, 20).srtt(), Duration::from_micros(10));
+    /// let estimate = RttEstimate::first(Duration::from_micros(10));
+    /// // A sample moves it by an eighth of the difference.
+    /// let estimate = estimate.with_sample(Duration::from_micros(18));
+    /// assert_eq!(estimate.srtt(), Duration::from_micros(11));
     /// ```
     #[inline]
     #[must_use]
