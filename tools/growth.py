@@ -41,34 +41,18 @@ TYPES = {
 }
 # Types whose `N` is a capacity, and one that has no call but that which makes it.
 WITHOUT_RUNS = {"SplitReader", "SplitRing", "SplitWriter", "FragmentSlot"}
-# Calls without a class, by reason.
+# The names of calls without a class, by reason.
 LEFT_OUT = {
-    "it makes a value, takes one apart, or begins anew: a program does that": """
-        assembler: new empty clear / scoreboard: empty empty_at reset_at / recovery: new
-        receiver: new new_at empty empty_at over over_at into_storage reset_at
-        finite_receiver: empty_at over over_at into_storage reset_at
-        finite_sender: new_at over over_at into_storage reset_at
-        fragments: new empty over into_storage
-        send_buffer: new_at over_at reset_at / sending_end: forget new_at over_at reset_at
-        receiving_end: empty_at over_at""",
+    "it makes a value, takes one apart, or begins anew: a program does that":
+        "new new_at empty empty_at over over_at into_storage clear reset_at forget",
     "it reads numbers of the head, or of what it is given": """
-        assembler: fits is_empty peek_front run_count / scoreboard: first_unreported
-        recovery: duplicates is_active is_blind
-        receiver: capacity fits held_count is_empty next queued window window_end
-        finite_receiver: acknowledged end has_read_all is_complete receiver window_end
-        finite_sender: capacity first_number is_closed is_closed_and_acknowledged is_empty len numbers_end sent
-        finite_sender: sent_numbers window
-        fragments: capacity expires_at is_empty is_expired total_size
-        send_buffer: is_blind is_closed is_done is_recovering numbers numbers_end window
-        sending_end: acknowledgement_number expires_at flight_size is_done is_recovering nagle_enabled numbers
-        sending_end: round_trip segment_size timeouts window / receiving_end: answer is_due receiver""",
-    "only a program makes it, and it takes queued bytes": """
-        receiver: as_slices peek peek_slice read_with / finite_receiver: read_with
-        receiving_end: read_with""",
-    "only a program makes it, and it gives bytes, or ends the stream": """
-        finite_sender: close write / send_buffer: close write
-        sending_end: close set_nagle_enabled write""",
-    "only a program makes it: it compares two values": "receiver: same_state",
+        acknowledged acknowledgement_number answer capacity duplicates end expires_at first_number first_unreported fits
+        flight_size has_read_all held_count is_active is_blind is_closed is_closed_and_acknowledged is_complete is_done
+        is_due is_empty is_expired is_recovering len nagle_enabled next numbers numbers_end peek_front queued receiver
+        round_trip run_count segment_size sent sent_numbers timeouts total_size window window_end""",
+    "only a program makes it, and it takes queued bytes": "as_slices peek peek_slice read_with",
+    "only a program makes it, and it gives bytes, or ends the stream": "close set_nagle_enabled write",
+    "only a program makes it: it compares two values": "same_state",
 }
 HERE = Path(__file__).resolve().parent
 PAGE = HERE.parent / "compare/results/growth.md"
@@ -96,13 +80,12 @@ def call_of(name, calls):
 
 
 def unclassed(cases, calls):
-    """A line for each call that has neither a case nor a reason, or both, and for each reason without a call."""
-    made = {call_of(name, calls) for name in cases}
-    left = {f"{prefix}_{name}" for text in LEFT_OUT.values()
-            for prefix, names in re.findall(r"(\w+):((?: \w+\b(?!:))+)", text) for name in names.split()}
-    wrong = [f"{it}: no case in growth/src/main.rs makes it, and LEFT_OUT has no reason" for it in calls - made - left]
-    wrong += [f"{it}: LEFT_OUT has it, and there is no such call" for it in left - calls]
-    wrong += [f"{it}: has a case, and is in LEFT_OUT" for it in left & made]
+    """A line for each call that has neither a case nor a reason, and for each reason without a call."""
+    made, left = {call_of(name, calls) for name in cases}, {*" ".join(LEFT_OUT.values()).split()}
+    method = lambda it: it.removeprefix(max((of for of in TYPES if it.startswith(f"{of}_")), key=len) + "_")
+    wrong = [f"{it}: no case in growth/src/main.rs makes it, and LEFT_OUT has no reason" for it in calls - made
+             if method(it) not in left]
+    wrong += [f"LEFT_OUT has {it}, and there is no such call" for it in left - {method(it) for it in calls - made}]
     return sorted(wrong + [f"{it}: is no public call" for it in cases if call_of(it, calls) is None])
 
 
