@@ -65,19 +65,19 @@ fn quic() {
         let is_last = sending.is_closed() && sending.numbers_end() == max_stream_data + 1;
         let limit = max_stream_data + u64::from(is_last);
         while let Some(range) = sending.next(limit, u64::MAX, 8) {
-            let SegmentBytes { front, back, is_last: fin } = sending.bytes(range.clone());
+            let SegmentBytes { front, back, part } = sending.bytes(range.clone());
             let data = [front, back].concat();
             assert!(sending.mark(range.clone(), Sending::Segment)); // it was written
             packet += 1;
-            println!("packet {packet}: {range:?} {:?} fin {fin}", text(&data));
+            println!("packet {packet}: {range:?} {:?} fin {}", text(&data), part.is_last());
             // Packet 2 is lost. Of each other one the receiver's ACK frame names the packet, and so the range.
             if packet != 2 {
                 let data_end = range.start + data.len() as u64;
                 let is_beyond = receiving.end().is_some_and(|last| last < data_end);
-                if is_beyond || fin && !receiving.can_end(data_end) {
+                if is_beyond || part.is_last() && !receiving.can_end(data_end) {
                     return println!("FINAL_SIZE_ERROR");
                 }
-                receiving.keep(range.start, &data, fin.into()).expect("few holes");
+                receiving.keep(range.start, &data, part).expect("few holes");
                 acknowledged.push(range);
             }
         }

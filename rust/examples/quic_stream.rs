@@ -57,8 +57,9 @@ impl Sender {
         // The end's number is no data, so it may be one beyond what the peer allows.
         let limit = self.max_stream_data + u64::from(is_last);
         while let Some(range) = self.stream.next(limit, 16 * SIZE as u64, SIZE) {
-            let SegmentBytes { front, back, is_last: fin } = self.stream.bytes(range.clone());
+            let SegmentBytes { front, back, part } = self.stream.bytes(range.clone());
             let (number, data) = (self.next_number, [front, back].concat());
+            let fin = part.is_last();
             path.send(now, &Packet::Stream { number, offset: range.start, data, fin });
             assert!(self.stream.mark(range.clone(), Sending::Segment), "it was written");
             self.ranges.insert(number, range);

@@ -5,6 +5,7 @@ use std::collections::VecDeque;
 use net_base::ends::{
     AckSegment, Acknowledged, Acknowledgement, Expired, ReceivingEnd, SegmentBytes, SendingEnd,
 };
+use net_base::finite::Part;
 use net_base::rand::Rand;
 use net_base::tcp::{Announcement, Sack, TimeoutBounds};
 use net_base::time::{Duration, Instant};
@@ -25,7 +26,7 @@ const BOUNDS: TimeoutBounds = {
 #[derive(Clone)]
 enum Datagram {
     /// A position and its bytes, and whether the file ends after them.
-    Text(u64, Vec<u8>, bool),
+    Text(u64, Vec<u8>, Part),
     Answer(Acknowledgement),
 }
 
@@ -65,9 +66,9 @@ fn main() {
         let mut begins = sending.expired(now) == (Expired::Overdue { begins: true });
         let is_due = path.datagrams.front().is_some_and(|it| it.0 <= now);
         match is_due.then(|| path.datagrams.pop_front()).flatten() {
-            Some((_at, Datagram::Text(pos, bytes, is_last))) => {
+            Some((_at, Datagram::Text(pos, bytes, part))) => {
                 // What is refused is sent again.
-                let _is_kept = receiving.arrived(pos, &bytes, is_last);
+                let _is_kept = receiving.arrived(pos, &bytes, part);
                 let mut into = [0; CAPACITY];
                 let count = receiving.read(&mut into);
                 read.extend(&into[..count]);
@@ -89,8 +90,8 @@ fn main() {
             window = (window / 2).max(2 * SIZE as u64);
         }
         while let Some(it) = sending.next_segment(window, now) {
-            let SegmentBytes { front, back, is_last } = sending.bytes(it.range());
-            path.send(now, Datagram::Text(it.pos, [front, back].concat(), is_last));
+            let SegmentBytes { front, back, part } = sending.bytes(it.range());
+            path.send(now, Datagram::Text(it.pos, [front, back].concat(), part));
         }
         // The next thing that happens: a datagram arrives, or the timer expires.
         let arrival = path.datagrams.front().map(|it| it.0);

@@ -7,6 +7,7 @@ use net_base::ends::{
     AckFields, AckKind, AckSegment, Acknowledged, Expired, ReceivingEnd, SegmentBytes, SendBuffer,
     SendBufferOver, Sending, SendingEnd, TakenAck,
 };
+use net_base::finite::Part;
 use net_base::rand::Rand;
 use net_base::tcp::{Announcement, Sack, SentNumbers, TimeoutBounds};
 use net_base::time::{Duration, Instant};
@@ -122,16 +123,16 @@ fn whatever_arrives() {
                     let window = any(rand, [0, 1, 30, u64::MAX]);
                     let una = end.numbers().first_unacknowledged;
                     while let Some(it) = end.next_segment(window, now) {
-                        let SegmentBytes { front, back, is_last } = end.bytes(it.range());
+                        let SegmentBytes { front, back, part } = end.bytes(it.range());
                         let bytes = [front, back].concat();
-                        let after = it.pos + bytes.len() as u64 + u64::from(is_last);
+                        let after = it.pos + bytes.len() as u64 + u64::from(part.is_last());
                         assert_eq!(after, it.end);
                         assert!(it.pos < after && after <= written + u64::from(closed));
                         assert!(bytes
                             .iter()
                             .zip(0..)
                             .all(|(found, at)| *found == byte(it.pos + at)));
-                        assert_eq!(is_last, closed && after == written + 1);
+                        assert_eq!(part.is_last(), closed && after == written + 1);
                         assert!(
                             after <= edge || (it.pos, after) == (una, una + 1),
                             "beyond the edge"
@@ -429,7 +430,7 @@ fn a_timer_runs_for_what_is_in_flight() {
 fn a_full_window_and_an_end() {
     let mut end = ReceivingEnd::<4>::empty_at(vec![0; 3], 0, 1_000);
     assert_eq!(end.open(0, 0), 3);
-    assert!(end.arrived(0, b"abc", true).is_ok());
+    assert!(end.arrived(0, b"abc", Part::Last).is_ok());
     assert!(end.is_due() && end.is_wanted());
     let it = end.acknowledgement();
     assert_eq!((it.next, it.window, end.announce()), (4, 0, AckFields { next: 4, window: 0 }));
@@ -437,7 +438,7 @@ fn a_full_window_and_an_end() {
     assert_eq!((end.read(&mut [0; 3]), end.is_wanted()), (2, false));
     // Room for a segment is worth an update, and one byte less isn't.
     let mut end = ReceivingEnd::<4>::empty_at(vec![0; 40], 0, 8);
-    assert_eq!((end.open(0, 0), end.arrived(0, &[7; 20], false).is_ok()), (40, true));
+    assert_eq!((end.open(0, 0), end.arrived(0, &[7; 20], Part::More).is_ok()), (40, true));
     assert_eq!((end.acknowledgement().window, end.is_wanted()), (20, false));
     assert_eq!((end.read(&mut [0; 7]), end.is_wanted()), (7, false));
     assert_eq!((end.read(&mut [0; 1]), end.is_wanted()), (1, true));
@@ -469,15 +470,14 @@ fn what_is_read_is_what_was_written() {
             }
             let _is_lost = sending.expired(now);
             while let Some(it) = sending.next_segment(400, now) {
-                let SegmentBytes { front, back, is_last } = sending.bytes(it.range());
+                let SegmentBytes { front, back, part } = sending.bytes(it.range());
                 for _copy in 0..any(rand, [0, 1, 1, 1, 1, 2]) {
-                    there.push((it.pos, [front, back].concat(), is_last));
+                    there.push((it.pos, [front, back].concat(), part));
                 }
             }
             if !there.is_empty() {
-                let (pos, bytes, is_last) =
-                    there.swap_remove(rand.below(there.len() as u32) as usize);
-                let _is_kept = receiving.arrived(pos, &bytes, is_last);
+                let (pos, bytes, part) = there.swap_remove(rand.below(there.len() as u32) as usize);
+                let _is_kept = receiving.arrived(pos, &bytes, part);
             }
             let mut into = [0; 70];
             let count = receiving.read(&mut into);
@@ -507,23 +507,25 @@ fn what_is_read_is_what_was_written() {
 fn what_came_twice_is_reported_once() {
     let mut end = ReceivingEnd::<4>::empty_at(vec![0; 40], 100, 8);
     let blocks = |end: &mut ReceivingEnd<'_, 4>| end.acknowledgement().blocks.as_slice().to_vec();
-    assert!(end.arrived(100, b"abcd", false).is_ok());
+    assert!(end.arrived(100, b"abcd", Part::More).is_ok());
     assert_eq!(blocks(&mut end), []);
     // Some of it was kept; nothing of it was; no byte of it is in the stream.
-    assert!(end.arrived(102, b"cdef", false).is_ok());
+    assert!(end.arrived(102, b"cdef", Part::More).is_ok());
     assert_eq!((blocks(&mut end), blocks(&mut end)), (vec![102..104], vec![]));
-    assert!(end.arrived(90, b"0123456789abcd", false).is_ok());
+    assert!(end.arrived(90, b"0123456789abcd", Part::More).is_ok());
     assert_eq!((blocks(&mut end), blocks(&mut end)), (vec![100..104], vec![]));
-    assert!(end.arrived(90, b"0123", false).is_ok());
+    assert!(end.arrived(90, b"0123", Part::More).is_ok());
     assert_eq!(blocks(&mut end), []);
     // Beyond the first number that is missing.
-    assert!(end.arrived(110, b"klmn", false).is_ok());
+    assert!(end.arrived(110, b"klmn", Part::More).is_ok());
     assert_eq!(blocks(&mut end), [110..114]);
-    assert!(end.arrived(108, b"ijk", false).is_ok());
+    assert!(end.arrived(108, b"ijk", Part::More).is_ok());
     assert_eq!(blocks(&mut end), [110..111, 108..114]);
     assert_eq!(blocks(&mut end), [108..114]);
     // It is beyond an end in order: it wasn't of the stream.
-    assert!(end.arrived(110, b"k", false).is_ok() && end.arrived(106, b"", true).is_ok());
+    assert!(
+        end.arrived(110, b"k", Part::More).is_ok() && end.arrived(106, b"", Part::Last).is_ok()
+    );
     assert_eq!((blocks(&mut end), end.acknowledgement().next), (vec![], 107));
 }
 
@@ -545,7 +547,7 @@ fn a_send_buffer() {
     assert!(!buffer.mark(12..13, Sending::Segment) && !buffer.mark(7..13, Sending::WindowProbe));
     assert_eq!(buffer.numbers(), SentNumbers { first_unacknowledged: 7, sent: 12 });
     let it = buffer.bytes(9..12);
-    assert_eq!((it.front, it.back, it.is_last), (&b"cd"[..], &[][..], true));
+    assert_eq!((it.front, it.back, it.part), (&b"cd"[..], &[][..], Part::Last));
     let taken = Some((0, true, false));
     assert_eq!(buffer.acknowledge(7, &[9..11], 2, AckKind::Other).map(fields), taken);
     assert!(buffer.contains(9) && !buffer.is_blind() && !buffer.is_recovering());

@@ -5,7 +5,7 @@ use net_base::ends::{
     AckKind, AckSegment, Acknowledged, Expired, ReceivingEndOver, SegmentBytes, SendBufferOver,
     Sending, SendingEndOver,
 };
-use net_base::finite::{FiniteReceiver, FiniteSender};
+use net_base::finite::{FiniteReceiver, FiniteSender, Part};
 use net_base::receiver::Receiver;
 use net_base::scoreboard::Scoreboard;
 use net_base::sequence_number::SequenceNumber;
@@ -249,8 +249,8 @@ fn sending_ends() {
             _ => {
                 if let Some(it) = end.next_segment(window, now) {
                     assert!(before.first_unacknowledged <= it.pos && it.pos < it.end);
-                    let SegmentBytes { front, back, is_last } = end.bytes(it.range());
-                    let numbers = front.len() + back.len() + usize::from(is_last);
+                    let SegmentBytes { front, back, part } = end.bytes(it.range());
+                    let numbers = front.len() + back.len() + usize::from(part.is_last());
                     assert!(numbers as u64 == it.end - it.pos && end.expires_at().is_some());
                 }
             }
@@ -347,10 +347,10 @@ fn receiving_ends() {
             13..=16 => assert!(end.read(&mut [0; 9]) <= 9),
             17 => assert!(end.read_with(|part| (part.len() / 2, part.len())).1 <= 16),
             _ => {
-                let (is_last, was_due) = (draw.below(8) == 0, end.is_due());
-                let kept = end.arrived(pos, bytes, is_last);
+                let (part, was_due) = (Part::from(draw.below(8) == 0), end.is_due());
+                let kept = end.arrived(pos, bytes, part);
                 assert!(kept.map_or(0, |it| it.kept) <= bytes.len());
-                assert!(was_due || end.is_due() || !is_last);
+                assert!(was_due || end.is_due() || part == Part::More);
             }
         }
         assert!(!end.is_due() || end.is_wanted());

@@ -145,7 +145,7 @@ fn clones() {
     let mut newest = finite.receiver().newest_runs(0, &mut [0; 2]);
     assert_eq!((newest.clone().count(), newest.next()), (0, None));
     let mut receiving = ReceivingEndOver::<_, 2>::over_at([0u8; 4], 0, 4);
-    assert!(receiving.clone().arrived(0, b"a", false).is_ok());
+    assert!(receiving.clone().arrived(0, b"a", Part::More).is_ok());
     assert_eq!(receiving.read(&mut [0]), 0);
     let mut buffer = SendBufferOver::<_, 2>::over_at([0u8; 4], 0);
     assert_eq!((buffer.clone().write(b"ab"), buffer.write(b"abc")), (2, 3));

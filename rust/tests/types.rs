@@ -374,5 +374,5 @@ fn arrays() {
     let mut end = SendingEndOver::<_, 2>::over_at([0; 4], 7, Duration::from_secs(1), bounds);
     assert_eq!((end.write(b"abcde"), end.numbers().flight_size()), (4, 0));
     let mut end = ReceivingEndOver::<_, 2>::over_at([0; 4], 7, 2);
-    assert!(end.arrived(7, b"ab", true).is_ok() && end.receiver().acknowledged() == 10);
+    assert!(end.arrived(7, b"ab", Part::Last).is_ok() && end.receiver().acknowledged() == 10);
 }

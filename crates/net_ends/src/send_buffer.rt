@@ -9,7 +9,7 @@ ghost use Rattle.net_tcp.specs.Sack.{is_permitted};
 ghost use Rattle.net_tcp.specs.LossRecovery.{gone_on, begins_at, next_probe};
 ghost use Rattle.net_receiver.specs.FiniteSender.{sender_after_command, Writes, Closes, Marks, Acknowledges, accepts};
 ghost use Rattle.net_receiver.specs.FiniteSender.{finite_room, first_number, numbers_end};
-ghost use Rattle.net_receiver.specs.Finite.{no_end};
+ghost use Rattle.net_receiver.specs.Finite.{no_end, is_last};
 ghost use Rattle.net_receiver.specs.Scoreboards.{IsEnd, IsHole, IsSoundBoard};
 ghost use Rattle.net_receiver.specs.Scoreboards.{reported_by as reported_to};
 ghost use Rattle.net_assembler.specs.Positions.{with_range, nothing};
@@ -27,7 +27,7 @@ ghost use Rattle.net_ends.specs.Acknowledgements.{numbers_of, unsent_of, unsent_
 ghost use Rattle.net_ends.specs.Acknowledgements.{after_segment, after_wait};
 
 use net_assembler::Run;
-use net_receiver::{FiniteSenderOver, ScoreboardHead, SentNumbers};
+use net_receiver::{FiniteSenderOver, Part, ScoreboardHead, SentNumbers};
 use net_ring::{ManagedSlice, Storage};
 use net_tcp::{
     Answer, LentScoreboard, LossRecovery, Sack, is_duplicate_block, is_equal_acknowledgement,
@@ -137,13 +137,14 @@ pub enum Sending {
 ///
 /// ```
 /// use net_base::ends::SendBuffer;
+/// use net_base::finite::Part;
 ///
 /// let mut storage = [0u8; 64];
 /// let mut buffer = SendBuffer::<4>::new_at(&mut storage[..], 0);
 /// assert_eq!(buffer.write(b"abcdef"), 6);
 /// buffer.close();
 /// let it = buffer.bytes(2..7);
-/// assert_eq!(([it.front, it.back].concat(), it.is_last), (b"cdef".to_vec(), true));
+/// assert_eq!(([it.front, it.back].concat(), it.part), (b"cdef".to_vec(), Part::Last));
 /// ```
 #[derive(Copy, Clone, Debug, PartialEq, Eq)]
 pub struct SegmentBytes<'a> {
@@ -151,8 +152,8 @@ pub struct SegmentBytes<'a> {
     pub front: &'a [u8],
     /// The bytes after those.
     pub back: &'a [u8],
-    /// Whether the stream ends after them.
-    pub is_last: bool,
+    /// `Last` if the stream ends after them.
+    pub part: Part,
 }
 
 /// What a stream that ends has sent, over storage that is lent or owned.
@@ -172,6 +173,7 @@ pub type SendBuffer<'a, const N: usize> = SendBufferOver<ManagedSlice<'a, u8>, N
 ///
 /// ```
 /// use net_base::ends::{SendBuffer, Sending};
+/// use net_base::finite::Part;
 ///
 /// // A stream of QUIC. Its peer's MAX_STREAM_DATA is 33, and a frame has at most 8 bytes.
 /// let mut storage = [0u8; 64];
@@ -181,12 +183,12 @@ pub type SendBuffer<'a, const N: usize> = SendBufferOver<ManagedSlice<'a, u8>, N
 /// let mut frames = Vec::new();
 /// while let Some(range) = stream.next(33, 1200, 8) {
 ///     let it = stream.bytes(range.clone());
-///     frames.push((range.start, [it.front, it.back].concat(), it.is_last));
+///     frames.push((range.start, [it.front, it.back].concat(), it.part));
 ///     assert!(stream.mark(range, Sending::Segment));
 /// }
 /// // The loop ends, though the limit is above the 20 numbers of 19 bytes and the end.
-/// assert_eq!(frames[0], (0, b"nineteen".to_vec(), false));
-/// assert_eq!(frames[2], (16, b"ere".to_vec(), true));
+/// assert_eq!(frames[0], (0, b"nineteen".to_vec(), Part::More));
+/// assert_eq!(frames[2], (16, b"ere".to_vec(), Part::Last));
 /// assert_eq!((frames.len(), stream.numbers().sent), (3, 20));
 /// // The packet of the second frame is acknowledged, and then that of the first one.
 /// let taken = stream.acknowledge_range(8..16, 8).expect("it was sent");
@@ -341,18 +343,19 @@ impl<S: Storage<u8>, const N: usize> SendBufferOver<S, N> {
     ///
     /// ```
     /// # use net_base::ends::{SendBuffer, Sending};
+    /// # use net_base::finite::Part;
     /// # let mut storage = [0u8; 64];
     /// # let mut buffer = SendBuffer::<4>::new_at(&mut storage[..], 0);
     /// assert_eq!(buffer.write(b"abcdef"), 6);
     /// buffer.close();
-    /// assert_eq!((buffer.bytes(2..5).front, buffer.bytes(2..5).is_last), (&b"cde"[..], false));
+    /// assert_eq!((buffer.bytes(2..5).front, buffer.bytes(2..5).part), (&b"cde"[..], Part::More));
     /// // The end has the number 6.
-    /// assert_eq!((buffer.bytes(2..7).front, buffer.bytes(2..7).is_last), (&b"cdef"[..], true));
+    /// assert_eq!((buffer.bytes(2..7).front, buffer.bytes(2..7).part), (&b"cdef"[..], Part::Last));
     /// ```
     #[must_use]
     pub fn bytes(&self, range: Range<u64>) -> SegmentBytes<'_>
         ensures { IsSegment self.now.sender range.start range.end
-            (result.front.now ++ result.back.now) result.is_last }
+            (result.front.now ++ result.back.now) (is_last result.part) }
     {
         lend(&self.sender, range)
     }
@@ -772,7 +775,8 @@ impl<S: Storage<u8>, const N: usize> SendBufferOver<S, N> {
     ///
     /// The first number that isn't acknowledged becomes the first that neither this range nor an earlier one has. A
     /// range that begins above it is remembered, unless that makes more than `N` runs: what it has is sent again then,
-    /// as if it were lost. No range tells of something that came twice, and none is an equal acknowledgement.
+    /// as if it were lost. No range tells of something that came twice, and none is an equal acknowledgement. What is
+    /// three segments below a range that has arrived is lost, so a scheme of packets that finds that too needn't say so.
     ///
     /// Returns `None`, and changes nothing, if the range ends above what was sent.
     ///
@@ -888,7 +892,8 @@ impl<S: Storage<u8>, const N: usize> SendBufferOver<S, N> {
     /// acknowledged is sent again, and nothing else is.
     ///
     /// Returns false, and changes nothing, if the range ends above what was sent, or if something that was lost before
-    /// waits to be sent again. Send that first: a recovery knows one range at a time.
+    /// waits to be sent again: that may be this range, since acknowledged ranges tell of losses too. Send it first, and
+    /// `mark` it: a recovery knows one range at a time.
     ///
     /// ```
     /// # use net_base::ends::{SendBuffer, Sending};
@@ -1111,7 +1116,7 @@ pub(crate) fn lend<S: Storage<u8>>(
     range: Range<u64>,
 ) -> SegmentBytes<'_>
     ensures { IsSegment sender.now range.start range.end
-        (result.front.now ++ result.back.now) result.is_last }
+        (result.front.now ++ result.back.now) (is_last result.part) }
 {
     let front = sender.peek_at(range.start, range.end).bytes;
     let after = range.start + front.len() as u64;
@@ -1119,7 +1124,7 @@ pub(crate) fn lend<S: Storage<u8>>(
     SegmentBytes {
         front,
         back: back.bytes,
-        is_last: back.part.is_last(),
+        part: back.part,
     }
 }
 

@@ -25,7 +25,7 @@ ghost use Rattle.std.specs.Prelude.{length, Bool};
 ghost use Rattle.net_assembler.specs.Positions.{contains};
 ghost use Rattle.net_tcp.specs.LossRecovery.{is_active, is_wrong, taken_back};
 ghost use Rattle.net_receiver.specs.FiniteSender.{sender_after_command, Acknowledges, accepts, finite_room};
-ghost use Rattle.net_receiver.specs.Finite.{no_end};
+ghost use Rattle.net_receiver.specs.Finite.{no_end, is_last};
 ghost use Rattle.net_tcp.specs.Sack.{is_permitted};
 ghost use Rattle.net_ends.specs.Ends.{new_end, is_pure, first, end, is_acceptable, greatest_of, is_shut, asks, told};
 ghost use Rattle.net_ends.specs.Ends.{limit, may_send, after_event, Wrote, Shut, Heard, Looked, Sent, Rested};
@@ -384,6 +384,7 @@ impl<S: Storage<u8>, const N: usize> SendingEndOver<S, N> {
     ///
     /// ```
     /// # use net_base::ends::SendingEnd;
+    /// # use net_base::finite::Part;
     /// # use net_base::tcp::{Announcement, Sack, TimeoutBounds};
     /// # use net_base::time::{Duration, Instant};
     /// # let mut storage = [0u8; 64];
@@ -394,12 +395,12 @@ impl<S: Storage<u8>, const N: usize> SendingEndOver<S, N> {
     /// sending.close();
     /// let it = sending.next_segment(1200, Instant::ZERO).expect("three bytes and the end");
     /// let bytes = sending.bytes(it.range());
-    /// assert_eq!((bytes.front, bytes.back, bytes.is_last), (&b"abc"[..], &b""[..], true));
+    /// assert_eq!((bytes.front, bytes.back, bytes.part), (&b"abc"[..], &b""[..], Part::Last));
     /// ```
     #[must_use]
     pub fn bytes(&self, range: Range<u64>) -> SegmentBytes<'_>
         ensures { IsSegment self.now.sender range.start range.end
-            (result.front.now ++ result.back.now) result.is_last }
+            (result.front.now ++ result.back.now) (is_last result.part) }
     {
         lend(&self.sender, range)
     }

@@ -3,7 +3,7 @@
 
 use crate::rattle::prelude::*;
 use crate::storage::Run;
-use crate::stream::{FiniteSenderOver, ScoreboardHead, SentNumbers};
+use crate::stream::{FiniteSenderOver, Part, ScoreboardHead, SentNumbers};
 use crate::storage::{ManagedSlice, Storage};
 use crate::tcp::{
     Answer, LentScoreboard, LossRecovery, Sack, is_duplicate_block, is_equal_acknowledgement,
@@ -117,13 +117,14 @@ pub enum Sending {
 ///
 /// ```
 /// use net_base::ends::SendBuffer;
+/// use net_base::finite::Part;
 ///
 /// let mut storage = [0u8; 64];
 /// let mut buffer = SendBuffer::<4>::new_at(&mut storage[..], 0);
 /// assert_eq!(buffer.write(b"abcdef"), 6);
 /// buffer.close();
 /// let it = buffer.bytes(2..7);
-/// assert_eq!(([it.front, it.back].concat(), it.is_last), (b"cdef".to_vec(), true));
+/// assert_eq!(([it.front, it.back].concat(), it.part), (b"cdef".to_vec(), Part::Last));
 /// ```
 #[derive(Copy, Clone, Debug, PartialEq, Eq)]
 pub struct SegmentBytes<'a> {
@@ -131,8 +132,8 @@ pub struct SegmentBytes<'a> {
     pub front: &'a [u8],
     /// The bytes after those.
     pub back: &'a [u8],
-    /// Whether the stream ends after them.
-    pub is_last: bool,
+    /// `Last` if the stream ends after them.
+    pub part: Part,
 }
 
 /// What a stream that ends has sent, over storage that is lent or owned.
@@ -152,6 +153,7 @@ pub type SendBuffer<'a, const N: usize> = SendBufferOver<ManagedSlice<'a, u8>, N
 ///
 /// ```
 /// use net_base::ends::{SendBuffer, Sending};
+/// use net_base::finite::Part;
 ///
 /// // A stream of QUIC. Its peer's MAX_STREAM_DATA is 33, and a frame has at most 8 bytes.
 /// let mut storage = [0u8; 64];
@@ -161,12 +163,12 @@ pub type SendBuffer<'a, const N: usize> = SendBufferOver<ManagedSlice<'a, u8>, N
 /// let mut frames = Vec::new();
 /// while let Some(range) = stream.next(33, 1200, 8) {
 ///     let it = stream.bytes(range.clone());
-///     frames.push((range.start, [it.front, it.back].concat(), it.is_last));
+///     frames.push((range.start, [it.front, it.back].concat(), it.part));
 ///     assert!(stream.mark(range, Sending::Segment));
 /// }
 /// // The loop ends, though the limit is above the 20 numbers of 19 bytes and the end.
-/// assert_eq!(frames[0], (0, b"nineteen".to_vec(), false));
-/// assert_eq!(frames[2], (16, b"ere".to_vec(), true));
+/// assert_eq!(frames[0], (0, b"nineteen".to_vec(), Part::More));
+/// assert_eq!(frames[2], (16, b"ere".to_vec(), Part::Last));
 /// assert_eq!((frames.len(), stream.numbers().sent), (3, 20));
 /// // The packet of the second frame is acknowledged, and then that of the first one.
 /// let taken = stream.acknowledge_range(8..16, 8).expect("it was sent");
@@ -284,13 +286,14 @@ impl<S: Storage<u8>, const N: usize> SendBufferOver<S, N> {
     ///
     /// ```
     /// # use net_base::ends::{SendBuffer, Sending};
+    /// # use net_base::finite::Part;
     /// # let mut storage = [0u8; 64];
     /// # let mut buffer = SendBuffer::<4>::new_at(&mut storage[..], 0);
     /// assert_eq!(buffer.write(b"abcdef"), 6);
     /// buffer.close();
-    /// assert_eq!((buffer.bytes(2..5).front, buffer.bytes(2..5).is_last), (&b"cde"[..], false));
+    /// assert_eq!((buffer.bytes(2..5).front, buffer.bytes(2..5).part), (&b"cde"[..], Part::More));
     /// // The end has the number 6.
-    /// assert_eq!((buffer.bytes(2..7).front, buffer.bytes(2..7).is_last), (&b"cdef"[..], true));
+    /// assert_eq!((buffer.bytes(2..7).front, buffer.bytes(2..7).part), (&b"cdef"[..], Part::Last));
     /// ```
     #[must_use]
     pub fn bytes(&self, range: Range<u64>) -> SegmentBytes<'_> {
@@ -571,7 +574,8 @@ impl<S: Storage<u8>, const N: usize> SendBufferOver<S, N> {
     ///
     /// The first number that isn't acknowledged becomes the first that neither this range nor an earlier one has. A
     /// range that begins above it is remembered, unless that makes more than `N` runs: what it has is sent again then,
-    /// as if it were lost. No range tells of something that came twice, and none is an equal acknowledgement.
+    /// as if it were lost. No range tells of something that came twice, and none is an equal acknowledgement. What is
+    /// three segments below a range that has arrived is lost, so a scheme of packets that finds that too needn't say so.
     ///
     /// Returns `None`, and changes nothing, if the range ends above what was sent.
     ///
@@ -663,7 +667,8 @@ impl<S: Storage<u8>, const N: usize> SendBufferOver<S, N> {
     /// acknowledged is sent again, and nothing else is.
     ///
     /// Returns false, and changes nothing, if the range ends above what was sent, or if something that was lost before
-    /// waits to be sent again. Send that first: a recovery knows one range at a time.
+    /// waits to be sent again: that may be this range, since acknowledged ranges tell of losses too. Send it first, and
+    /// `mark` it: a recovery knows one range at a time.
     ///
     /// ```
     /// # use net_base::ends::{SendBuffer, Sending};
@@ -817,7 +822,7 @@ pub(crate) fn lend<S: Storage<u8>>(
     SegmentBytes {
         front,
         back: back.bytes,
-        is_last: back.part.is_last(),
+        part: back.part,
     }
 }
 

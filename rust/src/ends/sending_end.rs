@@ -312,6 +312,7 @@ impl<S: Storage<u8>, const N: usize> SendingEndOver<S, N> {
     ///
     /// ```
     /// # use net_base::ends::SendingEnd;
+    /// # use net_base::finite::Part;
     /// # use net_base::tcp::{Announcement, Sack, TimeoutBounds};
     /// # use net_base::time::{Duration, Instant};
     /// # let mut storage = [0u8; 64];
@@ -322,7 +323,7 @@ impl<S: Storage<u8>, const N: usize> SendingEndOver<S, N> {
     /// sending.close();
     /// let it = sending.next_segment(1200, Instant::ZERO).expect("three bytes and the end");
     /// let bytes = sending.bytes(it.range());
-    /// assert_eq!((bytes.front, bytes.back, bytes.is_last), (&b"abc"[..], &b""[..], true));
+    /// assert_eq!((bytes.front, bytes.back, bytes.part), (&b"abc"[..], &b""[..], Part::Last));
     /// ```
     #[must_use]
     pub fn bytes(&self, range: Range<u64>) -> SegmentBytes<'_> {

@@ -38,7 +38,7 @@ impl<S: Storage<u8>, const N: usize> Subject for Receiving<S, N> {
             }
             "classify" => arrival(end.classify(segment(&call.numbers))),
             "arrived" => {
-                kept(end.arrived(one, &pattern(call.size(1), call.at(2)), call.at(3) == 1))
+                kept(end.arrived(one, &pattern(call.size(1), call.at(2)), (call.at(3) == 1).into()))
             }
             "answer" => {
                 end.answer();

@@ -39,7 +39,7 @@ pub fn with_end<const N: usize>(
 /// How many bytes both parts have, their digest, and whether the stream ends after them.
 fn part(it: SegmentBytes<'_>) -> String {
     let sum = mix_bytes(mix_bytes(START, it.front), it.back);
-    format!("{} {} {}", it.front.len() + it.back.len(), digest(sum), truth(it.is_last))
+    format!("{} {} {}", it.front.len() + it.back.len(), digest(sum), truth(it.part.is_last()))
 }
 
 /// The segments that are sent.

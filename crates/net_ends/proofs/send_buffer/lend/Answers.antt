@@ -1,6 +1,4 @@
-use Rattle.std.proofs.Common.{subst, sym, ◌++◌}
 use Rattle.net_receiver.specs.Finite.{is_last}
-use Rattle.net_ends.specs.Ends.{IsSegment}
 use Rattle.net_ends.proofs.Segments.{two_parts}
 use Rattle.net_ends.proofs.send_buffer.lend.Goals as goal
 
@@ -8,6 +6,5 @@ pub returns : goal.returns
 returns g c =
     let front = c.peek_at.result in
     let back = c.peek_at-back.result in
-    subst (IsSegment c.args.sender.now c.args.range.start c.args.range.end (front.bytes.now ++ back.bytes.now)) (sym c.is_last.ensures)
-    (two_parts c.args.sender.now c.args.range.start c.args.range.end front.bytes.now back.bytes.now (is_last front.part)
-    (is_last back.part) c.peek_at.ensures.lent c.peek_at-back.ensures.lent)
+    two_parts c.args.sender.now c.args.range.start c.args.range.end front.bytes.now back.bytes.now (is_last front.part)
+    (is_last back.part) c.peek_at.ensures.lent c.peek_at-back.ensures.lent
