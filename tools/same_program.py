@@ -50,7 +50,7 @@ REPOSITORY, SCHEDULE, PROGRAM = widths.REPOSITORY, given.SCHEDULE.replace('/', '
 # erased; what makes a variant; and what the eraser leaves out: of a law, an idle function, and one of its list, rustc
 # refuses a call.
 ALONE = re.compile('|'.join([
-    r'.*::(?:(?:RingOver|PacketsOver|Assembler)Debug|\w*(?:Empty|Full|Error)Display)::fmt: .*',
+    r'.*::(?:(?:RingOver|PacketsOver|Assembler|SackBlocks)Debug|\w*(?:Empty|Full|Error)Display)::fmt: .*',
     r'.*::(?:\w*IterIterator::size_hint|Assembler::new|Instant::from_(?:micros|millis|secs)): .*',
     r'.*::[A-Z]\w*: not proved', r'(?:\w+::)+laws::\w+: not compiled',
     *(f'{name.replace("/", "::")}::.*' for names in given.UNERASED.values()

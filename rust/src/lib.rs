@@ -84,6 +84,8 @@ pub mod checksum;
 pub mod config;
 pub mod ends;
 #[cfg(test)]
+mod error_texts;
+#[cfg(test)]
 mod extremes;
 pub mod finite;
 pub mod managed;

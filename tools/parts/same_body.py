@@ -335,15 +335,15 @@ class CompiledSide(Side):
 
     @staticmethod
     def part(head, whole, ends):
-        """A slice of a range, `xs[a..]`; of an array that is a local, what is before its end."""
+        """A slice of a range, `xs[a..]`; of an array, what is before its end."""
         kind = re.search(r'<core::ops::(Range\w*)<', head)[1]
-        is_local = whole[0] == 'ref' and kind == 'RangeTo' and re.match(r'<\[.*; \w+\] as ', head)
+        is_array = kind == 'RangeTo' and re.match(r'<\[.*; \w+\] as ', head)
         is_known = kind in ('Range', 'RangeFrom', 'RangeTo') and 'core::vec::Vec' not in head.split(' as ')[0]
-        if ends[0] != 'agg' or not is_known or whole[0] == 'ref' and not is_local:
+        if ends[0] != 'agg' or not is_known or whole[0] == 'ref' and not is_array:
             raise Unknown('a part of what is no slice, or a range that is made elsewhere')
         start = ends.parts[0] if kind != 'RangeTo' else None
         end = length(whole) if kind == 'RangeFrom' else ends.parts[-1]
-        begin = whole if is_local else term('sp', whole) if start is None else pointer(whole, (term('i', start),))
+        begin = whole if is_array else term('sp', whole) if start is None else pointer(whole, (term('i', start),))
         return sliced(begin, end if start is None else operation('-', end, start))
 
     @staticmethod

@@ -7,7 +7,7 @@
 --     is_worth e      whether an update of the window is worth a segment
 --     listed e, reported e      the runs that an acknowledgement lists, and what came twice that it reports
 --     blocks_of list, sack_blocks list      four blocks, where there are as many; those that there are
---     range_of block, range_at block, count_of blocks      a block as a range; so if there is one; how many there are
+--     range_of block, range_at block, count_of blocks      a block as a range; so if there is one; how many before none
 --     WaitsAfter e pos count d      what came twice waits to be reported, once a segment of so many bytes has come
 --     is_next N s pos xs last      whether a segment adds to the queue and leaves no hole
 --     Event, after_event, after_events      what happens to an end, and what that leaves
@@ -16,7 +16,6 @@
 use Rattle.std.specs.Prelude.{◌≤◌, ℕ, ◌+◌, ◌-◌, ◌^◌, min, max, Option, Result, Ok, Err}
 use Rattle.std.specs.Prelude.{Bool, false, not, ◌&&◌, nat_lt, nat_le, nat_eq, if◌then◌else◌, List, [], ◌∷◌}
 use Rattle.std.specs.Prelude.{◌≡◌, ◌++◌, ◌||◌, None, Some, length, slice_get, map, take, is_some}
-use Rattle.std.specs.Int.{from_bool}
 use Rattle.std.specs.declared.ops.Range.{Range}
 use Rattle.std.specs.Option.{option_or}
 use Rattle.net_assembler.specs.Positions.{runs}
@@ -115,7 +114,7 @@ range_at (Some block) = range_of block
 
 abbrev pub count_of : List (Option (ℕ × ℕ)) → ℕ
 count_of [] = 0
-count_of (b ∷ bs) = from_bool (is_some b) + count_of bs
+count_of (b ∷ bs) = if is_some b then 1 + count_of bs else 0
 
 abbrev pub sack_blocks : List (ℕ × ℕ) → List (Range ℕ)
 sack_blocks list = map range_of (take 4 list)

@@ -118,15 +118,22 @@ fn range_at(block: Option<(u64, u64)>) -> Range<u64>
     }
 }
 
-/// Returns how many blocks there are.
+/// Returns how many blocks are before the first that there isn't.
 fn count_of(blocks: [Option<(u64, u64)>; 4]) -> usize
     ensures value { result ≡ count_of blocks }
     ensures within { result ≤ 4 }
 {
-    usize::from(blocks[0].is_some())
-        + usize::from(blocks[1].is_some())
-        + usize::from(blocks[2].is_some())
-        + usize::from(blocks[3].is_some())
+    if blocks[0].is_none() {
+        0
+    } else if blocks[1].is_none() {
+        1
+    } else if blocks[2].is_none() {
+        2
+    } else if blocks[3].is_none() {
+        3
+    } else {
+        4
+    }
 }
 
 /// What a segment with bytes of its own tells the peer.

@@ -1,0 +1,47 @@
+//! What errors print.
+use std::{error::Error, format, string::ToString};
+
+use crate::finite::FiniteError;
+use crate::scoreboard::ReportError;
+use crate::storage::fragment_table::AcceptError;
+use crate::storage::{Empty, FragmentError, Full, TooManyHolesError};
+
+/// Each error, with its two texts; options of a text change nothing, and none has a source. A variant without a row
+/// doesn't compile.
+macro_rules! errors {
+    ($($type:ident { $($variant:ident: $text:literal),* })*) => {
+        #[test]
+        fn errors() {
+            fn all(error: impl Error, text: &str, name: &str) {
+                assert_eq!(format!("{error:?}"), name, "what {name} is to print by Debug");
+                assert_eq!(error.to_string(), text, "what {name} is to print by Display");
+                assert_eq!(format!("{error:>99}|{error:.2}"), format!("{text}|{text}"), "{name}, with options");
+                assert!(error.source().is_none());
+            }
+            all(Full, "buffer full", "Full");
+            all(Empty, "buffer empty", "Empty");
+            all(TooManyHolesError, "too many holes", "TooManyHolesError");
+            $(for (error, text) in [$(($type::$variant, $text)),*] {
+                all(error, text, match error { $($type::$variant => stringify!($variant)),* });
+            })*
+        }
+    };
+}
+
+errors! {
+    FragmentError {
+        TooLong: "past the end of the buffer",
+        TooManyHoles: "too many holes",
+        OtherSize: "contradicts the packet's size"
+    }
+    AcceptError {
+        NoBytes: "no bytes",
+        NoSlot: "no slots",
+        OtherBytes: "contradicts bytes that have arrived",
+        TooLong: "past the end of the buffer",
+        TooManyHoles: "too many holes",
+        OtherSize: "contradicts the packet's size"
+    }
+    FiniteError { TooManyHoles: "too many holes", OtherEnd: "the stream ends elsewhere" }
+    ReportError { NoBlock: "not a block of what was sent", TooManyHoles: "too many holes" }
+}
