@@ -20,24 +20,6 @@ import (
 
 const first, second = tcpip.Address("\x0a\x4d\x00\x01"), tcpip.Address("\x0a\x4d\x00\x02")
 
-// The stream of bytes of the program that uses this end.
-type stream int
-
-func (file stream) Read(into []byte) (int, error) {
-	count, err := syscall.Read(int(file), into)
-	must(err)
-	if count == 0 {
-		return 0, io.EOF
-	}
-	return count, nil
-}
-
-func (file stream) Write(bytes []byte) (int, error) {
-	count, err := syscall.Write(int(file), bytes)
-	must(err)
-	return count, nil
-}
-
 func must(err error) {
 	if err != nil {
 		println(err.Error())
@@ -55,7 +37,7 @@ func mustDo(err tcpip.Error) {
 func sendPackets(link *channel.Endpoint) {
 	for {
 		packet := link.ReadContext(context.Background())
-		_, err := syscall.Write(0, packet.ToView().AsSlice())
+		_, err := os.Stdin.Write(packet.ToView().AsSlice())
 		packet.DecRef()
 		must(err)
 	}
@@ -64,11 +46,11 @@ func sendPackets(link *channel.Endpoint) {
 func takePackets(link *channel.Endpoint) {
 	var bytes [4096]byte
 	for {
-		count, err := syscall.Read(0, bytes[:])
-		must(err)
-		if count == 0 {
+		count, err := os.Stdin.Read(bytes[:])
+		if err == io.EOF {
 			os.Exit(0)
 		}
+		must(err)
 		payload := bufferv2.MakeWithData(append([]byte(nil), bytes[:count]...))
 		packet := stack.NewPacketBuffer(stack.PacketBufferOptions{Payload: payload})
 		link.InjectInbound(ipv4.ProtocolNumber, packet)
@@ -110,11 +92,11 @@ func main() {
 	connection, err := connect()
 	must(err)
 	go func() {
-		_, err := io.Copy(connection, stream(1))
+		_, err := io.Copy(connection, os.Stdout)
 		must(err)
 		must(connection.(*gonet.TCPConn).CloseWrite())
 	}()
-	_, err = io.Copy(stream(1), connection)
+	_, err = io.Copy(os.Stdout, connection)
 	must(err)
 	must(syscall.Shutdown(1, syscall.SHUT_WR))
 	select {}

@@ -57,12 +57,11 @@ def measured():
     yield "{} of CUBIC's with 0.5 % lost", peers, [f"{linux['0.5 % lost'][1]:.2f}"]
     for name, ratios in linux.items():
         yield f"| {name} | {{}} | {{}} |", peers, [f"{ratio:.2f}" for ratio in ratios]
-    lwip = [cell for row in cells(peers) if len(row) == 5 for cell in row[1:3]]
-    ratios = [value(cell) for cell in lwip if re.match(r"[\d.]+;", cell)]
-    yield "{} to {} of the time that Linux takes; with bursts and 10 % lost over {} s", peers, [
-        *span(ratios), re.search(r"over (\d+) s", " ".join(lwip))[1]]
-    ratios = [value(cell) for row in cells(peers) if len(row) == 5 for cell in row[3:5]]
-    yield "with Linux as the peer {} to {}", peers, span(ratios)
+    pairs = [row for row in cells(peers) if len(row) == 8]
+    ratios_of = lambda columns: [value(row[k]) for row in pairs for k in columns if re.match(r"[\d.]+;", row[k])]
+    yield "{} to {} of the time that Linux takes; with bursts and 10 % lost {} s", peers, [
+        *span(ratios_of((2, 3))), re.search(r"([\d.]+) s;", " ".join(row[2] for row in pairs))[1]]
+    yield "with another peer {} to {}", peers, span(ratios_of((1, 4, 5, 6, 7)))
 
 
 def counted():
