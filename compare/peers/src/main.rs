@@ -134,7 +134,9 @@ fn sample(word: &str, seed: u64) {
         for (what, path, traffic, bounds) in of_endpoint {
             cases.push(([ENDPOINT, peer], what, path, traffic, bounds));
         }
-        for (what, path, traffic, most) in to_endpoint.into_iter().filter(|_| peer != ENDPOINT) {
+        // After a cut netstack sends two segments with each timeout.
+        let is_fair = |path: &Path| peer != ENDPOINT && (peer != NETSTACK || path.cut.is_none());
+        for (what, path, traffic, most) in to_endpoint.into_iter().filter(|it| is_fair(&it.1)) {
             cases.push(([peer, ENDPOINT], what, path, traffic, (most, any, any)));
         }
     }
