@@ -40,42 +40,52 @@ The rules:
    about `N`, and in debug builds alone if it is of a `usize` of any width.
 9. In documentation what a public function requires and tests is under "Panics".
 """
+import itertools
 import re
+import shutil
+import subprocess
 import sys
+import tempfile
 import textwrap
 from pathlib import Path
 
 sys.dont_write_bytecode = True
 from parts import erase_list as given
 from parts import erase_says
-from parts.erase_ghosts import CALL, OF_TRAIT, PLACES, Ghosts, around, is_ghost
+from parts.erase_ghosts import CALL, OF_TRAIT, OWNER, PLACES, Ghosts, around, is_ghost
 from parts.erase_tokens import SPACE, Refused, Text, words
 
 REPOSITORY = Path(__file__).resolve().parent.parent
 OUT, EXAMPLE = REPOSITORY / 'rust/src', REPOSITORY / 'rust/examples/net_bench'
-ROOT, RATTLE = 'crate::proved', 'crate::rattle'
+FOR_C = OUT / 'exports/for_c'                     # what C's exports alone want of other modules
+ROOT, RATTLE = 'crate::proved', 'crate::rattle'   # the second is the program's
 WRITTEN = '// Written by tools/erase.py from '
 HEADER = WRITTEN + '{}: a change here would be lost.\n'
-# What a prelude has: that of the library, and that of the program.
-PRELUDE = {'prove', 'slice_mut', 'Vec'}, {'String', 'Vec'}
+# What the program's prelude has.
+PRELUDE = {'String', 'Vec'}
 GHOST_DERIVES = {'Drop', 'Error'}
-PLAIN_ATTRIBUTES = {'cfg', 'default', 'derive', 'inline', 'must_use', 'non_exhaustive', 'repr', 'track_caller'}
+PLAIN_ATTRIBUTES = {'allow', 'cfg', 'default', 'derive', 'inline', 'must_use', 'non_exhaustive', 'repr', 'track_caller'}
 MODIFIERS = {'pub', 'const', 'extern'}
 ITEMS = {'struct', 'enum', 'type', 'trait', 'static'}
+PROOF = '// Proof: '                              # a comment for those who prove
 GONE, NO_CLAUSE = '\0', '\1'                      # where a form, and where a clause, was
 # The name of what has an attribute, behind that.
 ITEM = re.compile(r'(?:\s*(?:#\[[^\]]*\]|///[^\n]*|pub|struct)(?=\s))*\s*(\w+)')
-# A bound of a `usize` that does something: it assigns, lends to be changed, or calls more than `most` and `len`.
-WIDE = re.compile(r'prove!\(.*(?:\{|\bmut\b|[^=<>!]=[^=]|(?!\b(?:len|most)\()\b[a-z_]\w*\(|\w!\().*"in any `usize`"',
-                  re.S)
+# What marks a bound of a `usize`, and one that does something: it assigns, lends to be changed, or calls more than
+# `most` and `len`.
+BOUND = '"in any `usize`"'
+WIDE = re.compile(r'(?:\{|\bmut\b|[^=<>!]=[^=]|(?!\b(?:len|most)\()\b[a-z_]\w*\(|\w!\()', re.S)
 # Numbers in the order of bytes that a machine has, which isn't the proved one's on each.
 NATIVE = {'to_ne_bytes', 'from_ne_bytes', 'to_be', 'to_le', 'from_be', 'from_le'}
+ALLOC = '#[cfg(feature = "alloc")]'
 LINK = re.compile(r'(?<=\]\()(?:crate|net_\w+)(?=::)')
 
 
 class Eraser(Text):
     """One file of a crate. `new` has the text that is written for a token, where that is another one; `after` what is
-    added behind one, by tools/parts/erase_says.py lines of documentation alone."""
+    added behind one, by tools/parts/erase_says.py lines of documentation alone. With `bounds` all bounds of a `usize`
+    stay as they are, for tools/widths.py."""
+    bounds = False
 
     def __init__(self, text, crate, omitted=(), file='', ghosts=Ghosts(), traits=(), by_hand=(), public=None):
         super().__init__(text)
@@ -85,7 +95,7 @@ class Eraser(Text):
         self.crate, self.omitted, self.file, self.by_hand = crate, omitted, file, by_hand
         self.key = file.removeprefix('crates/').replace('/src/', '/', 1).removesuffix('.rt')
         self.uncalled, self.gone, self.imports = given.UNCALLED.get(self.key, ()), set(), []
-        self.new, self.after, self.functions, self.errors = {}, {}, [], {}
+        self.new, self.after, self.functions, self.errors, self.moved = {}, {}, [], {}, []
 
     def put(self, start, end, text):
         """Writes a text for the tokens from start to end."""
@@ -93,11 +103,14 @@ class Eraser(Text):
         self.new[start] = text
         return end
 
-    def path(self, first):
-        """What is written for the first word of a path."""
+    def path(self, first, k=None):
+        """What is written for the first word of a path, after which k is. What C's exports take of a crate's root they
+        find in that of their own."""
         crate = self.crate if first == 'crate' else first
+        if self.crate == given.EXPORTS and k and first in given.CRATES and self.tokens[self.next(k + 1)][1] != '::':
+            return f'crate::{given.FOLDERS[self.crate]}'
         if crate in self.by_hand or first == 'std':
-            return f'{RATTLE}::{crate}'
+            return f'{RATTLE}::{crate}' if self.by_hand else 'core'
         return f'{ROOT}::{crate}' if first == 'crate' or first in given.CRATES else first
 
     def run(self):
@@ -111,7 +124,7 @@ class Eraser(Text):
                 self.new[k] = said if self.crate != given.EXPORTS else GONE
                 head, k = (begin if word.startswith('///') else head), k + 1
             elif kind in SPACE:
-                k += 1
+                k = self.proof(k) if word.startswith(PROOF) else k + 1
             elif word == '#':
                 head, k = begin, self.attribute(k)
             elif word in MODIFIERS:
@@ -138,6 +151,7 @@ class Eraser(Text):
             return k + 1
         if word in ITEMS and not self.margin(head):
             self.close(head, k, [self.tokens[after][1]])
+            self.move(head, self.until(k, '{', ';'), self.tokens[after][1])
         if word == 'fn':
             return self.function(k, head)
         if self.before(k) in ('{', '}', ';') and (end := self.statement(k)):
@@ -157,16 +171,44 @@ class Eraser(Text):
             self.imports.append((head, k, self.until(k, ';'), is_public))
         if word == 'impl' and re.compile(r'impl\b[^{;]*?\b(?:Drop|Model) for\b').match(self.text, at):
             return self.put(head, self.group(self.until(k, '{')), GONE)
+        if word == 'impl' and not self.margin(head):
+            self.move(head, self.until(k, '{'), OWNER.match(self.source(k, self.until(k, '{')))[1])
         if word == 'Drop' and self.tokens[k - 1][1] != '::':
             return self.put(k, k + 1, 'Sized')
         before, is_member = self.before(k), self.tokens[k - 1][1] == '.' != self.tokens[k - 2][1]
         if follows == '::' and before != '::' and not is_member:
-            self.put(k, k + 1, self.path(word))
+            self.put(k, k + 1, self.path(word, self.next(after + 1)))
         if word in NATIVE:
             self.refuse(at, 'the order of bytes of a machine')
-        if word == 'prove' and follows == '!' and WIDE.search(self.source(k, self.group(self.next(after + 1)))):
-            self.refuse(at, 'more than a bound, which a release build leaves out')
+        if (word, follows) == ('usize', '::') and self.tokens[after + 1][1] in ('MAX', 'MIN', 'BITS'):
+            self.refuse(at, 'a width, which only `most` knows')
+        if (word, follows) == ('most', '('):
+            return self.put(k, self.group(after), 'usize::MAX')
+        if (word, follows) == ('prove', '!'):
+            return self.guard(k, self.next(after + 1))
         return k + 1
+
+    def proof(self, k):
+        """Takes out a comment for those who prove, up to where it ends."""
+        while self.tokens[k][0] == 'note':
+            k = self.put(k, k + 1, GONE) + (self.tokens[k + 1][0] == 'space')
+        return k
+
+    def guard(self, k, opening):
+        """Writes what is tested. That `N` is something is tested when a program is compiled; a bound of a `usize` in
+        debug builds alone, and not at all if that is the greatest `usize`; and all else always."""
+        end, said = self.group(opening), self.source(opening, self.group(opening))
+        bound = re.fullmatch(rf'\((.*),\s*{re.escape(BOUND)},?\s*\)', said, re.S)
+        if bound and WIDE.search(bound[1]):
+            self.refuse(self.tokens[k][2], 'more than a bound, which a release build leaves out')
+        if bound and bound[1].endswith(' <= most()') and not self.bounds:
+            return self.put(k, end + 1, GONE)
+        if bound:
+            said = re.sub(r'\bmost\(\)', 'usize::MAX', said if self.bounds else f"({bound[1].replace(' + 1 <= ', ' < ')})")
+            return self.put(k, end, f'debug_assert!{said}')
+        is_constant = said.startswith('(N >= ')
+        self.put(end - 1, end, ') }' if is_constant else ')')
+        return self.put(k, opening, 'const { assert!' if is_constant else 'assert!')
 
     def function(self, k, head):
         """A signature and its contract, which goes."""
@@ -193,10 +235,17 @@ class Eraser(Text):
                 self.crate != given.EXPORTS:
             self.panics(head, k)
         self.functions.append((owner, impl, k, head, begin, body, pub))
+        self.move(head, body, f'{owner}::{self.name(k)}'.removeprefix('::'), impl)
         self.counts = {self.parameter(j) for j in range(k, begin) if self.tokens[j][1] in self.ghosts.types}
         if 'Clone for' in impl:
             self.clone(k, begin, body)
         return k + 1
+
+    def move(self, head, body, name, impl=''):
+        """Notes an item that C's exports alone want, unless the item around it is one."""
+        if name in given.FOR_C.get(self.key, ()) and not (self.moved and head < self.moved[-1][2]):
+            end = self.group(body) if self.tokens[body][1] == '{' else body + 1
+            self.moved.append((impl, head, end))
 
     def parameter(self, k):
         """Takes out the parameter whose type is named at k, and returns its name."""
@@ -306,20 +355,17 @@ class Eraser(Text):
         self.put(docs[heading], docs[heading] + 1, '/// # Panics')
         self.put(docs[heading + 2], docs[end - 1] + 1, f'\n{margin}'.join(f'/// {line}' for line in text))
 
-    def trim(self):
-        """Takes from imports what only contracts name, but for traits and std's."""
-        spans = {j for _, k, end, _ in self.imports for j in range(k, end)}
-        used = {self.tokens[j][1] for j, token in enumerate(self.tokens) if token[0] == 'word' and j not in spans
-                and j not in self.new}
-        used |= {word for j, text in self.new.items() if j not in spans for word in words(text)}
+    def trim(self, part, is_file=True):
+        """Takes from imports what no token of this part names, but for traits and std's of a file."""
+        used = {word for j in part for word in words(self.new.get(j, self.tokens[j][1] * (self.tokens[j][0] == 'word')))}
         for head, k, end, is_public in self.imports:
             named = [j for j in range(k + 1, end) if self.tokens[j][0] == 'word']
-            kept = lambda name: is_public or name in used or name in self.traits
+            kept = lambda name: name in used or is_file and (is_public or name in self.traits)
             leaves = [j for j in named if self.tokens[self.next(j + 1)][1] in (',', ';', '}')]
             by_name = {j: self.tokens[named[at - 2]][1] for at, j in enumerate(named) if at > 1
                        and self.tokens[named[at - 1]][1] == 'as'}
-            gone = [j for j in leaves if self.tokens[j][1] in {'Model', 'AllocError'} - used or
-                    self.tokens[named[0]][1] not in ('std', 'thiserror') and not kept(self.tokens[j][1])
+            gone = [j for j in leaves if self.tokens[j][1] in {'Model', 'AllocError'} - used | {'most'} or
+                    (self.tokens[named[0]][1] not in ('std', 'thiserror') or not is_file) and not kept(self.tokens[j][1])
                     and by_name.get(j) not in self.traits]
             if len(gone) == len(leaves):
                 self.put(head, end + 1, GONE)
@@ -365,21 +411,77 @@ class Eraser(Text):
         """The text, laid out; it has the tokens that are kept, and no word of contracts."""
         if self.crate != given.EXPORTS:
             erase_says.document(self)
-        self.trim()
-        kept = [self.new.get(k, token[1]) for k, token in enumerate(self.tokens)]
-        out = ''.join(text + self.after.get(k, '') for k, text in enumerate(kept))
-        out = re.sub(rf'\s*(?:{NO_CLAUSE}\s*)+(?={{)', ' ', out)
+        spans = {j for _, k, end, _ in self.imports for j in range(k, end)}
+        inside = {j for _, start, end in self.moved for j in range(start, end)}
+        self.unnamed()
+        self.only_for_c = self.items_for_c(inside) if inside else None
+        self.trim({*range(len(self.tokens))} - spans - inside)
+        out = self.laid_out(self.text_of(k for k in range(len(self.tokens)) if k not in inside))
+        top = re.match(r'(?://![^\n]*\n)*\n?', out).end()
+        said = {*words(out)}
+        first = f'use {RATTLE}::prelude::*;\n' if self.by_hand and PRELUDE & said else \
+            f'{ALLOC}\nuse alloc::vec::Vec;\n' if 'Vec' in said and not self.by_hand else ''
+        return f'{HEADER.format(self.file)}{out[:top]}{first}{out[top:]}{"".join(map(self.error, self.errors))}'
+
+    def text_of(self, tokens):
+        """What is written for some tokens."""
+        return ''.join(self.new.get(k, self.tokens[k][1]) + self.after.get(k, '') for k in tokens)
+
+    def laid_out(self, kept):
+        """A text without the places where something was."""
+        out = re.sub(rf'\s*(?:{NO_CLAUSE}\s*)+(?={{)', ' ', kept)
         out = re.sub(rf'\s*(?:{NO_CLAUSE}\s*)+(?=;)', '', out)
         out = re.sub(rf'(?m)^[ \t]*{GONE}[ \t{GONE}]*\n', '', out).replace(GONE, '')
         out = re.sub(r'\{\n\n+', '{\n',
                      re.sub(r'\n\n+(\s*\})', r'\n\1', re.sub(r'\n{3,}', '\n\n', out))).strip('\n') + '\n'
-        if words(out) != [word for text in kept for word in words(text) if word not in (GONE, NO_CLAUSE)]:
+        if words(out) != [word for word in words(kept) if word not in (GONE, NO_CLAUSE)]:
             self.refuse(0, 'the layout changes a token')
-        out = re.sub(r'\blet (\w+) = ([^;]*);\s+\1(?=\s*\})', r'\2', out)        # what a ghost was called with
-        texts = ''.join(f'\n{RATTLE}::error_text!({name}, {", ".join(said)});\n' for name, said in self.errors.items())
-        top = re.match(r'(?://![^\n]*\n)*\n?', out).end()
-        prelude = f'use {RATTLE}::prelude::*;\n' if PRELUDE[bool(self.by_hand)] & {*words(out)} else ''
-        return f'{HEADER.format(self.file)}{out[:top]}{prelude}{out[top:]}{texts}'
+        return re.sub(r'\blet (\w+) = ([^;]*);\s+\1(?=\s*\})', r'\2', out)        # what a ghost was called with
+
+    def items_for_c(self, inside):
+        """The text of the items that C's exports alone want. What they call is no more private to the file."""
+        before, named = dict(self.new), {*words(self.text_of(inside))}
+        self.trim(inside, False)
+        text = ''.join(f'{self.text_of(range(head, end + 1))}\n' for head, k, end, _ in self.imports)
+        for impl, items in itertools.groupby(self.moved, lambda item: item[0]):
+            item = '\n\n'.join(self.text_of(range(start, end)) for _, start, end in items)
+            text += f'\n{impl}{{\n{item}\n}}\n' if impl else f'\n{item}\n'
+        self.new = before
+        for owner, impl, k, head, *_, pub in self.functions:
+            is_open = 'pub' in (self.tokens[j][1] for j in range(head, k)) or k in inside or OF_TRAIT.search(impl)
+            if self.name(k) in named and not is_open:
+                first = min(j for j in range(head, k + 1) if self.tokens[j][1] in ('const', 'fn'))
+                self.put(first, first + 1, f'pub(crate) {self.tokens[first][1]}')
+        return self.laid_out(text)
+
+    def unnamed(self):
+        """Writes `_name` for a parameter that only contracts name."""
+        for *_, k, head, begin, body, pub in self.functions:
+            end = self.group(body) if self.tokens[body][1] == '{' else body
+            inside = [j for j in range(body, end) if self.tokens[j][0] not in SPACE]
+            named = {*re.findall(r'\w+', ' '.join(self.new.get(j, self.tokens[j][1]) for j in inside))}
+            for j in range(k, begin) if inside else ():
+                is_first = self.tokens[j][0] == 'word' and self.before(j) in ('(', ',') and j not in self.cut
+                if is_first and self.tokens[j + 1][1] == ':' and self.tokens[j][1] not in named and \
+                        self.tokens[j][1].islower():
+                    self.put(j, j + 1, f'_{self.tokens[j][1]}')
+
+    def error(self, name):
+        """The text of an error, and that it is one: Rattle derives both."""
+        said = self.errors[name]
+        if self.by_hand:
+            return f'\n{RATTLE}::error_text!({name}, {", ".join(said)});\n'
+        text = said[0].partition(' => ')[2] if said[0].startswith(f'{name} ') else \
+            f'match self {{ {", ".join(said)} }}'
+        return f"""
+impl core::fmt::Display for {name} {{
+    fn fmt(&self, f: &mut core::fmt::Formatter<'_>) -> core::fmt::Result {{
+        f.write_str({text})
+    }}
+}}
+
+impl core::error::Error for {name} {{}}
+"""
 
 
 def sources(crates=given.CRATES):
@@ -465,6 +567,11 @@ def erased(said):
             text = eraser.run()
             if file not in given.ROOTS:
                 files[out / f'{placed(file)}.rs'] = relocated(text)
+                if eraser.only_for_c:
+                    path = placed(file).split('/')
+                    of_super = re.sub(r'\bsuper(?=::)', '::'.join(['crate', *path[:-1]]), eraser.only_for_c)
+                    files[FOR_C / f'{"_".join(path[1:])}.rs'] = relocated(
+                        f'{HEADER.format(eraser.file)}use crate::{"::".join(path)}::*;\n{of_super}')
             elif missing := [item for item in constants(text) if item not in by_hand_root(out, file)]:
                 said.append(f'{out.relative_to(REPOSITORY)}: {missing[0]} of {eraser.file} is by hand in no root')
             gone |= {f'{file} {name}' for name in eraser.gone}
@@ -508,9 +615,35 @@ def by_hand_root(out, file):
     return next(root.read_text() for root in roots if root.is_file())
 
 
+def formatted(files, said):
+    """The files as rustfmt leaves them. It may add and take commas and braces, and order imports: no other token."""
+    with tempfile.TemporaryDirectory() as folder:
+        there = {path: Path(folder, *path.relative_to(REPOSITORY).parts) for path in files}
+        for path, text in files.items():
+            there[path].parent.mkdir(parents=True, exist_ok=True)
+            there[path].write_text(text)
+        ran = subprocess.run(['rustfmt', '--edition', '2024', '--config-path', OUT.parent, *there.values()],
+                             capture_output=True, text=True)
+        said += [ran.stderr] if ran.returncode else []
+        new = {path: file.read_text() for path, file in there.items()}
+    said += [f'{path}: rustfmt changes a token' for path in files if essence(files[path]) != essence(new[path])]
+    return new
+
+
+def essence(text):
+    """The tokens of a text, without commas and braces, and of its imports in any order."""
+    imports = re.compile(r'(?m)^ *(?:pub(?:\([^)]*\))? )?use [^;]*;')
+    plain = lambda part: [word for word in words(part) if word not in ',{}']
+    return sorted(sum(map(plain, imports.findall(text)), [])), plain(imports.sub('', text))
+
+
 def main(arguments):
+    if not shutil.which('rustfmt'):
+        print('erase: not run: no rustfmt', file=sys.stderr)
+        return 2
     said = []
-    files, old = erased(said), {file: file.read_text() for out in (OUT, EXAMPLE) for file in out.rglob('*.rs')}
+    files = formatted(erased(said), said)
+    old = {file: file.read_text() for out in (OUT, EXAMPLE) for file in out.rglob('*.rs')}
     old = {file: text for file, text in old.items() if text.startswith(WRITTEN)}
     differ = [path for path in sorted(files.keys() | old.keys()) if files.get(path) != old.get(path)]
     if arguments == ['--check']:

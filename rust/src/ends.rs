@@ -14,24 +14,14 @@ use crate::storage::Storage;
 use crate::tcp::TimeoutBounds;
 use crate::time::Duration;
 
-erased! {
-    pub(crate) mod receiving_end;
-    pub(crate) mod send_buffer;
-    pub(crate) mod sending_end;
-    pub(crate) mod sending_head;
-}
+pub(crate) mod receiving_end;
+pub(crate) mod send_buffer;
+pub(crate) mod sending_end;
+pub(crate) mod sending_head;
 
 pub use receiving_end::{AckFields, Acknowledgement, ReceivingEnd, ReceivingEndOver, SackBlocks};
 pub use send_buffer::{AckKind, SegmentBytes, SendBuffer, SendBufferOver, Sending, TakenAck};
 pub use sending_end::{AckSegment, Acknowledged, Expired, Outgoing, SendingEnd, SendingEndOver};
-
-// Names for the exports for C alone.
-#[allow(unused_imports)]
-pub(crate) use {
-    receiving_end::{ReceivingHead, Room},
-    send_buffer::Queued,
-    sending_head::SendingHead,
-};
 
 impl<'a, const N: usize> SendBuffer<'a, N> {
     /// Returns a buffer of a stream that begins at position `first`, to which nothing was written.

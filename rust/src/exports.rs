@@ -1,21 +1,46 @@
-//! The exports for C, over references and slices, and their structs.
-erased! {
-    pub mod answer_limit;
-    pub mod finite_receiver;
-    pub mod fragments;
-    pub mod heads;
-    pub mod packets;
-    pub mod parts_sum;
-    pub mod rand;
-    pub mod receiver;
-    pub mod receiving_end;
-    pub mod refusals;
-    pub mod results;
-    pub mod retransmission;
-    pub mod ring;
-    pub mod sending_end;
-    pub mod sequence_number;
+//! The exports for C, over references and slices, and their structs. What of other modules they alone call is in
+//! `for_c`.
+pub mod answer_limit;
+#[cfg(test)]
+mod extremes;
+pub mod finite_receiver;
+pub mod fragments;
+mod for_c {
+    mod assembler_head;
+    pub(super) mod finite_receiver_head;
+    mod finite_sender_head;
+    mod fragments_head;
+    pub(super) mod packet_slot;
+    pub(super) mod packets_head;
+    mod receiver_head;
+    mod ring_head;
+    mod scoreboard_head;
+    mod send_buffer;
+    mod sender_head;
 }
+pub mod heads;
+pub mod packets;
+pub mod parts_sum;
+pub mod rand;
+pub mod receiver;
+pub mod receiving_end;
+pub mod refusals;
+pub mod results;
+pub mod retransmission;
+pub mod ring;
+pub mod sending_end;
+pub mod sequence_number;
+
+// Names for the modules here.
+use crate::ends::{Acknowledged, Expired, Outgoing};
+use crate::storage::TooManyHolesError;
+use crate::stream::{FiniteError, KeptBytes, SequenceNumber};
+use crate::tcp::internet_sum::updated_checksum;
+use crate::tcp::{scale_for, scaled, AnswerLimit, Arrival, Expiry, Sack, TimeoutBounds};
+
+pub use for_c::finite_receiver_head::FiniteReceiverHead;
+pub use for_c::packet_slot::PacketSlot;
+pub use for_c::packets_head::FirstPacket;
 
 pub use crate::checksum::PartsSum;
 pub use crate::ends::receiving_end::{ReceivingHead, Room};
@@ -23,10 +48,8 @@ pub use crate::ends::send_buffer::{BufferHead, Queued};
 pub use crate::ends::sending_head::SendingHead;
 pub use crate::storage::assembler::{AssemblerHead, Run};
 pub use crate::storage::fragments::FragmentsHead;
-pub use crate::storage::packet_slot::PacketSlot;
-pub use crate::storage::packets_head::{FirstPacket, PacketPlace, PacketsHead};
+pub use crate::storage::packets_head::{PacketPlace, PacketsHead};
 pub use crate::storage::ring_head::{RingHead, Span};
-pub use crate::stream::finite_receiver_head::FiniteReceiverHead;
 pub use crate::stream::finite_sender_head::FiniteSenderHead;
 pub use crate::stream::held_runs::HeldRun;
 pub use crate::stream::receiver_head::ReceiverHead;

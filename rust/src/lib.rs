@@ -55,6 +55,9 @@
 #![cfg_attr(docsrs, feature(doc_cfg))]
 #![forbid(unsafe_code)]
 #![deny(missing_docs, missing_debug_implementations, unnameable_types, unreachable_pub)]
+// A function is proved by the form that it has: a `match`, a loop over indices.
+#![allow(clippy::manual_filter, clippy::manual_find, clippy::manual_map)]
+#![allow(clippy::needless_range_loop, clippy::question_mark, clippy::redundant_pattern_matching)]
 
 #[cfg(feature = "alloc")]
 extern crate alloc;
@@ -64,33 +67,15 @@ extern crate std;
 #[cfg(not(any(target_pointer_width = "32", target_pointer_width = "64")))]
 compile_error!("a `usize` has 32 or 64 bits");
 
-/// Declares modules that `tools/erase.py` writes, the proved text, which rustfmt leaves as it is. A parameter may be for
-/// contracts alone; the other lints are of what Rattle has no other form for. Some calls and names are for the exports
-/// for C alone, which are no part of this crate: that nothing else is unused is tested with `with_exports.rs`.
-macro_rules! erased {
-    ($($visibility:vis mod $name:ident;)*) => {$(
-        #[allow(unused_variables)]
-        #[allow(clippy::int_plus_one, clippy::len_without_is_empty, clippy::manual_filter)]
-        #[allow(clippy::manual_find, clippy::manual_map, clippy::needless_lifetimes)]
-        #[allow(clippy::needless_range_loop, clippy::new_without_default, clippy::precedence)]
-        #[allow(clippy::question_mark, clippy::redundant_closure)]
-        #[allow(clippy::redundant_pattern_matching, clippy::too_many_arguments)]
-        #[allow(dead_code, unused_imports)]
-        $visibility mod $name;
-    )*};
-}
-
 pub mod checksum;
 pub mod config;
 pub mod ends;
 #[cfg(test)]
 mod error_texts;
-#[cfg(test)]
-mod extremes;
 pub mod finite;
 pub mod managed;
 pub mod phy;
-mod rattle;
+pub mod rand;
 pub mod receiver;
 pub mod scoreboard;
 pub mod sequence_number;
@@ -98,10 +83,6 @@ pub mod storage;
 mod stream;
 pub mod tcp;
 pub mod time;
-
-erased! {
-    pub mod rand;
-}
 
 #[cfg(doctest)]
 #[doc = include_str!("refused.txt")]

@@ -1,23 +1,21 @@
 //! A stream of bytes: what receives it, what sends it, and what is lost on the way. Public are [`crate::receiver`],
 //! [`crate::finite`], [`crate::scoreboard`] and [`crate::sequence_number`], and loss recovery in [`crate::tcp`].
-erased! {
-    pub(crate) mod finite_receiver;
-    pub(crate) mod finite_receiver_head;
-    pub(crate) mod finite_sender;
-    pub(crate) mod finite_sender_head;
-    pub(crate) mod flags;
-    pub(crate) mod held_runs;
-    pub(crate) mod kept;
-    pub(crate) mod numbering;
-    pub(crate) mod part;
-    pub(crate) mod receiver;
-    pub(crate) mod receiver_head;
-    pub(crate) mod scoreboard;
-    pub(crate) mod scoreboard_head;
-    pub(crate) mod sender_head;
-    pub(crate) mod sent_numbers;
-    pub(crate) mod sequence_number;
-}
+pub(crate) mod finite_receiver;
+pub(crate) mod finite_receiver_head;
+pub(crate) mod finite_sender;
+pub(crate) mod finite_sender_head;
+pub(crate) mod flags;
+pub(crate) mod held_runs;
+pub(crate) mod kept;
+pub(crate) mod numbering;
+pub(crate) mod part;
+pub(crate) mod receiver;
+pub(crate) mod receiver_head;
+pub(crate) mod scoreboard;
+pub(crate) mod scoreboard_head;
+pub(crate) mod sender_head;
+pub(crate) mod sent_numbers;
+pub(crate) mod sequence_number;
 
 pub use finite_receiver::{FiniteReceiver, FiniteReceiverOver};
 pub use finite_sender::{FiniteSender, FiniteSenderOver};
@@ -35,9 +33,3 @@ pub use sequence_number::SequenceNumber;
 pub(crate) use flags::flag_of;
 pub(crate) use held_runs::HeldRun;
 pub(crate) use scoreboard_head::ScoreboardHead;
-// Names for the exports for C alone.
-#[allow(unused_imports)]
-pub(crate) use {
-    finite_receiver_head::FiniteReceiverHead, finite_sender_head::FiniteSenderHead,
-    receiver_head::ReceiverHead,
-};

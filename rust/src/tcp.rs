@@ -52,20 +52,18 @@
 //! ```
 pub use crate::stream::SentNumbers;
 
-erased! {
-    pub(crate) mod advertised_window;
-    pub(crate) mod answer_limit;
-    pub(crate) mod arriving;
-    pub(crate) mod duplicate_block;
-    pub(crate) mod equal_acknowledgement;
-    pub(crate) mod internet_sum;
-    pub(crate) mod loss_recovery;
-    pub(crate) mod peer_window;
-    pub(crate) mod reported;
-    pub(crate) mod retransmission;
-    pub(crate) mod retransmission_timer;
-    pub(crate) mod sack;
-}
+pub(crate) mod advertised_window;
+pub(crate) mod answer_limit;
+pub(crate) mod arriving;
+pub(crate) mod duplicate_block;
+pub(crate) mod equal_acknowledgement;
+pub(crate) mod internet_sum;
+pub(crate) mod loss_recovery;
+pub(crate) mod peer_window;
+pub(crate) mod reported;
+pub(crate) mod retransmission;
+pub(crate) mod retransmission_timer;
+pub(crate) mod sack;
 
 pub use advertised_window::{scale_for, AdvertisedWindow, MAX_SCALE};
 pub use answer_limit::AnswerLimit;
@@ -82,9 +80,6 @@ pub(crate) use duplicate_block::is_duplicate_block;
 pub(crate) use equal_acknowledgement::is_equal_acknowledgement;
 pub(crate) use internet_sum::PartsSum;
 pub(crate) use reported::LentScoreboard;
-// Names for the exports for C alone.
-#[allow(unused_imports)]
-pub(crate) use internet_sum::{checksum, is_valid, updated_checksum};
 
 use crate::time::Duration;
 

@@ -16,6 +16,7 @@ CRATES = [crate for crate in FOLDERS if crate not in PROGRAM]
 
 # Modules that have another place there: two heads of one folder, what smoltcp has in `phy/mod.rs`, and the program's.
 MOVED = {'net_ring/head': 'storage/ring_head', 'net_packets/head': 'storage/packets_head',
+         'net_packets/packet_slot': 'exports/for_c/packet_slot',
          'net_base/phy': 'phy/capabilities', SCHEDULE: 'schedule'}
 
 # The roots, in whose place are files by hand: they list modules, and their constants stand there too.
@@ -29,7 +30,7 @@ UNERASED = {
     "Rust's has no `N`, as smoltcp's": ['net_assembler/assembler/new'],
     "Rust's tokens borrow their device, which Rattle's can't": [f'net_base/phy/{name}'
                                                                 for name in ('device', 'loopback', 'echo')],
-    "in Rust it is core's": ['net_base/phy/non_zero'],
+    "in Rust it is core's": ['net_base/phy/non_zero', 'net_ring/width'],
     'only proofs want them': ['net_base/phy/frame_lists'],
     'the example `net_bench` alone has it': [SCHEDULE],
     "in the example `net_bench` the words are Rust's": ['net_bench_lib/arguments'],
@@ -59,7 +60,22 @@ CLOSED = {
 # documentation.
 EXPORTS = 'net_ffi'
 
-RING, PACKETS = 'net_ring/ring_buffer', 'net_packets/packet_buffer'
+# What of other modules only the exports call, by rustc's word: it is in a folder of theirs.
+HEADS = {'net_ring/head': 'RingHead', 'net_packets/head': 'PacketsHead', 'net_assembler/assembler/head': 'AssemblerHead',
+         'net_base/storage/fragments/head': 'FragmentsHead', 'net_receiver/receiver_head': 'ReceiverHead',
+         'net_receiver/finite_sender_head': 'FiniteSenderHead', 'net_receiver/sender_head': 'SenderHead',
+         'net_receiver/scoreboard_head': 'ScoreboardHead', 'net_ends/send_buffer': 'BufferHead'}
+FOR_C = {file: [f'{head}::is_sound'] for file, head in HEADS.items()} | {
+    'net_receiver/finite_receiver_head': ['FiniteReceiverHead'],
+}
+FOR_C['net_ring/head'] += ['RingHead::enqueue_span', 'RingHead::dequeue_span']
+FOR_C['net_packets/head'] += ['FirstPacket', 'Progress', 'write_slots'] + [f'PacketsHead::{name}' for name in (
+    'has_sound_slots', 'progress', 'can_take', 'take_slot', 'can_shorten', 'shorten_slot', 'shorten_last_in', 'enqueue',
+    'dequeue', 'peek', 'take_first', 'skip_gap', 'take_packet')]
+FOR_C['net_assembler/assembler/head'] += ['rise_after']
+FOR_C['net_receiver/receiver_head'] += ['ReceiverHead::reads_in_turn', 'ReceiverHead::next_fits']
+
+MANAGED, RING, PACKETS = 'net_ring/managed', 'net_ring/ring_buffer', 'net_packets/packet_buffer'
 ASSEMBLER, PHY = 'net_assembler/assembler', 'net_base/phy'
 RECEIVER, FINITE, FRAGMENTS = 'net_receiver/receiver', 'net_receiver/finite_receiver', 'net_base/storage/fragments'
 RECEIVING = 'net_ends/receiving_end'
@@ -75,8 +91,11 @@ LIFETIMES = [
      "_infallible<'b, F: FnOnce(&'b mut [u8]) -> usize>(\n        &'b mut self,", {PACKETS: 1}),
     ('_with<R, E, F: FnOnce(&mut H, &mut [u8]) -> Result<R, E>>(\n        &mut self,',
      "_with<'c, R, E, F: FnOnce(&mut H, &'c mut [u8]) -> Result<R, E>>(\n        &'c mut self,", {PACKETS: 1}),
+    ("impl<'a, T> Storage<T> for &'a mut [T]", 'impl<T> Storage<T> for &mut [T]', {MANAGED: 1}),
+    ("fn lent_whole<'s, 'a, T>(slice: &'s mut &'a mut [T])", "fn lent_whole<'s, T>(slice: &'s mut &mut [T])", {MANAGED: 1}),
 ]
 
+MANY = '    #[allow(clippy::too_many_arguments)] // a segment has as many fields\n'
 # These in attributes alone: what is printed is by hand, but for a ring's iterator; what can be cloned in Rust, where
 # that isn't refused; and features.
 ATTRIBUTES = [
@@ -92,6 +111,13 @@ ATTRIBUTES = [
     ('#[derive(Debug, Drop)]\npub struct Ack', '#[derive(Clone, Debug, PartialEq, Eq)]\npub struct Ack', {RECEIVING: 1}),
     ('#[derive(Debug, Drop)]\npub struct Sack', '#[derive(Clone, PartialEq, Eq)]\npub struct Sack', {RECEIVING: 1}),
     ('#[derive(Debug, Drop)]\npub struct Assembler<', 'pub struct Assembler<', {ASSEMBLER: 1}),
+    ("\nimpl<T> Storage<T> for Vec<T>", "\n#[cfg(feature = \"alloc\")]\nimpl<T> Storage<T> for Vec<T>", {MANAGED: 1}),
+    ("\nimpl<'a, T> From<Vec<T>>", "\n#[cfg(feature = \"alloc\")]\nimpl<'a, T> From<Vec<T>>", {MANAGED: 1, RING: 1}),
+    ('\nfn owned_whole', '\n#[cfg(feature = "alloc")]\n#[allow(clippy::ptr_arg)] // `Owned` holds a vector\nfn owned_whole', {MANAGED: 1}),
+    ('    pub fn acknowledged(', f'{MANY}    pub fn acknowledged(', {'net_ends/sending_head': 1}),
+    ('    fn take_accepted(', f'{MANY}    fn take_accepted(', {'net_ends/sending_head': 1}),
+    ('    ManagedSlice::Owned(vec) =>', '    #[cfg(feature = "alloc")]\n            ManagedSlice::Owned(vec) =>', {MANAGED: 7}),
+    ('    Owned(Vec<T>),', '    #[cfg(feature = "alloc")]\n    Owned(Vec<T>),', {MANAGED: 1}),
     ('    pub segmentation_off', '    #[cfg(feature = "segmentation-offload")]\n    pub segmentation_off', {PHY: 1}),
 ]
 
@@ -118,7 +144,21 @@ ATTRIBUTES += [(f'\npub {item}', f'\n#[non_exhaustive]\npub {item}', {file: 1})
 TYPES = [
     ('fn fmt<W: fmt::Write>(&self, f: &mut fmt::Formatter<W>)', "fn fmt(&self, f: &mut fmt::Formatter<'_>)",
      {ASSEMBLER: 2, 'net_base/time/duration': 1, 'net_base/time/instant': 1, 'net_bench_lib/stream/reply_lines': 2}),
-    ('pub use non_zero::{NonZeroU16, NonZeroUsize};', 'pub use std::num::{NonZeroU16, NonZeroUsize};', {PHY: 1}),
+    ('pub use non_zero::{NonZeroU16, NonZeroUsize};', 'use std::num::NonZeroUsize;', {PHY: 1}),
+    ('word * u64::from(bound) >> 32', '(word * u64::from(bound)) >> 32', {'net_base/rand': 1}),
+    (': Option<NonZeroU16>', ': Option<std::num::NonZeroU16>', {PHY: 1}),
+    ('offset <= most() && ', '', {'net_assembler/assembler/head': 1}),
+    ('\n            && self.first_start <= most()', '', {'net_assembler/assembler/head': 1}),
+    ('\nmod head;', '\npub(crate) mod head;', {ASSEMBLER: 1, FRAGMENTS: 1}),
+    ('\nmod run;', '\npub(crate) mod run;', {ASSEMBLER: 1}),
+    ('net_base::storage::FragmentsHead', 'net_base::storage::fragments::FragmentsHead',
+     {'net_ffi/fragments': 1, 'net_ffi/heads/fragments': 1}),
+    ('use std::fmt::{self, InlineText, Write};', 'use super::InlineText;\nuse std::fmt::{self, Write};',
+     {'net_base/time/duration': 1, 'net_base/time/instant': 1}),
+    ('use std::ops::IndexMut;\n', '', {'net_ring/managed': 1}),
+    ('self.index_mut(at)', '&mut self[at]', {'net_ring/managed': 1}),
+    ('self.slice_mut(from..to)', '&mut self[from..to]', {'net_ring/managed': 1}),
+    ('vec.slice_mut(0..count)', '&mut vec[0..count]', {'net_ring/managed': 1}),
     ("<'a, const N: usize> =", "<'a, const N: usize = 4> =",
      {ASSEMBLER: 1, 'net_receiver/held_runs': 1, FINITE: 1, RECEIVER: 1, FRAGMENTS: 1}),
     ('Assembler<const N: usize> {', 'Assembler<const N: usize = 4> {', {ASSEMBLER: 1}),

@@ -1,10 +1,10 @@
 // Written by tools/erase.py from crates/net_receiver/src/schedule.rt: a change here would be lost.
 //! Schedules: commands to a receiver, one after another, and its replies.
 
-use crate::rattle::prelude::*;
+use crate::rattle::net_assembler::TooManyHolesError;
 use crate::rattle::net_receiver::kept::Kept;
 use crate::rattle::net_receiver::receiver::Receiver;
-use crate::rattle::net_assembler::TooManyHolesError;
+use crate::rattle::prelude::*;
 use crate::rattle::std::alloc::{AllocError, Allocator, Global};
 
 /// A command to a receiver. A segment's bytes are in memory of `A`.
@@ -25,12 +25,7 @@ pub enum Reply<A: Allocator + Copy = Global> {
     Read(Vec<u8, A>),
     /// The first missing position, how many bytes are queued, how many have room after them, and
     /// the held runs as (start, end) in rising order, the end not included.
-    Show {
-        next: u64,
-        queued: usize,
-        window: usize,
-        held: Vec<(u64, u64), A>,
-    },
+    Show { next: u64, queued: usize, window: usize, held: Vec<(u64, u64), A> },
 }
 
 /// Executes one command, and returns its reply.

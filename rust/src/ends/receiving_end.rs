@@ -1,11 +1,10 @@
 // Written by tools/erase.py from crates/net_ends/src/receiving_end.rt: a change here would be lost.
 //! What receives a stream that ends.
 
-use crate::rattle::prelude::*;
-use crate::stream::{FiniteError, FiniteReceiverOver, HeldRun, KeptBytes, Part};
 use crate::storage::{ManagedSlice, Storage};
+use crate::stream::{FiniteError, FiniteReceiverOver, HeldRun, KeptBytes, Part};
 use crate::tcp::{AdvertisedWindow, Arrival, Segment};
-use crate::rattle::std::ops::Range;
+use core::ops::Range;
 
 /// What a segment without bytes tells the peer.
 ///
@@ -333,8 +332,8 @@ impl<S: Storage<u8>, const N: usize> ReceivingEndOver<S, N> {
     #[must_use]
     #[track_caller]
     pub fn over_at(storage: S, first: u64, segment_size: u16) -> Self {
-        prove!(N >= 1, "N is at least 1");
-        prove!(first < u64::MAX, "no number is left for an end");
+        const { assert!(N >= 1, "N is at least 1") };
+        assert!(first < u64::MAX, "no number is left for an end");
         ReceivingEndOver {
             receiver: FiniteReceiverOver::over_at(storage, first),
             head: ReceivingHead::new(first, segment_size),
@@ -357,7 +356,7 @@ impl<S: Storage<u8>, const N: usize> ReceivingEndOver<S, N> {
     /// ```
     #[track_caller]
     pub fn open(&mut self, first: u64, scale: u8) -> u16 {
-        prove!(first < u64::MAX, "no number is left for an end");
+        assert!(first < u64::MAX, "no number is left for an end");
         self.receiver.reset_at(first);
         let room = self.room();
         self.head.open(room, first, scale)
@@ -407,7 +406,12 @@ impl<S: Storage<u8>, const N: usize> ReceivingEndOver<S, N> {
     /// let kept = receiving.arrived(100, b"abc", Part::More).expect("it is in order");
     /// assert_eq!((kept.kept, kept.queued), (3, 6));
     /// ```
-    pub fn arrived(&mut self, pos: u64, bytes: &[u8], part: Part) -> Result<KeptBytes, FiniteError> {
+    pub fn arrived(
+        &mut self,
+        pos: u64,
+        bytes: &[u8],
+        part: Part,
+    ) -> Result<KeptBytes, FiniteError> {
         if bytes.is_empty() && !part.is_last() {
             return Ok(KeptBytes { kept: 0, queued: 0 });
         }
@@ -517,20 +521,14 @@ impl<S: Storage<u8>, const N: usize> ReceivingEndOver<S, N> {
         let (next, window) = self.head.acknowledge(room);
         let duplicate = self.head.take_duplicate(room.next, room.is_complete);
         let blocks = SackBlocks::of(in_front(duplicate, self.runs()));
-        Acknowledgement {
-            next,
-            window,
-            blocks,
-        }
+        Acknowledgement { next, window, blocks }
     }
 
     /// Lists the newest runs, at most four. A function of its own, since the search doesn't find what `acknowledgement`
     /// tells with these calls in it.
     fn runs(&mut self) -> [Option<(u64, u64)>; 4] {
-        let mut runs = self
-            .receiver
-            .receiver()
-            .newest_runs(self.head.newest, &mut self.head.recent);
+        let mut runs =
+            self.receiver.receiver().newest_runs(self.head.newest, &mut self.head.recent);
         [runs.next(), runs.next(), runs.next(), runs.next()]
     }
 
@@ -562,7 +560,7 @@ impl<S: Storage<u8>, const N: usize> ReceivingEndOver<S, N> {
         let part = self.first_part();
         let lent = part.len();
         let answer = f(part);
-        prove!(answer.0 <= lent, "more bytes than were lent");
+        assert!(answer.0 <= lent, "more bytes than were lent");
         self.receiver.remove(answer.0);
         answer
     }

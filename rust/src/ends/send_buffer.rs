@@ -1,14 +1,13 @@
 // Written by tools/erase.py from crates/net_ends/src/send_buffer.rt: a change here would be lost.
 //! What a stream that ends has sent, without a clock.
 
-use crate::rattle::prelude::*;
 use crate::storage::Run;
-use crate::stream::{FiniteSenderOver, Part, ScoreboardHead, SentNumbers};
 use crate::storage::{ManagedSlice, Storage};
+use crate::stream::{FiniteSenderOver, Part, ScoreboardHead, SentNumbers};
 use crate::tcp::{
-    Answer, LentScoreboard, LossRecovery, Sack, is_duplicate_block, is_equal_acknowledgement,
+    is_duplicate_block, is_equal_acknowledgement, Answer, LentScoreboard, LossRecovery, Sack,
 };
-use crate::rattle::std::ops::Range;
+use core::ops::Range;
 
 /// What a sender has sent, and what is queued, in numbers.
 #[derive(Copy, Clone, Debug, PartialEq, Eq)]
@@ -200,8 +199,8 @@ impl<S: Storage<u8>, const N: usize> SendBufferOver<S, N> {
     #[must_use]
     #[track_caller]
     pub fn over_at(storage: S, first: u64) -> Self {
-        prove!(N >= 1, "N is at least 1");
-        prove!(first < u64::MAX, "no number is left for an end");
+        const { assert!(N >= 1, "N is at least 1") };
+        assert!(first < u64::MAX, "no number is left for an end");
         SendBufferOver {
             sender: FiniteSenderOver::over_at(storage, first),
             runs: [Run { start: 0, end: 0 }; N],
@@ -225,7 +224,7 @@ impl<S: Storage<u8>, const N: usize> SendBufferOver<S, N> {
     /// ```
     #[track_caller]
     pub fn reset_at(&mut self, first: u64) {
-        prove!(first < u64::MAX, "no number is left for an end");
+        assert!(first < u64::MAX, "no number is left for an end");
         self.sender.reset_at(first);
         self.head = BufferHead::new_at(first);
     }
@@ -304,15 +303,7 @@ impl<S: Storage<u8>, const N: usize> SendBufferOver<S, N> {
 impl BufferHead {
     /// Returns that nothing was reported of a stream that begins at position `first`, and nothing is lost.
     pub(crate) const fn new_at(first: u64) -> Self {
-        BufferHead {
-            scoreboard: ScoreboardHead::new_at(first),
-            recovery: LossRecovery::new(),
-        }
-    }
-
-    /// Returns whether the scoreboard is sound with its runs. It looks at each used run.
-    pub(crate) fn is_sound(&self, runs: &[Run]) -> bool {
-        self.scoreboard.is_sound(runs)
+        BufferHead { scoreboard: ScoreboardHead::new_at(first), recovery: LossRecovery::new() }
     }
 
     /// Lends the scoreboard.
@@ -347,11 +338,7 @@ impl BufferHead {
             is_equal: is_equal_acknowledgement(numbers, ack, is_bare, true),
         };
         let begins = self.find_losses(runs, numbers, ack, blocks, segment_size, answer);
-        TakenAck {
-            new: ack.saturating_sub(numbers.first_unacknowledged),
-            reports,
-            begins,
-        }
+        TakenAck { new: ack.saturating_sub(numbers.first_unacknowledged), reports, begins }
     }
 
     /// Finds what is lost by an acknowledgement, and returns whether a recovery begins.
@@ -365,18 +352,8 @@ impl BufferHead {
         answer: Answer,
     ) -> bool {
         self.note_duplicate(numbers, ack, blocks);
-        let after = SentNumbers {
-            first_unacknowledged: ack,
-            sent: numbers.sent,
-        };
-        find_losses(
-            &mut self.recovery,
-            &mut self.scoreboard,
-            runs,
-            after,
-            segment_size,
-            answer,
-        )
+        let after = SentNumbers { first_unacknowledged: ack, sent: numbers.sent };
+        find_losses(&mut self.recovery, &mut self.scoreboard, runs, after, segment_size, answer)
     }
 
     /// Tells the recovery, if the first block reports what came twice.
@@ -410,10 +387,7 @@ impl BufferHead {
         if range.end <= first {
             return;
         }
-        self.recovery.lose_all(SentNumbers {
-            first_unacknowledged: first,
-            sent: range.end,
-        });
+        self.recovery.lose_all(SentNumbers { first_unacknowledged: first, sent: range.end });
         // What is below the range counts as sent again.
         self.recovery.sent(numbers, first..range.start);
     }
@@ -444,8 +418,7 @@ impl BufferHead {
         limit: u64,
         segment_size: usize,
     ) -> Option<Range<u64>> {
-        self.recovery
-            .next_probe(numbers, &self.board(runs), limit, segment_size)
+        self.recovery.next_probe(numbers, &self.board(runs), limit, segment_size)
     }
 
     /// Takes notice that a range is sent, as `SendBufferOver::mark` says. `numbers` are the sender's before that.
@@ -563,10 +536,7 @@ impl<S: Storage<u8>, const N: usize> SendBufferOver<S, N> {
         if !accept(&mut self.sender, ack) {
             return None;
         }
-        Some(
-            self.head
-                .acknowledged(&mut self.runs, numbers, ack, blocks, segment_size, kind),
-        )
+        Some(self.head.acknowledged(&mut self.runs, numbers, ack, blocks, segment_size, kind))
     }
 
     /// Takes an acknowledgement of QUIC, or of another protocol that acknowledges ranges of a stream, each of them for
@@ -593,7 +563,11 @@ impl<S: Storage<u8>, const N: usize> SendBufferOver<S, N> {
     /// let taken = buffer.acknowledge_range(0..8, 8).expect("it was sent");
     /// assert_eq!(buffer.numbers().first_unacknowledged, 16);
     /// ```
-    pub fn acknowledge_range(&mut self, range: Range<u64>, segment_size: usize) -> Option<TakenAck> {
+    pub fn acknowledge_range(
+        &mut self,
+        range: Range<u64>,
+        segment_size: usize,
+    ) -> Option<TakenAck> {
         let numbers = self.numbers();
         if numbers.sent < range.end {
             return None;
@@ -659,8 +633,7 @@ impl<S: Storage<u8>, const N: usize> SendBufferOver<S, N> {
     /// assert_eq!(buffer.next(u64::MAX, u64::MAX, 8), Some(0..8));
     /// ```
     pub fn find_overdue(&mut self) -> bool {
-        self.head
-            .find_overdue(&self.runs, self.sender.sent_numbers())
+        self.head.find_overdue(&self.runs, self.sender.sent_numbers())
     }
 
     /// Loses a range, as a scheme of packets finds it (RFC 9002, section 6), and returns true: what of it isn't
@@ -744,8 +717,7 @@ impl<S: Storage<u8>, const N: usize> SendBufferOver<S, N> {
     ) -> Option<Range<u64>> {
         let numbers = self.numbers();
         let top = limit.min(self.sender.numbers_end());
-        self.head
-            .next(&self.runs, numbers, top, congestion_window, segment_size)
+        self.head.next(&self.runs, numbers, top, congestion_window, segment_size)
     }
 
     /// Returns what a probe for an answer sends below `limit`, whatever is in flight: in a recovery the first segment
@@ -819,11 +791,7 @@ pub(crate) fn lend<S: Storage<u8>>(
     let front = sender.peek_at(range.start, range.end).bytes;
     let after = range.start + front.len() as u64;
     let back = sender.peek_at(after, range.end);
-    SegmentBytes {
-        front,
-        back: back.bytes,
-        part: back.part,
-    }
+    SegmentBytes { front, back: back.bytes, part: back.part }
 }
 
 /// Finds what is lost by an acknowledgement, and returns whether a recovery begins. If the peer has dropped what it had
@@ -869,7 +837,12 @@ fn report_blocks(
 
 /// Reports a block, if it begins beyond the first position that wasn't reported. Returns whether that wasn't known:
 /// what is refused is sent again. A function of its own, so that a step of the loop is one call.
-fn report_block(board: &mut ScoreboardHead, runs: &mut [Run], block: &Range<u64>, sent: u64) -> bool {
+fn report_block(
+    board: &mut ScoreboardHead,
+    runs: &mut [Run],
+    block: &Range<u64>,
+    sent: u64,
+) -> bool {
     if block.start <= board.first_unreported() {
         return false;
     }

@@ -10,7 +10,6 @@
 //! byte, and after the end of the stream once it is closed. The peer's `edge`, SND.UNA + SND.WND, can be anywhere: what
 //! is sent ends at it, but for a probe, which is the number at `first` alone.
 
-use crate::rattle::prelude::*;
 // Why: What is held back for a small window waits for the timer that there is, as RFC 9293 allows. If nothing was in
 // flight, nothing was lost, so `expired` answers `Probe` then, and no congestion window is cut. Copies are never
 // held back, nor a probe for an answer. Nagle's rule has half of the greatest window wait too, so at most one
@@ -21,14 +20,14 @@ use crate::rattle::prelude::*;
 // after each acknowledgement the first number that isn't acknowledged counts as missing (clause `missing` of
 // `acknowledged`), and a timeout sends it again.
 
-use crate::ends::send_buffer::{Queued, SegmentBytes, accept, lend, mark};
+use crate::ends::send_buffer::{accept, lend, mark, Queued, SegmentBytes};
 use crate::ends::sending_head::SendingHead;
 use crate::storage::Run;
-use crate::time::{Duration, Instant};
-use crate::stream::{FiniteSenderOver, SentNumbers};
 use crate::storage::{ManagedSlice, Storage};
+use crate::stream::{FiniteSenderOver, SentNumbers};
 use crate::tcp::{Announcement, Expiry, Sack, TimeoutBounds};
-use crate::rattle::std::ops::Range;
+use crate::time::{Duration, Instant};
+use core::ops::Range;
 
 /// What an acknowledgement was.
 ///
@@ -232,8 +231,8 @@ impl<S: Storage<u8>, const N: usize> SendingEndOver<S, N> {
     #[must_use]
     #[track_caller]
     pub fn over_at(storage: S, first: u64, first_timeout: Duration, bounds: TimeoutBounds) -> Self {
-        prove!(N >= 1, "N is at least 1");
-        prove!(first < u64::MAX, "no number is left for an end");
+        const { assert!(N >= 1, "N is at least 1") };
+        assert!(first < u64::MAX, "no number is left for an end");
         SendingEndOver {
             sender: FiniteSenderOver::over_at(storage, first),
             runs: [Run { start: 0, end: 0 }; N],
@@ -264,7 +263,7 @@ impl<S: Storage<u8>, const N: usize> SendingEndOver<S, N> {
     /// ```
     #[track_caller]
     pub fn reset_at(&mut self, first: u64) {
-        prove!(first < u64::MAX, "no number is left for an end");
+        assert!(first < u64::MAX, "no number is left for an end");
         self.sender.reset_at(first);
         let no_delay = self.head.no_delay;
         self.head = SendingHead::new_at(first, self.first_timeout);
@@ -380,8 +379,7 @@ impl<S: Storage<u8>, const N: usize> SendingEndOver<S, N> {
     /// ```
     pub fn open(&mut self, it: Announcement, segment_size: usize, sack: Sack, now: Instant) {
         let numbers = self.numbers();
-        self.head
-            .open(numbers, self.first_timeout, it, segment_size, sack, now);
+        self.head.open(numbers, self.first_timeout, it, segment_size, sack, now);
     }
 
     /// Begins again without a peer: the timer stops, unless something is in flight. What was written stays.
@@ -540,9 +538,8 @@ impl<S: Storage<u8>, const N: usize> SendingEndOver<S, N> {
     /// ```
     pub fn next_segment(&mut self, congestion_window: u64, now: Instant) -> Option<Outgoing> {
         let queued = self.queued();
-        let Some(it) = self
-            .head
-            .next_segment(&self.runs, queued, self.bounds, congestion_window, now)
+        let Some(it) =
+            self.head.next_segment(&self.runs, queued, self.bounds, congestion_window, now)
         else {
             return None;
         };

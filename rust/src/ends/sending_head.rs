@@ -5,12 +5,12 @@
 use crate::ends::send_buffer::{AckKind, BufferHead, Queued, Sending, TakenAck};
 use crate::ends::sending_end::{Acknowledged, Expired, Outgoing};
 use crate::storage::Run;
-use crate::time::{Duration, Instant};
 use crate::stream::SentNumbers;
 use crate::tcp::{
-    Announcement, PeerWindow, RetransmissionTimer, Sack, TimeoutBounds, is_acknowledgement,
+    is_acknowledgement, Announcement, PeerWindow, RetransmissionTimer, Sack, TimeoutBounds,
 };
-use crate::rattle::std::ops::Range;
+use crate::time::{Duration, Instant};
+use core::ops::Range;
 
 /// All of a sending end but its sender and the times that were set: what was reported and what is lost, the timer, and
 /// what the peer announced. Its calls are given the sender's numbers; who holds both has the sender take what they say.
@@ -117,6 +117,7 @@ impl SendingHead {
     /// A block counts that begins above the first number that isn't reported, has a number, and ends where something
     /// was sent and less than 2^32 above that one, if what is reported beyond that one is at most `N` runs then. Any
     /// other block says nothing.
+    #[allow(clippy::too_many_arguments)] // a segment has as many fields
     pub(crate) fn acknowledged(
         &mut self,
         runs: &mut [Run],
@@ -135,14 +136,11 @@ impl SendingHead {
             return Acknowledged::Old;
         }
         let taken = self.take_accepted(runs, numbers, bounds, it, blocks, is_empty, now);
-        Acknowledged::Taken {
-            new: taken.new,
-            reports: taken.reports,
-            begins: taken.begins,
-        }
+        Acknowledged::Taken { new: taken.new, reports: taken.reports, begins: taken.begins }
     }
 
     /// Takes an acknowledgement that the sender takes, and returns what it said.
+    #[allow(clippy::too_many_arguments)] // a segment has as many fields
     fn take_accepted(
         &mut self,
         runs: &mut [Run],
@@ -159,9 +157,7 @@ impl SendingHead {
             AckKind::Other
         };
         let size = self.segment_size();
-        let taken = self
-            .buffer
-            .acknowledged(runs, numbers, it.ack, blocks, size, kind);
+        let taken = self.buffer.acknowledged(runs, numbers, it.ack, blocks, size, kind);
         self.take_window(numbers, it);
         self.update_timer(runs, numbers, bounds, it.ack, taken.reports, now);
         taken
@@ -174,12 +170,8 @@ impl SendingHead {
             self.timer.stop();
         }
         self.is_open = 1;
-        self.greatest_window = greatest_after_update(
-            &mut self.peer_window,
-            self.greatest_window,
-            numbers,
-            it,
-        );
+        self.greatest_window =
+            greatest_after_update(&mut self.peer_window, self.greatest_window, numbers, it);
         self.last_window = it.window;
     }
 
@@ -225,9 +217,7 @@ impl SendingHead {
             return Expired::Overdue { begins: false };
         }
         self.is_overdue = 1;
-        Expired::Overdue {
-            begins: self.buffer.find_overdue(runs, queued.numbers),
-        }
+        Expired::Overdue { begins: self.buffer.find_overdue(runs, queued.numbers) }
     }
 
     /// Takes notice that the timeout has passed, and returns what that means. Loses all that was sent and isn't
@@ -246,8 +236,7 @@ impl SendingHead {
 
     /// Returns whether the peer's window is shut, and something waits.
     fn is_shut(&self, queued: Queued) -> bool {
-        self.peer_window
-            .is_probe_allowed(queued.numbers.first_unacknowledged, queued.end)
+        self.peer_window.is_probe_allowed(queued.numbers.first_unacknowledged, queued.end)
     }
 
     /// Returns the range that is to be sent next, and why: of a window that is shut a probe, once the timeout has
@@ -267,17 +256,13 @@ impl SendingHead {
         if next.is_some() || self.is_overdue == 0 {
             return (next, Sending::Segment);
         }
-        (
-            self.next_probe(runs, queued.numbers, limit),
-            Sending::TailProbe,
-        )
+        (self.next_probe(runs, queued.numbers, limit), Sending::TailProbe)
     }
 
     /// Returns what a probe for an answer sends below a limit. A function of its own, since the search doesn't find
     /// what `choose` says with this call in it.
     fn next_probe(&self, runs: &[Run], numbers: SentNumbers, limit: u64) -> Option<Range<u64>> {
-        self.buffer
-            .next_probe(runs, numbers, limit, self.segment_size())
+        self.buffer.next_probe(runs, numbers, limit, self.segment_size())
     }
 
     /// Returns what the recovery sends next below a limit, unless that is held back.
@@ -288,13 +273,8 @@ impl SendingHead {
         limit: u64,
         congestion_window: u64,
     ) -> Option<Range<u64>> {
-        let Some(range) = self.buffer.next(
-            runs,
-            queued.numbers,
-            limit,
-            congestion_window,
-            self.segment_size(),
-        )
+        let Some(range) =
+            self.buffer.next(runs, queued.numbers, limit, congestion_window, self.segment_size())
         else {
             return None;
         };
@@ -355,11 +335,7 @@ impl SendingHead {
         self.is_window_probe_due = 0;
         self.is_overdue = 0;
         self.buffer.sent(queued.numbers, range, sending);
-        Some(Outgoing {
-            pos: from,
-            end: to,
-            is_again: from < queued.numbers.sent,
-        })
+        Some(Outgoing { pos: from, end: to, is_again: from < queued.numbers.sent })
     }
 
     /// Returns the smoothed time of a round trip, once there was a sample.

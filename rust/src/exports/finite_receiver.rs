@@ -1,10 +1,10 @@
 // Written by tools/erase.py from crates/net_ffi/src/finite_receiver.rt: a change here would be lost.
-use crate::exports::receiver::{KeptCounts, has_next, is_plausible};
+use crate::exports::receiver::{has_next, is_plausible, KeptCounts};
 use crate::exports::refusals::{
-    NET_BASE_DONE, NET_BASE_OTHER_END, NET_BASE_REFUSED, NET_BASE_TOO_MANY_RUNS, SegmentStatus,
+    SegmentStatus, NET_BASE_DONE, NET_BASE_OTHER_END, NET_BASE_REFUSED, NET_BASE_TOO_MANY_RUNS,
 };
-use crate::storage::Run;
-use crate::stream::{FiniteError, FiniteReceiverHead};
+use crate::exports::Run;
+use crate::exports::{FiniteError, FiniteReceiverHead};
 
 #[inline(always)]
 pub(crate) fn has_number(receiver: &FiniteReceiverHead) -> bool {
@@ -26,10 +26,7 @@ pub fn net_base_finite_receiver_segment(
     }
     match receiver.keep(storage, runs, position, bytes, is_last) {
         Ok(it) => {
-            *counts = KeptCounts {
-                kept: it.kept,
-                queued: it.queued,
-            };
+            *counts = KeptCounts { kept: it.kept, queued: it.queued };
             NET_BASE_DONE
         }
         Err(FiniteError::TooManyHoles) => NET_BASE_TOO_MANY_RUNS,

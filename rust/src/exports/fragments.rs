@@ -1,6 +1,6 @@
 // Written by tools/erase.py from crates/net_ffi/src/fragments.rt: a change here would be lost.
-use crate::storage::Run;
-use crate::storage::FragmentsHead;
+use crate::exports::Run;
+use crate::storage::fragments::FragmentsHead;
 
 #[inline(always)]
 pub(crate) fn is_plausible(fragments: &FragmentsHead, capacity: usize, run_count: usize) -> bool {

@@ -3,46 +3,26 @@
 // `PacketsOver` asks its head where a packet is placed, and writes its slots itself.
 
 use crate::exports::refusals::no_number;
-use crate::storage::{FirstPacket, PacketPlace, PacketSlot, PacketsHead};
+use crate::exports::{FirstPacket, PacketPlace, PacketSlot, PacketsHead};
 
 #[inline(always)]
 fn no_place() -> PacketPlace {
-    PacketPlace {
-        gap: 0,
-        gap_slot: no_number(),
-        slot: no_number(),
-        from: no_number(),
-    }
+    PacketPlace { gap: 0, gap_slot: no_number(), slot: no_number(), from: no_number() }
 }
 
 #[inline(always)]
 pub fn refused_packet_place() -> PacketPlace {
-    PacketPlace {
-        gap: no_number(),
-        gap_slot: no_number(),
-        slot: no_number(),
-        from: no_number(),
-    }
+    PacketPlace { gap: no_number(), gap_slot: no_number(), slot: no_number(), from: no_number() }
 }
 
 #[inline(always)]
 fn no_first() -> FirstPacket {
-    FirstPacket {
-        gap: 0,
-        slot: no_number(),
-        from: no_number(),
-        size: 0,
-    }
+    FirstPacket { gap: 0, slot: no_number(), from: no_number(), size: 0 }
 }
 
 #[inline(always)]
 pub fn refused_first_packet() -> FirstPacket {
-    FirstPacket {
-        gap: no_number(),
-        slot: no_number(),
-        from: no_number(),
-        size: 0,
-    }
+    FirstPacket { gap: no_number(), slot: no_number(), from: no_number(), size: 0 }
 }
 
 #[inline(always)]

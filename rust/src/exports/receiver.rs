@@ -1,5 +1,5 @@
 // Written by tools/erase.py from crates/net_ffi/src/receiver.rt: a change here would be lost.
-use crate::stream::ReceiverHead;
+use crate::exports::ReceiverHead;
 
 pub(crate) const RUNS: usize = 16;
 

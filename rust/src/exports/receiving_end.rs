@@ -5,17 +5,16 @@
 // contracts. The rules, which are of numbers, are those of its `ReceivingHead`.
 
 use crate::exports::finite_receiver::has_number;
-use crate::exports::receiver::{KeptCounts, RUNS, is_plausible, is_readable};
+use crate::exports::receiver::{is_plausible, is_readable, KeptCounts, RUNS};
 use crate::exports::refusals::{
-    ArrivalStatus, NET_BASE_DONE, NET_BASE_IGNORE,
-    NET_BASE_OTHER_END, NET_BASE_REFUSED, NET_BASE_TOO_MANY_RUNS,
-    SegmentStatus, no_number,
+    no_number, ArrivalStatus, SegmentStatus, NET_BASE_DONE, NET_BASE_IGNORE, NET_BASE_OTHER_END,
+    NET_BASE_REFUSED, NET_BASE_TOO_MANY_RUNS,
 };
 use crate::exports::results::number_of;
-use crate::storage::Run;
-use crate::ends::{ReceivingHead, Room};
-use crate::stream::{FiniteError, FiniteReceiverHead, HeldRun, KeptBytes};
-use crate::tcp::Segment;
+use crate::exports::Run;
+use crate::exports::Segment;
+use crate::exports::{FiniteError, FiniteReceiverHead, HeldRun, KeptBytes};
+use crate::exports::{ReceivingHead, Room};
 
 #[repr(C)]
 #[derive(Debug, Clone, Copy)]
@@ -48,12 +47,7 @@ impl ReceivingEnd {
     #[inline(always)]
     fn room(&self, capacity: usize) -> Room {
         let (next, end) = self.free(capacity);
-        Room {
-            next,
-            end,
-            capacity: capacity as u64,
-            is_complete: self.receiver.is_complete(),
-        }
+        Room { next, end, capacity: capacity as u64, is_complete: self.receiver.is_complete() }
     }
 
     #[inline(always)]
@@ -89,9 +83,7 @@ impl ReceivingEnd {
         let end = pos.saturating_add(bytes.len() as u64);
         let part = self.receiver.receiver.duplicate_of(&self.runs, pos, end);
         let held = self.receiver.receiver.held.used;
-        let kept = self
-            .receiver
-            .keep(storage, &mut self.runs, pos, bytes, is_last);
+        let kept = self.receiver.keep(storage, &mut self.runs, pos, bytes, is_last);
         self.head.take(pos, is_last, part, held, kept);
         kept
     }
@@ -114,12 +106,7 @@ impl ReceivingEnd {
         let duplicate = self.head.take_duplicate(room.next, room.is_complete);
         let (runs, count) = self.list_runs();
         let (blocks, block_count) = in_front(duplicate, runs, count);
-        Acknowledgement {
-            next,
-            blocks,
-            block_count,
-            window,
-        }
+        Acknowledgement { next, blocks, block_count, window }
     }
 }
 
@@ -129,20 +116,15 @@ fn in_front(
     count: usize,
 ) -> ([HeldRun; 4], usize) {
     match duplicate {
-        Some((start, end)) => (
-            [HeldRun { start, end }, runs[0], runs[1], runs[2]],
-            count.saturating_add(1).min(4),
-        ),
+        Some((start, end)) => {
+            ([HeldRun { start, end }, runs[0], runs[1], runs[2]], count.saturating_add(1).min(4))
+        }
         None => (runs, count),
     }
 }
 
 #[inline(always)]
-pub fn net_base_receiving_end_init(
-    end: &mut ReceivingEnd,
-    first: u64,
-    segment_size: u16,
-) -> bool {
+pub fn net_base_receiving_end_init(end: &mut ReceivingEnd, first: u64, segment_size: u16) -> bool {
     if first == u64::MAX {
         return false;
     }
@@ -183,10 +165,7 @@ pub fn net_base_receiving_end_classify(
         return NET_BASE_IGNORE;
     }
     let next = end.receiver.acknowledged();
-    let arrival = end
-        .head
-        .advertised
-        .classify(next, capacity as u64, *segment);
+    let arrival = end.head.advertised.classify(next, capacity as u64, *segment);
     number_of(arrival)
 }
 
@@ -204,10 +183,7 @@ pub fn net_base_receiving_end_arrived(
     }
     match end.arrived(storage, position, bytes, is_last) {
         Ok(it) => {
-            *counts = KeptCounts {
-                kept: it.kept,
-                queued: it.queued,
-            };
+            *counts = KeptCounts { kept: it.kept, queued: it.queued };
             NET_BASE_DONE
         }
         Err(FiniteError::TooManyHoles) => NET_BASE_TOO_MANY_RUNS,

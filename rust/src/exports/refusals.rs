@@ -1,8 +1,7 @@
 // Written by tools/erase.py from crates/net_ffi/src/refusals.rt: a change here would be lost.
 use crate::exports::results::FrontLength;
-use crate::storage::Run;
-use crate::storage::Span;
-use crate::storage::width::most;
+use crate::exports::Run;
+use crate::exports::Span;
 
 pub type Status = u32;
 
@@ -56,30 +55,20 @@ pub const NET_BASE_NOTHING: Status = 16;
 
 #[inline(always)]
 pub fn no_number() -> usize {
-    most()
+    usize::MAX
 }
 
 #[inline(always)]
 pub fn refused_span() -> Span {
-    Span {
-        from: no_number(),
-        count: 0,
-        contiguous: 0,
-    }
+    Span { from: no_number(), count: 0, contiguous: 0 }
 }
 
 #[inline(always)]
 pub fn refused_run() -> Run {
-    Run {
-        start: no_number(),
-        end: no_number(),
-    }
+    Run { start: no_number(), end: no_number() }
 }
 
 #[inline(always)]
 pub fn refused_front_length() -> FrontLength {
-    FrontLength {
-        status: NET_BASE_REFUSED,
-        length: 0,
-    }
+    FrontLength { status: NET_BASE_REFUSED, length: 0 }
 }

@@ -1,12 +1,12 @@
 // Written by tools/erase.py from crates/net_ffi/src/results.rt: a change here would be lost.
 use crate::exports::refusals::{
-    NET_BASE_ACKNOWLEDGEMENT_ONLY, NET_BASE_ANSWER, NET_BASE_DONE, NET_BASE_IGNORE,
-    NET_BASE_OTHER_SIZE, NET_BASE_RESET, NET_BASE_TAKE, NET_BASE_TOO_LONG, NET_BASE_TOO_MANY_RUNS,
-    RoomStatus, Status,
+    RoomStatus, Status, NET_BASE_ACKNOWLEDGEMENT_ONLY, NET_BASE_ANSWER, NET_BASE_DONE,
+    NET_BASE_IGNORE, NET_BASE_OTHER_SIZE, NET_BASE_RESET, NET_BASE_TAKE, NET_BASE_TOO_LONG,
+    NET_BASE_TOO_MANY_RUNS,
 };
-use crate::storage::{Run, TooManyHolesError};
+use crate::exports::Arrival;
+use crate::exports::{Run, TooManyHolesError};
 use crate::storage::FragmentError;
-use crate::tcp::Arrival;
 
 #[repr(C)]
 #[derive(Debug, Clone, Copy)]
@@ -26,14 +26,8 @@ pub(crate) fn status_of(done: Result<(), TooManyHolesError>) -> Status {
 #[inline(always)]
 pub(crate) fn front_length(front: Result<usize, TooManyHolesError>) -> FrontLength {
     match front {
-        Ok(length) => FrontLength {
-            status: NET_BASE_DONE,
-            length,
-        },
-        Err(_) => FrontLength {
-            status: NET_BASE_TOO_MANY_RUNS,
-            length: 0,
-        },
+        Ok(length) => FrontLength { status: NET_BASE_DONE, length },
+        Err(_) => FrontLength { status: NET_BASE_TOO_MANY_RUNS, length: 0 },
     }
 }
 

@@ -16,12 +16,16 @@ pub struct TimeoutBounds {
 
 #[inline(always)]
 pub(crate) fn given_or(number: u64, other: u64) -> u64 {
-    if number == 0 { other } else { number }
+    if number == 0 {
+        other
+    } else {
+        number
+    }
 }
 
 #[inline(always)]
-pub(crate) fn bounds_from(bounds: &TimeoutBounds) -> crate::tcp::TimeoutBounds {
-    crate::tcp::TimeoutBounds {
+pub(crate) fn bounds_from(bounds: &TimeoutBounds) -> crate::exports::TimeoutBounds {
+    crate::exports::TimeoutBounds {
         least: Duration::from_micros(given_or(bounds.least, FIRST_TIMEOUT)),
         most: Duration::from_micros(given_or(bounds.most, MOST_TIMEOUT)),
         tick: Duration::from_micros(bounds.tick),

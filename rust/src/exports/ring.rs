@@ -1,6 +1,6 @@
 // Written by tools/erase.py from crates/net_ffi/src/ring.rt: a change here would be lost.
 use crate::exports::refusals::no_number;
-use crate::storage::RingHead;
+use crate::exports::RingHead;
 
 #[inline(always)]
 pub fn net_base_ring_enqueue_one(place: &mut RingHead, capacity: usize) -> usize {

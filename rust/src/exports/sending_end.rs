@@ -5,17 +5,17 @@
 
 use crate::exports::receiver::RUNS;
 use crate::exports::refusals::{
-    AcknowledgedStatus, ExpiredStatus, NET_BASE_ANSWER, NET_BASE_DONE, NET_BASE_LOST,
-    NET_BASE_NOTHING, NET_BASE_OLD, NET_BASE_OVERDUE, NET_BASE_PROBE, NET_BASE_REFUSED,
-    OutgoingStatus, no_number,
+    no_number, AcknowledgedStatus, ExpiredStatus, OutgoingStatus, NET_BASE_ANSWER, NET_BASE_DONE,
+    NET_BASE_LOST, NET_BASE_NOTHING, NET_BASE_OLD, NET_BASE_OVERDUE, NET_BASE_PROBE,
+    NET_BASE_REFUSED,
 };
-use crate::exports::retransmission::{FIRST_TIMEOUT, TimeoutBounds, bounds_from, given_or};
-use crate::storage::Run;
+use crate::exports::retransmission::{bounds_from, given_or, TimeoutBounds, FIRST_TIMEOUT};
+use crate::exports::Run;
+use crate::exports::{Acknowledged, Expired, Outgoing, Queued, SendingHead};
+use crate::exports::{Announcement, Expiry, Sack};
+use crate::exports::{FiniteSenderHead, HeldRun, SentNumbers};
 use crate::time::{Duration, Instant};
-use crate::ends::{Acknowledged, Expired, Outgoing, Queued, SendingHead};
-use crate::stream::{FiniteSenderHead, HeldRun, SentNumbers};
-use crate::tcp::{Announcement, Expiry, Sack};
-use crate::rattle::std::ops::Range;
+use core::ops::Range;
 
 const BLOCKS: usize = 4;
 
@@ -81,23 +81,12 @@ pub fn refused_outgoing_segment() -> OutgoingSegment {
 
 #[inline(always)]
 pub fn refused_segment_parts() -> SegmentParts {
-    SegmentParts {
-        from: no_number(),
-        count: 0,
-        rest_from: 0,
-        rest_count: 0,
-        is_last: false,
-    }
+    SegmentParts { from: no_number(), count: 0, rest_from: 0, rest_count: 0, is_last: false }
 }
 
 #[inline(always)]
 fn taken(status: AcknowledgedStatus) -> TakenAcknowledgement {
-    TakenAcknowledgement {
-        status,
-        count: 0,
-        reports: false,
-        begins: false,
-    }
+    TakenAcknowledgement { status, count: 0, reports: false, begins: false }
 }
 
 #[inline(always)]
@@ -105,16 +94,9 @@ fn fields_of_acknowledged(said: Acknowledged) -> TakenAcknowledgement {
     match said {
         Acknowledged::Refused => taken(NET_BASE_ANSWER),
         Acknowledged::Old => taken(NET_BASE_OLD),
-        Acknowledged::Taken {
-            new,
-            reports,
-            begins,
-        } => TakenAcknowledgement {
-            status: NET_BASE_DONE,
-            count: new,
-            reports,
-            begins,
-        },
+        Acknowledged::Taken { new, reports, begins } => {
+            TakenAcknowledgement { status: NET_BASE_DONE, count: new, reports, begins }
+        }
     }
 }
 
@@ -135,22 +117,12 @@ fn fields_of_expired(said: Expired) -> EndedTimer {
 
 #[inline(always)]
 fn no_segment(status: OutgoingStatus) -> OutgoingSegment {
-    OutgoingSegment {
-        status,
-        position: 0,
-        end: 0,
-        is_again: false,
-    }
+    OutgoingSegment { status, position: 0, end: 0, is_again: false }
 }
 
 #[inline(always)]
 fn fields_of_outgoing(it: Outgoing) -> OutgoingSegment {
-    OutgoingSegment {
-        status: NET_BASE_DONE,
-        position: it.pos,
-        end: it.end,
-        is_again: it.is_again,
-    }
+    OutgoingSegment { status: NET_BASE_DONE, position: it.pos, end: it.end, is_again: it.is_again }
 }
 
 #[inline(always)]
@@ -165,12 +137,7 @@ fn block_at(blocks: &[HeldRun], at: usize) -> Range<u64> {
 
 #[inline(always)]
 fn ranges_of(blocks: &[HeldRun]) -> [Range<u64>; BLOCKS] {
-    [
-        block_at(blocks, 0),
-        block_at(blocks, 1),
-        block_at(blocks, 2),
-        block_at(blocks, 3),
-    ]
+    [block_at(blocks, 0), block_at(blocks, 1), block_at(blocks, 2), block_at(blocks, 3)]
 }
 
 #[inline(always)]
@@ -180,10 +147,7 @@ fn has_first(sender: &FiniteSenderHead) -> bool {
 
 #[inline(always)]
 fn numbers_from(sender: &FiniteSenderHead) -> SentNumbers {
-    SentNumbers {
-        first_unacknowledged: sender.first_number(),
-        sent: sender.sent,
-    }
+    SentNumbers { first_unacknowledged: sender.first_number(), sent: sender.sent }
 }
 
 #[inline(always)]
@@ -206,7 +170,7 @@ fn is_sound(end: &SendingEnd, capacity: usize) -> bool {
 }
 
 #[inline(always)]
-fn queued_from(sender: &FiniteSenderHead, _capacity: usize) -> Queued {
+fn queued_from(sender: &FiniteSenderHead, __capacity: usize) -> Queued {
     Queued {
         numbers: numbers_from(sender),
         end: sender.numbers_end(),
@@ -274,23 +238,12 @@ pub fn net_base_sending_end_open(
         return false;
     }
     let (numbers, first) = (numbers_from(&end.sender), first_timeout(end));
-    end.head.open(
-        numbers,
-        first,
-        *it,
-        segment_size,
-        sack_of(reports),
-        moment(now),
-    );
+    end.head.open(numbers, first, *it, segment_size, sack_of(reports), moment(now));
     true
 }
 
 #[inline(always)]
-pub fn net_base_sending_end_forget(
-    end: &mut SendingEnd,
-    storage: &[u8],
-    now: i64,
-) -> bool {
+pub fn net_base_sending_end_forget(end: &mut SendingEnd, storage: &[u8], now: i64) -> bool {
     if !is_sound(end, storage.len()) {
         return false;
     }
@@ -300,16 +253,11 @@ pub fn net_base_sending_end_forget(
 }
 
 #[inline(always)]
-pub fn net_base_sending_end_is_opening_due(
-    end: &mut SendingEnd,
-    storage: &[u8],
-    now: i64,
-) -> bool {
+pub fn net_base_sending_end_is_opening_due(end: &mut SendingEnd, storage: &[u8], now: i64) -> bool {
     if !is_sound(end, storage.len()) {
         return false;
     }
-    end.head
-        .is_opening_due(bounds_from(&end.bounds), moment(now))
+    end.head.is_opening_due(bounds_from(&end.bounds), moment(now))
 }
 
 #[inline(always)]
@@ -318,11 +266,7 @@ pub fn net_base_sending_end_set_nagle_enabled(end: &mut SendingEnd, enabled: boo
 }
 
 #[inline(always)]
-pub fn net_base_sending_end_write(
-    end: &mut SendingEnd,
-    storage: &mut [u8],
-    bytes: &[u8],
-) -> usize {
+pub fn net_base_sending_end_write(end: &mut SendingEnd, storage: &mut [u8], bytes: &[u8]) -> usize {
     if !end.sender.is_sound(storage.len()) {
         return no_number();
     }
@@ -362,11 +306,7 @@ pub fn net_base_sending_end_acknowledged(
 }
 
 #[inline(always)]
-pub fn net_base_sending_end_expired(
-    end: &mut SendingEnd,
-    storage: &[u8],
-    now: i64,
-) -> EndedTimer {
+pub fn net_base_sending_end_expired(end: &mut SendingEnd, storage: &[u8], now: i64) -> EndedTimer {
     if !is_sound(end, storage.len()) {
         return refused_ended_timer();
     }
@@ -471,17 +411,10 @@ pub fn net_base_sending_end_acknowledgement_number(end: &SendingEnd) -> u64 {
     if !has_first(&end.sender) {
         return u64::MAX;
     }
-    end.head
-        .peer_window
-        .acknowledgement_number(numbers_from(&end.sender))
+    end.head.peer_window.acknowledgement_number(numbers_from(&end.sender))
 }
 
 #[inline(always)]
 pub fn net_base_sending_end_is_recovering(end: &SendingEnd) -> bool {
-    has_first(&end.sender)
-        && end
-            .head
-            .buffer
-            .recovery
-            .is_active(numbers_from(&end.sender))
+    has_first(&end.sender) && end.head.buffer.recovery.is_active(numbers_from(&end.sender))
 }

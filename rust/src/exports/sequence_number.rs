@@ -1,5 +1,5 @@
 // Written by tools/erase.py from crates/net_ffi/src/sequence_number.rt: a change here would be lost.
-use crate::stream::SequenceNumber;
+use crate::exports::SequenceNumber;
 
 #[inline(always)]
 pub fn net_base_sequence_number_position(

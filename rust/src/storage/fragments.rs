@@ -1,12 +1,11 @@
 // Written by tools/erase.py from crates/net_base/src/storage/fragments.rt: a change here would be lost.
 //! A packet that arrives in fragments: a buffer of its bytes and runs, its head, and a table of such buffers.
 
-use crate::rattle::prelude::*;
-use crate::time::Instant;
 use crate::storage::Run;
 use crate::storage::{ManagedSlice, Storage};
+use crate::time::Instant;
 
-mod head;
+pub(crate) mod head;
 pub mod table;
 
 #[allow(unreachable_pub)]
@@ -83,7 +82,7 @@ impl<B: Storage<u8>, const N: usize> FragmentsOver<B, N> {
     ///
     /// A program in which `N` is 0 does not compile.
     pub const fn over(bytes: B, expires_at: Instant) -> Self {
-        prove!(N >= 1, "N is at least 1");
+        const { assert!(N >= 1, "N is at least 1") };
         FragmentsOver {
             head: FragmentsHead::new(expires_at.total_micros()),
             bytes,
@@ -101,11 +100,7 @@ impl<B: Storage<u8>, const N: usize> FragmentsOver<B, N> {
     /// assert_eq!(buffer.into_storage(), *b"\0bc");
     /// ```
     pub fn into_storage(self) -> B {
-        let FragmentsOver {
-            head: _,
-            bytes,
-            runs: _,
-        } = self;
+        let FragmentsOver { head: _, bytes, runs: _ } = self;
         bytes
     }
 
@@ -205,8 +200,7 @@ impl<B: Storage<u8>, const N: usize> FragmentsOver<B, N> {
     ) -> Result<(), FragmentError> {
         let count = self.bytes.count();
         let bytes = self.bytes.part_mut(0, count);
-        self.head
-            .add_fragment(bytes, &mut self.runs, offset, data, is_last)
+        self.head.add_fragment(bytes, &mut self.runs, offset, data, is_last)
     }
 
     /// Starts over for another packet, which is waited for up to `expires_at`, with this fragment of it.
@@ -238,8 +232,7 @@ impl<B: Storage<u8>, const N: usize> FragmentsOver<B, N> {
         let until = expires_at.total_micros();
         let count = self.bytes.count();
         let bytes = self.bytes.part_mut(0, count);
-        self.head
-            .reset_with(bytes, &mut self.runs, offset, data, is_last, until)
+        self.head.reset_with(bytes, &mut self.runs, offset, data, is_last, until)
     }
 
     /// Sets the packet's size to `size` bytes.
@@ -264,8 +257,7 @@ impl<B: Storage<u8>, const N: usize> FragmentsOver<B, N> {
     /// `TooLong`, or else if another size is known, or a byte at `size` or above has arrived, which is
     /// `OtherSize`.
     pub fn set_total_size(&mut self, size: usize) -> Result<(), FragmentError> {
-        self.head
-            .set_total_size(self.bytes.count(), &self.runs, size)
+        self.head.set_total_size(self.bytes.count(), &self.runs, size)
     }
 
     /// Returns the packet's size, once it is known. smoltcp has no such call.
@@ -414,4 +406,14 @@ fn moment_of(head: &FragmentsHead) -> Instant {
     Instant::from_micros(head.expires_at)
 }
 
-crate::rattle::error_text!(FragmentError, FragmentError::TooLong => "past the end of the buffer", FragmentError::TooManyHoles => "too many holes", FragmentError::OtherSize => "contradicts the packet's size");
+impl core::fmt::Display for FragmentError {
+    fn fmt(&self, f: &mut core::fmt::Formatter<'_>) -> core::fmt::Result {
+        f.write_str(match self {
+            FragmentError::TooLong => "past the end of the buffer",
+            FragmentError::TooManyHoles => "too many holes",
+            FragmentError::OtherSize => "contradicts the packet's size",
+        })
+    }
+}
+
+impl core::error::Error for FragmentError {}

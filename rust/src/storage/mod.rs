@@ -6,21 +6,17 @@ mod by_hand;
 mod by_hand_io;
 mod by_hand_split_ring;
 
-erased! {
-    pub(crate) mod assembler;
-    pub(crate) mod error;
-    pub(crate) mod fragments;
-    pub(crate) mod managed;
-    pub(crate) mod packet_buffer;
-    pub(crate) mod packet_metadata;
-    pub(crate) mod packet_slot;
-    pub(crate) mod packets_head;
-    pub(crate) mod resettable;
-    pub(crate) mod ring_buffer;
-    pub(crate) mod ring_head;
-    pub(crate) mod split_counts;
-    pub(crate) mod width;
-}
+pub(crate) mod assembler;
+pub(crate) mod error;
+pub(crate) mod fragments;
+pub(crate) mod managed;
+pub(crate) mod packet_buffer;
+pub(crate) mod packet_metadata;
+pub(crate) mod packets_head;
+pub(crate) mod resettable;
+pub(crate) mod ring_buffer;
+pub(crate) mod ring_head;
+pub(crate) mod split_counts;
 
 use core::sync::atomic;
 
@@ -42,10 +38,3 @@ pub(crate) use assembler::{AssemblerHead, Run};
 pub(crate) use by_hand::Listed;
 pub(crate) use managed::ManagedSlice;
 pub(crate) use ring_head::RingHead;
-// Names for the exports for C alone.
-#[allow(unused_imports)]
-pub(crate) use {
-    fragments::FragmentsHead,
-    packet_slot::PacketSlot,
-    packets_head::{FirstPacket, PacketPlace, PacketsHead},
-};

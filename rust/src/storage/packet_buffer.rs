@@ -1,11 +1,10 @@
 // Written by tools/erase.py from crates/net_packets/src/packet_buffer.rt: a change here would be lost.
 //! A queue of packets, each with a header, over storage that is lent or owned.
 
-use crate::rattle::prelude::*;
-use crate::storage::packets_head::{PacketPlace, PacketsHead};
 use crate::storage::packet_metadata::PacketMetadata;
+use crate::storage::packets_head::{PacketPlace, PacketsHead};
 use crate::storage::{Empty, Full, ManagedSlice, Storage};
-use crate::rattle::std::marker::PhantomData;
+use core::marker::PhantomData;
 
 /// A [`PacketBuffer`] over any storage: `M` has the slots and `B` the bytes.
 ///
@@ -47,11 +46,8 @@ pub struct PacketsOver<H, M: Storage<PacketMetadata<H>>, B: Storage<u8>> {
 /// assert_eq!(queue.dequeue(), Ok((53, &mut b"abc"[..].to_vec()[..])));
 /// # Ok::<(), Full>(())
 /// ```
-pub type PacketBuffer<'a, H> = PacketsOver<
-    H,
-    ManagedSlice<'a, PacketMetadata<H>>,
-    ManagedSlice<'a, u8>,
->;
+pub type PacketBuffer<'a, H> =
+    PacketsOver<H, ManagedSlice<'a, PacketMetadata<H>>, ManagedSlice<'a, u8>>;
 
 /// Making, emptying and measuring a queue.
 impl<H, M: Storage<PacketMetadata<H>>, B: Storage<u8>> PacketsOver<H, M, B> {
@@ -66,12 +62,7 @@ impl<H, M: Storage<PacketMetadata<H>>, B: Storage<u8>> PacketsOver<H, M, B> {
     /// assert_eq!(queue.push_slice(53u16, b"abc"), Ok(()));
     /// ```
     pub const fn over(slots: M, bytes: B) -> Self {
-        PacketsOver {
-            head: PacketsHead::new(),
-            slots,
-            bytes,
-            headers: PhantomData,
-        }
+        PacketsOver { head: PacketsHead::new(), slots, bytes, headers: PhantomData }
     }
 
     /// Returns whether the queue has no packets.
@@ -195,7 +186,7 @@ impl<H, M: Storage<PacketMetadata<H>>, B: Storage<u8>> PacketsOver<H, M, B> {
         let first = self.slots.part(from, from + cut);
         let second = self.slots.part(0, self.head.slots.length - cut);
         let count = count_packets(first) + count_packets(second);
-        prove!(count <= self.head.slots.length, "in any `usize`");
+        debug_assert!(count <= self.head.slots.length);
         count
     }
 
@@ -343,7 +334,7 @@ impl<H: Sized, M: Storage<PacketMetadata<H>>, B: Storage<u8>> PacketsOver<H, M, 
             return Err(Full);
         };
         let count = f(self.bytes.part_mut(place.from, place.from + max_size));
-        prove!(count <= max_size, "more bytes than were lent");
+        assert!(count <= max_size, "more bytes than were lent");
         head.shorten_last(max_size - count);
         // The head is written last, as in `place`.
         write_slots(&mut self.slots, place, count, header);
@@ -453,12 +444,9 @@ impl<H: Sized, M: Storage<PacketMetadata<H>>, B: Storage<u8>> PacketsOver<H, M, 
     #[track_caller]
     pub(crate) fn last_dequeued_mut(&mut self, size: usize) -> &mut [u8] {
         let capacity = self.bytes.count();
-        prove!(
-            size <= capacity - self.head.bytes.length,
-            "the bytes are not free"
-        );
+        assert!(size <= capacity - self.head.bytes.length, "the bytes are not free");
         let from = self.head.bytes.last_dequeued_index(capacity, size);
-        prove!(size <= capacity - from, "the bytes are not contiguous");
+        assert!(size <= capacity - from, "the bytes are not contiguous");
         self.bytes.part_mut(from, from + size)
     }
 
@@ -523,8 +511,7 @@ impl<H, M: Storage<PacketMetadata<H>>, B: Storage<u8>> PacketsOver<H, M, B> {
     /// Returns the gap before a packet of `size` bytes, if it can be placed.
     #[inline]
     fn placement(&self, size: usize) -> Option<usize> {
-        self.head
-            .placement(self.slots.count(), self.bytes.count(), size)
+        self.head.placement(self.slots.count(), self.bytes.count(), size)
     }
 
     /// Returns the gap before the first packet, or 0 if there is none.
@@ -607,15 +594,9 @@ fn write_slots<H: Sized, M: Storage<PacketMetadata<H>>>(
     header: H,
 ) {
     if place.gap > 0 {
-        *slots.element_mut(place.gap_slot) = PacketMetadata {
-            size: place.gap,
-            header: None,
-        };
+        *slots.element_mut(place.gap_slot) = PacketMetadata { size: place.gap, header: None };
     }
-    *slots.element_mut(place.slot) = PacketMetadata {
-        size,
-        header: Some(header),
-    };
+    *slots.element_mut(place.slot) = PacketMetadata { size, header: Some(header) };
 }
 
 /// Takes the header out of the slot at the index `at`, and returns the slot's size and the header;

@@ -1,13 +1,14 @@
 // Written by tools/erase.py from crates/net_ring/src/ring_buffer.rt: a change here would be lost.
 //! A ring of elements over storage that is lent or owned.
 
-use crate::rattle::prelude::*;
 use crate::storage::error::{Empty, Full};
-use crate::storage::ring_head::RingHead;
 use crate::storage::managed::{ManagedSlice, Storage};
 use crate::storage::resettable::Resettable;
+use crate::storage::ring_head::RingHead;
+#[cfg(feature = "alloc")]
+use alloc::vec::Vec;
+use core::marker::PhantomData;
 pub use iter::Iter;
-use crate::rattle::std::marker::PhantomData;
 
 mod iter;
 
@@ -64,11 +65,7 @@ impl<T, S: Storage<T>> RingOver<T, S> {
     /// assert_eq!(ring.as_slices(), (&b"ab"[..], &b""[..]));
     /// ```
     pub const fn over(storage: S) -> Self {
-        RingOver {
-            storage,
-            head: RingHead::new(),
-            elements: PhantomData,
-        }
+        RingOver { storage, head: RingHead::new(), elements: PhantomData }
     }
 
     /// Returns the index where the ring is read, and how many elements are queued.
@@ -118,7 +115,8 @@ impl<T, S: Storage<T>> RingOver<T, S> {
     /// ```
     pub fn reset(&mut self)
     where
-        T: Resettable, {
+        T: Resettable,
+    {
         let count = self.capacity();
         self.clear();
         reset_each(self.storage.part_mut(0, count));
@@ -374,14 +372,17 @@ impl<T, S: Storage<T>> RingOver<T, S> {
     ///
     /// Panics unless `f` takes the part that it is lent, and counts no more elements than it has.
     #[track_caller]
-    pub fn enqueue_many_with<'b, R, F: FnOnce(&'b mut [T]) -> (usize, R)>(&'b mut self, f: F) -> (usize, R) {
+    pub fn enqueue_many_with<'b, R, F: FnOnce(&'b mut [T]) -> (usize, R)>(
+        &'b mut self,
+        f: F,
+    ) -> (usize, R) {
         self.rewind_if_empty();
         let capacity = self.capacity();
         let from = self.head.index(capacity, self.head.length);
         let to = from + self.head.contiguous_window(capacity);
-        prove!(to <= capacity, "in any `usize`");
+        debug_assert!(to <= capacity);
         let answer = f(self.storage.part_mut(from, to));
-        prove!(answer.0 <= to - from, "more elements than were lent");
+        assert!(answer.0 <= to - from, "more elements than were lent");
         self.head.enqueue(capacity, answer.0);
         answer
     }
@@ -427,10 +428,10 @@ impl<T, S: Storage<T>> RingOver<T, S> {
     #[must_use]
     pub fn enqueue_slice(&mut self, data: &[T]) -> usize
     where
-        T: Copy, {
+        T: Copy,
+    {
         let capacity = self.storage.count();
-        self.head
-            .enqueue_slice(self.storage.part_mut(0, capacity), data)
+        self.head.enqueue_slice(self.storage.part_mut(0, capacity), data)
     }
 
     /// Calls `f` on the contiguous elements at the head of the queue, dequeues as many of them as
@@ -451,13 +452,16 @@ impl<T, S: Storage<T>> RingOver<T, S> {
     ///
     /// Panics unless `f` takes the part that it is lent, and counts no more elements than it has.
     #[track_caller]
-    pub fn dequeue_many_with<'b, R, F: FnOnce(&'b mut [T]) -> (usize, R)>(&'b mut self, f: F) -> (usize, R) {
+    pub fn dequeue_many_with<'b, R, F: FnOnce(&'b mut [T]) -> (usize, R)>(
+        &'b mut self,
+        f: F,
+    ) -> (usize, R) {
         let capacity = self.capacity();
         let from = self.head.read_at;
         let to = from + self.head.contiguous_queue(capacity);
-        prove!(to <= capacity, "in any `usize`");
+        debug_assert!(to <= capacity);
         let answer = f(self.storage.part_mut(from, to));
-        prove!(answer.0 <= to - from, "more elements than were lent");
+        assert!(answer.0 <= to - from, "more elements than were lent");
         self.head.dequeue_contiguous(capacity, answer.0);
         answer
     }
@@ -503,10 +507,10 @@ impl<T, S: Storage<T>> RingOver<T, S> {
     #[must_use]
     pub fn dequeue_slice(&mut self, data: &mut [T]) -> usize
     where
-        T: Copy, {
+        T: Copy,
+    {
         let capacity = self.storage.count();
-        self.head
-            .dequeue_slice(self.storage.part(0, capacity), data)
+        self.head.dequeue_slice(self.storage.part(0, capacity), data)
     }
 }
 
@@ -526,9 +530,7 @@ impl<T, S: Storage<T>> RingOver<T, S> {
     /// ```
     #[must_use]
     pub fn contiguous_unallocated(&self, offset: usize, size: usize) -> usize {
-        self.head
-            .unallocated(self.capacity(), offset, size)
-            .contiguous
+        self.head.unallocated(self.capacity(), offset, size).contiguous
     }
 
     /// Lends at most `size` free elements from the one at `offset` on, which stay free: as many as are
@@ -551,8 +553,7 @@ impl<T, S: Storage<T>> RingOver<T, S> {
     #[must_use]
     pub fn get_unallocated(&mut self, offset: usize, size: usize) -> &mut [T] {
         let span = self.head.unallocated(self.capacity(), offset, size);
-        self.storage
-            .part_mut(span.from, span.from + span.contiguous)
+        self.storage.part_mut(span.from, span.from + span.contiguous)
     }
 
     /// Writes as many elements of `data` as there is room for to the free elements from the one at
@@ -574,10 +575,10 @@ impl<T, S: Storage<T>> RingOver<T, S> {
     #[must_use]
     pub fn write_unallocated(&mut self, offset: usize, data: &[T]) -> usize
     where
-        T: Copy, {
+        T: Copy,
+    {
         let capacity = self.storage.count();
-        self.head
-            .write_unallocated(self.storage.part_mut(0, capacity), offset, data)
+        self.head.write_unallocated(self.storage.part_mut(0, capacity), offset, data)
     }
 
     /// Enqueues `count` elements, as they are.
@@ -595,7 +596,7 @@ impl<T, S: Storage<T>> RingOver<T, S> {
     /// Panics unless `count` is at most `window()`.
     #[track_caller]
     pub fn enqueue_unallocated(&mut self, count: usize) {
-        prove!(count <= self.window(), "no room for so many elements");
+        assert!(count <= self.window(), "no room for so many elements");
         self.head.enqueue(self.storage.count(), count);
     }
 
@@ -640,10 +641,10 @@ impl<T, S: Storage<T>> RingOver<T, S> {
     #[must_use]
     pub fn read_allocated(&mut self, offset: usize, data: &mut [T]) -> usize
     where
-        T: Copy, {
+        T: Copy,
+    {
         let capacity = self.storage.count();
-        self.head
-            .read_allocated(self.storage.part(0, capacity), offset, data)
+        self.head.read_allocated(self.storage.part(0, capacity), offset, data)
     }
 
     /// Dequeues `count` elements.
@@ -666,7 +667,7 @@ impl<T, S: Storage<T>> RingOver<T, S> {
     /// - `self.window() == old(self).window() + count`
     #[track_caller]
     pub fn dequeue_allocated(&mut self, count: usize) {
-        prove!(count <= self.len(), "fewer elements are queued");
+        assert!(count <= self.len(), "fewer elements are queued");
         self.head.dequeue(self.storage.count(), count);
     }
 }
@@ -695,10 +696,7 @@ impl<T, S: Storage<T>> RingOver<T, S> {
         // [ e f . . c d ] is c d and then e f.
         let from = self.head.read_at;
         let first = self.head.contiguous_queue(self.capacity());
-        (
-            self.storage.part(from, from + first),
-            self.storage.part(0, self.head.length - first),
-        )
+        (self.storage.part(from, from + first), self.storage.part(0, self.head.length - first))
     }
 
     /// Returns an iterator over the queue, which shows the elements in order. It doesn't tell how many
@@ -741,6 +739,7 @@ impl<'a, T, const N: usize> From<&'a mut [T; N]> for RingBuffer<'a, T> {
     }
 }
 
+#[cfg(feature = "alloc")]
 impl<'a, T> From<Vec<T>> for RingBuffer<'a, T> {
     /// Returns an empty ring over elements of its own, which stay as they are.
     fn from(elements: Vec<T>) -> Self {

@@ -4,7 +4,6 @@
 //! [`RingOver`](crate::storage::RingOver) is a storage and a head. A caller that has the storage elsewhere, as a
 //! program in C, calls the functions here with its capacity, or with the storage as a slice.
 
-use crate::rattle::prelude::*;
 // Why: No remainder is computed: indices are compared, and offsets clamped to the window or the queue, before
 // anything is added. So a capacity of 0 and zero-sized elements need no case of their own.
 
@@ -49,17 +48,7 @@ impl RingHead {
     /// Returns the head of an empty ring, which is sound for each storage.
     #[inline]
     pub(crate) const fn new() -> Self {
-        RingHead {
-            read_at: 0,
-            length: 0,
-        }
-    }
-
-    /// Returns whether the head is that of a ring of `capacity` elements: its read index is an
-    /// index of the storage, or 0, and it has no more elements than the storage.
-    #[inline]
-    pub(crate) fn is_sound(self, capacity: usize) -> bool {
-        (self.read_at == 0 || self.read_at < capacity) && self.length <= capacity
+        RingHead { read_at: 0, length: 0 }
     }
 
     /// Returns the index in the storage that is `offset` elements after the read index, wrapping at
@@ -74,7 +63,7 @@ impl RingHead {
         // [ 4 5 6 0 1 2 3 ]
         let to_end = capacity - self.read_at;
         if offset < to_end {
-            prove!(self.read_at + offset <= capacity, "in any `usize`");
+            debug_assert!(self.read_at + offset <= capacity);
             self.read_at + offset
         } else {
             offset - to_end
@@ -84,7 +73,7 @@ impl RingHead {
     /// Clamps `size` elements from `offset` on to the `available` ones that begin `start` elements
     /// after the read index, and returns where they are.
     #[inline]
-    fn span(
+    pub(crate) fn span(
         self,
         capacity: usize,
         start: usize,
@@ -93,15 +82,11 @@ impl RingHead {
         size: usize,
     ) -> Span {
         let offset = offset.min(available);
-        prove!(start + offset <= capacity, "in any `usize`");
+        debug_assert!(start + offset <= capacity);
         let from = self.index(capacity, start + offset);
         let count = size.min(available - offset);
         let contiguous = count.min(capacity - from);
-        Span {
-            from,
-            count,
-            contiguous,
-        }
+        Span { from, count, contiguous }
     }
 
     /// Returns where at most `size` free elements are, from the one at `offset` on; none if `offset`
@@ -179,7 +164,7 @@ impl RingHead {
     #[inline]
     pub(crate) fn enqueue(&mut self, capacity: usize, count: usize) {
         self.length += count;
-        prove!(self.length <= capacity, "in any `usize`");
+        debug_assert!(self.length <= capacity);
     }
 
     /// Dequeues `count` elements.
@@ -197,7 +182,7 @@ impl RingHead {
     #[inline]
     pub(crate) fn dequeue_contiguous(&mut self, capacity: usize, count: usize) {
         let next = self.read_at + count;
-        prove!(next <= capacity, "in any `usize`");
+        debug_assert!(next <= capacity);
         self.read_at = if next < capacity { next } else { 0 };
         self.length -= count;
     }
@@ -212,18 +197,6 @@ impl RingHead {
         self.length -= count;
     }
 
-    /// Enqueues as many elements as there is room for, at most `size`, and returns where they are.
-    ///
-    /// An empty ring first moves its read index to the storage's beginning.
-    #[inline]
-    pub(crate) fn enqueue_span(&mut self, capacity: usize, size: usize) -> Span {
-        self.rewind_if_empty();
-        let span = self.unallocated(capacity, 0, size);
-        self.length += span.count;
-        prove!(self.length <= capacity, "in any `usize`");
-        span
-    }
-
     /// Enqueues contiguous elements, at most `size`, and returns where they are: the span has no
     /// others.
     ///
@@ -234,20 +207,8 @@ impl RingHead {
         let from = self.index(capacity, self.length);
         let count = size.min(self.contiguous_window(capacity));
         self.length += count;
-        prove!(self.length <= capacity, "in any `usize`");
-        Span {
-            from,
-            count,
-            contiguous: count,
-        }
-    }
-
-    /// Dequeues as many elements as are queued, at most `size`, and returns where they are.
-    #[inline]
-    pub(crate) fn dequeue_span(&mut self, capacity: usize, size: usize) -> Span {
-        let span = self.allocated(capacity, 0, size);
-        self.dequeue(capacity, span.count);
-        span
+        debug_assert!(self.length <= capacity);
+        Span { from, count, contiguous: count }
     }
 
     /// Dequeues contiguous elements, at most `size`, and returns where they are: the span has no
@@ -257,11 +218,7 @@ impl RingHead {
         let from = self.read_at;
         let count = size.min(self.contiguous_queue(capacity));
         self.dequeue_contiguous(capacity, count);
-        Span {
-            from,
-            count,
-            contiguous: count,
-        }
+        Span { from, count, contiguous: count }
     }
 }
 
@@ -272,7 +229,12 @@ impl RingHead {
     /// `offset` on, and returns how many; 0 if `offset` is past the free elements. Nothing is
     /// enqueued.
     #[inline]
-    pub(crate) fn write_unallocated<T: Copy>(self, storage: &mut [T], offset: usize, data: &[T]) -> usize {
+    pub(crate) fn write_unallocated<T: Copy>(
+        self,
+        storage: &mut [T],
+        offset: usize,
+        data: &[T],
+    ) -> usize {
         let span = self.unallocated(storage.len(), offset, data.len());
         write_span(storage, span, data);
         span.count
@@ -282,7 +244,12 @@ impl RingHead {
     /// the beginning of `into`, and returns how many; 0 if `offset` is past the queue. The rest of
     /// `into` stays as it is, and nothing is dequeued.
     #[inline]
-    pub(crate) fn read_allocated<T: Copy>(self, storage: &[T], offset: usize, into: &mut [T]) -> usize {
+    pub(crate) fn read_allocated<T: Copy>(
+        self,
+        storage: &[T],
+        offset: usize,
+        into: &mut [T],
+    ) -> usize {
         let span = self.allocated(storage.len(), offset, into.len());
         read_span(storage, span, into);
         span.count
@@ -313,11 +280,7 @@ impl RingHead {
 /// Copies the first elements of `data` over those of a span, as many as it has.
 #[inline]
 fn write_span<T: Copy>(storage: &mut [T], span: Span, data: &[T]) {
-    let Span {
-        from,
-        count,
-        contiguous,
-    } = span;
+    let Span { from, count, contiguous } = span;
     // Of the data 0 1 2 3 4 the first three are up to the storage's end, and the rest wraps:
     // [ 3 4 . . . 0 1 2 ]
     copy_over(storage, from, &data[..contiguous]);
@@ -335,11 +298,7 @@ fn copy_over<T: Copy>(storage: &mut [T], at: usize, data: &[T]) {
 /// Copies the elements of a span to the beginning of `into`, whose rest stays as it is.
 #[inline]
 fn read_span<T: Copy>(storage: &[T], span: Span, into: &mut [T]) {
-    let Span {
-        from,
-        count,
-        contiguous,
-    } = span;
+    let Span { from, count, contiguous } = span;
     into[..contiguous].copy_from_slice(&storage[from..from + contiguous]);
     // The rest of a span that wraps is at the storage's beginning.
     if contiguous < count {

@@ -1,7 +1,6 @@
 // Written by tools/erase.py from crates/net_ring/src/split_counts.rt: a change here would be lost.
 //! A ring of which each end has a count of its own: an interrupt and a program, or two threads, use it without a lock.
 
-use crate::rattle::prelude::*;
 // Why: Each count is below twice the capacity, so any capacity will do, where free-running counts want a power of
 // two. A refused call gives the end's own count to store, since any other breaks the ring.
 //
@@ -9,7 +8,6 @@ use crate::rattle::prelude::*;
 // Rust forbids. The order of memory is the caller's, since no contract can say what an atomic gives.
 
 use crate::storage::ring_head::{RingHead, Span};
-use crate::storage::width::most;
 
 /// The two counts of a ring, as one of its ends knows them: its own, and the other's as it last loaded it.
 ///
@@ -78,10 +76,7 @@ impl SplitCounts {
     #[inline]
     #[must_use]
     pub const fn new() -> Self {
-        SplitCounts {
-            written: 0,
-            taken: 0,
-        }
+        SplitCounts { written: 0, taken: 0 }
     }
 
     /// Returns whether the counts are those of a ring of `capacity` elements: twice the capacity is a `usize`, each
@@ -95,7 +90,7 @@ impl SplitCounts {
     #[inline(always)]
     #[must_use]
     pub fn is_sound(self, capacity: usize) -> bool {
-        if capacity > most() / 2 {
+        if capacity > usize::MAX / 2 {
             return false;
         }
         is_count(capacity, self.written)
@@ -127,10 +122,7 @@ impl SplitCounts {
     #[track_caller]
     #[must_use]
     pub fn free(self, capacity: usize, size: usize) -> SplitSpan {
-        prove!(
-            self.is_sound(capacity),
-            "the counts are not those of such a ring"
-        );
+        assert!(self.is_sound(capacity), "the counts are not those of such a ring");
         let room = capacity - distance(capacity, self.taken, self.written);
         span(capacity, self.written, room.min(size))
     }
@@ -150,10 +142,7 @@ impl SplitCounts {
     #[track_caller]
     #[must_use]
     pub fn queued(self, capacity: usize, size: usize) -> SplitSpan {
-        prove!(
-            self.is_sound(capacity),
-            "the counts are not those of such a ring"
-        );
+        assert!(self.is_sound(capacity), "the counts are not those of such a ring");
         let length = distance(capacity, self.taken, self.written);
         span(capacity, self.taken, length.min(size))
     }
@@ -176,10 +165,7 @@ impl SplitCounts {
     #[track_caller]
     #[must_use]
     pub fn write<T: Copy>(self, storage: &mut [T], data: &[T]) -> usize {
-        prove!(
-            self.is_sound(storage.len()),
-            "the counts are not those of such a ring"
-        );
+        assert!(self.is_sound(storage.len()), "the counts are not those of such a ring");
         let count = self.head(storage.len()).write_unallocated(storage, 0, data);
         after(storage.len(), self.written, count)
     }
@@ -202,10 +188,7 @@ impl SplitCounts {
     #[track_caller]
     #[must_use]
     pub fn read<T: Copy>(self, storage: &[T], into: &mut [T]) -> usize {
-        prove!(
-            self.is_sound(storage.len()),
-            "the counts are not those of such a ring"
-        );
+        assert!(self.is_sound(storage.len()), "the counts are not those of such a ring");
         let count = self.head(storage.len()).read_allocated(storage, 0, into);
         after(storage.len(), self.taken, count)
     }
@@ -217,23 +200,12 @@ fn span(capacity: usize, at: usize, count: usize) -> SplitSpan {
     let round = round(capacity);
     if at < capacity {
         let next = at + count;
-        prove!(next <= round, "in any `usize`");
+        debug_assert!(next <= round);
         let contiguous = count.min(capacity - at);
-        return SplitSpan {
-            span: Span {
-                from: at,
-                count,
-                contiguous,
-            },
-            next,
-        };
+        return SplitSpan { span: Span { from: at, count, contiguous }, next };
     }
     SplitSpan {
-        span: Span {
-            from: at - capacity,
-            count,
-            contiguous: count.min(round - at),
-        },
+        span: Span { from: at - capacity, count, contiguous: count.min(round - at) },
         next: after(capacity, at, count),
     }
 }
@@ -251,9 +223,7 @@ fn index(capacity: usize, count: usize) -> usize {
 /// Returns twice the capacity, where counts begin at 0 again.
 #[inline(always)]
 fn round(capacity: usize) -> usize {
-    let round = capacity + capacity;
-    prove!(round <= most(), "in any `usize`");
-    round
+    capacity + capacity
 }
 
 /// Returns whether a count is below twice the capacity, or 0.
@@ -278,7 +248,7 @@ fn after(capacity: usize, count: usize, n: usize) -> usize {
     let round = round(capacity);
     let to_end = round - count;
     if n < to_end {
-        prove!(count + n <= round, "in any `usize`");
+        debug_assert!(count + n <= round);
         count + n
     } else {
         n - to_end

@@ -1,7 +1,6 @@
 // Written by tools/erase.py from crates/net_receiver/src/finite_receiver.rt: a change here would be lost.
 //! A receiver of a stream that ends.
 
-use crate::rattle::prelude::*;
 // Why: An end in order is never refused, as in lwIP and in smoltcp's socket. Else one forged byte or end within the
 // window and beyond the true end would keep a stream from ending. Bytes in order up to an end that came early
 // complete the stream there: whoever forges an end within the window could forge the bytes too.
@@ -11,13 +10,13 @@ use crate::rattle::prelude::*;
 //
 // The rule of `keep` is a function of the receiver's numbers and the end: a type and a head lend it theirs.
 
+use crate::storage::{ManagedSlice, Storage};
 use crate::stream::finite_receiver_head::{
-    NO_END, acknowledged, count_below, end_or_max, known_end,
+    acknowledged, count_below, end_or_max, known_end, NO_END,
 };
 use crate::stream::kept::{FiniteError, KeptBytes, SegmentParts};
 use crate::stream::part::Part;
 use crate::stream::receiver::ReceiverOver;
-use crate::storage::{ManagedSlice, Storage};
 
 /// A [`FiniteReceiver`] over any storage.
 ///
@@ -64,7 +63,7 @@ impl<S: Storage<u8>, const N: usize> FiniteReceiverOver<S, N> {
     /// A program in which `N` is 0 does not compile.
     #[must_use]
     pub const fn over(storage: S) -> Self {
-        prove!(N >= 1, "N is at least 1");
+        const { assert!(N >= 1, "N is at least 1") };
         Self::over_at(storage, 0)
     }
 
@@ -78,21 +77,15 @@ impl<S: Storage<u8>, const N: usize> FiniteReceiverOver<S, N> {
     #[must_use]
     #[track_caller]
     pub const fn over_at(storage: S, first: u64) -> Self {
-        prove!(N >= 1, "N is at least 1");
-        prove!(first < u64::MAX, "no number is left for an end");
-        FiniteReceiverOver {
-            receiver: ReceiverOver::over_at(storage, first),
-            after_end: 0,
-        }
+        const { assert!(N >= 1, "N is at least 1") };
+        assert!(first < u64::MAX, "no number is left for an end");
+        FiniteReceiverOver { receiver: ReceiverOver::over_at(storage, first), after_end: 0 }
     }
 
     /// Returns the storage. Its bytes can be any.
     #[must_use]
     pub fn into_storage(self) -> S {
-        let FiniteReceiverOver {
-            receiver,
-            after_end: _,
-        } = self;
+        let FiniteReceiverOver { receiver, after_end: _ } = self;
         receiver.into_storage()
     }
 
@@ -128,7 +121,7 @@ impl<S: Storage<u8>, const N: usize> FiniteReceiverOver<S, N> {
     /// Panics unless `first` is below `u64::MAX`: an end there would have no number after it.
     #[track_caller]
     pub fn reset_at(&mut self, first: u64) {
-        prove!(first < u64::MAX, "no number is left for an end");
+        assert!(first < u64::MAX, "no number is left for an end");
         self.receiver.reset_at(first);
         self.after_end = 0;
     }
@@ -189,8 +182,7 @@ impl<S: Storage<u8>, const N: usize> FiniteReceiverOver<S, N> {
     /// - if `is_last(part)` and `ends_in_order(old(self), pos, pos + bytes.len())`, then `result.is_ok()`
     /// - `old(self).acknowledged() <= self.acknowledged()`
     pub fn keep(&mut self, pos: u64, bytes: &[u8], part: Part) -> Result<KeptBytes, FiniteError> {
-        self.receiver
-            .keep_finite(&mut self.after_end, pos, bytes, part.is_last())
+        self.receiver.keep_finite(&mut self.after_end, pos, bytes, part.is_last())
     }
 
     /// Moves bytes from the head of the queue to the beginning of `into`, and returns how many: as
@@ -234,7 +226,7 @@ impl<S: Storage<u8>, const N: usize> FiniteReceiverOver<S, N> {
         let part = self.receiver.first_slice();
         let lent = part.len();
         let answer = f(part);
-        prove!(answer.0 <= lent, "more bytes than were lent");
+        assert!(answer.0 <= lent, "more bytes than were lent");
         self.receiver.remove_part(answer.0);
         answer
     }
@@ -255,10 +247,7 @@ impl<S: Storage<u8>, const N: usize> FiniteReceiverOver<S, N> {
     /// Panics unless at least `count` bytes are queued.
     #[track_caller]
     pub fn remove(&mut self, count: usize) {
-        prove!(
-            count <= self.receiver().queued(),
-            "more bytes than are queued"
-        );
+        assert!(count <= self.receiver().queued(), "more bytes than are queued");
         self.receiver.remove_part(count);
     }
 
@@ -361,10 +350,7 @@ impl<S: Storage<u8>, const N: usize> FiniteReceiverOver<S, N> {
     #[must_use]
     pub fn parts_of(&self, pos: u64, len: usize) -> SegmentParts {
         let below = count_below(self.after_end, pos, len);
-        SegmentParts {
-            past_end: len - below,
-            ..self.receiver.parts_of(pos, below)
-        }
+        SegmentParts { past_end: len - below, ..self.receiver.parts_of(pos, below) }
     }
 
     /// Returns how many bytes of a segment of `len` bytes at `position` would be new: those in the

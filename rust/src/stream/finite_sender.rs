@@ -1,11 +1,10 @@
 // Written by tools/erase.py from crates/net_receiver/src/finite_sender.rt: a change here would be lost.
 //! A sender of a stream that ends.
 
-use crate::rattle::prelude::*;
+use crate::storage::{ManagedSlice, Storage};
 use crate::stream::finite_sender_head::FiniteSenderHead;
 use crate::stream::part::{LentBytes, Part};
 use crate::stream::sent_numbers::SentNumbers;
-use crate::storage::{ManagedSlice, Storage};
 
 /// A [`FiniteSender`] over any storage.
 ///
@@ -71,11 +70,8 @@ impl<S: Storage<u8>> FiniteSenderOver<S> {
     #[must_use]
     #[track_caller]
     pub const fn over_at(storage: S, first: u64) -> Self {
-        prove!(first < u64::MAX, "no number is left for an end");
-        FiniteSenderOver {
-            head: FiniteSenderHead::new(first),
-            storage,
-        }
+        assert!(first < u64::MAX, "no number is left for an end");
+        FiniteSenderOver { head: FiniteSenderHead::new(first), storage }
     }
 
     /// Returns the storage. Its bytes can be any.
@@ -102,7 +98,7 @@ impl<S: Storage<u8>> FiniteSenderOver<S> {
     /// Panics unless `first` is below `u64::MAX`: an end there would have no number after it.
     #[track_caller]
     pub fn reset_at(&mut self, first: u64) {
-        prove!(first < u64::MAX, "no number is left for an end");
+        assert!(first < u64::MAX, "no number is left for an end");
         self.head = FiniteSenderHead::new(first);
     }
 
@@ -164,10 +160,7 @@ impl<S: Storage<u8>> FiniteSenderOver<S> {
     /// ```
     #[must_use]
     pub fn sent_numbers(&self) -> SentNumbers {
-        SentNumbers {
-            first_unacknowledged: self.first_number(),
-            sent: self.sent(),
-        }
+        SentNumbers { first_unacknowledged: self.first_number(), sent: self.sent() }
     }
 
     /// Returns how many bytes are queued.

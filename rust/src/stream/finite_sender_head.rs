@@ -1,8 +1,8 @@
 // Written by tools/erase.py from crates/net_receiver/src/finite_sender_head.rt: a change here would be lost.
 //! A sender of a stream that ends, in parts.
 
-use crate::stream::sender_head::SenderHead;
 use crate::storage::Span;
+use crate::stream::sender_head::SenderHead;
 
 /// What a sender of a stream that ends has besides its storage: numbers.
 ///
@@ -30,31 +30,7 @@ impl FiniteSenderHead {
     ///
     /// `first` is below `u64::MAX`: an end there would have no number after it.
     pub(crate) const fn new(first: u64) -> Self {
-        FiniteSenderHead {
-            sender: SenderHead::new(first),
-            closed: 0,
-            finished: 0,
-            sent: first,
-        }
-    }
-
-    /// Returns whether this head is sound for a storage of `capacity` bytes: `sender.place` is that
-    /// of a ring of as many; `closed` and `finished` are 0 or 1, and `finished` is 1 only if `closed`
-    /// is and the queue is empty; and `sent` is from the first number that isn't acknowledged up to
-    /// the number after the last one, which fits 64 bits.
-    pub(crate) fn is_sound(&self, capacity: usize) -> bool {
-        if !self.sender.is_sound(capacity) || self.closed > 1 || self.finished > self.closed {
-            return false;
-        }
-        if self.finished > 0 && self.sender.place.length > 0 {
-            return false;
-        }
-        let end = self.sender.end();
-        if end == u64::MAX {
-            return false;
-        }
-        self.sender.first_unacknowledged + self.finished <= self.sent
-            && self.sent <= end + self.closed
+        FiniteSenderHead { sender: SenderHead::new(first), closed: 0, finished: 0, sent: first }
     }
 
     /// Returns the first number that isn't acknowledged.
@@ -116,9 +92,7 @@ impl FiniteSenderHead {
     /// stream is the end alone.
     #[inline]
     pub(crate) fn peek_at(&self, capacity: usize, pos: u64, limit: u64) -> (Span, bool) {
-        let room = limit
-            .saturating_sub(pos)
-            .min(self.sender.place.length as u64) as usize;
+        let room = limit.saturating_sub(pos).min(self.sender.place.length as u64) as usize;
         let span = self.sender.peek_at(capacity, pos, room);
         let is_last = self.ends_below(pos + span.contiguous as u64, limit);
         (span, is_last)
@@ -147,7 +121,7 @@ impl FiniteSenderHead {
     /// Notes that all numbers below `pos` were sent, the end's among them if `pos` is past it.
     /// Returns false, and changes nothing, if `pos` is above `numbers_end`.
     #[inline]
-    pub(crate) fn mark_sent(&mut self, capacity: usize, pos: u64) -> bool {
+    pub(crate) fn mark_sent(&mut self, _capacity: usize, pos: u64) -> bool {
         if pos > self.numbers_end() {
             return false;
         }

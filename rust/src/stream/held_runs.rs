@@ -2,7 +2,6 @@
 //! The held runs of a receiver, one after another: in rising order, and in the order in which a selective
 //! acknowledgement lists them.
 
-use crate::rattle::prelude::*;
 use crate::storage::RunIter;
 
 /// An iterator over the held runs of a receiver, made by `held`.
@@ -95,11 +94,7 @@ pub struct NewestRunIter<const K: usize> {
 impl<const K: usize> NewestRunIter<K> {
     /// Returns the first `count` of these runs.
     pub(crate) fn over(runs: [HeldRun; K], count: usize) -> Self {
-        NewestRunIter {
-            runs,
-            from: 0,
-            count,
-        }
+        NewestRunIter { runs, from: 0, count }
     }
 }
 
@@ -114,16 +109,14 @@ impl<const K: usize> Iterator for NewestRunIter<K> {
         let run = &self.runs[self.from];
         let item = (run.start, run.end);
         self.from += 1;
-        prove!(self.from <= self.count, "in any `usize`");
+        debug_assert!(self.from <= self.count);
         Some(item)
     }
 }
 
 /// Returns whether one of these runs has a position.
 pub(crate) fn is_listed(listed: &[HeldRun], position: u64) -> bool {
-    listed
-        .iter()
-        .any(|run| run.start <= position && position < run.end)
+    listed.iter().any(|run| run.start <= position && position < run.end)
 }
 
 /// Writes the starts of these runs to the beginning of `recent`, as many as it has room for.

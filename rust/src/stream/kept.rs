@@ -92,4 +92,13 @@ pub enum FiniteError {
     OtherEnd,
 }
 
-crate::rattle::error_text!(FiniteError, FiniteError::TooManyHoles => "too many holes", FiniteError::OtherEnd => "the stream ends elsewhere");
+impl core::fmt::Display for FiniteError {
+    fn fmt(&self, f: &mut core::fmt::Formatter<'_>) -> core::fmt::Result {
+        f.write_str(match self {
+            FiniteError::TooManyHoles => "too many holes",
+            FiniteError::OtherEnd => "the stream ends elsewhere",
+        })
+    }
+}
+
+impl core::error::Error for FiniteError {}

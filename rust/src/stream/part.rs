@@ -41,7 +41,11 @@ impl Part {
 impl From<bool> for Part {
     #[inline]
     fn from(flag: bool) -> Part {
-        if flag { Part::Last } else { Part::More }
+        if flag {
+            Part::Last
+        } else {
+            Part::More
+        }
     }
 }
 

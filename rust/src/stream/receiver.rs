@@ -1,7 +1,6 @@
 // Written by tools/erase.py from crates/net_receiver/src/receiver.rt: a change here would be lost.
 //! The receiver.
 
-use crate::rattle::prelude::*;
 // Why: Runs are an array in the type, and not storage as bytes are. With 999 of them a `Receiver` has 16 KB, with 4
 // 136 bytes. Runs that are lent would cost 7 instructions more of 120 of a segment in order. But some 40 places
 // would lend them, some 65 clauses that name `N` would name a count, and one run at least would be a precondition.
@@ -10,13 +9,13 @@ use crate::rattle::prelude::*;
 // A segment is taken by two calls. `segment` lists the first three held runs, as a selective acknowledgement needs
 // them. `keep` lists none, for callers that list others, by `newest_runs`, or none.
 
+use crate::storage::{ManagedSlice, Storage};
+use crate::storage::{Run, TooManyHolesError};
 use crate::stream::finite_receiver_head::keep_ending;
 use crate::stream::held_runs::{HeldRun, HeldRuns, NewestRunIter};
 use crate::stream::kept::{FiniteError, Kept, KeptBytes, SegmentParts};
-use crate::stream::receiver_head::{ReceiverHead, count_existing};
-use crate::storage::{Run, TooManyHolesError};
-use crate::storage::{ManagedSlice, Storage};
-use crate::rattle::std::ops::Range;
+use crate::stream::receiver_head::{count_existing, ReceiverHead};
+use core::ops::Range;
 
 /// A [`Receiver`] over any storage.
 ///
@@ -77,7 +76,7 @@ impl<S: Storage<u8>, const N: usize> ReceiverOver<S, N> {
     /// A program in which `N` is 0 does not compile.
     #[must_use]
     pub const fn over(storage: S) -> Self {
-        prove!(N >= 1, "N is at least 1");
+        const { assert!(N >= 1, "N is at least 1") };
         Self::over_at(storage, 0)
     }
 
@@ -89,7 +88,7 @@ impl<S: Storage<u8>, const N: usize> ReceiverOver<S, N> {
     /// A program in which `N` is 0 does not compile.
     #[must_use]
     pub const fn over_at(storage: S, first: u64) -> Self {
-        prove!(N >= 1, "N is at least 1");
+        const { assert!(N >= 1, "N is at least 1") };
         ReceiverOver {
             head: ReceiverHead::new(first),
             storage,
@@ -100,11 +99,7 @@ impl<S: Storage<u8>, const N: usize> ReceiverOver<S, N> {
     /// Returns the head, the storage and the runs, which represent the receiver. smoltcp has no such
     /// call.
     pub(crate) fn into_parts(self) -> (ReceiverHead, S, [Run; N]) {
-        let ReceiverOver {
-            head,
-            storage,
-            runs,
-        } = self;
+        let ReceiverOver { head, storage, runs } = self;
         (head, storage, runs)
     }
 
@@ -184,17 +179,10 @@ impl<S: Storage<u8>, const N: usize> ReceiverOver<S, N> {
     #[inline(always)]
     #[track_caller]
     pub fn segment(&mut self, pos: u64, bytes: &[u8]) -> Result<Kept, TooManyHolesError> {
-        prove!(
-            Self::fits(pos, bytes.len()),
-            "the segment's end is above `u64::MAX`"
-        );
+        assert!(Self::fits(pos, bytes.len()), "the segment's end is above `u64::MAX`");
         let bytes = self.keep_part(pos, bytes)?;
         let sack = self.first_runs();
-        Ok(Kept {
-            kept: bytes.kept,
-            queued: bytes.queued,
-            sack,
-        })
+        Ok(Kept { kept: bytes.kept, queued: bytes.queued, sack })
     }
 
     /// Returns the first three held runs.
@@ -252,15 +240,7 @@ impl<S: Storage<u8>, const N: usize> ReceiverOver<S, N> {
     ) -> Result<KeptBytes, FiniteError> {
         let count = self.storage.count();
         let storage = self.storage.part_mut(0, count);
-        keep_ending(
-            &mut self.head,
-            after_end,
-            storage,
-            &mut self.runs,
-            pos,
-            bytes,
-            is_last,
-        )
+        keep_ending(&mut self.head, after_end, storage, &mut self.runs, pos, bytes, is_last)
     }
 
     /// Moves bytes from the head of the queue to the beginning of `into`, and returns how many: as
@@ -380,7 +360,7 @@ impl<S: Storage<u8>, const N: usize> ReceiverOver<S, N> {
         let part = self.first_slice();
         let lent = part.len();
         let answer = f(part);
-        prove!(answer.0 <= lent, "more bytes than were lent");
+        assert!(answer.0 <= lent, "more bytes than were lent");
         self.head.remove(self.storage.count(), answer.0);
         answer
     }
@@ -406,7 +386,7 @@ impl<S: Storage<u8>, const N: usize> ReceiverOver<S, N> {
     /// - `self.next() == old(self).next()`
     #[track_caller]
     pub fn remove(&mut self, count: usize) {
-        prove!(count <= self.queued(), "more bytes than are queued");
+        assert!(count <= self.queued(), "more bytes than are queued");
         self.head.remove(self.storage.count(), count);
     }
 
@@ -564,9 +544,7 @@ impl<S: Storage<u8>, const N: usize> ReceiverOver<S, N> {
         recent: &mut [u64; K],
     ) -> NewestRunIter<K> {
         let mut runs = [HeldRun { start: 0, end: 0 }; K];
-        let count = self
-            .head
-            .newest_runs(&self.runs, position, recent, &mut runs);
+        let count = self.head.newest_runs(&self.runs, position, recent, &mut runs);
         NewestRunIter::over(runs, count)
     }
 
@@ -616,8 +594,7 @@ impl<S: Storage<u8>, const N: usize> ReceiverOver<S, N> {
 
     /// Counts those of a segment that ends within 64 bits.
     pub(crate) fn count_part(&self, position: u64, len: usize) -> usize {
-        self.head
-            .count_part(self.storage.count(), &self.runs, position, len)
+        self.head.count_part(self.storage.count(), &self.runs, position, len)
     }
 
     /// Returns the position of the first byte that wasn't read.

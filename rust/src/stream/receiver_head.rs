@@ -1,12 +1,10 @@
 // Written by tools/erase.py from crates/net_receiver/src/receiver_head.rt: a change here would be lost.
 //! A receiver in parts: a head of numbers, a storage, and runs that are kept elsewhere.
 
-use crate::rattle::prelude::*;
-use crate::stream::held_runs::{HeldRun, HeldRunIter, is_listed, remember};
-use crate::stream::kept::{KeptBytes, SegmentParts};
-use crate::storage::{AssemblerHead, Run, TooManyHolesError};
 use crate::storage::RingHead;
-use crate::storage::width::most;
+use crate::storage::{AssemblerHead, Run, TooManyHolesError};
+use crate::stream::held_runs::{is_listed, remember, HeldRun, HeldRunIter};
+use crate::stream::kept::{KeptBytes, SegmentParts};
 
 /// What a receiver has besides its storage and its held runs: numbers.
 ///
@@ -39,10 +37,7 @@ impl ReceiverHead {
         ReceiverHead {
             first,
             count_read: 0,
-            place: RingHead {
-                read_at: 0,
-                length: 0,
-            },
+            place: RingHead { read_at: 0, length: 0 },
             held: AssemblerHead::new(),
         }
     }
@@ -62,48 +57,8 @@ impl ReceiverHead {
         self.held = AssemblerHead::new();
     }
 
-    /// Returns whether this head, a storage of `capacity` bytes and runs are sound: `place` is that
-    /// of a ring of the storage, whose `read_at` is `count_read` modulo the capacity; the first
-    /// missing position fits 64 bits; `held` and the runs are those of an assembler without
-    /// position 0; and each held position is in the free window, and the one after it fits 64 bits.
-    /// It looks at each held run, and at no byte.
-    pub(crate) fn is_sound(&self, capacity: usize, runs: &[Run]) -> bool {
-        if !self.place.is_sound(capacity) {
-            return false;
-        }
-        if !self.held.is_sound(runs) {
-            return false;
-        }
-        if !self.reads_in_turn(capacity) {
-            return false;
-        }
-        if !self.next_fits() {
-            return false;
-        }
-        let positions = u64::MAX - self.next();
-        let window = self.window(capacity);
-        self.is_held_below((window as u64).min(positions), runs)
-    }
-
-    /// Returns whether the queue begins where the byte after those read has its index.
-    fn reads_in_turn(&self, capacity: usize) -> bool {
-        if capacity == 0 {
-            return true;
-        }
-        self.place.read_at as u64 == self.count_read % capacity as u64
-    }
-
-    /// Returns whether the first missing position fits 64 bits.
-    fn next_fits(&self) -> bool {
-        let rest = u64::MAX - self.first;
-        if self.count_read > rest {
-            return false;
-        }
-        self.place.length as u64 <= rest - self.count_read
-    }
-
     /// Returns whether the offset of each held byte is above 0 and below `limit`.
-    fn is_held_below(&self, limit: u64, runs: &[Run]) -> bool {
+    pub(crate) fn is_held_below(&self, limit: u64, runs: &[Run]) -> bool {
         let used = self.held.used;
         if used == 0 {
             return true;
@@ -113,7 +68,6 @@ impl ReceiverHead {
         }
         let last = &runs[used - 1];
         let end = self.held.first_start + last.end;
-        prove!(end <= most(), "in any `usize`");
         end as u64 <= limit
     }
 
@@ -168,24 +122,16 @@ impl ReceiverHead {
         let ahead = pos.saturating_sub(next);
         if late >= len as u64 || ahead >= window as u64 {
             let counts = KeptBytes { kept: 0, queued: 0 };
-            return Ok(Admitted {
-                skip: 0,
-                offset: 0,
-                counts,
-            });
+            return Ok(Admitted { skip: 0, offset: 0, counts });
         }
-        prove!(late <= len as u64, "in any `usize`");
+        debug_assert!(late <= len as u64);
         let skip = late as usize;
-        prove!(ahead <= window as u64, "in any `usize`");
+        debug_assert!(ahead <= window as u64);
         let offset = ahead as usize;
         let kept = (len - skip).min(window - offset);
         let queued = self.held.add_then_remove_front(runs, offset, kept)?;
         self.place.enqueue(capacity, queued);
-        Ok(Admitted {
-            skip,
-            offset,
-            counts: KeptBytes { kept, queued },
-        })
+        Ok(Admitted { skip, offset, counts: KeptBytes { kept, queued } })
     }
 
     /// Moves bytes from the head of the queue to the beginning of `into`, and returns how many: as
@@ -237,10 +183,7 @@ impl ReceiverHead {
     #[inline]
     pub(crate) fn as_slices<'a>(&self, storage: &'a [u8]) -> (&'a [u8], &'a [u8]) {
         let span = self.place.allocated(storage.len(), 0, self.place.length);
-        (
-            &storage[span.from..span.from + span.contiguous],
-            &storage[..span.count - span.contiguous],
-        )
+        (&storage[span.from..span.from + span.contiguous], &storage[..span.count - span.contiguous])
     }
 
     /// Removes the first `count` bytes of the queue, as `read` does, and copies none. `capacity` is
@@ -335,7 +278,13 @@ impl ReceiverHead {
     }
 
     /// Lists the runs as `newest_runs` does, and leaves `recent` as it is.
-    fn list_runs(&self, runs: &[Run], position: u64, recent: &[u64], into: &mut [HeldRun]) -> usize {
+    fn list_runs(
+        &self,
+        runs: &[Run],
+        position: u64,
+        recent: &[u64],
+        into: &mut [HeldRun],
+    ) -> usize {
         let mut count = self.list_run(runs, position, into, 0);
         for i in 0..recent.len() {
             count = self.list_run(runs, recent[i], into, count);
@@ -358,7 +307,7 @@ impl ReceiverHead {
         match self.run_at(runs, position) {
             Some((start, end)) => {
                 into[count] = HeldRun { start, end };
-                prove!(count + 1 <= into.len(), "in any `usize`");
+                debug_assert!(count < into.len());
                 count + 1
             }
             None => count,
@@ -372,7 +321,7 @@ impl ReceiverHead {
         if position < next {
             return None;
         }
-        let offset = (position - next).min(most() as u64) as usize;
+        let offset = (position - next).min(usize::MAX as u64) as usize;
         let count = self.held.runs_by(runs, offset);
         if count == 0 {
             return None;
@@ -409,7 +358,7 @@ impl ReceiverHead {
     /// their run.
     fn held_part(&self, runs: &[Run], from: u64, end: u64) -> Option<(u64, u64)> {
         let next = self.next();
-        let offset = (from - next).min(most() as u64) as usize;
+        let offset = (from - next).min(usize::MAX as u64) as usize;
         match self.first_held(runs, offset) {
             Some(start) => {
                 let missing = self.held.first_missing(runs, start);
@@ -449,12 +398,7 @@ impl ReceiverHead {
         let room = (self.window(capacity) as u64).min(u64::MAX - next);
         let rest = len - old;
         let in_window = (rest as u64).min(room.saturating_sub(from)) as usize;
-        SegmentParts {
-            old,
-            in_window,
-            beyond: rest - in_window,
-            past_end: 0,
-        }
+        SegmentParts { old, in_window, beyond: rest - in_window, past_end: 0 }
     }
 
     /// Counts those of a segment that ends within 64 bits.
@@ -519,7 +463,7 @@ impl ReceiverHead {
                 return false;
             }
             at += there.len();
-            prove!(at <= length, "in any `usize`");
+            debug_assert!(at <= length);
         }
         true
     }

@@ -1,11 +1,10 @@
 // Written by tools/erase.py from crates/net_receiver/src/scoreboard.rt: a change here would be lost.
 //! A scoreboard: which positions a sender knows that the other end has.
 
-use crate::rattle::prelude::*;
+use crate::storage::Run;
 use crate::stream::held_runs::HeldRuns;
 use crate::stream::scoreboard_head::{ReportError, ScoreboardHead};
-use crate::storage::Run;
-use crate::rattle::std::ops::Range;
+use core::ops::Range;
 
 /// What a sender knows of the positions that the other end has, as acknowledgements and their SACK
 /// blocks report them: a scoreboard.
@@ -51,11 +50,8 @@ impl<const N: usize> Scoreboard<N> {
     /// A program in which `N` is 0 does not compile.
     #[must_use]
     pub const fn empty() -> Self {
-        prove!(N >= 1, "N is at least 1");
-        Scoreboard {
-            head: ScoreboardHead::new(),
-            runs: [Run { start: 0, end: 0 }; N],
-        }
+        const { assert!(N >= 1, "N is at least 1") };
+        Scoreboard { head: ScoreboardHead::new(), runs: [Run { start: 0, end: 0 }; N] }
     }
 
     /// Returns a scoreboard of a stream that begins at position `first`, to which nothing was reported.
@@ -70,11 +66,8 @@ impl<const N: usize> Scoreboard<N> {
     /// A program in which `N` is 0 does not compile.
     #[must_use]
     pub const fn empty_at(first: u64) -> Self {
-        prove!(N >= 1, "N is at least 1");
-        Scoreboard {
-            head: ScoreboardHead::new_at(first),
-            runs: [Run { start: 0, end: 0 }; N],
-        }
+        const { assert!(N >= 1, "N is at least 1") };
+        Scoreboard { head: ScoreboardHead::new_at(first), runs: [Run { start: 0, end: 0 }; N] }
     }
 
     /// Begins again: a stream that begins at position `first`, to which nothing was reported. All
@@ -118,8 +111,7 @@ impl<const N: usize> Scoreboard<N> {
     ///
     /// - on `Err`: `self == old(self)`
     pub fn report(&mut self, block: Range<u64>, sent: u64) -> Result<(), ReportError> {
-        self.head
-            .report(&mut self.runs, block.start, block.end, sent)
+        self.head.report(&mut self.runs, block.start, block.end, sent)
     }
 
     /// Reports all positions below `next`. It is never refused.
@@ -198,8 +190,7 @@ impl<const N: usize> Scoreboard<N> {
     /// ```
     #[must_use]
     pub fn missing_between(&self, range: Range<u64>) -> u64 {
-        self.head
-            .missing_between(&self.runs, range.start, range.end)
+        self.head.missing_between(&self.runs, range.start, range.end)
     }
 
     /// Returns the next range that wasn't reported: it begins at the first position from `pos` on that
@@ -216,7 +207,11 @@ impl<const N: usize> Scoreboard<N> {
     #[must_use]
     pub fn next_hole(&self, pos: u64, limit: u64) -> Option<Range<u64>> {
         let (start, end) = self.head.next_hole(&self.runs, pos, limit);
-        if start < end { Some(start..end) } else { None }
+        if start < end {
+            Some(start..end)
+        } else {
+            None
+        }
     }
 
     /// Returns the position below which all that wasn't reported is lost, by the rule of RFC 6675,

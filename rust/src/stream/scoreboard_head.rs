@@ -1,13 +1,11 @@
 // Written by tools/erase.py from crates/net_receiver/src/scoreboard_head.rt: a change here would be lost.
 //! A scoreboard in parts: a head, and runs that are kept elsewhere.
 
-use crate::rattle::prelude::*;
 // Why: A scoreboard counts from the first position that wasn't reported. So an acknowledgement is never refused, and
 // offsets fit 32 bits.
 
-use crate::stream::held_runs::HeldRunIter;
 use crate::storage::{AssemblerHead, Run};
-use crate::storage::width::most;
+use crate::stream::held_runs::HeldRunIter;
 
 /// Why a SACK block isn't taken. Nothing changes then.
 ///
@@ -53,10 +51,7 @@ impl ScoreboardHead {
     /// Returns a scoreboard of a stream that begins at position `first`, to which nothing was reported,
     /// whatever its runs. All positions below `first` count as reported.
     pub(crate) const fn new_at(first: u64) -> Self {
-        ScoreboardHead {
-            base: first,
-            reported: AssemblerHead::new(),
-        }
+        ScoreboardHead { base: first, reported: AssemblerHead::new() }
     }
 
     /// Returns a scoreboard to which nothing was reported, whatever its runs: `new_at` with 0.
@@ -68,19 +63,6 @@ impl ScoreboardHead {
     // A function of its own, since the prover can't put a new head beside an array of runs in its caller.
     pub(crate) fn reset_at(&mut self, first: u64) {
         *self = ScoreboardHead::new_at(first);
-    }
-
-    /// Returns whether the scoreboard is sound with these runs, for any numbers in both: `reported`
-    /// and they are those of an assembler, `base` isn't reported, and each end fits 64 bits. It
-    /// looks at each used run.
-    pub(crate) fn is_sound(&self, runs: &[Run]) -> bool {
-        if !self.reported.is_sound(runs) {
-            return false;
-        }
-        if self.reported.peek_front(runs) != 0 {
-            return false;
-        }
-        self.reported.end(runs) as u64 <= u64::MAX - self.base
     }
 
     /// Reports the positions from `start` on and below `end`, as a SACK block of an acknowledgement
@@ -112,9 +94,9 @@ impl ScoreboardHead {
             self.acknowledge(runs, end);
             return Ok(());
         }
-        prove!(end - self.base <= most() as u64, "in any `usize`");
-        prove!(start - self.base <= most() as u64, "in any `usize`");
-        prove!(end - start <= most() as u64, "in any `usize`");
+        debug_assert!(end - self.base <= usize::MAX as u64);
+        debug_assert!(start - self.base <= usize::MAX as u64);
+        debug_assert!(end - start <= usize::MAX as u64);
         let offset = (start - self.base) as usize;
         let size = (end - start) as usize;
         match self.reported.add(runs, offset, size) {
@@ -133,7 +115,7 @@ impl ScoreboardHead {
             return;
         }
         // All offsets are below the greatest `usize`.
-        let count = (next - self.base).min(most() as u64) as usize;
+        let count = (next - self.base).min(usize::MAX as u64) as usize;
         self.reported.shift(runs, count);
         let front = self.reported.remove_front(runs);
         self.base = next + front as u64;
@@ -154,10 +136,10 @@ impl ScoreboardHead {
             return true;
         }
         let offset = pos - self.base;
-        if offset > most() as u64 {
+        if offset > usize::MAX as u64 {
             return false;
         }
-        prove!(offset <= most() as u64, "in any `usize`");
+        debug_assert!(offset <= usize::MAX as u64);
         self.reported.contains(runs, offset as usize)
     }
 
@@ -199,9 +181,7 @@ impl ScoreboardHead {
     /// The scoreboard is sound with the runs.
     pub(crate) fn missing_between(&self, runs: &[Run], start: u64, end: u64) -> u64 {
         let from = start.max(self.base);
-        let reported = self
-            .reported
-            .count_between(runs, self.offset_of(from), self.offset_of(end));
+        let reported = self.reported.count_between(runs, self.offset_of(from), self.offset_of(end));
         end.saturating_sub(from) - reported as u64
     }
 
@@ -209,7 +189,7 @@ impl ScoreboardHead {
     /// that: no position is reported there.
     #[inline(always)]
     fn offset_of(&self, pos: u64) -> usize {
-        pos.saturating_sub(self.base).min(most() as u64) as usize
+        pos.saturating_sub(self.base).min(usize::MAX as u64) as usize
     }
 
     /// Returns the position below which all that wasn't reported is lost, by the rule of RFC 6675,
@@ -233,7 +213,7 @@ impl ScoreboardHead {
                 return 0;
             };
             bytes += (end - start) as u64;
-            prove!(above + 1 <= enough, "in any `usize`");
+            debug_assert!(above < enough);
             if above + 1 == enough || bytes > most {
                 return self.base + start as u64;
             }
@@ -266,4 +246,13 @@ fn is_report(first: u64, start: u64, end: u64, sent: u64) -> bool {
     start < end && end <= sent && (start <= first || end - first <= u64::from(u32::MAX))
 }
 
-crate::rattle::error_text!(ReportError, ReportError::NoBlock => "not a block of what was sent", ReportError::TooManyHoles => "too many holes");
+impl core::fmt::Display for ReportError {
+    fn fmt(&self, f: &mut core::fmt::Formatter<'_>) -> core::fmt::Result {
+        f.write_str(match self {
+            ReportError::NoBlock => "not a block of what was sent",
+            ReportError::TooManyHoles => "too many holes",
+        })
+    }
+}
+
+impl core::error::Error for ReportError {}

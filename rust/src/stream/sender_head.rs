@@ -1,7 +1,6 @@
 // Written by tools/erase.py from crates/net_receiver/src/sender_head.rt: a change here would be lost.
 //! A sender in parts: a head of numbers, and a storage that is kept elsewhere.
 
-use crate::rattle::prelude::*;
 use crate::storage::{RingHead, Span};
 
 /// What a sender has besides its storage: numbers.
@@ -26,20 +25,7 @@ impl SenderHead {
     /// Returns the head of a sender of a stream that begins at position `first`, to which nothing
     /// was written. It is sound for every storage.
     pub(crate) const fn new(first: u64) -> Self {
-        SenderHead {
-            first_unacknowledged: first,
-            place: RingHead {
-                read_at: 0,
-                length: 0,
-            },
-        }
-    }
-
-    /// Returns whether this head is sound for a storage of `capacity` bytes: `place` is that of a
-    /// ring of as many, and the position after the queue fits 64 bits.
-    pub(crate) fn is_sound(&self, capacity: usize) -> bool {
-        self.place.is_sound(capacity)
-            && self.place.length as u64 <= u64::MAX - self.first_unacknowledged
+        SenderHead { first_unacknowledged: first, place: RingHead { read_at: 0, length: 0 } }
     }
 
     /// Returns the position after the last byte that was written.
@@ -85,11 +71,7 @@ impl SenderHead {
     #[inline]
     pub(crate) fn peek_at(&self, capacity: usize, pos: u64, max: usize) -> Span {
         if pos < self.first_unacknowledged {
-            return Span {
-                from: 0,
-                count: 0,
-                contiguous: 0,
-            };
+            return Span { from: 0, count: 0, contiguous: 0 };
         }
         let offset = (pos - self.first_unacknowledged).min(self.place.length as u64) as usize;
         self.place.allocated(capacity, offset, max)
@@ -106,10 +88,7 @@ impl SenderHead {
         if next < self.first_unacknowledged || next > self.end() {
             return false;
         }
-        prove!(
-            next - self.first_unacknowledged <= self.place.length as u64,
-            "in any `usize`"
-        );
+        debug_assert!(next - self.first_unacknowledged <= self.place.length as u64);
         let count = (next - self.first_unacknowledged) as usize;
         self.place.dequeue(capacity, count);
         self.first_unacknowledged = next;

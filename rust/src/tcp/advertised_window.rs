@@ -1,7 +1,7 @@
 // Written by tools/erase.py from crates/net_tcp/src/advertised_window.rt: a change here would be lost.
 //! The window that a receiver announces.
 
-use crate::tcp::arriving::{Arrival, Segment, classify};
+use crate::tcp::arriving::{classify, Arrival, Segment};
 
 /// The greatest window scale (RFC 7323, section 2.3).
 pub const MAX_SCALE: u8 = 14;

@@ -55,9 +55,7 @@ impl AnswerLimit {
     /// ```
     #[must_use]
     pub const fn new() -> Self {
-        AnswerLimit {
-            until: Instant::from_micros_const(i64::MIN),
-        }
+        AnswerLimit { until: Instant::from_micros_const(i64::MIN) }
     }
 
     /// Returns whether to answer a segment of which nothing is taken, and takes notice that it is answered. Moments are

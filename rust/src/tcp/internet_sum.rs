@@ -4,8 +4,6 @@
 // Why: Words are added whose low byte comes first, of 64 bits where registers have as many, else of 32. By one lemma
 // any such sum is the right one once its two bytes are exchanged. No one text was the fastest for both.
 
-use crate::storage::width::most;
-
 /// The sum of the 16-bit words of a message, which is given in parts of any lengths, one after another.
 /// One of zeros is that of no bytes.
 ///
@@ -78,10 +76,7 @@ impl PartsSum {
     #[must_use]
     pub fn with_word(self, word: u16) -> Self {
         let word = if self.odd { swapped(word) } else { word };
-        PartsSum {
-            sum: fold(u32::from(self.sum) + u32::from(word)),
-            odd: self.odd,
-        }
+        PartsSum { sum: fold(u32::from(self.sum) + u32::from(word)), odd: self.odd }
     }
 
     /// Returns the checksum of the bytes that were added. It is a number: in a message its high byte comes
@@ -154,10 +149,7 @@ pub fn updated_checksum(checksum: u16, old: u16, new: u16) -> u16 {
 
 /// Returns the sum of some words, whose low byte comes first, and of these bytes, the first of which is a high byte.
 fn sum_from(start: u32, bytes: &[u8]) -> PartsSum {
-    PartsSum {
-        sum: turned(sum_words(start, bytes)),
-        odd: bytes.len() % 2 == 1,
-    }
+    PartsSum { sum: turned(sum_words(start, bytes)), odd: bytes.len() % 2 == 1 }
 }
 
 /// How many bytes are summed with no fold: their sum has room in 32 bits.
@@ -189,7 +181,7 @@ fn sum_block(start: u32, bytes: &[u8]) -> u32 {
 /// Returns whether registers have 64 bits, as a `usize` has then. It has no contract: both ways are proved for all.
 #[inline]
 const fn has_wide_registers() -> bool {
-    most() as u64 > 0xffff_ffff
+    usize::MAX as u64 > 0xffff_ffff
 }
 
 /// Adds the words of a block to a sum, eight bytes at a time. The loop has no carries, so that it is done by vectors.

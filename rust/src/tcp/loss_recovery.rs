@@ -18,10 +18,10 @@
 // Why: A range can't be lost while one before it isn't. Whether a probe repaired a loss itself (RFC 8985, section
 // 7.4) isn't decided: peers that report no copies answer alike where it did and where it didn't.
 
-use crate::tcp::reported::Reported;
-use crate::tcp::sack::{Sack, is_permitted};
 use crate::stream::SentNumbers;
-use crate::rattle::std::ops::Range;
+use crate::tcp::reported::Reported;
+use crate::tcp::sack::{is_permitted, Sack};
+use core::ops::Range;
 
 /// How many segments above a position tell that it is lost, as long as nothing came twice (RFC 6675's DupThresh).
 const DUPLICATES: usize = 3;
@@ -243,10 +243,7 @@ impl LossRecovery {
 
     /// Counts what is sent again.
     fn copy(&mut self, numbers: SentNumbers, positions: Range<u64>) {
-        let count = positions
-            .end
-            .min(numbers.sent)
-            .saturating_sub(positions.start);
+        let count = positions.end.min(numbers.sent).saturating_sub(positions.start);
         self.copies = self.copies.saturating_add(count);
     }
 
@@ -410,11 +407,7 @@ impl LossRecovery {
     fn count_unreported(&mut self, numbers: SentNumbers, segment_size: usize, answer: Answer) {
         let size = segment_size as u64;
         let first = numbers.first_unacknowledged;
-        let end = if self.is_active(numbers) {
-            self.until
-        } else {
-            numbers.sent
-        };
+        let end = if self.is_active(numbers) { self.until } else { numbers.sent };
         let known = first.saturating_sub(answer.first).saturating_sub(size);
         let most = end.saturating_sub(first).saturating_sub(size);
         let unknown = self.unreported_after(
@@ -542,9 +535,7 @@ impl LossRecovery {
     fn reported_later<B: Reported>(&self, numbers: SentNumbers, scoreboard: &B) -> u64 {
         let again = scoreboard.missing_between(self.resume, self.again);
         let first = scoreboard.missing_between(self.sent, numbers.sent);
-        let all = self
-            .later
-            .saturating_add(numbers.sent.saturating_sub(self.sent));
+        let all = self.later.saturating_add(numbers.sent.saturating_sub(self.sent));
         all.saturating_sub(again).saturating_sub(first)
     }
 
@@ -748,9 +739,7 @@ impl LossRecovery {
         let all = scoreboard.missing_between(first, numbers.sent);
         let of_pass = scoreboard.missing_between(from, turn);
         let others = scoreboard.missing_between(resume, lost);
-        all.saturating_sub(self.unknown)
-            .saturating_sub(of_pass)
-            .saturating_sub(others)
+        all.saturating_sub(self.unknown).saturating_sub(of_pass).saturating_sub(others)
     }
 
     /// Returns which range to send next, at most a segment. In a recovery that is what is lost and wasn't sent again;

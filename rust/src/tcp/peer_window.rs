@@ -1,8 +1,8 @@
 // Written by tools/erase.py from crates/net_tcp/src/peer_window.rt: a change here would be lost.
 //! The window that the peer announced.
 
-use crate::tcp::advertised_window::MAX_SCALE;
 use crate::stream::SentNumbers;
+use crate::tcp::advertised_window::MAX_SCALE;
 
 /// What a segment announces: the window from the position that it acknowledges on, and the numbers by
 /// which its age is told.
@@ -73,11 +73,7 @@ impl PeerWindow {
     /// Returns the window before any segment: nothing may be sent but a probe, and no segment is older.
     #[must_use]
     pub const fn new() -> Self {
-        PeerWindow {
-            edge: 0,
-            seq: 0,
-            ack: 0,
-        }
+        PeerWindow { edge: 0, seq: 0, ack: 0 }
     }
 
     /// Returns the window that a segment announced.
@@ -89,11 +85,7 @@ impl PeerWindow {
     /// ```
     #[must_use]
     pub fn of(it: Announcement) -> Self {
-        PeerWindow {
-            edge: it.ack.saturating_add(it.window),
-            seq: it.seq,
-            ack: it.ack,
-        }
+        PeerWindow { edge: it.ack.saturating_add(it.window), seq: it.seq, ack: it.ack }
     }
 
     /// Returns the position after the last that may be sent.

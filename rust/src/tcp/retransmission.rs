@@ -83,10 +83,7 @@ impl RttEstimate {
     #[must_use]
     pub fn first(time: Duration) -> Self {
         let time = time.total_micros().min(LONGEST_SAMPLE);
-        RttEstimate {
-            srtt_8: time * 8,
-            rttvar_4: time * 2,
-        }
+        RttEstimate { srtt_8: time * 8, rttvar_4: time * 2 }
     }
 
     /// Returns the estimate after one more sample.
@@ -111,10 +108,7 @@ impl RttEstimate {
     #[inline]
     #[must_use]
     pub(crate) fn from_scaled(srtt_8: u64, rttvar_4: u64) -> Self {
-        RttEstimate {
-            srtt_8: srtt_8.min(1 << 63),
-            rttvar_4: rttvar_4.min(1 << 62),
-        }
+        RttEstimate { srtt_8: srtt_8.min(1 << 63), rttvar_4: rttvar_4.min(1 << 62) }
     }
 
     /// Returns eight times the smoothed time, in microseconds.
@@ -191,10 +185,7 @@ impl RetransmissionTimeout {
     /// ```
     #[must_use]
     pub const fn new(timeout: Duration) -> Self {
-        RetransmissionTimeout {
-            estimate: None,
-            timeout,
-        }
+        RetransmissionTimeout { estimate: None, timeout }
     }
 
     /// Returns a timeout with the estimate of the samples so far, if there were any.

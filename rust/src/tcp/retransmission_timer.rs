@@ -5,11 +5,11 @@
 // wait each of 100 requests was sent twice to Linux where answers came after 20 ms. With none of it after eight, one
 // or two were on a busy machine. With all of it always, the timeout comes before the probe.
 
+use crate::stream::{flag_of, SentNumbers};
 use crate::tcp::retransmission::{RetransmissionTimeout, RttEstimate, TimeoutBounds};
-use crate::tcp::sack::{Sack, is_permitted};
+use crate::tcp::sack::{is_permitted, Sack};
 use crate::time::{Duration, Instant};
-use crate::stream::{SentNumbers, flag_of};
-use crate::rattle::std::ops::Range;
+use core::ops::Range;
 
 /// The least time without an answer after which a probe is sent, in microseconds.
 const LEAST_WAIT: u64 = 2_000;
@@ -212,10 +212,7 @@ impl RetransmissionTimer {
         if self.is_timing == 0 {
             return None;
         }
-        Some(TimedSegment {
-            pos: self.timed,
-            since: Instant::from_micros(self.timed_since),
-        })
+        Some(TimedSegment { pos: self.timed, since: Instant::from_micros(self.timed_since) })
     }
 
     /// Returns how often the timeout has passed in a row, without anything new that was acknowledged or reported in
@@ -510,9 +507,7 @@ impl RetransmissionTimer {
     fn restart(&mut self, ack_delay: Duration, is_alone: bool, now: Instant) {
         let wait = first_wait(self.rtt());
         self.end_after_timeout(now);
-        self.wait = wait
-            .total_micros()
-            .saturating_add(allowance(ack_delay, is_alone, self.prompt));
+        self.wait = wait.total_micros().saturating_add(allowance(ack_delay, is_alone, self.prompt));
         let wait = Duration::from_micros(self.wait);
         self.probe_at = now.saturating_add(wait).total_micros();
         self.is_alone = flag_of(is_alone);
@@ -553,13 +548,7 @@ fn allowance(ack_delay: Duration, is_alone: bool, prompt: u64) -> u64 {
 fn first_wait(estimate: Option<RttEstimate>) -> Duration {
     match estimate {
         Some(estimate) => {
-            Duration::from_micros(
-                estimate
-                    .srtt()
-                    .total_micros()
-                    .saturating_mul(2)
-                    .max(LEAST_WAIT),
-            )
+            Duration::from_micros(estimate.srtt().total_micros().saturating_mul(2).max(LEAST_WAIT))
         }
         None => Duration::MAX,
     }

@@ -1,10 +1,10 @@
 // Written by tools/erase.py from crates/net_base/src/time/duration.rt: a change here would be lost.
 //! Lengths of time, in whole microseconds.
 
-use crate::rattle::prelude::*;
+use super::InlineText;
 use crate::time::LONGEST_TEXT;
-use crate::rattle::std::fmt::{self, InlineText, Write};
-use crate::rattle::std::ops::{
+use core::fmt::{self, Write};
+use core::ops::{
     Add, AddAssign, Div, DivAssign, Mul, MulAssign, Shl, ShlAssign, Shr, ShrAssign, Sub, SubAssign,
 };
 
@@ -79,13 +79,8 @@ impl Duration {
     #[track_caller]
     #[must_use]
     pub const fn from_millis(millis: u64) -> Duration {
-        prove!(
-            Self::fits_millis(millis),
-            "attempt to multiply with overflow"
-        );
-        Duration {
-            micros: millis * 1_000,
-        }
+        assert!(Self::fits_millis(millis), "attempt to multiply with overflow");
+        Duration { micros: millis * 1_000 }
     }
 
     /// Returns whether the value fits; precondition of `from_secs`.
@@ -114,10 +109,8 @@ impl Duration {
     #[track_caller]
     #[must_use]
     pub const fn from_secs(secs: u64) -> Duration {
-        prove!(Self::fits_secs(secs), "attempt to multiply with overflow");
-        Duration {
-            micros: secs * 1_000_000,
-        }
+        assert!(Self::fits_secs(secs), "attempt to multiply with overflow");
+        Duration { micros: secs * 1_000_000 }
     }
 
     /// Returns the whole milliseconds beyond the whole seconds.
@@ -187,7 +180,7 @@ impl Duration {
     /// assert!(!Duration::fits_core(core::time::Duration::MAX));
     /// ```
     #[must_use]
-    pub fn fits_core(duration: crate::rattle::std::time::Duration) -> bool {
+    pub fn fits_core(duration: core::time::Duration) -> bool {
         u64::try_from(duration.as_micros()).is_ok()
     }
 
@@ -199,14 +192,9 @@ impl Duration {
     /// So many microseconds fit 64 bits, as `fits_core` tests.
     #[track_caller]
     #[must_use]
-    pub(crate) fn from_core(duration: crate::rattle::std::time::Duration) -> Duration {
-        prove!(
-            Self::fits_core(duration),
-            "attempt to multiply with overflow"
-        );
-        Duration {
-            micros: duration.as_micros() as u64,
-        }
+    pub(crate) fn from_core(duration: core::time::Duration) -> Duration {
+        assert!(Self::fits_core(duration), "attempt to multiply with overflow");
+        Duration { micros: duration.as_micros() as u64 }
     }
 
     /// Returns whether the sum fits; precondition of `+` and `+=`.
@@ -254,9 +242,7 @@ impl Duration {
     /// ```
     #[inline]
     pub fn checked_add(self, rhs: Duration) -> Option<Duration> {
-        self.micros
-            .checked_add(rhs.micros)
-            .map(Duration::from_micros)
+        self.micros.checked_add(rhs.micros).map(Duration::from_micros)
     }
 
     /// Returns the difference, or `None` exactly if `rhs` is the longer one.
@@ -267,9 +253,7 @@ impl Duration {
     /// ```
     #[inline]
     pub fn checked_sub(self, rhs: Duration) -> Option<Duration> {
-        self.micros
-            .checked_sub(rhs.micros)
-            .map(Duration::from_micros)
+        self.micros.checked_sub(rhs.micros).map(Duration::from_micros)
     }
 
     /// Returns the product, or `None` exactly if it is above the greatest length.
@@ -280,9 +264,7 @@ impl Duration {
     /// ```
     #[inline]
     pub fn checked_mul(self, rhs: u32) -> Option<Duration> {
-        self.micros
-            .checked_mul(u64::from(rhs))
-            .map(Duration::from_micros)
+        self.micros.checked_mul(u64::from(rhs)).map(Duration::from_micros)
     }
 
     /// Returns the quotient, or `None` exactly if the divisor is 0.
@@ -293,9 +275,7 @@ impl Duration {
     /// ```
     #[inline]
     pub fn checked_div(self, rhs: u32) -> Option<Duration> {
-        self.micros
-            .checked_div(u64::from(rhs))
-            .map(Duration::from_micros)
+        self.micros.checked_div(u64::from(rhs)).map(Duration::from_micros)
     }
 
     /// Returns the sum, or the greatest length if the sum is above it.
@@ -365,10 +345,8 @@ impl Add for Duration {
     #[inline]
     #[track_caller]
     fn add(self, rhs: Duration) -> Duration {
-        prove!(self.can_add(rhs), "attempt to add with overflow");
-        Duration {
-            micros: self.micros + rhs.micros,
-        }
+        assert!(self.can_add(rhs), "attempt to add with overflow");
+        Duration { micros: self.micros + rhs.micros }
     }
 }
 
@@ -377,7 +355,7 @@ impl AddAssign for Duration {
     #[inline]
     #[track_caller]
     fn add_assign(&mut self, rhs: Duration) {
-        prove!(self.can_add(rhs), "attempt to add with overflow");
+        assert!(self.can_add(rhs), "attempt to add with overflow");
         self.micros += rhs.micros;
     }
 }
@@ -389,10 +367,8 @@ impl Sub for Duration {
     #[inline]
     #[track_caller]
     fn sub(self, rhs: Duration) -> Duration {
-        prove!(self.can_sub(rhs), "overflow when subtracting durations");
-        Duration {
-            micros: self.micros - rhs.micros,
-        }
+        assert!(self.can_sub(rhs), "overflow when subtracting durations");
+        Duration { micros: self.micros - rhs.micros }
     }
 }
 
@@ -401,7 +377,7 @@ impl SubAssign for Duration {
     #[inline]
     #[track_caller]
     fn sub_assign(&mut self, rhs: Duration) {
-        prove!(self.can_sub(rhs), "overflow when subtracting durations");
+        assert!(self.can_sub(rhs), "overflow when subtracting durations");
         self.micros -= rhs.micros;
     }
 }
@@ -413,10 +389,8 @@ impl Mul<u32> for Duration {
     #[inline]
     #[track_caller]
     fn mul(self, rhs: u32) -> Duration {
-        prove!(self.can_mul(rhs), "attempt to multiply with overflow");
-        Duration {
-            micros: self.micros * u64::from(rhs),
-        }
+        assert!(self.can_mul(rhs), "attempt to multiply with overflow");
+        Duration { micros: self.micros * u64::from(rhs) }
     }
 }
 
@@ -425,7 +399,7 @@ impl MulAssign<u32> for Duration {
     #[inline]
     #[track_caller]
     fn mul_assign(&mut self, rhs: u32) {
-        prove!(self.can_mul(rhs), "attempt to multiply with overflow");
+        assert!(self.can_mul(rhs), "attempt to multiply with overflow");
         self.micros *= u64::from(rhs);
     }
 }
@@ -437,10 +411,8 @@ impl Div<u32> for Duration {
     #[inline]
     #[track_caller]
     fn div(self, rhs: u32) -> Duration {
-        prove!(rhs > 0, "attempt to divide by zero");
-        Duration {
-            micros: self.micros / u64::from(rhs),
-        }
+        assert!(rhs > 0, "attempt to divide by zero");
+        Duration { micros: self.micros / u64::from(rhs) }
     }
 }
 
@@ -449,7 +421,7 @@ impl DivAssign<u32> for Duration {
     #[inline]
     #[track_caller]
     fn div_assign(&mut self, rhs: u32) {
-        prove!(rhs > 0, "attempt to divide by zero");
+        assert!(rhs > 0, "attempt to divide by zero");
         self.micros /= u64::from(rhs);
     }
 }
@@ -461,10 +433,8 @@ impl Shl<u32> for Duration {
     #[inline]
     #[track_caller]
     fn shl(self, rhs: u32) -> Duration {
-        prove!(rhs < 64, "attempt to shift left with overflow");
-        Duration {
-            micros: self.micros << rhs,
-        }
+        assert!(rhs < 64, "attempt to shift left with overflow");
+        Duration { micros: self.micros << rhs }
     }
 }
 
@@ -473,7 +443,7 @@ impl ShlAssign<u32> for Duration {
     #[inline]
     #[track_caller]
     fn shl_assign(&mut self, rhs: u32) {
-        prove!(rhs < 64, "attempt to shift left with overflow");
+        assert!(rhs < 64, "attempt to shift left with overflow");
         self.micros <<= rhs;
     }
 }
@@ -485,10 +455,8 @@ impl Shr<u32> for Duration {
     #[inline]
     #[track_caller]
     fn shr(self, rhs: u32) -> Duration {
-        prove!(rhs < 64, "attempt to shift right with overflow");
-        Duration {
-            micros: self.micros >> rhs,
-        }
+        assert!(rhs < 64, "attempt to shift right with overflow");
+        Duration { micros: self.micros >> rhs }
     }
 }
 
@@ -497,15 +465,15 @@ impl ShrAssign<u32> for Duration {
     #[inline]
     #[track_caller]
     fn shr_assign(&mut self, rhs: u32) {
-        prove!(rhs < 64, "attempt to shift right with overflow");
+        assert!(rhs < 64, "attempt to shift right with overflow");
         self.micros >>= rhs;
     }
 }
 
 /// Returns the same length as a duration of the standard library.
-impl From<Duration> for crate::rattle::std::time::Duration {
+impl From<Duration> for core::time::Duration {
     #[inline]
-    fn from(duration: Duration) -> crate::rattle::std::time::Duration {
-        crate::rattle::std::time::Duration::from_micros(duration.micros)
+    fn from(duration: Duration) -> core::time::Duration {
+        core::time::Duration::from_micros(duration.micros)
     }
 }

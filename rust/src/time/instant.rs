@@ -1,10 +1,10 @@
 // Written by tools/erase.py from crates/net_base/src/time/instant.rt: a change here would be lost.
 //! Moments, in whole microseconds from an origin.
 
-use crate::rattle::prelude::*;
+use super::InlineText;
 use crate::time::{Duration, LONGEST_TEXT};
-use crate::rattle::std::fmt::{self, InlineText, Write};
-use crate::rattle::std::ops::{Add, AddAssign, Sub, SubAssign};
+use core::fmt::{self, Write};
+use core::ops::{Add, AddAssign, Sub, SubAssign};
 
 /// A moment, in microseconds since an origin of the user's own, such as the start of the system. A
 /// moment below zero is before the origin. With it a caller says what time it is, in timeouts and
@@ -73,13 +73,8 @@ impl Instant {
     #[track_caller]
     #[must_use]
     pub const fn from_millis_const(millis: i64) -> Instant {
-        prove!(
-            Self::fits_millis(millis),
-            "attempt to multiply with overflow"
-        );
-        Instant {
-            micros: millis * 1_000,
-        }
+        assert!(Self::fits_millis(millis), "attempt to multiply with overflow");
+        Instant { micros: millis * 1_000 }
     }
 
     /// Returns whether the value fits; precondition of `from_secs`.
@@ -109,10 +104,8 @@ impl Instant {
     #[track_caller]
     #[must_use]
     pub const fn from_secs_const(secs: i64) -> Instant {
-        prove!(Self::fits_secs(secs), "attempt to multiply with overflow");
-        Instant {
-            micros: secs * 1_000_000,
-        }
+        assert!(Self::fits_secs(secs), "attempt to multiply with overflow");
+        Instant { micros: secs * 1_000_000 }
     }
 
     /// Returns the whole milliseconds beyond the whole seconds, with the sign of the moment.

@@ -1,13 +1,13 @@
 // Written by tools/erase.py from crates/net_bench_lib/src/asm.rt: a change here would be lost.
 //! Mode `asm`: ranges are added to a set of positions, and its front is removed.
 
-use crate::rattle::prelude::*;
 use crate::lines::fault::{Fault, Refusal};
 use crate::lines::numeral::number;
 use crate::lines::session::Session;
 use crate::lines::words;
 use crate::lines::words::Words;
 use crate::rattle::net_assembler::Assembler;
+use crate::rattle::prelude::*;
 use crate::rattle::std::alloc::Allocator;
 
 /// The reply to a range that the assembler refuses.
@@ -67,9 +67,7 @@ fn asm_line(line: &[u8]) -> Option<AsmLine> {
 impl<const N: usize> AsmSession<N> {
     /// Returns a session with the empty set.
     pub fn new() -> AsmSession<N> {
-        AsmSession {
-            assembler: Assembler::empty(),
-        }
+        AsmSession { assembler: Assembler::empty() }
     }
 
     /// Adds a range, or finds that it is too long.
@@ -122,7 +120,12 @@ impl<const N: usize> AsmSession<N> {
 }
 
 impl<A: Allocator + Copy, const N: usize> Session<A> for AsmSession<N> {
-    fn apply_line(&mut self, _alloc: A, line: &[u8], reply: &mut String<A>) -> Result<(), Refusal> {
+    fn apply_line(
+        &mut self,
+        __alloc: A,
+        line: &[u8],
+        reply: &mut String<A>,
+    ) -> Result<(), Refusal> {
         match asm_line(line) {
             Some(AsmLine::Add(offset, size)) => self.add(offset, size, reply),
             Some(AsmLine::AddThenRemoveFront(offset, size)) => {

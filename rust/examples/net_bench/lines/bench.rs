@@ -1,13 +1,13 @@
 // Written by tools/erase.py from crates/net_bench_lib/src/bench.rt: a change here would be lost.
 //! Lines in, replies out, for any mode.
 
-use crate::rattle::prelude::*;
 use crate::lines::error::BenchError;
 use crate::lines::fault::Fault;
 use crate::lines::limits::{MAX_LINE, ROOM};
 use crate::lines::session::Session;
 use crate::lines::writer::write_text;
 use crate::rattle::memchr::memchr;
+use crate::rattle::prelude::*;
 use crate::rattle::std::alloc::Allocator;
 use crate::rattle::std::io::{Read, Write};
 
@@ -91,13 +91,8 @@ pub fn run_lines<A: Allocator + Copy, S: Session<A> + Sized, R: Read, W: Write>(
     reader: &mut R,
     writer: &mut W,
 ) -> Result<(), BenchError> {
-    let mut bench = Bench {
-        alloc,
-        session,
-        number: 1,
-        reply: String::new(alloc),
-        replies: Vec::new(alloc),
-    };
+    let mut bench =
+        Bench { alloc, session, number: 1, reply: String::new(alloc), replies: Vec::new(alloc) };
     let mut buffer = [0u8; ROOM];
     // How many bytes of the next line are at the front of the buffer.
     let mut held = 0;

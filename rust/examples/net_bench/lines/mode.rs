@@ -1,9 +1,9 @@
 // Written by tools/erase.py from crates/net_bench_lib/src/mode.rt: a change here would be lost.
 //! The modes of the bench.
 
-use crate::rattle::prelude::*;
 use crate::lines::limits::MAX_CAPACITY;
 use crate::lines::numeral::number;
+use crate::rattle::prelude::*;
 
 /// The most runs that an assembler may have.
 #[derive(Debug, Clone, Copy, PartialEq, Eq)]
@@ -57,15 +57,11 @@ fn most_runs_of(word: &[u8]) -> Option<MostRuns> {
 fn two_words(name: &[u8], number: &[u8]) -> Option<Mode> {
     if name == b"ring".as_slice() {
         let capacity = capacity(number)?;
-        return Some(Mode {
-            kind: ModeKind::Ring(capacity),
-        });
+        return Some(Mode { kind: ModeKind::Ring(capacity) });
     }
     if name == b"asm".as_slice() {
         let most_runs = most_runs_of(number)?;
-        return Some(Mode {
-            kind: ModeKind::Asm(most_runs),
-        });
+        return Some(Mode { kind: ModeKind::Asm(most_runs) });
     }
     None
 }
@@ -84,9 +80,7 @@ fn stream(
     let capacity = capacity(capacity_word)?;
     let most_runs = most_runs_of(most_runs_word)?;
     let first = first?;
-    Some(Mode {
-        kind: ModeKind::Stream(first, capacity, most_runs),
-    })
+    Some(Mode { kind: ModeKind::Stream(first, capacity, most_runs) })
 }
 
 impl Mode {
@@ -97,12 +91,7 @@ impl Mode {
             return two_words(words[0].as_bytes(), words[1].as_bytes());
         }
         if words.len() == 3 {
-            return stream(
-                words[0].as_bytes(),
-                words[1].as_bytes(),
-                words[2].as_bytes(),
-                Some(0),
-            );
+            return stream(words[0].as_bytes(), words[1].as_bytes(), words[2].as_bytes(), Some(0));
         }
         if words.len() == 4 {
             return stream(

@@ -1,12 +1,12 @@
 // Written by tools/erase.py from crates/net_bench_lib/src/program.rt: a change here would be lost.
 //! The program `net_bench`, from its words and streams to its exit status.
 
-use crate::rattle::prelude::*;
 use crate::lines::dispatch::run;
 use crate::lines::error::BenchError;
 use crate::lines::mode::Mode;
 use crate::lines::writer::write_text;
 use crate::rattle::arrayvec::ArrayString;
+use crate::rattle::prelude::*;
 use crate::rattle::std::alloc::Allocator;
 use crate::rattle::std::fmt::Write as _;
 use crate::rattle::std::io::{Read, Write};

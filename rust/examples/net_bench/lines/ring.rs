@@ -1,13 +1,13 @@
 // Written by tools/erase.py from crates/net_bench_lib/src/ring.rt: a change here would be lost.
 //! Mode `ring`: bytes go in, and come out in order.
 
-use crate::rattle::prelude::*;
 use crate::lines::fault::{Fault, Refusal};
 use crate::lines::numeral::number;
 use crate::lines::session::Session;
 use crate::lines::words::Words;
 use crate::lines::{text, words};
 use crate::rattle::net_ring::{ManagedSlice, RingBuffer};
+use crate::rattle::prelude::*;
 use crate::rattle::std::alloc::{AllocError, Allocator};
 
 /// A line of the mode.
@@ -25,7 +25,10 @@ pub struct RingSession<'a> {
 }
 
 /// Returns the meaning of a line, if it is one of the mode's.
-fn ring_line<A: Allocator + Copy>(alloc: A, line: &[u8]) -> Result<Option<RingLine<A>>, AllocError> {
+fn ring_line<A: Allocator + Copy>(
+    alloc: A,
+    line: &[u8],
+) -> Result<Option<RingLine<A>>, AllocError> {
     match words::split_words(line) {
         Words::Two(verb, word) => {
             if verb == b"w".as_slice() {
@@ -43,9 +46,7 @@ fn ring_line<A: Allocator + Copy>(alloc: A, line: &[u8]) -> Result<Option<RingLi
 impl<'a> RingSession<'a> {
     /// Returns an empty ring over this storage.
     pub fn new(storage: &'a mut [u8]) -> RingSession<'a> {
-        RingSession {
-            ring: RingBuffer::new(ManagedSlice::from(storage)),
-        }
+        RingSession { ring: RingBuffer::new(ManagedSlice::from(storage)) }
     }
 
     /// Enqueues as many bytes as there is room for, and replies how many.

@@ -1,8 +1,8 @@
 // Written by tools/erase.py from crates/net_bench_lib/src/session.rt: a change here would be lost.
 //! The trait of a mode: a state that lines change.
 
-use crate::rattle::prelude::*;
 use crate::lines::fault::Refusal;
+use crate::rattle::prelude::*;
 use crate::rattle::std::alloc::Allocator;
 
 /// The state of a mode, whose replies are in memory of `A`.

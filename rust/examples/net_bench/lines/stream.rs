@@ -1,14 +1,14 @@
 // Written by tools/erase.py from crates/net_bench_lib/src/stream.rt: a change here would be lost.
 //! Mode `stream`: segments of a stream arrive in any order, and its bytes are read in order.
 
-use crate::rattle::prelude::*;
 use crate::lines::fault::{Fault, Refusal};
 use crate::lines::numeral::number;
 use crate::lines::session::Session;
 use crate::lines::words::Words;
 use crate::lines::{text, words};
-use crate::rattle::net_receiver::{Command, Receiver, execute};
+use crate::rattle::net_receiver::{execute, Command, Receiver};
 use crate::rattle::net_ring::ManagedSlice;
+use crate::rattle::prelude::*;
 use crate::rattle::std::alloc::{AllocError, Allocator};
 use crate::rattle::std::mem;
 

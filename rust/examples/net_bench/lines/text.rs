@@ -1,8 +1,8 @@
 // Written by tools/erase.py from crates/net_bench_lib/src/text.rt: a change here would be lost.
 //! Bytes as hexadecimal digits.
 
-use crate::rattle::prelude::*;
 use crate::rattle::hex::FromHexError;
+use crate::rattle::prelude::*;
 use crate::rattle::std::alloc::{AllocError, Allocator};
 
 /// How many bytes are compared with a word at a time.

@@ -2,10 +2,10 @@
 // Written by tools/ffi.py.
 
 use crate::exports::refusals::{
-    NET_BASE_DONE, NET_BASE_REFUSED, RoomStatus, refused_front_length, refused_run,
+    refused_front_length, refused_run, RoomStatus, NET_BASE_DONE, NET_BASE_REFUSED,
 };
-use crate::exports::results::{FrontLength, front_length, run_of, status_of};
-use crate::storage::{AssemblerHead, Run};
+use crate::exports::results::{front_length, run_of, status_of, FrontLength};
+use crate::exports::{AssemblerHead, Run};
 
 #[inline(always)]
 pub fn net_base_assembler_init(assembler: &mut AssemblerHead) {
@@ -52,10 +52,7 @@ pub fn net_base_assembler_remove_front(
         return refused_front_length();
     }
     let length = assembler.remove_front(runs);
-    FrontLength {
-        status: NET_BASE_DONE,
-        length,
-    }
+    FrontLength { status: NET_BASE_DONE, length }
 }
 
 #[inline(always)]
@@ -72,18 +69,12 @@ pub fn net_base_assembler_shift(
 }
 
 #[inline(always)]
-pub fn net_base_assembler_peek_front(
-    assembler: &AssemblerHead,
-    runs: &[Run],
-) -> FrontLength {
+pub fn net_base_assembler_peek_front(assembler: &AssemblerHead, runs: &[Run]) -> FrontLength {
     if assembler.used > runs.len() {
         return refused_front_length();
     }
     let length = assembler.peek_front(runs);
-    FrontLength {
-        status: NET_BASE_DONE,
-        length,
-    }
+    FrontLength { status: NET_BASE_DONE, length }
 }
 
 #[inline(always)]
@@ -99,11 +90,7 @@ pub fn net_base_assembler_contains(
 }
 
 #[inline(always)]
-pub fn net_base_assembler_run_at(
-    assembler: &AssemblerHead,
-    runs: &[Run],
-    index: usize,
-) -> Run {
+pub fn net_base_assembler_run_at(assembler: &AssemblerHead, runs: &[Run], index: usize) -> Run {
     if assembler.used > runs.len() {
         return refused_run();
     }
@@ -111,11 +98,7 @@ pub fn net_base_assembler_run_at(
 }
 
 #[inline(always)]
-pub fn net_base_assembler_hole_at(
-    assembler: &AssemblerHead,
-    runs: &[Run],
-    index: usize,
-) -> Run {
+pub fn net_base_assembler_hole_at(assembler: &AssemblerHead, runs: &[Run], index: usize) -> Run {
     if assembler.used > runs.len() {
         return refused_run();
     }

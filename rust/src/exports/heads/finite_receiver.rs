@@ -4,14 +4,11 @@
 use crate::exports::finite_receiver::has_number;
 use crate::exports::receiver::{has_next, has_runs, is_plausible};
 use crate::exports::refusals::no_number;
-use crate::storage::Run;
-use crate::stream::FiniteReceiverHead;
+use crate::exports::FiniteReceiverHead;
+use crate::exports::Run;
 
 #[inline(always)]
-pub fn net_base_finite_receiver_init(
-    receiver: &mut FiniteReceiverHead,
-    first: u64,
-) -> bool {
+pub fn net_base_finite_receiver_init(receiver: &mut FiniteReceiverHead, first: u64) -> bool {
     if first == u64::MAX {
         return false;
     }

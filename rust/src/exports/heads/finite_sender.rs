@@ -2,7 +2,7 @@
 // Written by tools/ffi.py.
 
 use crate::exports::refusals::no_number;
-use crate::stream::FiniteSenderHead;
+use crate::exports::FiniteSenderHead;
 
 #[inline(always)]
 pub fn net_base_finite_sender_room(sender: &FiniteSenderHead, capacity: usize) -> usize {

@@ -2,10 +2,10 @@
 // Written by tools/ffi.py.
 
 use crate::exports::fragments::is_plausible;
-use crate::exports::refusals::{FragmentStatus, NET_BASE_REFUSED, SizeStatus};
+use crate::exports::refusals::{FragmentStatus, SizeStatus, NET_BASE_REFUSED};
 use crate::exports::results::status_of_fragment;
-use crate::storage::Run;
-use crate::storage::FragmentsHead;
+use crate::exports::Run;
+use crate::storage::fragments::FragmentsHead;
 
 #[inline(always)]
 pub fn net_base_fragments_init(fragments: &mut FragmentsHead, expires_at: i64) {

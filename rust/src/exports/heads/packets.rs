@@ -1,7 +1,7 @@
 // Written by tools/erase.py from crates/net_ffi/src/heads/packets.rt: a change here would be lost.
 // Written by tools/ffi.py.
 
-use crate::storage::{PacketSlot, PacketsHead};
+use crate::exports::{PacketSlot, PacketsHead};
 
 #[inline(always)]
 pub fn net_base_packets_init(packets: &mut PacketsHead) {

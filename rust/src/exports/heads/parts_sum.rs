@@ -1,7 +1,7 @@
 // Written by tools/erase.py from crates/net_ffi/src/heads/parts_sum.rt: a change here would be lost.
 // Written by tools/ffi.py.
 
-use crate::tcp::PartsSum;
+use crate::exports::PartsSum;
 
 #[inline(always)]
 pub fn net_base_parts_sum_init(sum: &mut PartsSum) {

@@ -2,7 +2,7 @@
 // Written by tools/ffi.py.
 
 use crate::exports::refusals::{no_number, refused_span};
-use crate::storage::{RingHead, Span};
+use crate::exports::{RingHead, Span};
 
 #[inline(always)]
 pub fn net_base_ring_init(place: &mut RingHead) {
@@ -73,11 +73,7 @@ pub fn net_base_ring_drop_last(place: &mut RingHead, count: usize) -> bool {
 }
 
 #[inline(always)]
-pub fn net_base_ring_enqueue_span(
-    place: &mut RingHead,
-    capacity: usize,
-    size: usize,
-) -> Span {
+pub fn net_base_ring_enqueue_span(place: &mut RingHead, capacity: usize, size: usize) -> Span {
     if !place.is_sound(capacity) {
         return refused_span();
     }
@@ -85,11 +81,7 @@ pub fn net_base_ring_enqueue_span(
 }
 
 #[inline(always)]
-pub fn net_base_ring_dequeue_span(
-    place: &mut RingHead,
-    capacity: usize,
-    size: usize,
-) -> Span {
+pub fn net_base_ring_dequeue_span(place: &mut RingHead, capacity: usize, size: usize) -> Span {
     if !place.is_sound(capacity) {
         return refused_span();
     }
@@ -123,11 +115,7 @@ pub fn net_base_ring_read_allocated(
 }
 
 #[inline(always)]
-pub fn net_base_ring_enqueue_slice(
-    place: &mut RingHead,
-    storage: &mut [u8],
-    data: &[u8],
-) -> usize {
+pub fn net_base_ring_enqueue_slice(place: &mut RingHead, storage: &mut [u8], data: &[u8]) -> usize {
     if !place.is_sound(storage.len()) {
         return no_number();
     }
@@ -135,11 +123,7 @@ pub fn net_base_ring_enqueue_slice(
 }
 
 #[inline(always)]
-pub fn net_base_ring_dequeue_slice(
-    place: &mut RingHead,
-    storage: &[u8],
-    into: &mut [u8],
-) -> usize {
+pub fn net_base_ring_dequeue_slice(place: &mut RingHead, storage: &[u8], into: &mut [u8]) -> usize {
     if !place.is_sound(storage.len()) {
         return no_number();
     }

@@ -3,15 +3,15 @@
 
 #[inline(always)]
 pub fn net_base_tcp_scale_for(capacity: u64) -> u8 {
-    crate::tcp::scale_for(capacity)
+    crate::exports::scale_for(capacity)
 }
 
 #[inline(always)]
 pub fn net_base_tcp_scaled(field: u16, scale: u8) -> u64 {
-    crate::tcp::scaled(field, scale)
+    crate::exports::scaled(field, scale)
 }
 
 #[inline(always)]
 pub fn net_base_tcp_updated_checksum(checksum: u16, old: u16, value: u16) -> u16 {
-    crate::tcp::updated_checksum(checksum, old, value)
+    crate::exports::updated_checksum(checksum, old, value)
 }

@@ -3,7 +3,6 @@
 //!
 //! What is inline, and what is a call of its own, was chosen by counted instructions and bytes.
 
-use crate::rattle::prelude::*;
 // Why: Pairs (start, end) are counted from where the first run starts, `first_start`. So if data that comes next
 // arrives while runs wait, `first_start` is lowered, and no pair is touched.
 //
@@ -19,9 +18,8 @@ use crate::rattle::prelude::*;
 // the runs that move down are together at most as many as the runs: both count as moves, and the bound on
 // `add_counted` holds, and on `add`, which is one call of it.
 
-use super::run::{Run, end_of, start_of};
+use super::run::{end_of, start_of, Run};
 use super::{HoleIter, RunIter, TooManyHolesError};
-use crate::storage::width::most;
 
 /// What an assembler has besides its runs: how many there are, and where the first of them starts.
 ///
@@ -51,28 +49,7 @@ pub struct AssemblerHead {
 impl AssemblerHead {
     /// Returns the head of an assembler with no position, whatever its runs.
     pub(crate) const fn new() -> Self {
-        AssemblerHead {
-            used: 0,
-            first_start: 0,
-        }
-    }
-
-    /// Returns whether the head is sound with these runs, for any numbers in both: there are `used`
-    /// runs, which rise, with a hole between neighbours; the first starts at 0; and each end is a
-    /// `usize` with `first_start` added, too. It looks at each used run.
-    pub(crate) fn is_sound(&self, runs: &[Run]) -> bool {
-        if self.used > runs.len() {
-            return false;
-        }
-        if self.used == 0 {
-            return true;
-        }
-        let first_end = end_of(runs, 0);
-        start_of(runs, 0) == 0
-            && first_end > 0
-            && self.first_start <= most()
-            && first_end <= most() - self.first_start
-            && rise_after(&runs[1..self.used], first_end, self.first_start)
+        AssemblerHead { used: 0, first_start: 0 }
     }
 
     /// Removes every position, so that the head is that of `new`. It need not be sound before.
@@ -90,7 +67,11 @@ impl AssemblerHead {
         if self.first_start != 0 {
             return 0;
         }
-        if self.used == 0 { 0 } else { end_of(runs, 0) }
+        if self.used == 0 {
+            0
+        } else {
+            end_of(runs, 0)
+        }
     }
 
     /// Returns whether no position is present.
@@ -108,7 +89,7 @@ impl AssemblerHead {
     /// Returns whether `offset + size` fits `usize`, which all calls that add a range require.
     #[inline]
     pub(crate) fn fits(offset: usize, size: usize) -> bool {
-        offset <= most() && size <= most() - offset
+        size <= usize::MAX - offset
     }
 
     /// Adds the positions from `offset` to `offset + size - 1`; none if `size` is 0. Ranges that
@@ -228,7 +209,6 @@ impl AssemblerHead {
             return Ok(0);
         }
         let front = self.first_start + end;
-        prove!(front <= most(), "in any `usize`");
         self.drop_front(runs, 1, end);
         Ok(front)
     }
@@ -254,8 +234,6 @@ impl AssemblerHead {
         if k < self.used {
             let start = self.first_start + start_of(runs, k);
             let end = self.first_start + end_of(runs, k);
-            prove!(start <= most(), "in any `usize`");
-            prove!(end <= most(), "in any `usize`");
             Some((start, end))
         } else {
             None
@@ -316,7 +294,6 @@ impl AssemblerHead {
             return (start, None);
         }
         let end = self.first_start + start_of(runs, count);
-        prove!(end <= most(), "in any `usize`");
         (start, Some(end))
     }
 
@@ -337,7 +314,6 @@ impl AssemblerHead {
                 return count;
             }
             count += end_of(runs, k).min(to).saturating_sub(start.max(from));
-            prove!(count <= most(), "in any `usize`");
         }
         count
     }
@@ -348,9 +324,7 @@ impl AssemblerHead {
         if count == 0 {
             return 0;
         }
-        let end = self.first_start + end_of(runs, count - 1);
-        prove!(end <= most(), "in any `usize`");
-        end
+        self.first_start + end_of(runs, count - 1)
     }
 
     /// Returns the holes as (start, end), the end not included, in rising order.
@@ -410,7 +384,6 @@ impl AssemblerHead {
         match last_of(runs, self.used) {
             Some(last) => {
                 let start = self.first_start + last.start;
-                prove!(start <= most(), "in any `usize`");
                 size > 0 && offset < start
             }
             None => false,
@@ -437,22 +410,15 @@ impl AssemblerHead {
             //  |=== range ===|                        it is the only run
             self.first_start = offset;
             self.used = 1;
-            runs[0] = Run {
-                start: 0,
-                end: size,
-            };
+            runs[0] = Run { start: 0, end: size };
             return Ok(());
         };
         let start = offset - self.first_start;
         let end = start + size;
-        prove!(end <= most(), "in any `usize`");
         if start <= last.end {
             //  |--- last ---|
             //       |=== range ===|                   that run grows
-            runs[used - 1] = Run {
-                start: last.start,
-                end: last.end.max(end),
-            };
+            runs[used - 1] = Run { start: last.start, end: last.end.max(end) };
             return Ok(());
         }
         //  |--- last ---|    |=== range ===|          it is a run of its own, the last
@@ -461,7 +427,7 @@ impl AssemblerHead {
         }
         runs[used] = Run { start, end };
         self.used = used + 1;
-        prove!(self.used <= runs.len(), "in any `usize`");
+        debug_assert!(self.used <= runs.len());
         Ok(())
     }
 
@@ -512,15 +478,14 @@ impl AssemblerHead {
     ) -> Result<(), TooManyHolesError> {
         let used = self.used;
         let end = start + size;
-        prove!(end <= most(), "in any `usize`");
-        prove!(first + 1 <= used, "in any `usize`");
+        debug_assert!(first < used);
         if end < begin {
             //  |--- first - 1 ---|    |=== range ===|    |--- first ---|      it is a run of its own
             if used >= runs.len() {
                 return Err(TooManyHolesError);
             }
             self.used = used + 1;
-            prove!(self.used <= runs.len(), "in any `usize`");
+            debug_assert!(self.used <= runs.len());
             self.first_start -= by;
             insert_run(runs, used, first, Run { start, end }, by);
             return Ok(());
@@ -529,20 +494,13 @@ impl AssemblerHead {
         //         |====== range ======|                                    they become one with it
         let next = runs_met(runs, used, first + 1, end - by);
         let last_end = by + end_of(runs, next - 1);
-        prove!(last_end <= most(), "in any `usize`");
-        runs[first] = Run {
-            start: start.min(begin),
-            end: end.max(last_end),
-        };
+        runs[first] = Run { start: start.min(begin), end: end.max(last_end) };
         if by == 0 && next == first + 1 {
             return Ok(());
         }
         self.first_start -= by;
-        self.used = if next == used {
-            first + 1
-        } else {
-            take_out(runs, used, first + 1, next, by)
-        };
+        self.used =
+            if next == used { first + 1 } else { take_out(runs, used, first + 1, next, by) };
         Ok(())
     }
 
@@ -583,11 +541,7 @@ impl AssemblerHead {
     #[inline(always)]
     fn drop_front(&mut self, runs: &mut [Run], count: usize, end: usize) {
         let used = self.used;
-        let start = if count < used {
-            start_of(runs, count)
-        } else {
-            end
-        };
+        let start = if count < used { start_of(runs, count) } else { end };
         self.first_start = start - end;
         // A sum that wraps lowers their numbers.
         self.used = take_out(runs, used, 0, count, start.wrapping_neg());
@@ -600,31 +554,11 @@ impl AssemblerHead {
             return None;
         }
         let next = k + 1;
-        prove!(next <= self.used, "in any `usize`");
+        debug_assert!(next <= self.used);
         let start = self.first_start + end_of(runs, k);
         let end = self.first_start + start_of(runs, next);
-        prove!(start <= most(), "in any `usize`");
-        prove!(end <= most(), "in any `usize`");
         Some((start, end))
     }
-}
-
-/// Returns whether runs rise, with a hole before each of them, the first of these after `after`, and
-/// end at a `usize` also where they are counted from `first_start`.
-fn rise_after(runs: &[Run], after: usize, first_start: usize) -> bool {
-    let last = most() - first_start;
-    let mut end = after;
-    for k in 0..runs.len() {
-        let start = start_of(runs, k);
-        if start <= end {
-            return false;
-        }
-        end = end_of(runs, k);
-        if end <= start || end > last {
-            return false;
-        }
-    }
-    true
 }
 
 /// Returns the last of the `used` runs, or `None` if there is none. A number below 0 wraps, so one
@@ -667,13 +601,13 @@ fn runs_ending_before(runs: &[Run], used: usize, offset: usize) -> usize {
     let mut high = used - 1;
     while low < high {
         let middle = low + (high - low) / 2;
-        prove!(middle < high, "in any `usize`");
+        debug_assert!(middle < high);
         if ends_before(runs, middle, offset) {
             low = middle + 1;
         } else {
             high = middle;
         }
-        prove!(low <= high, "in any `usize`");
+        debug_assert!(low <= high);
     }
     low
 }
@@ -685,13 +619,13 @@ fn runs_starting_by(runs: &[Run], used: usize, end: usize) -> usize {
     let mut high = used;
     while low < high {
         let middle = low + (high - low) / 2;
-        prove!(middle < high, "in any `usize`");
+        debug_assert!(middle < high);
         if starts_by(runs, middle, end) {
             low = middle + 1;
         } else {
             high = middle;
         }
-        prove!(low <= high, "in any `usize`");
+        debug_assert!(low <= high);
     }
     low
 }
@@ -704,7 +638,7 @@ fn runs_met(runs: &[Run], used: usize, from: usize, end: usize) -> usize {
     let mut next = from;
     while next < used && start_of(runs, next) <= end {
         next += 1;
-        prove!(next <= used, "in any `usize`");
+        debug_assert!(next <= used);
     }
     next
 }
@@ -715,8 +649,6 @@ fn runs_met(runs: &[Run], used: usize, from: usize, end: usize) -> usize {
 fn wrapped(runs: &[Run], k: usize, by: usize) -> Run {
     let start = by.wrapping_add(start_of(runs, k));
     let end = by.wrapping_add(end_of(runs, k));
-    prove!(start <= most(), "in any `usize`");
-    prove!(end <= most(), "in any `usize`");
     Run { start, end }
 }
 
@@ -735,18 +667,12 @@ fn insert_run(runs: &mut [Run], used: usize, at: usize, entry: Run, by: usize) {
 /// Takes out the runs from `at` up to `from`, and moves the later ones down, each counted `by`
 /// higher. Returns how many runs there are then. It isn't marked inline: where several places call it,
 /// it is a call.
-fn take_out(
-    runs: &mut [Run],
-    used: usize,
-    at: usize,
-    from: usize,
-    by: usize,
-) -> usize {
+fn take_out(runs: &mut [Run], used: usize, at: usize, from: usize, by: usize) -> usize {
     let mut to = at;
     for k in from..used.min(runs.len()) {
         runs[to] = wrapped(runs, k, by);
         to += 1;
-        prove!(to <= used, "in any `usize`");
+        debug_assert!(to <= used);
     }
     to
 }

@@ -1,7 +1,6 @@
 // Written by tools/erase.py from crates/net_base/src/storage/fragments/head.rt: a change here would be lost.
 //! The head of a buffer of fragments: what it has besides its bytes and runs, which each call takes as slices.
 
-use crate::rattle::prelude::*;
 use super::FragmentError;
 use crate::storage::{AssemblerHead, Run};
 
@@ -36,12 +35,7 @@ impl FragmentsHead {
     /// Returns the head of an empty buffer, whose packet is waited for up to `expires_at`, in
     /// microseconds. It is sound for any memory.
     pub(crate) const fn new(expires_at: i64) -> Self {
-        FragmentsHead {
-            present: AssemblerHead::new(),
-            has_total: 0,
-            total: 0,
-            expires_at,
-        }
+        FragmentsHead { present: AssemblerHead::new(), has_total: 0, total: 0, expires_at }
     }
 
     /// Begins again, for a packet that expires after `expires_at`.
@@ -49,19 +43,8 @@ impl FragmentsHead {
         *self = FragmentsHead::new(expires_at);
     }
 
-    /// Returns whether head and runs are those of a buffer of `capacity` bytes, for any numbers: `present` and the runs
-    /// are those of an assembler, which end at `capacity` or below, and at a known size or below, which is at most
-    /// `capacity`. It looks at each used run.
-    pub(crate) fn is_sound(&self, capacity: usize, runs: &[Run]) -> bool {
-        let limit = self.limit(capacity);
-        if limit > capacity || !self.present.is_sound(runs) {
-            return false;
-        }
-        self.is_below(runs, limit)
-    }
-
     /// Returns where fragments must end: at a known size, or else at `capacity`.
-    fn limit(&self, capacity: usize) -> usize {
+    pub(crate) fn limit(&self, capacity: usize) -> usize {
         if self.has_total == 0 {
             capacity
         } else {
@@ -70,7 +53,7 @@ impl FragmentsHead {
     }
 
     /// Returns whether all bytes that arrived are below `limit`.
-    fn is_below(&self, runs: &[Run], limit: usize) -> bool {
+    pub(crate) fn is_below(&self, runs: &[Run], limit: usize) -> bool {
         let last = self.present.run_count().saturating_sub(1);
         match self.present.run_at(runs, last) {
             Some((_, end)) => end <= limit,
@@ -130,7 +113,7 @@ impl FragmentsHead {
         if ends_above(capacity, offset, data.len()) {
             return Err(FragmentError::TooLong);
         }
-        prove!(offset + data.len() <= capacity, "in any `usize`");
+        debug_assert!(offset + data.len() <= capacity);
         let mut head = *self;
         head.set_total_size(capacity, runs, offset + data.len())?;
         head.add(bytes, runs, offset, data)?;
@@ -180,11 +163,8 @@ impl FragmentsHead {
         if size > capacity {
             return Err(FragmentError::TooLong);
         }
-        let can_be = if self.has_total == 0 {
-            self.is_below(runs, size)
-        } else {
-            self.total == size
-        };
+        let can_be =
+            if self.has_total == 0 { self.is_below(runs, size) } else { self.total == size };
         if !can_be {
             return Err(FragmentError::OtherSize);
         }

@@ -24,10 +24,9 @@
 //! # Ok::<(), AcceptError>(())
 //! ```
 
-use crate::rattle::prelude::*;
 use super::{FragmentError, FragmentsOver};
-use crate::time::Instant;
 use crate::storage::Storage;
+use crate::time::Instant;
 
 /// Why a fragment is refused. Nothing changes then.
 ///
@@ -93,11 +92,8 @@ impl<K: Copy + Eq, B: Storage<u8>, const N: usize> FragmentSlot<K, B, N> {
     ///
     /// A program in which `N` is 0 does not compile.
     pub const fn over(bytes: B) -> Self {
-        prove!(N >= 1, "N is at least 1");
-        FragmentSlot {
-            key: None,
-            buffer: FragmentsOver::over(bytes, Instant::ZERO),
-        }
+        const { assert!(N >= 1, "N is at least 1") };
+        FragmentSlot { key: None, buffer: FragmentsOver::over(bytes, Instant::ZERO) }
     }
 
     /// Returns whether the slot is for the packet of this key.
@@ -296,4 +292,17 @@ pub fn take_complete<K: Copy + Eq, B: Storage<u8>, const N: usize>(
     Some(at)
 }
 
-crate::rattle::error_text!(AcceptError, AcceptError::NoBytes => "no bytes", AcceptError::NoSlot => "no slots", AcceptError::OtherBytes => "contradicts bytes that have arrived", AcceptError::TooLong => "past the end of the buffer", AcceptError::TooManyHoles => "too many holes", AcceptError::OtherSize => "contradicts the packet's size");
+impl core::fmt::Display for AcceptError {
+    fn fmt(&self, f: &mut core::fmt::Formatter<'_>) -> core::fmt::Result {
+        f.write_str(match self {
+            AcceptError::NoBytes => "no bytes",
+            AcceptError::NoSlot => "no slots",
+            AcceptError::OtherBytes => "contradicts bytes that have arrived",
+            AcceptError::TooLong => "past the end of the buffer",
+            AcceptError::TooManyHoles => "too many holes",
+            AcceptError::OtherSize => "contradicts the packet's size",
+        })
+    }
+}
+
+impl core::error::Error for AcceptError {}

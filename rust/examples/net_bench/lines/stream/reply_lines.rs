@@ -1,9 +1,9 @@
 // Written by tools/erase.py from crates/net_bench_lib/src/stream/reply_lines.rt: a change here would be lost.
 //! The replies of a receiver as text.
 
-use crate::rattle::prelude::*;
 use crate::lines::text;
 use crate::rattle::net_receiver::{Kept, Reply};
+use crate::rattle::prelude::*;
 use crate::rattle::std::alloc::{AllocError, Allocator};
 use crate::rattle::std::fmt;
 
@@ -70,10 +70,7 @@ fn show_receiver<A: Allocator + Copy>(
     reply: &mut String<A>,
 ) -> Result<(), AllocError> {
     let held = Runs(held);
-    write!(
-        reply,
-        "next {next} queued {queued} window {window} held {held}\n"
-    )
+    write!(reply, "next {next} queued {queued} window {window} held {held}\n")
 }
 
 /// Shows the answer to a command, as a line.
@@ -86,11 +83,8 @@ pub fn show_reply<A: Allocator + Copy>(
         Reply::Segment(Ok(kept)) => show_kept(kept, reply),
         Reply::Segment(Err(_)) => reply.push_str("refused too many holes\n"),
         Reply::Read(bytes) => text::show_bytes(alloc, bytes, reply),
-        Reply::Show {
-            next,
-            queued,
-            window,
-            held,
-        } => show_receiver(*next, *queued, *window, held, reply),
+        Reply::Show { next, queued, window, held } => {
+            show_receiver(*next, *queued, *window, held, reply)
+        }
     }
 }

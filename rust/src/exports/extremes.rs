@@ -1,6 +1,4 @@
-//! Heads, called with numbers about 0, the middle and the greatest `usize`, beside models in numbers of 128 bits; and
-//! what `prove!` tests.
-use crate::rattle::prelude::prove;
+//! Heads, called with numbers about 0, the middle and the greatest `usize`, beside models in numbers of 128 bits.
 use crate::storage::packets_head::PacketsHead;
 use crate::storage::{AssemblerHead, RingHead, Run};
 use std::vec::Vec;
@@ -226,17 +224,4 @@ fn assemblers() {
         );
     }
     assert!(done > 1000 && refused > 10, "{done} {refused}");
-}
-
-/// In each build, also one without assertions.
-#[test]
-fn what_is_tested_is_evaluated() {
-    let mut count = 0;
-    let mut counted = || {
-        count += 1;
-        count < 10
-    };
-    prove!(counted(), "in any `usize`");
-    prove!(counted(), "a guard");
-    assert_eq!(count, 2);
 }
