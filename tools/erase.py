@@ -5,6 +5,7 @@
                                        names, and of the program in rust/examples/net_bench
     python3 tools/erase.py --check     writes nothing, and names each file that isn't so
 
+The status is 2 if there is no rustfmt.
 What it does are the rules below, and no more; what they refuse is said with its file and line. What is taken out ends
 where its bracket closes. That what is left does in Rust what was proved is for tools/same_program.py.
 tools/parts/erase_says.py adds lines of documentation.
@@ -20,7 +21,7 @@ The rules:
 3. An impl of `Drop` goes, since rustc drops fields by itself: the comparison finds a `drop` that does more. An impl of
    `Model`, which has ghost members alone, goes too. A `clone` whose body is `Ok(..)` gives what that holds, and no
    `Result`; no other one is erased. A bound by `Drop` is one by `Sized`.
-4. A public item becomes `pub(crate)`, unless an import of a root by hand gives its name, or its module, to users or to
+4. What C's exports alone call, by `FOR_C` of `erase_list.py`, is in a folder of theirs. A public item becomes `pub(crate)`, unless an import of a root by hand gives its name, or its module, to users or to
    C's exports. So do functions whose signature names a head, or a type of snapshots alone, all of a type that users
    can't name, and `CLOSED` of `erase_list.py`. What is closed has no example, since examples are another crate's. The
    lint `unreachable_pub` leaves out what C's exports alone name. An export loses `extern "C"` and its documentation,
@@ -34,10 +35,12 @@ The rules:
    no trait has. From an import goes what only contracts name, unless it is a trait or std's, and so does a `pub use` of
    another crate. Rustc refuses a text that uses what this rule took out.
 7. Refused are imports of all names, attributes that aren't listed, the rest of a struct from an element, the order of
-   bytes of a machine (`to_ne_bytes`, `to_be` and their like), and a bound of any `usize` that does more than compare.
-8. All other tokens stay, in their order: each is written as it was read, and the layout after that changes none. A file
-   that uses it imports `rattle::prelude`, where `prove!` is `assert!`. It is tested when a program is compiled if it is
-   about `N`, and in debug builds alone if it is of a `usize` of any width.
+   bytes of a machine (`to_ne_bytes`, `to_be` and their like), `usize::MAX` and its like, which are of 64 bits in proofs,
+   and a bound of any `usize` that does more than compare.
+8. All other tokens stay, in their order, as rustfmt lays them out: it may add and take commas and braces, and order
+   imports. A guard, `prove!`, is `assert!`; if it is about `N`, when a program is compiled. A bound of a `usize` of any
+   width is `debug_assert!`; one by the greatest `usize`, `most()`, which is `usize::MAX`, goes. So do comments that begin
+   with "Proof:". A parameter that only contracts name is `_name`.
 9. In documentation what a public function requires and tests is under "Panics".
 """
 import itertools

@@ -4,13 +4,14 @@ they are so where it has 32:
 
     python3 tools/widths.py [FOLDER]
 
-The erased text, with the exports for C, has its bounds, `prove!(sum <= bound, "in any `usize`")`, and
-rustc says what each operation is, by its types. A difference, a quotient, a rest, `min`, `max` or `saturating_sub` of
-numbers of a `usize` is one. Any other operation has a cover:
+The text is erased again with all bounds, `debug_assert!(sum <= bound, "in any `usize`")`, and the exports for C, and
+rustc says what each operation is, by its types. `usize::MAX`, which the eraser writes for `most()` alone, is a number of
+a `usize`, and so is a difference, a quotient, a rest, `min`, `max` or `saturating_sub` of two. Any other operation has a
+cover:
 
     bound     on each way that runs it, a bound of its value is tested before the value is changed, and no way leaves
               before; or such a bound of the same expression was tested, and none of its variables is assigned in
-              between. The right side is a `usize`, or one as a `u64`: `most()`, a length, a variable or a field that
+              between. The right side is a `usize`, or one as a `u64`: `usize::MAX`, a length, a variable or a field that
               was there before and isn't changed since, and no expression. A bound of a sum is one of the sum in it,
               since it is proved of numbers of any size
     end       it is the end of the range of a slice, or of `part`: the index is proved to be at most a length
@@ -19,7 +20,6 @@ numbers of a `usize` is one. Any other operation has a cover:
               whose value has a bound
     index     one less than a number, in numbers that wrap, as the whole argument of `get`: of 0 it is the greatest
               `usize`, an index that no slice has
-    greatest  the body of `most`
     lesser    a sum or product that stops at the greatest `usize`, of which the lesser and another number is taken
     constant  a literal that has 32 bits
     derived hash  a field that a derived `Hash` gives to a hasher, of which no clause says the bytes
@@ -34,12 +34,14 @@ open, and 2 if there is no compiler.
 """
 import os
 import re
+import shutil
 import subprocess
 import sys
 import tempfile
 from pathlib import Path
 
 sys.dont_write_bytecode = True
+import erase
 from parts.mir_text import called, erased_files
 
 REPOSITORY = Path(__file__).resolve().parent.parent
@@ -174,7 +176,7 @@ class Reader:
         cast = re.match(r'(.*) as (\w+) \((?:IntToInt|FloatToInt|PointerExposeProvenance)\)', value)
         if cast:
             local = re.search(r'(_\d+)$', cast[1])
-            literal = re.search(r'_([iu]\w+)$', cast[1])
+            literal = re.search(r'(?:_|impl )([iu]\w+)(?:>::MAX)?$', cast[1])
             source = types.get(local[1], '?') if local else literal[1] if literal else '?'
             if cast[2] == 'usize' and source != 'usize' and source not in NARROW:
                 return f'cast {source} to usize'
@@ -215,15 +217,12 @@ class Reader:
         if kind.startswith('unknown') or kind == 'isize':
             return None
         text = re.sub(r'^\(([^()]*)\)$', r'\1', plain(file.code[start:end]))
-        if kind in SAFE or kind == 'cast usize to u64':
+        if kind in SAFE or kind in ('cast usize to u64', 'call MAX'):
             return 'no growth'
         bound = self.bound_at(file, start)
         if bound:
             is_sum = kind == 'Add' and (bound[2] == text or bound[2].startswith(f'{text}+'))
             return is_sum and self.is_there(file, bound[3], bound[2], start) and 'bound'
-        if kind == 'call MAX' and name == 'src/storage/width.rs' and re.search(
-                r'\bconst fn most\(\) -> usize \{\s*$', file.code[:start]):
-            return 'greatest'
         shift = re.fullmatch(f'({NUMBER})<<({NUMBER})', text)
         if kind == 'Shl' and shift and int(shift[1]) << int(shift[2]) <= MOST:
             return 'constant'
@@ -249,7 +248,7 @@ class Reader:
         one."""
         if not hasattr(file, 'bounds'):
             file.bounds = []
-            for m in re.finditer(r'prove!\(((?:(?!prove!)[^;])*?),\s*' + re.escape(MARK) + r',?\s*\);', file.code):
+            for m in re.finditer(r'debug_assert!\(((?:(?!assert!)[^;])*?),\s*' + re.escape(MARK) + r',?\s*\);', file.code):
                 sides = re.fullmatch(r'(.*?[^<])<=?([^<=].*)', plain(m[1]))
                 if sides and '&&' not in m[1] and '||' not in m[1]:
                     of_u64 = ':u64' * sides[2].endswith('asu64')
@@ -402,7 +401,7 @@ class Reader:
         """Whether the right side of a bound is a number that was there before the operation."""
         if right == left:
             return False
-        if right == 'most()':
+        if right == 'usize::MAX':
             return True
         path = re.fullmatch(rf'({PATH})(?:\.len\(\))?', right)
         if not path:
@@ -476,6 +475,18 @@ def mir_of(target, folder='deps'):
     return mir.read_text()
 
 
+def with_bounds(crate):
+    """A copy of the crate that is erased with all bounds."""
+    shutil.copytree(REPOSITORY / 'rust', crate, ignore=shutil.ignore_patterns('target', 'rows'))
+    erase.Eraser.bounds, said = True, []
+    for path, text in erase.erased(said).items():
+        (crate / path.relative_to(REPOSITORY / 'rust')).write_text(text)
+    erase.Eraser.bounds = False
+    if said:
+        sys.exit('\n'.join(said))
+    return crate
+
+
 def compiled(crate, kit, target):
     """The reader of an erased crate."""
     rustc(crate, kit, target, check=True)
@@ -502,7 +513,8 @@ def show(reader):
 def main(folders):
     with tempfile.TemporaryDirectory() as temporary:
         temporary = Path(temporary)
-        counts = show(compiled(REPOSITORY / 'rust', kit_of(folders, temporary), temporary / 'target'))
+        kit = kit_of(folders, temporary)
+        counts = show(compiled(with_bounds(temporary / 'crate'), kit, temporary / 'target'))
     for line in [*laws(sorted((REPOSITORY / 'crates').glob('*/src/**/*.rt'))), *unfolded(REPOSITORY / 'crates')]:
         counts['open'] += 1
         print(f'open: {line}')

@@ -100,7 +100,7 @@ def main(arguments):
         for k, (text, count) in enumerate(ITEMS):
             assert sum(not cover for cover in covers(reader, f'items{k}')) == count, (text, covers(reader, f'items{k}'))
         crate = temporary / 'crate'
-        shutil.copytree(widths.REPOSITORY / 'rust', crate, ignore=shutil.ignore_patterns('target', 'rows'))
+        widths.with_bounds(crate)
         for file, part, plant in EXPORTS:
             path = crate / 'src/exports' / file
             assert part in path.read_text(), (file, part)
@@ -129,6 +129,7 @@ def main(arguments):
         assert all('unfolding' in file.read_text() and 'shortfall' in file.read_text() for file in unfolds)
         # What is open is counted and said, and so is a wrong law.
         widths.REPOSITORY, widths.kit_of, widths.compiled = temporary, lambda *_: kit, lambda *_: shown
+        widths.with_bounds = lambda _: None
         for at, large, law, wanted in STATUSES:
             shown = Shown(at, large)
             source.write_text(law)
