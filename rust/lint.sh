@@ -1,8 +1,7 @@
 #!/bin/sh
-# No difference by rustfmt and no warning of rustc or clippy, with each set of features; of clippy's pedantic lints
-# those about `must_use`. So nothing of the erased text is dead where the exports for C are there, in the crate
-# `exports`: what `UNCALLED` of tools/parts/erase_list.py lacks is named here. Of the program the example is looked at,
-# and its test.
+# No difference by rustfmt and no warning of rustc or clippy, with each set of features, in the erased text too; of
+# clippy's pedantic lints those about `must_use`. So nothing is dead: what `UNCALLED` or `FOR_C` of
+# tools/parts/erase_list.py lacks is named here. Of the program the example is looked at, and its test.
 set -eu
 cd "$(dirname "$0")"
 for folder in . exports ../c ../compare; do

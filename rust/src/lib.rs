@@ -55,9 +55,6 @@
 #![cfg_attr(docsrs, feature(doc_cfg))]
 #![forbid(unsafe_code)]
 #![deny(missing_docs, missing_debug_implementations, unnameable_types, unreachable_pub)]
-// A function is proved by the form that it has: a `match`, a loop over indices.
-#![allow(clippy::manual_filter, clippy::manual_find, clippy::manual_map)]
-#![allow(clippy::needless_range_loop, clippy::question_mark, clippy::redundant_pattern_matching)]
 
 #[cfg(feature = "alloc")]
 extern crate alloc;

@@ -3,9 +3,6 @@
 #![no_std]
 #![forbid(unsafe_code)]
 #![deny(unreachable_pub)]
-// As in `lib.rs`.
-#![allow(clippy::manual_filter, clippy::manual_find, clippy::manual_map)]
-#![allow(clippy::needless_range_loop, clippy::question_mark, clippy::redundant_pattern_matching)]
 
 #[cfg(feature = "alloc")]
 extern crate alloc;

@@ -682,8 +682,8 @@ impl<S: Storage<u8>, const N: usize> ReceivingEndOver<S, N> {
         }
     }
 
-    /// Lists the newest runs, at most four. A function of its own, since the search doesn't find what `acknowledgement`
-    /// tells with these calls in it.
+    /// Lists the newest runs, at most four.
+    // Proof: A function of its own, since the search doesn't find what `acknowledgement` tells with these calls in it.
     fn runs(&mut self) -> [Option<(u64, u64)>; 4]
         ensures value { result ≡ blocks_of (listed self.old) }
         ensures state { self.new ≡ record self.old {
@@ -745,8 +745,8 @@ impl<S: Storage<u8>, const N: usize> ReceivingEndOver<S, N> {
         answer
     }
 
-    /// Lends the first part of the queue, which is empty only if the queue is. A function of its own, since what `f` is
-    /// lent has to be known before it is called.
+    /// Lends the first part of the queue, which is empty only if the queue is.
+    // Proof: A function of its own, since what `f` is lent has to be known before it is called.
     #[tactic(auto, using(crate::proofs::Receiving::from_first))]
     fn first_part(&self) -> &[u8]
         ensures value { result.now ≡ first_part self.now.receiver.receiver }
@@ -791,8 +791,8 @@ impl<S: Storage<u8>, const N: usize> ReceivingEndOver<S, N> {
     }
 }
 
-/// Returns four blocks with what came twice in front, if anything did, in place of the last one. A function of its own,
-/// since the search doesn't find what `acknowledgement` tells with this test in it.
+/// Returns four blocks with what came twice in front, if anything did, in place of the last one.
+// Proof: A function of its own, since the search doesn't find what `acknowledgement` tells with this test in it.
 fn in_front(
     duplicate: Option<(u64, u64)>,
     blocks: [Option<(u64, u64)>; 4],

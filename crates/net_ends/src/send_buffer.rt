@@ -1188,7 +1188,8 @@ fn report_blocks(
 }
 
 /// Reports a block, if it begins beyond the first position that wasn't reported. Returns whether that wasn't known:
-/// what is refused is sent again. A function of its own, so that a step of the loop is one call.
+/// what is refused is sent again.
+// Proof: A function of its own, so that a step of the loop is one call.
 fn report_block(board: &mut ScoreboardHead, runs: &mut [Run], block: &Range<u64>, sent: u64) -> bool
     requires { IsSoundBoard board.old runs.old }
     ensures sound { IsSoundBoard board.new runs.new }

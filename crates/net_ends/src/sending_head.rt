@@ -471,8 +471,8 @@ impl SendingHead {
         )
     }
 
-    /// Returns what a probe for an answer sends below a limit. A function of its own, since the search doesn't find
-    /// what `choose` says with this call in it.
+    /// Returns what a probe for an answer sends below a limit.
+    // Proof: A function of its own, since the search doesn't find what `choose` says with this call in it.
     fn next_probe(&self, runs: &[Run], numbers: SentNumbers, limit: u64) -> Option<Range<u64>>
         requires sound { IsSoundBoard self.now.buffer.scoreboard runs.now }
         requires order { numbers.first_unacknowledged ≤ numbers.sent }
@@ -641,8 +641,8 @@ impl SendingHead {
     }
 }
 
-/// Takes the window that is announced. Returns the greatest one so far. A function of its own, since the search doesn't
-/// find what `take_window` leaves with this test in it.
+/// Takes the window that is announced. Returns the greatest one so far.
+// Proof: A function of its own, since the search doesn't find what `take_window` leaves with this test in it.
 fn greatest_after_update(
     peer: &mut PeerWindow,
     greatest: u64,

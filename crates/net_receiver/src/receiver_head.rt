@@ -73,7 +73,7 @@ impl ReceiverHead {
 
     /// Begins again: the head of a receiver of a stream that begins at position `first`, as `new`
     /// returns it.
-    // A function of its own, since the prover can't put a new head beside an array of runs in its caller.
+    // Proof: A function of its own, since the prover can't put a new head beside an array of runs in its caller.
     #[inline]
     pub(crate) fn reset_at(&mut self, first: u64)
         ensures sound { (capacity : ℕ) (runs : List (ℕ × ℕ)) →
@@ -86,7 +86,7 @@ impl ReceiverHead {
     }
 
     /// Lets go of the held runs.
-    // A function of its own, since its clauses are proved once of all storages, and its caller cites them.
+    // Proof: A function of its own, since its clauses are proved once of all storages, and its caller cites them.
     #[inline]
     pub(crate) fn release_held(&mut self)
         ensures sound { (capacity : ℕ) (runs : List (ℕ × ℕ)) →
@@ -222,7 +222,8 @@ impl ReceiverHead {
 
     /// Takes the numbers of a segment of `len` bytes, as `keep` does, where the storage has `capacity` bytes. It writes
     /// no byte: what it returns says which bytes are kept, and where.
-    // A function of its own, since its clauses are proved once of all bytes of a storage, before `keep` writes some.
+    // Proof: A function of its own, since its clauses are proved once of all bytes of a storage, before `keep` writes
+    // some.
     #[inline(always)]
     pub(crate) fn admit(
         &mut self,
@@ -311,7 +312,7 @@ impl ReceiverHead {
     /// # Requires
     ///
     /// The queue is in the storage.
-    // A function of its own, since its clauses are about a slice, and those of its caller about any storage.
+    // Proof: A function of its own, since its clauses are about a slice, and those of its caller about any storage.
     #[inline]
     pub(crate) fn peek_slice(&self, storage: &[u8], into: &mut [u8]) -> usize
         requires { IsSoundPlace (length storage.now) self.now.place }
@@ -347,7 +348,7 @@ impl ReceiverHead {
     /// # Requires
     ///
     /// The queue is in the storage.
-    // A function of its own, since its clauses are about a slice, and those of its caller about any storage.
+    // Proof: A function of its own, since its clauses are about a slice, and those of its caller about any storage.
     #[inline]
     pub(crate) fn as_slices<'a>(&self, storage: &'a [u8]) -> (&'a [u8], &'a [u8])
         requires { IsSoundPlace (length storage.now) self.now.place }
@@ -690,7 +691,8 @@ impl ReceiverHead {
     /// # Requires
     ///
     /// Both heads are sound with their storages and runs, as `is_sound` tests.
-    // A function of its own, since its clause is about two slices, and that of `same_state` about storage of two types.
+    // Proof: A function of its own, since its clause is about two slices, and that of `same_state` about storage of two
+    // types.
     pub(crate) fn is_same_state(
         &self,
         storage: &[u8],

@@ -85,7 +85,7 @@ impl ScoreboardHead {
     }
 
     /// Begins again: a scoreboard of a stream that begins at position `first`, as `new_at` returns it.
-    // A function of its own, since the prover can't put a new head beside an array of runs in its caller.
+    // Proof: A function of its own, since the prover can't put a new head beside an array of runs in its caller.
     pub(crate) fn reset_at(&mut self, first: u64)
         ensures sound { (runs : List (ℕ × ℕ)) → IsSoundBoard self.new runs }
         ensures empty { (runs : List (ℕ × ℕ)) →

@@ -331,9 +331,7 @@ impl<'a, T> ManagedSlice<'a, T> {
 }
 
 /// Lends all elements of a lent slice.
-///
-/// The two arms of `as_mut_slice` are functions of their own, since an arm lends by the clause of
-/// one call.
+// Proof: The two arms of `as_mut_slice` are functions of their own, since an arm lends by the clause of one call.
 fn lent_whole<'s, 'a, T>(slice: &'s mut &'a mut [T]) -> &'s mut [T]
     ensures* writes_back { sem 𝓛 (lends_lent T.row slice.entry result) }
     ensures value { result.now ≡ slice.old.now }

@@ -414,8 +414,8 @@ impl<T, S: Storage<T>> RingOver<T, S> {
         Ok(self.enqueue_next())
     }
 
-    /// Enqueues the next free element of a ring that has room, and lends it. It is a function of its
-    /// own, since `enqueue_one` lends by the clause of one call.
+    /// Enqueues the next free element of a ring that has room, and lends it.
+    // Proof: A function of its own, since `enqueue_one` lends by the clause of one call.
     fn enqueue_next(&mut self) -> &mut T
         requires { window self.old ≢ 0 }
         ensures* writes_back { sem 𝓛 (lends_one T.row S.row S.Storage self.entry
@@ -505,8 +505,8 @@ impl<T, S: Storage<T>> RingOver<T, S> {
         Ok(self.dequeue_first())
     }
 
-    /// Dequeues the first element of a ring that is not empty, and lends it. It is a function of its
-    /// own, since `dequeue_one` lends by the clause of one call.
+    /// Dequeues the first element of a ring that is not empty, and lends it.
+    // Proof: A function of its own, since `dequeue_one` lends by the clause of one call.
     fn dequeue_first(&mut self) -> &mut T
         requires { self.old.count ≢ 0 }
         ensures* writes_back { sem 𝓛 (lends_one T.row S.row S.Storage self.entry
@@ -1018,8 +1018,8 @@ impl<'a, T> From<Vec<T>> for RingBuffer<'a, T> {
     }
 }
 
-/// Resets each element once. The loop of `reset` is a function of its own, so that its invariant is
-/// on a list and not on a ring.
+/// Resets each element once.
+// Proof: The loop of `reset` is a function of its own, so that its invariant is on a list and not on a ring.
 fn reset_each<T: Resettable>(elements: &mut [T])
     ensures { AllZip T.IsReset elements.old elements.new }
 {

@@ -516,8 +516,8 @@ impl LossRecovery {
         }
     }
 
-    /// Finds what is lost by what was reported, or has arrived unreported. A function of its own, since its proof is
-    /// over the recovery that `note_answer` leaves.
+    /// Finds what is lost by what was reported, or has arrived unreported.
+    // Proof: A function of its own, since its proof is over the recovery that `note_answer` leaves.
     fn find<B: Reported>(
         &mut self,
         numbers: SentNumbers,

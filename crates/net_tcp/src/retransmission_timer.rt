@@ -550,8 +550,8 @@ impl RetransmissionTimer {
         self.untime();
     }
 
-    /// Has the next probe wait twice as long, and one more sample be wanted that isn't late. A function of its own,
-    /// since the search doesn't find what `expire` leaves with this in it.
+    /// Has the next probe wait twice as long, and one more sample be wanted that isn't late.
+    // Proof: A function of its own, since the search doesn't find what `expire` leaves with this in it.
     fn probe(&mut self, now: Instant)
         ensures state { timer_of self.new ≡ probed now (timer_of self.old) }
     {

@@ -524,8 +524,7 @@ impl<S: Storage<u8>, const N: usize> ReceivingEndOver<S, N> {
         Acknowledgement { next, window, blocks }
     }
 
-    /// Lists the newest runs, at most four. A function of its own, since the search doesn't find what `acknowledgement`
-    /// tells with these calls in it.
+    /// Lists the newest runs, at most four.
     fn runs(&mut self) -> [Option<(u64, u64)>; 4] {
         let mut runs =
             self.receiver.receiver().newest_runs(self.head.newest, &mut self.head.recent);
@@ -565,8 +564,7 @@ impl<S: Storage<u8>, const N: usize> ReceivingEndOver<S, N> {
         answer
     }
 
-    /// Lends the first part of the queue, which is empty only if the queue is. A function of its own, since what `f` is
-    /// lent has to be known before it is called.
+    /// Lends the first part of the queue, which is empty only if the queue is.
     fn first_part(&self) -> &[u8] {
         let receiver = self.receiver.receiver();
         receiver.peek(0, receiver.queued())
@@ -601,8 +599,7 @@ impl<S: Storage<u8>, const N: usize> ReceivingEndOver<S, N> {
     }
 }
 
-/// Returns four blocks with what came twice in front, if anything did, in place of the last one. A function of its own,
-/// since the search doesn't find what `acknowledgement` tells with this test in it.
+/// Returns four blocks with what came twice in front, if anything did, in place of the last one.
 fn in_front(
     duplicate: Option<(u64, u64)>,
     blocks: [Option<(u64, u64)>; 4],

@@ -836,7 +836,7 @@ fn report_blocks(
 }
 
 /// Reports a block, if it begins beyond the first position that wasn't reported. Returns whether that wasn't known:
-/// what is refused is sent again. A function of its own, so that a step of the loop is one call.
+/// what is refused is sent again.
 fn report_block(
     board: &mut ScoreboardHead,
     runs: &mut [Run],

@@ -259,8 +259,7 @@ impl SendingHead {
         (self.next_probe(runs, queued.numbers, limit), Sending::TailProbe)
     }
 
-    /// Returns what a probe for an answer sends below a limit. A function of its own, since the search doesn't find
-    /// what `choose` says with this call in it.
+    /// Returns what a probe for an answer sends below a limit.
     fn next_probe(&self, runs: &[Run], numbers: SentNumbers, limit: u64) -> Option<Range<u64>> {
         self.buffer.next_probe(runs, numbers, limit, self.segment_size())
     }
@@ -372,8 +371,7 @@ impl SendingHead {
     }
 }
 
-/// Takes the window that is announced. Returns the greatest one so far. A function of its own, since the search doesn't
-/// find what `take_window` leaves with this test in it.
+/// Takes the window that is announced. Returns the greatest one so far.
 fn greatest_after_update(
     peer: &mut PeerWindow,
     greatest: u64,

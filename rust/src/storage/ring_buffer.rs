@@ -275,8 +275,7 @@ impl<T, S: Storage<T>> RingOver<T, S> {
         Ok(self.enqueue_next())
     }
 
-    /// Enqueues the next free element of a ring that has room, and lends it. It is a function of its
-    /// own, since `enqueue_one` lends by the clause of one call.
+    /// Enqueues the next free element of a ring that has room, and lends it.
     fn enqueue_next(&mut self) -> &mut T {
         let capacity = self.capacity();
         let at = self.head.index(capacity, self.head.length);
@@ -342,8 +341,7 @@ impl<T, S: Storage<T>> RingOver<T, S> {
         Ok(self.dequeue_first())
     }
 
-    /// Dequeues the first element of a ring that is not empty, and lends it. It is a function of its
-    /// own, since `dequeue_one` lends by the clause of one call.
+    /// Dequeues the first element of a ring that is not empty, and lends it.
     fn dequeue_first(&mut self) -> &mut T {
         let at = self.head.read_at;
         self.head.dequeue_contiguous(self.storage.count(), 1);
@@ -747,8 +745,7 @@ impl<'a, T> From<Vec<T>> for RingBuffer<'a, T> {
     }
 }
 
-/// Resets each element once. The loop of `reset` is a function of its own, so that its invariant is
-/// on a list and not on a ring.
+/// Resets each element once.
 fn reset_each<T: Resettable>(elements: &mut [T]) {
     for element in elements.iter_mut() {
         element.reset();

@@ -107,7 +107,6 @@ impl FiniteSenderHead {
     /// Returns what `peek_at` does, and notes that the segment was sent: `sent` is the number after
     /// its last one, the end's counted, unless that is below. It changes nothing if the segment has
     /// no number.
-    // A function of its own, since it is about numbers alone: its caller lends the bytes too.
     #[inline]
     pub(crate) fn send_at(&mut self, capacity: usize, pos: u64, limit: u64) -> (Span, bool) {
         let (span, is_last) = self.peek_at(capacity, pos, limit);

@@ -44,14 +44,12 @@ impl ReceiverHead {
 
     /// Begins again: the head of a receiver of a stream that begins at position `first`, as `new`
     /// returns it.
-    // A function of its own, since the prover can't put a new head beside an array of runs in its caller.
     #[inline]
     pub(crate) fn reset_at(&mut self, first: u64) {
         *self = ReceiverHead::new(first);
     }
 
     /// Lets go of the held runs.
-    // A function of its own, since its clauses are proved once of all storages, and its caller cites them.
     #[inline]
     pub(crate) fn release_held(&mut self) {
         self.held = AssemblerHead::new();
@@ -107,7 +105,6 @@ impl ReceiverHead {
 
     /// Takes the numbers of a segment of `len` bytes, as `keep` does, where the storage has `capacity` bytes. It writes
     /// no byte: what it returns says which bytes are kept, and where.
-    // A function of its own, since its clauses are proved once of all bytes of a storage, before `keep` writes some.
     #[inline(always)]
     pub(crate) fn admit(
         &mut self,
@@ -155,7 +152,6 @@ impl ReceiverHead {
     /// # Requires
     ///
     /// The queue is in the storage.
-    // A function of its own, since its clauses are about a slice, and those of its caller about any storage.
     #[inline]
     pub(crate) fn peek_slice(&self, storage: &[u8], into: &mut [u8]) -> usize {
         self.place.read_allocated(storage, 0, into)
@@ -179,7 +175,6 @@ impl ReceiverHead {
     /// # Requires
     ///
     /// The queue is in the storage.
-    // A function of its own, since its clauses are about a slice, and those of its caller about any storage.
     #[inline]
     pub(crate) fn as_slices<'a>(&self, storage: &'a [u8]) -> (&'a [u8], &'a [u8]) {
         let span = self.place.allocated(storage.len(), 0, self.place.length);
@@ -433,7 +428,6 @@ impl ReceiverHead {
     /// # Requires
     ///
     /// Both heads are sound with their storages and runs, as `is_sound` tests.
-    // A function of its own, since its clause is about two slices, and that of `same_state` about storage of two types.
     pub(crate) fn is_same_state(
         &self,
         storage: &[u8],

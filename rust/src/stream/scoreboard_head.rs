@@ -60,7 +60,6 @@ impl ScoreboardHead {
     }
 
     /// Begins again: a scoreboard of a stream that begins at position `first`, as `new_at` returns it.
-    // A function of its own, since the prover can't put a new head beside an array of runs in its caller.
     pub(crate) fn reset_at(&mut self, first: u64) {
         *self = ScoreboardHead::new_at(first);
     }

@@ -197,15 +197,14 @@ fn sum_eights(start: u32, bytes: &[u8]) -> u32 {
     sum_few(halved(sum), rest)
 }
 
-/// Returns a number of 18 bits that folds as a sum does. A function of its own, since its proof is of a sum alone.
+/// Returns a number of 18 bits that folds as a sum does.
 #[inline]
 fn halved(sum: u64) -> u32 {
     let sum = sum / (1 << 32) + sum % (1 << 32);
     (sum / (1 << 16)) as u32 + (sum % (1 << 16)) as u32
 }
 
-/// Adds the words of at most seven bytes to a sum. A function of its own, since the search doesn't find what
-/// `sum_eights` returns with this in it.
+/// Adds the words of at most seven bytes to a sum.
 #[inline]
 fn sum_few(start: u32, bytes: &[u8]) -> u32 {
     match bytes.split_first_chunk::<4>() {

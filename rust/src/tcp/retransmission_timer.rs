@@ -494,8 +494,7 @@ impl RetransmissionTimer {
         self.untime();
     }
 
-    /// Has the next probe wait twice as long, and one more sample be wanted that isn't late. A function of its own,
-    /// since the search doesn't find what `expire` leaves with this in it.
+    /// Has the next probe wait twice as long, and one more sample be wanted that isn't late.
     fn probe(&mut self, now: Instant) {
         self.prompt = self.prompt.min(PROMPT - 1);
         self.wait = self.wait.saturating_mul(2);

@@ -173,8 +173,7 @@ impl FragmentsHead {
         Ok(())
     }
 
-    /// Returns the packet's size, once it is known. It is a function of its own, since the prover fails on its body
-    /// where it stands in the buffer's call.
+    /// Returns the packet's size, once it is known.
     pub(crate) fn total_size(&self) -> Option<usize> {
         if self.has_total == 0 {
             None

@@ -260,8 +260,8 @@ impl FragmentsHead {
         Ok(())
     }
 
-    /// Returns the packet's size, once it is known. It is a function of its own, since the prover fails on its body
-    /// where it stands in the buffer's call.
+    /// Returns the packet's size, once it is known.
+    // Proof: A function of its own, since the prover fails on its body where it stands in the buffer's call.
     pub(crate) fn total_size(&self) -> Option<usize>
         ensures { result ≡ total_of self.now }
     {
