@@ -41,8 +41,8 @@ MARK = r"^    #\[must_use\]\n(?=    pub fn "
 # A file of it, a pattern in it, what replaces it, and how often it is found there.
 CHANGES = [
     # Storage is that of the crate `managed`, and nothing else becomes a ring by `into`.
-    ("storage/managed.rs", r"^use .*?^(/// A list.*?)^impl<'a, T> Storage<T> for &'a mut .*\Z", r"\1" + MANAGED, 1),
-    ("storage/ring_buffer.rs", r"^(use crate::rattle::prelude::\*;\n.*?)^impl<'a, T> From<&.*?(?=^/// Resets each)",
+    ("storage/managed.rs", r"^#\[cfg.*?^(/// A list.*?)^impl<T> Storage<T> for &mut .*\Z", r"\1" + MANAGED, 1),
+    ("storage/ring_buffer.rs", r"^#\[cfg\(feature = \"alloc\"\)\]\nuse alloc::vec::Vec;\n(.*?)^impl<'a, T> From<&.*?(?=^/// Resets each)",
      r"\1", 1),
     # What is printed, and what smoltcp's tests look at.
     ("storage/ring_buffer.rs", r"^    (?=(?:storage: S|head: RingHead),$)", "    pub(crate) ", 2),
@@ -128,11 +128,12 @@ def proved_files():
     """The files of src/proved."""
     source = NET_BASE / "src"
     texts = {path.relative_to(source).as_posix(): read(path) for path in sorted(source.rglob("*.rs"))}
-    new = {name: text for name, text in texts.items() if name == "rattle.rs" or re.match(PROVED, text)}
+    new = {name: text for name, text in texts.items() if name == "time/inline_text.rs" or re.match(PROVED, text)}
+    new = {name: text for name, text in new.items() if not name.startswith("exports/")}
     for name, pattern, by, count in CHANGES:
         new[name] = changed(source / name, pattern, by, count, new.get(name, ""))
     for name, text in new.items():
-        new[name] = unrun(re.sub(r"\bcrate::(rattle|storage|time|rand)\b", r"crate::proved::\1", text))
+        new[name] = unrun(re.sub(r"\bcrate::(storage|time|rand)\b", r"crate::proved::\1", text))
     new["mod.rs"] = (MODULES / "proved/mod.rs").read_text()
     return {f"src/proved/{name}": text for name, text in new.items()}
 

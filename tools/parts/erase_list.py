@@ -162,6 +162,8 @@ TYPES = [
     ("<'a, const N: usize> =", "<'a, const N: usize = 4> =",
      {ASSEMBLER: 1, 'net_receiver/held_runs': 1, FINITE: 1, RECEIVER: 1, FRAGMENTS: 1}),
     ('Assembler<const N: usize> {', 'Assembler<const N: usize = 4> {', {ASSEMBLER: 1}),
+    ("'lines: while", 'while', {'net_bench_lib/bench': 1}),
+    ("'reads: for", 'for', {'net_bench_lib/bench': 1}),
     ('Assembler::new()', 'Assembler::empty()', {'net_bench_lib/asm': 1}),
     ('Receiver::new_at(', 'Receiver::empty_at(', {'net_bench_lib/stream': 2}),
 ]

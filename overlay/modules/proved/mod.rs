@@ -2,7 +2,6 @@
 #![allow(missing_docs, dead_code, unused_variables, unused_imports, unused_must_use, clippy::all)]
 
 pub mod rand;
-pub(crate) mod rattle;
 
 /// Rings, packet queues and assemblers.
 pub mod storage {
@@ -11,12 +10,10 @@ pub mod storage {
     pub mod managed;
     pub mod packet_buffer;
     pub mod packet_metadata;
-    pub mod packet_slot;
     pub mod packets_head;
     pub mod resettable;
     pub mod ring_buffer;
     pub mod ring_head;
-    pub mod width;
 
     pub use self::assembler::{
         Assembler, AssemblerHead, HoleIter, IterData, Run, RunIter, TooManyHolesError,
@@ -25,8 +22,7 @@ pub mod storage {
     pub use self::managed::{ManagedSlice, Storage};
     pub use self::packet_buffer::{PacketBuffer, PacketsOver};
     pub use self::packet_metadata::PacketMetadata;
-    pub use self::packet_slot::PacketSlot;
-    pub use self::packets_head::{FirstPacket, PacketPlace, PacketsHead};
+    pub use self::packets_head::{PacketPlace, PacketsHead};
     pub use self::resettable::Resettable;
     pub use self::ring_buffer::{RingBuffer, RingOver};
     pub use self::ring_head::{RingHead, Span};
@@ -35,9 +31,11 @@ pub mod storage {
 /// Moments and lengths of time.
 pub mod time {
     mod duration;
+    mod inline_text;
     mod instant;
 
     pub use self::duration::Duration;
+    use self::inline_text::InlineText;
     pub use self::instant::Instant;
 
     const LONGEST_TEXT: usize = 20;

@@ -1,23 +1,6 @@
 //! By hand: what the erased program calls and Rust hasn't so. Lists and texts whose memory may be refused, and of other
 //! crates the few functions that it calls.
 
-/// Declares modules of erased text. Which item is public in a crate of Rattle isn't which one is in this program. A
-/// parameter and a label may be for contracts alone. A line feed is in a text, as in what is read. The rest is what
-/// Rattle has no other form for.
-macro_rules! erased {
-    ($($(#[$attribute:meta])* $visibility:vis mod $name:ident;)*) => {$(
-        #[allow(unreachable_pub, unused_labels, unused_variables)]
-        #[allow(clippy::int_plus_one, clippy::len_without_is_empty, clippy::manual_filter)]
-        #[allow(clippy::manual_find, clippy::manual_map, clippy::needless_lifetimes)]
-        #[allow(clippy::needless_range_loop, clippy::new_without_default, clippy::precedence)]
-        #[allow(clippy::question_mark, clippy::redundant_closure, clippy::single_match)]
-        #[allow(clippy::redundant_pattern_matching, clippy::too_many_arguments)]
-        #[allow(clippy::write_with_newline)]
-        $(#[$attribute])*
-        $visibility mod $name;
-    )*};
-}
-
 /// What each erased file imports.
 pub mod prelude {
     pub use super::{String, Vec};

@@ -41,7 +41,7 @@ impl<A: Allocator + Copy, S: Session<A>> Bench<A, S> {
     fn run_ended_lines(&mut self, bytes: &[u8]) -> Result<usize, BenchError> {
         let mut rest = bytes;
         // The label is the loop's name in its proof.
-        'lines: while let Some(at) = memchr(b'\n', rest) {
+        while let Some(at) = memchr(b'\n', rest) {
             self.run_line(&rest[..at])?;
             rest = &rest[at + 1..];
         }
@@ -97,7 +97,7 @@ pub fn run_lines<A: Allocator + Copy, S: Session<A> + Sized, R: Read, W: Write>(
     // How many bytes of the next line are at the front of the buffer.
     let mut held = 0;
     // The bound shows that the loop ends; the label is the loop's name in its proof.
-    'reads: for _ in 0..u64::MAX {
+    for _ in 0..u64::MAX {
         match reader.read(&mut buffer[held..]) {
             Ok(0) => return bench.finish(&buffer[..held], writer),
             Ok(count) => {

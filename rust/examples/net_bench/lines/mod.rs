@@ -1,22 +1,20 @@
 //! Lines in, reply lines out, over a ring, an assembler or a receiver: the text of `crates/net_bench_lib`, without its
 //! contracts.
-erased! {
-    mod asm;
-    mod bench;
-    mod dispatch;
-    mod error;
-    mod fault;
-    mod limits;
-    mod mode;
-    mod numeral;
-    mod program;
-    mod ring;
-    mod session;
-    mod stream;
-    mod text;
-    mod words;
-    mod writer;
-}
+mod asm;
+mod bench;
+mod dispatch;
+mod error;
+mod fault;
+mod limits;
+mod mode;
+mod numeral;
+mod program;
+mod ring;
+mod session;
+mod stream;
+mod text;
+mod words;
+mod writer;
 
 pub use program::serve;
 
