@@ -23,9 +23,8 @@ The rules:
    `Result`; no other one is erased. A bound by `Drop` is one by `Sized`.
 4. What C's exports alone call, by `FOR_C` of `erase_list.py`, is in a folder of theirs. A public item becomes `pub(crate)`, unless an import of a root by hand gives its name, or its module, to users or to
    C's exports. So do functions whose signature names a head, or a type of snapshots alone, all of a type that users
-   can't name, and `CLOSED` of `erase_list.py`. What is closed has no example, since examples are another crate's. The
-   lint `unreachable_pub` leaves out what C's exports alone name. An export loses `extern "C"` and its documentation,
-   and becomes `inline(always)`.
+   can't name, and `CLOSED` of `erase_list.py`. What is closed has no example, since examples are another crate's. An
+   export loses `extern "C"` and its documentation, and becomes `inline(always)`.
 5. `erase_list.py` has what else differs, with its files and how often: lifetimes, attributes, and types.
 6. What does nothing goes, as `erase_ghosts.py` finds it: modules of laws; a function that gives nothing, and whose body
    names places at most; a module with a type of snapshots alone; each parameter and argument of that type; and
@@ -80,6 +79,7 @@ BOUND = '"in any `usize`"'
 WIDE = re.compile(r'(?:\{|\bmut\b|[^=<>!]=[^=]|(?!\b(?:len|most)\()\b[a-z_]\w*\(|\w!\()', re.S)
 # Numbers in the order of bytes that a machine has, which isn't the proved one's on each.
 NATIVE = {'to_ne_bytes', 'from_ne_bytes', 'to_be', 'to_le', 'from_be', 'from_le'}
+EMPTY = re.compile(r'(?m)^(?:///.*\n)*impl(?:(?! for ).)*\{\s*\}\n')  # an impl of which all has gone
 ALLOC = '#[cfg(feature = "alloc")]'
 LINK = re.compile(r'(?<=\]\()(?:crate|net_\w+)(?=::)')
 
@@ -257,16 +257,11 @@ class Eraser(Text):
         return self.tokens[colon - 1][1]
 
     def take_out(self, start, end):
-        """Takes out one of some parameters or arguments, with a comma and the space on one side."""
-        before, after = start - 1, self.next(end)
-        while self.tokens[before][0] in SPACE:
-            before -= 1
-        if self.tokens[before][1] not in ('(', ',') or self.tokens[after][1] not in (')', ','):
+        """Takes out one of some parameters or arguments, with the comma behind it: rustfmt takes a last one."""
+        after = self.next(end)
+        if self.before(start) not in ('(', ',') or self.tokens[after][1] not in (')', ','):
             self.refuse(self.tokens[start][2], 'a ghost that is no argument')
-        if self.tokens[after][1] == ',':
-            start, end = (before + 1, after + 1) if self.tokens[before][1] == ',' else (start, self.next(after + 1))
-        elif self.tokens[before][1] == ',':
-            start = before
+        end = after + (self.tokens[after][1] == ',')
         self.cut |= {*range(start, end)}
         return self.put(start, end, '')
 
@@ -334,8 +329,6 @@ class Eraser(Text):
             fences = [i for i, j in enumerate(docs) if self.tokens[j][1].startswith('/// ```')]
             for start, end in zip(fences[::2], fences[1::2]):
                 self.new.update(dict.fromkeys(docs[max(start - 1, 0):end + 1], GONE))
-        elif not any(self.public(name, True) for name in names):
-            self.put(pub, pub + 1, f'#[allow(unreachable_pub)]\n{self.margin(head)}pub')
 
     def name(self, k):
         """The name after `fn`."""
@@ -374,17 +367,9 @@ class Eraser(Text):
                 self.put(head, end + 1, GONE)
             elif gone and re.search(r'\bas\b', self.source(k, end)):
                 self.refuse(self.tokens[k][2], 'an import by another name, with what only contracts name')
-            elif gone and len(leaves) - len(gone) == 1 and self.source(k, end).count('{') == 1:      # the braces go too
-                brace = next(j for j in range(k, end) if self.tokens[j][1] == '{')
-                self.put(brace, self.group(brace), self.tokens[min({*leaves} - {*gone})][1])
             else:
                 for j in gone:
-                    comma = max(i for i in range(j) if self.tokens[i][1] in (',', '{'))
-                    if self.tokens[comma][1] == ',' and not any(i > j for i in {*leaves} - {*gone}):
-                        self.put(comma, j + 1, '')
-                    else:
-                        after = self.next(j + 1) + (self.tokens[self.next(j + 1)][1] == ',')
-                        self.put(j, after + (self.tokens[after][0] == 'space'), '')
+                    self.put(j, self.next(j + 1) + (self.tokens[self.next(j + 1)][1] == ','), '')
 
     def attribute(self, k):
         bracket = k + 1 + (self.tokens[k + 1][1] == '!')
@@ -420,6 +405,7 @@ class Eraser(Text):
         self.only_for_c = self.items_for_c(inside) if inside else None
         self.trim({*range(len(self.tokens))} - spans - inside)
         out = self.laid_out(self.text_of(k for k in range(len(self.tokens)) if k not in inside))
+        out = EMPTY.sub('', out) if inside else out
         top = re.match(r'(?://![^\n]*\n)*\n?', out).end()
         said = {*words(out)}
         first = f'use {RATTLE}::prelude::*;\n' if self.by_hand and PRELUDE & said else \
@@ -430,16 +416,11 @@ class Eraser(Text):
         """What is written for some tokens."""
         return ''.join(self.new.get(k, self.tokens[k][1]) + self.after.get(k, '') for k in tokens)
 
-    def laid_out(self, kept):
-        """A text without the places where something was."""
-        out = re.sub(rf'\s*(?:{NO_CLAUSE}\s*)+(?={{)', ' ', kept)
-        out = re.sub(rf'\s*(?:{NO_CLAUSE}\s*)+(?=;)', '', out)
-        out = re.sub(rf'(?m)^[ \t]*{GONE}[ \t{GONE}]*\n', '', out).replace(GONE, '')
-        out = re.sub(r'\{\n\n+', '{\n',
-                     re.sub(r'\n\n+(\s*\})', r'\n\1', re.sub(r'\n{3,}', '\n\n', out))).strip('\n') + '\n'
-        if words(out) != [word for word in words(kept) if word not in (GONE, NO_CLAUSE)]:
-            self.refuse(0, 'the layout changes a token')
-        return re.sub(r'\blet (\w+) = ([^;]*);\s+\1(?=\s*\})', r'\2', out)        # what a ghost was called with
+    @staticmethod
+    def laid_out(kept):
+        """A text without the places where something was; and a name goes that a ghost was called with."""
+        out = re.sub(rf'(?m)^[ \t]*{GONE}[ \t{GONE}]*\n', '', kept).replace(GONE, '').replace(NO_CLAUSE, '').lstrip()
+        return re.sub(r'\blet (\w+) = ([^;]*);\s+\1(?=\s*\})', r'\2', out)
 
     def items_for_c(self, inside):
         """The text of the items that C's exports alone want. What they call is no more private to the file."""

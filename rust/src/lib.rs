@@ -54,7 +54,7 @@
 #![no_std]
 #![cfg_attr(docsrs, feature(doc_cfg))]
 #![forbid(unsafe_code)]
-#![deny(missing_docs, missing_debug_implementations, unnameable_types, unreachable_pub)]
+#![deny(missing_docs, missing_debug_implementations, unnameable_types)]
 
 #[cfg(feature = "alloc")]
 extern crate alloc;

@@ -5,7 +5,7 @@
 //! elsewhere, as a program in C, calls these functions with the number of slots, or the slots, and with
 //! the number of bytes.
 //!
-//! What is `#[inline]` was chosen by counted instructions and bytes (docs/PERFORMANCE.md); no clause is about it.
+//! What is `#[inline]` was chosen by counted instructions and bytes (docs/PERFORMANCE.md).
 ghost use Rattle.std.specs.Prelude.{◌≡◌, ◌≢◌, ◌↔◌, ◌≤◌, ◌<◌, ◌-◌, ◌+◌, ◌∷◌, ℕ, List, length, set, slice_get, ⊤};
 ghost use Rattle.std.specs.Prelude.{IsTrue, IsFalse, IsNone, IfSome};
 ghost use Rattle.std.specs.declared.option.Option.TheVariants.{Some, None};

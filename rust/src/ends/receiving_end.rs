@@ -118,7 +118,6 @@ pub struct AckFields {
 
 /// What the rules of a receiving end know of its receiver: numbers.
 #[derive(Copy, Clone, Debug, PartialEq, Eq)]
-#[allow(unreachable_pub)]
 pub struct Room {
     /// The number that an acknowledgement names.
     pub next: u64,
@@ -137,7 +136,6 @@ pub struct Room {
 /// segments of no bytes.
 #[repr(C)]
 #[derive(Debug, Clone, Copy)]
-#[allow(unreachable_pub)]
 pub struct ReceivingHead {
     /// What was announced.
     pub advertised: AdvertisedWindow,

@@ -11,7 +11,6 @@ use core::ops::Range;
 
 /// What a sender has sent, and what is queued, in numbers.
 #[derive(Copy, Clone, Debug, PartialEq, Eq)]
-#[allow(unreachable_pub)]
 pub struct Queued {
     /// The first number that isn't acknowledged, and the one after the last that was sent.
     pub numbers: SentNumbers,
@@ -27,7 +26,6 @@ pub struct Queued {
 /// A head of zeros is new, of a stream that begins at position 0. It is sound if the scoreboard is, with the runs.
 #[repr(C)]
 #[derive(Copy, Clone, Debug)]
-#[allow(unreachable_pub)]
 pub struct BufferHead {
     /// What was reported, with runs that the caller keeps.
     pub scoreboard: ScoreboardHead,

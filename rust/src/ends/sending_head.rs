@@ -19,7 +19,6 @@ use core::ops::Range;
 /// the scoreboard is, with its runs.
 #[repr(C)]
 #[derive(Copy, Clone, Debug)]
-#[allow(unreachable_pub)]
 pub struct SendingHead {
     /// What was reported and what is lost.
     pub buffer: BufferHead,

@@ -8,7 +8,6 @@ use crate::time::Instant;
 pub(crate) mod head;
 pub mod table;
 
-#[allow(unreachable_pub)]
 pub use head::FragmentsHead;
 
 /// Why a fragment or a size is refused. Nothing changes then.

@@ -6,7 +6,7 @@
 //! elsewhere, as a program in C, calls these functions with the number of slots, or the slots, and with
 //! the number of bytes.
 //!
-//! What is `#[inline]` was chosen by counted instructions and bytes (docs/PERFORMANCE.md); no clause is about it.
+//! What is `#[inline]` was chosen by counted instructions and bytes (docs/PERFORMANCE.md).
 
 use crate::storage::RingHead;
 
@@ -18,7 +18,6 @@ use crate::storage::RingHead;
 /// such type.
 #[repr(C)]
 #[derive(Debug, Clone, Copy)]
-#[allow(unreachable_pub)]
 pub struct PacketsHead {
     /// The head of the ring of slots.
     pub slots: RingHead,
@@ -29,7 +28,6 @@ pub struct PacketsHead {
 /// Where a packet was placed.
 #[repr(C)]
 #[derive(Debug, Clone, Copy)]
-#[allow(unreachable_pub)]
 pub struct PacketPlace {
     /// How many bytes are skipped before the packet: 0, or those up to the storage's end.
     pub gap: usize,
@@ -114,9 +112,6 @@ impl PacketsHead {
         self.bytes.drop_last(count);
     }
 }
-
-/// The calls that take slots without headers, as a slice or one of them.
-impl PacketsHead {}
 
 /// Returns how many free bytes are contiguous for a packet that is placed. In an empty ring all are
 /// contiguous, since it is then read from the storage's beginning.

@@ -14,7 +14,6 @@
 /// or the storage that they take, and leave such a head. smoltcp has no such type.
 #[repr(C)]
 #[derive(Debug, Clone, Copy)]
-#[allow(unreachable_pub)]
 pub struct RingHead {
     /// The index of the first element of the queue, 0 if the storage is empty.
     pub read_at: usize,

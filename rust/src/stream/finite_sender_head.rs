@@ -10,7 +10,6 @@ use crate::stream::sender_head::SenderHead;
 /// is sent, reported and acknowledged as a byte is, and takes no room. smoltcp has no such type.
 #[repr(C)]
 #[derive(Debug, Clone, Copy)]
-#[allow(unreachable_pub)]
 pub struct FiniteSenderHead {
     /// The sender of the bytes.
     pub sender: SenderHead,

@@ -63,7 +63,6 @@ impl<'a> Iterator for HeldRunIter<'a> {
 /// A held run, by absolute positions: from `start` on, up to `end`, which is not included.
 #[repr(C)]
 #[derive(Debug, Clone, Copy, PartialEq, Eq)]
-#[allow(unreachable_pub)]
 pub struct HeldRun {
     /// The first position.
     pub start: u64,

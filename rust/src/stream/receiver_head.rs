@@ -18,7 +18,6 @@ use crate::stream::kept::{KeptBytes, SegmentParts};
 /// another one, or a storage of another length. smoltcp has no such type.
 #[repr(C)]
 #[derive(Debug, Clone, Copy)]
-#[allow(unreachable_pub)]
 pub struct ReceiverHead {
     /// The position of the stream's first byte.
     pub first: u64,

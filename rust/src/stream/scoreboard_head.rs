@@ -39,7 +39,6 @@ pub enum ReportError {
 /// the first unacknowledged position on.
 #[repr(C)]
 #[derive(Debug, Clone, Copy)]
-#[allow(unreachable_pub)]
 pub struct ScoreboardHead {
     /// The first position that wasn't reported.
     pub base: u64,

@@ -13,7 +13,6 @@ use crate::storage::{RingHead, Span};
 /// be made with the storage of another head. smoltcp has no such type.
 #[repr(C)]
 #[derive(Debug, Clone, Copy)]
-#[allow(unreachable_pub)]
 pub struct SenderHead {
     /// The position of the queue's first byte.
     pub first_unacknowledged: u64,

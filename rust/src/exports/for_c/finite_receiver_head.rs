@@ -15,7 +15,6 @@ use crate::stream::receiver_head::ReceiverHead;
 /// that begins at position 0. smoltcp has no such type.
 #[repr(C)]
 #[derive(Debug, Clone, Copy)]
-#[allow(unreachable_pub)]
 pub struct FiniteReceiverHead {
     /// The receiver of the bytes.
     pub receiver: ReceiverHead,

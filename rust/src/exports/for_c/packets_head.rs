@@ -5,7 +5,6 @@ use crate::storage::packets_head::*;
 /// Where the first packet is.
 #[repr(C)]
 #[derive(Debug, Clone, Copy)]
-#[allow(unreachable_pub)]
 pub struct FirstPacket {
     /// How many bytes are skipped before the packet.
     pub gap: usize,

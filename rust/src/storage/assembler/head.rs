@@ -37,7 +37,6 @@ use super::{HoleIter, RunIter, TooManyHolesError};
 /// positions. `is_sound` tests it. smoltcp has no such type: its assembler is one value.
 #[repr(C)]
 #[derive(Debug, Clone, Copy)]
-#[allow(unreachable_pub)]
 pub struct AssemblerHead {
     /// How many runs are stored.
     pub used: usize,

@@ -19,7 +19,6 @@ use crate::storage::{AssemblerHead, Run};
 /// within a known size, which is at most that of the bytes: `HasSoundParts` in contracts. `is_sound` tests it.
 #[repr(C)]
 #[derive(Debug, Clone, Copy)]
-#[allow(unreachable_pub)]
 pub struct FragmentsHead {
     /// The positions that arrived: the head of an assembler.
     pub present: AssemblerHead,
