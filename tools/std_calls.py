@@ -46,7 +46,7 @@ def lists(mir):
         call = CALL.match(line)
         path = call and call[2] in files and called(call[1])
         one = path and name(path, own)
-        if one and not re.search(r'panick|fmt::rt|::debug_|SliceMut| as (?:\w+::)*(?:Index|Try|FromResidual|FnOnce)\b',
+        if one and not re.search(r'panick|fmt::rt|::debug_| as (?:\w+::)*(?:Index|Try|FromResidual|FnOnce)\b',
                                  path):
             found.setdefault(one[0], set()).add(one[1])
     rows = [f'`{of}`: {", ".join(f"`{call}`" for call in sorted(calls))}' for of, calls in sorted(found.items())]

@@ -580,16 +580,7 @@ pub(crate) fn slots_for(gap: usize) -> usize
 fn if_slots(free: usize, gap: Option<usize>) -> Option<usize>
     ensures { result ≡ if_slots free gap }
 {
-    match gap {
-        Some(gap) => {
-            if slots_for(gap) <= free {
-                Some(gap)
-            } else {
-                None
-            }
-        }
-        None => None,
-    }
+    gap.filter(|&gap| slots_for(gap) <= free)
 }
 
 /// Writes the slots of a packet of `size` bytes and of its gap, if that has one.

@@ -154,14 +154,5 @@ pub(crate) fn slots_for(gap: usize) -> usize {
 /// Returns the gap, if `free` slots are enough for it and its packet.
 #[inline]
 fn if_slots(free: usize, gap: Option<usize>) -> Option<usize> {
-    match gap {
-        Some(gap) => {
-            if slots_for(gap) <= free {
-                Some(gap)
-            } else {
-                None
-            }
-        }
-        None => None,
-    }
+    gap.filter(|&gap| slots_for(gap) <= free)
 }

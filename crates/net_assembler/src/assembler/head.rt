@@ -851,10 +851,7 @@ fn last_of(runs: &[Run], used: usize) -> Option<Run>
     ensures { MatchOption result (used ≡ 0)
         (λ run. (0 < used) × (run ≡ get_or runs.now (used - 1) (0, 0))) }
 {
-    match runs.get(used.wrapping_sub(1)) {
-        Some(&run) => Some(run),
-        None => None,
-    }
+    runs.get(used.wrapping_sub(1)).copied()
 }
 
 /// Returns whether the run with number `k` ends before `offset`. Here and in `starts_by` it is `get`

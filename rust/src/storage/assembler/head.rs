@@ -564,10 +564,7 @@ impl AssemblerHead {
 /// comparison tests both.
 #[inline(always)]
 fn last_of(runs: &[Run], used: usize) -> Option<Run> {
-    match runs.get(used.wrapping_sub(1)) {
-        Some(&run) => Some(run),
-        None => None,
-    }
+    runs.get(used.wrapping_sub(1)).copied()
 }
 
 /// Returns whether the run with number `k` ends before `offset`. Here and in `starts_by` it is `get`
