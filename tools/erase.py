@@ -39,7 +39,7 @@ The rules:
 8. All other tokens stay, in their order, as rustfmt lays them out: it may add and take commas and braces, and order
    imports. A guard, `prove!`, is `assert!`; if it is about `N`, when a program is compiled. A bound of a `usize` of any
    width is `debug_assert!`; one by the greatest `usize`, `most()`, which is `usize::MAX`, goes. So do comments that begin
-   with "Proof:". A parameter that only contracts name is `_name`.
+   with "Proof:".
 9. In documentation what a public function requires and tests is under "Panics".
 """
 import itertools
@@ -401,7 +401,6 @@ class Eraser(Text):
             erase_says.document(self)
         spans = {j for _, k, end, _ in self.imports for j in range(k, end)}
         inside = {j for _, start, end in self.moved for j in range(start, end)}
-        self.unnamed()
         self.only_for_c = self.items_for_c(inside) if inside else None
         self.trim({*range(len(self.tokens))} - spans - inside)
         out = self.laid_out(self.text_of(k for k in range(len(self.tokens)) if k not in inside))
@@ -437,18 +436,6 @@ class Eraser(Text):
                 first = min(j for j in range(head, k + 1) if self.tokens[j][1] in ('const', 'fn'))
                 self.put(first, first + 1, f'pub(crate) {self.tokens[first][1]}')
         return self.laid_out(text)
-
-    def unnamed(self):
-        """Writes `_name` for a parameter that only contracts name."""
-        for *_, k, head, begin, body, pub in self.functions:
-            end = self.group(body) if self.tokens[body][1] == '{' else body
-            inside = [j for j in range(body, end) if self.tokens[j][0] not in SPACE]
-            named = {*re.findall(r'\w+', ' '.join(self.new.get(j, self.tokens[j][1]) for j in inside))}
-            for j in range(k, begin) if inside else ():
-                is_first = self.tokens[j][0] == 'word' and self.before(j) in ('(', ',') and j not in self.cut
-                if is_first and self.tokens[j + 1][1] == ':' and self.tokens[j][1] not in named and \
-                        self.tokens[j][1].islower():
-                    self.put(j, j + 1, f'_{self.tokens[j][1]}')
 
     def error(self, name):
         """The text of an error, and that it is one: Rattle derives both."""

@@ -146,6 +146,11 @@ TYPES = [
      {ASSEMBLER: 2, 'net_base/time/duration': 1, 'net_base/time/instant': 1, 'net_bench_lib/stream/reply_lines': 2}),
     ('pub use non_zero::{NonZeroU16, NonZeroUsize};', 'use std::num::NonZeroUsize;', {PHY: 1}),
     ('word * u64::from(bound) >> 32', '(word * u64::from(bound)) >> 32', {'net_base/rand': 1}),
+    # parameters that only contracts name
+    ('mark_sent(&mut self, capacity', 'mark_sent(&mut self, _capacity', {'net_receiver/finite_sender_head': 1}),
+    ('can_take(self, slot_count', 'can_take(self, _slot_count', {'net_packets/head': 1}),
+    ('shorten_last_in(\n        &mut self,\n        slots: &mut [PacketSlot],\n        capacity',
+     'shorten_last_in(\n        &mut self,\n        slots: &mut [PacketSlot],\n        _capacity', {'net_packets/head': 1}),
     (': Option<NonZeroU16>', ': Option<std::num::NonZeroU16>', {PHY: 1}),
     ('offset <= most() && ', '', {'net_assembler/assembler/head': 1}),
     ('\n            && self.first_start <= most()', '', {'net_assembler/assembler/head': 1}),

@@ -170,7 +170,7 @@ fn is_sound(end: &SendingEnd, capacity: usize) -> bool {
 }
 
 #[inline(always)]
-fn queued_from(sender: &FiniteSenderHead, __capacity: usize) -> Queued {
+fn queued_from(sender: &FiniteSenderHead, _capacity: usize) -> Queued {
     Queued {
         numbers: numbers_from(sender),
         end: sender.numbers_end(),

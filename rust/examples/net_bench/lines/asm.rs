@@ -120,12 +120,7 @@ impl<const N: usize> AsmSession<N> {
 }
 
 impl<A: Allocator + Copy, const N: usize> Session<A> for AsmSession<N> {
-    fn apply_line(
-        &mut self,
-        __alloc: A,
-        line: &[u8],
-        reply: &mut String<A>,
-    ) -> Result<(), Refusal> {
+    fn apply_line(&mut self, _alloc: A, line: &[u8], reply: &mut String<A>) -> Result<(), Refusal> {
         match asm_line(line) {
             Some(AsmLine::Add(offset, size)) => self.add(offset, size, reply),
             Some(AsmLine::AddThenRemoveFront(offset, size)) => {

@@ -23,7 +23,7 @@ pub enum BenchError {
 }
 
 impl From<AllocError> for BenchError {
-    fn from(__e: AllocError) -> BenchError {
+    fn from(_e: AllocError) -> BenchError {
         BenchError::OutOfMemory
     }
 }

@@ -49,7 +49,7 @@ impl Refusal {
 }
 
 impl From<AllocError> for Refusal {
-    fn from(__e: AllocError) -> Refusal {
+    fn from(_e: AllocError) -> Refusal {
         Refusal::OutOfMemory
     }
 }
