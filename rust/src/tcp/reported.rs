@@ -90,6 +90,7 @@ impl Reported for LentScoreboard<'_> {
         self.head.missing_between(self.runs, start, end)
     }
 
+    #[inline]
     fn next_hole(&self, pos: u64, limit: u64) -> Option<(u64, u64)> {
         let (start, end) = self.head.next_hole(self.runs, pos, limit);
         if start < end {
