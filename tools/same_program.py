@@ -112,7 +112,7 @@ def compared(proved, rust, within):
     for name in sorted(proved.functions):
         there = place(proved, rust, name)
         if not name.startswith(f'{within}::') or within != SCHEDULE and name.startswith(f'{SCHEDULE}::') or \
-                there in rust.derived - rust.twice and not re.search(DERIVED, there):
+                there in rust.derived - rust.twice and not re.search(DERIVED, there) or ALONE.fullmatch(f'{name}: '):
             continue
         if there in rust.functions or there in rust.constants:
             how, reason = why(proved, rust, name, there)

@@ -80,7 +80,7 @@ def erased(crate, found):
         except erase.Refused as refused:
             found[name] = f'eraser: {refused}'
     library = crate / 'src/with_exports.rs'
-    library.write_text(library.read_text() + '\nerased! {\n    pub mod planted;\n}\n')
+    library.write_text(library.read_text() + '\npub mod planted;\n')
     return out
 
 

@@ -10,7 +10,7 @@ from parts.same_terms import Unknown, reading
 
 VARIANTS = {'Option': ['None', 'Some'], 'Result': ['Ok', 'Err'], 'ControlFlow': ['Continue', 'Break'],
             'Ordering': ['Less', 'Equal', 'Greater']}
-# What is by hand in Rust in the place of the kit's: src/rattle.rs and the example's.
+# What is by hand in Rust in the place of the kit's: short texts, and the example's rattle.rs.
 BY_HAND = {'Snapshot', 'InlineText', 'time', 'Vec', 'String', 'ArrayString', 'memchr', 'hex', 'laws'}
 STD = ('core', 'std', 'alloc')
 IMPL = re.compile(r'<impl at ([^:]*):(\d+):(\d+): (\d+):(\d+)>')
@@ -133,6 +133,8 @@ class Compiled:
         of_type = re.match(r'(?:core|std|alloc)::(?:\w+::)*<impl (.*?)>::(\w+)', path)
         if of_type:
             return f'{self.kind(of_type[1])}.{of_type[2]}'
+        if impl := re.match(r'(proved::[\w:]*)<impl (?:\w+::)*(\w+)>::', path):     # in another file than its type
+            path = f'{impl[1]}{impl[2]}::{path[impl.end():]}'
         if impl := re.match(r'net_base::[\w:]*<impl net_base::(?:\w+::)*(\w+)<', path):
             path = f'net_base::{impl[1]}{path[closing(path, impl.end()) + 2:]}'
         parts = without(path).split('::')
