@@ -21,10 +21,11 @@ The rules:
 3. An impl of `Drop` goes, since rustc drops fields by itself: the comparison finds a `drop` that does more. An impl of
    `Model`, which has ghost members alone, goes too. A `clone` whose body is `Ok(..)` gives what that holds, and no
    `Result`; no other one is erased. A bound by `Drop` is one by `Sized`.
-4. What C's exports alone call, by `FOR_C` of `erase_list.py`, is in a folder of theirs. A public item becomes `pub(crate)`, unless an import of a root by hand gives its name, or its module, to users or to
-   C's exports. So do functions whose signature names a head, or a type of snapshots alone, all of a type that users
-   can't name, and `CLOSED` of `erase_list.py`. What is closed has no example, since examples are another crate's. An
-   export loses `extern "C"` and its documentation, and becomes `inline(always)`.
+4. What C's exports alone call, by `FOR_C` of `erase_list.py`, is in a folder of theirs. A public item becomes
+   `pub(crate)`, unless an import of a root by hand gives its name, or its module, to users or to C's exports. So do
+   functions whose signature names a head, or a type of snapshots alone, all of a type that users can't name, and
+   `CLOSED` of `erase_list.py`. What is closed has no example, since examples are another crate's. An export loses
+   `extern "C"` and its documentation, and becomes `inline(always)`.
 5. `erase_list.py` has what else differs, with its files and how often: lifetimes, attributes, and types.
 6. What does nothing goes, as `erase_ghosts.py` finds it: modules of laws; a function that gives nothing, and whose body
    names places at most; a module with a type of snapshots alone; each parameter and argument of that type; and
@@ -80,6 +81,8 @@ WIDE = re.compile(r'(?:\{|\bmut\b|[^=<>!]=[^=]|(?!\b(?:len|most)\()\b[a-z_]\w*\(
 # Numbers in the order of bytes that a machine has, which isn't the proved one's on each.
 NATIVE = {'to_ne_bytes', 'from_ne_bytes', 'to_be', 'to_le', 'from_be', 'from_le'}
 EMPTY = re.compile(r'(?m)^(?:///.*\n)*impl(?:(?! for ).)*\{\s*\}\n')  # an impl of which all has gone
+# What documentation says of a test that only C's exports call.
+TOLD = re.compile(r',? as (?:`is_sound`|\[`is_sound`\]\(\w+::is_sound\)) (?:tells|tests)|(?<=\.) `is_sound` tests it\.')
 ALLOC = '#[cfg(feature = "alloc")]'
 LINK = re.compile(r'(?<=\]\()(?:crate|net_\w+)(?=::)')
 
@@ -404,7 +407,7 @@ class Eraser(Text):
         self.only_for_c = self.items_for_c(inside) if inside else None
         self.trim({*range(len(self.tokens))} - spans - inside)
         out = self.laid_out(self.text_of(k for k in range(len(self.tokens)) if k not in inside))
-        out = EMPTY.sub('', out) if inside else out
+        out = TOLD.sub('', EMPTY.sub('', out)) if inside else out
         top = re.match(r'(?://![^\n]*\n)*\n?', out).end()
         said = {*words(out)}
         first = f'use {RATTLE}::prelude::*;\n' if self.by_hand and PRELUDE & said else \

@@ -113,10 +113,10 @@ ATTRIBUTES = [
     ('#[derive(Debug, Drop)]\npub struct Assembler<', 'pub struct Assembler<', {ASSEMBLER: 1}),
     ("\nimpl<T> Storage<T> for Vec<T>", "\n#[cfg(feature = \"alloc\")]\nimpl<T> Storage<T> for Vec<T>", {MANAGED: 1}),
     ("\nimpl<'a, T> From<Vec<T>>", "\n#[cfg(feature = \"alloc\")]\nimpl<'a, T> From<Vec<T>>", {MANAGED: 1, RING: 1}),
-    ('\nfn owned_whole', '\n#[cfg(feature = "alloc")]\n#[allow(clippy::ptr_arg)] // `Owned` holds a vector\nfn owned_whole', {MANAGED: 1}),
+    ('\nfn owned_whole', '\n#[cfg(feature = "alloc")]\n#[allow(clippy::ptr_arg)] // `Owned` has one\nfn owned_whole', {MANAGED: 1}),
     ('    pub fn acknowledged(', f'{MANY}    pub fn acknowledged(', {'net_ends/sending_head': 1}),
     ('    fn take_accepted(', f'{MANY}    fn take_accepted(', {'net_ends/sending_head': 1}),
-    ('    ManagedSlice::Owned(vec) =>', '    #[cfg(feature = "alloc")]\n            ManagedSlice::Owned(vec) =>', {MANAGED: 7}),
+    ('    ManagedSlice::Owned(vec) =>', '    #[cfg(feature = "alloc")]\n    ManagedSlice::Owned(vec) =>', {MANAGED: 7}),
     ('    Owned(Vec<T>),', '    #[cfg(feature = "alloc")]\n    Owned(Vec<T>),', {MANAGED: 1}),
     ('    pub segmentation_off', '    #[cfg(feature = "segmentation-offload")]\n    pub segmentation_off', {PHY: 1}),
 ]

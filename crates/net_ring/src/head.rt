@@ -19,9 +19,9 @@ ghost use Rattle.net_ring.specs.RingHead.{elements_at};
 
 /// The head of a ring: its numbers without its storage.
 ///
-/// A head is sound for a storage if it is that of a ring of as many elements, as
-/// [`is_sound`](RingHead::is_sound) tells. The other calls require a head that is sound for the capacity
-/// or the storage that they take, and leave such a head. smoltcp has no such type.
+/// A head is sound for a storage, as [`is_sound`](RingHead::is_sound) tells, if it is that of a ring of
+/// as many elements. The other calls require a head that is sound for the capacity or the storage that
+/// they take, and leave such a head. smoltcp has no such type.
 #[repr(C)]
 #[derive(Debug, Clone, Copy)]
 pub struct RingHead {

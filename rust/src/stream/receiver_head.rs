@@ -12,7 +12,7 @@ use crate::stream::kept::{KeptBytes, SegmentParts};
 /// them as slices: as many bytes can be stored as the storage has, and as many runs can be held as
 /// the slice of runs has elements.
 ///
-/// A head, a storage and runs are *sound* if they are those of a receiver, as `is_sound` tests:
+/// A head, a storage and runs are *sound* if they are those of a receiver:
 /// `HasSoundParts` in contracts, where `receiver_of` is what they store. Only the storage's length
 /// matters, not its bytes. A call that requires this can't be made with a head and the runs of
 /// another one, or a storage of another length. smoltcp has no such type.
@@ -80,7 +80,7 @@ impl ReceiverHead {
     ///
     /// # Requires
     ///
-    /// Head, storage and runs are sound, as `is_sound` tests, and the segment ends within 64 bits,
+    /// Head, storage and runs are sound, and the segment ends within 64 bits,
     /// as `ReceiverOver::fits` tests.
     #[inline(always)]
     pub(crate) fn keep(
@@ -233,7 +233,7 @@ impl ReceiverHead {
     ///
     /// # Requires
     ///
-    /// Head and runs are sound, as `is_sound` tests, with a storage of some length.
+    /// Head and runs are sound, with a storage of some length.
     #[inline(always)]
     pub(crate) fn held<'a>(&self, runs: &'a [Run]) -> HeldRunIter<'a> {
         HeldRunIter::over(self.held.iter_data(runs), self.next())
@@ -258,7 +258,7 @@ impl ReceiverHead {
     ///
     /// # Requires
     ///
-    /// Head and runs are sound, as `is_sound` tests, with a storage of some length.
+    /// Head and runs are sound, with a storage of some length.
     pub(crate) fn newest_runs(
         &self,
         runs: &[Run],
@@ -337,7 +337,7 @@ impl ReceiverHead {
     ///
     /// # Requires
     ///
-    /// Head and runs are sound, as `is_sound` tests, with a storage of some length.
+    /// Head and runs are sound, with a storage of some length.
     pub(crate) fn duplicate_of(&self, runs: &[Run], pos: u64, end: u64) -> Option<(u64, u64)> {
         let next = self.next();
         let start = pos.max(self.first);
@@ -416,7 +416,7 @@ impl ReceiverHead {
     ///
     /// # Requires
     ///
-    /// Head and runs are sound, as `is_sound` tests, with a storage of some length.
+    /// Head and runs are sound, with a storage of some length.
     pub(crate) fn has_all_below(&self, runs: &[Run], pos: u64) -> bool {
         let next = self.next();
         next <= pos && self.is_held_below(pos - next, runs)
@@ -426,7 +426,7 @@ impl ReceiverHead {
     ///
     /// # Requires
     ///
-    /// Both heads are sound with their storages and runs, as `is_sound` tests.
+    /// Both heads are sound with their storages and runs.
     pub(crate) fn is_same_state(
         &self,
         storage: &[u8],

@@ -35,7 +35,7 @@ pub enum ReportError {
 /// `reported_by` is the set of the reported positions.
 ///
 /// A scoreboard is *sound* with runs if its assembler is, if `base` isn't reported, and if each end is
-/// a number of 64 bits, as `is_sound` tests. smoltcp has no such type: its TCP socket sends again from
+/// a number of 64 bits. smoltcp has no such type: its TCP socket sends again from
 /// the first unacknowledged position on.
 #[repr(C)]
 #[derive(Debug, Clone, Copy)]

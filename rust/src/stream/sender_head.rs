@@ -8,7 +8,7 @@ use crate::storage::{RingHead, Span};
 /// It serves callers who keep the storage elsewhere, as in the memory of a program in C. Each call
 /// takes it as a slice, or takes how many bytes it has.
 ///
-/// A head is *sound* for a storage if it is that of a sender over it, as `is_sound` tests:
+/// A head is *sound* for a storage if it is that of a sender over it:
 /// `IsSoundHead` in contracts, where `sender_of` is what is stored. A call that requires this can't
 /// be made with the storage of another head. smoltcp has no such type.
 #[repr(C)]

@@ -34,7 +34,7 @@ use super::{HoleIter, RunIter, TooManyHolesError};
 ///
 /// A head is sound with runs if they are so, and each end is a `usize` also where it is
 /// counted from position 0. In contracts that is `HasSoundRuns`, and `set_of` is the set of present
-/// positions. `is_sound` tests it. smoltcp has no such type: its assembler is one value.
+/// positions. smoltcp has no such type: its assembler is one value.
 #[repr(C)]
 #[derive(Debug, Clone, Copy)]
 pub struct AssemblerHead {
@@ -60,7 +60,7 @@ impl AssemblerHead {
     ///
     /// # Requires
     ///
-    /// The head is sound with the runs, as `is_sound` tests.
+    /// The head is sound with the runs.
     #[inline(always)]
     pub(crate) fn peek_front(&self, runs: &[Run]) -> usize {
         if self.first_start != 0 {
@@ -99,7 +99,7 @@ impl AssemblerHead {
     ///
     /// # Requires
     ///
-    /// The head is sound with the runs, as `is_sound` tests, and the range ends at a `usize`, as
+    /// The head is sound with the runs, and the range ends at a `usize`, as
     /// `fits` tests.
     #[inline(never)]
     pub(crate) fn add(
@@ -135,7 +135,7 @@ impl AssemblerHead {
     ///
     /// # Requires
     ///
-    /// The head is sound with the runs, as `is_sound` tests.
+    /// The head is sound with the runs.
     #[inline(always)]
     pub(crate) fn remove_front(&mut self, runs: &mut [Run]) -> usize {
         if self.first_start != 0 || self.used == 0 {
@@ -151,7 +151,7 @@ impl AssemblerHead {
     ///
     /// # Requires
     ///
-    /// The head is sound with the runs, as `is_sound` tests.
+    /// The head is sound with the runs.
     pub(crate) fn shift(&mut self, runs: &mut [Run], count: usize) {
         // All runs are at or after `count`.
         if count <= self.first_start {
@@ -183,7 +183,7 @@ impl AssemblerHead {
     ///
     /// # Requires
     ///
-    /// The head is sound with the runs, as `is_sound` tests, and the range ends at a `usize`, as
+    /// The head is sound with the runs, and the range ends at a `usize`, as
     /// `fits` tests.
     #[inline(always)]
     pub(crate) fn add_then_remove_front(
@@ -216,7 +216,7 @@ impl AssemblerHead {
     ///
     /// # Requires
     ///
-    /// The head is sound with the runs, as `is_sound` tests.
+    /// The head is sound with the runs.
     #[inline]
     pub(crate) fn iter_data<'a>(&self, runs: &'a [Run]) -> RunIter<'a> {
         RunIter::over(&runs[..self.used], self.first_start)
@@ -227,7 +227,7 @@ impl AssemblerHead {
     ///
     /// # Requires
     ///
-    /// The head is sound with the runs, as `is_sound` tests.
+    /// The head is sound with the runs.
     #[inline]
     pub(crate) fn run_at(&self, runs: &[Run], k: usize) -> Option<(usize, usize)> {
         if k < self.used {
@@ -243,7 +243,7 @@ impl AssemblerHead {
     ///
     /// # Requires
     ///
-    /// The head is sound with the runs, as `is_sound` tests.
+    /// The head is sound with the runs.
     pub(crate) fn contains(&self, runs: &[Run], position: usize) -> bool {
         position < self.end_of_first(runs, self.runs_by(runs, position))
     }
@@ -253,7 +253,7 @@ impl AssemblerHead {
     ///
     /// # Requires
     ///
-    /// The head is sound with the runs, as `is_sound` tests.
+    /// The head is sound with the runs.
     pub(crate) fn runs_by(&self, runs: &[Run], position: usize) -> usize {
         if position < self.first_start {
             return 0;
@@ -266,7 +266,7 @@ impl AssemblerHead {
     ///
     /// # Requires
     ///
-    /// The head is sound with the runs, as `is_sound` tests.
+    /// The head is sound with the runs.
     pub(crate) fn end(&self, runs: &[Run]) -> usize {
         self.end_of_first(runs, self.used)
     }
@@ -275,7 +275,7 @@ impl AssemblerHead {
     ///
     /// # Requires
     ///
-    /// The head is sound with the runs, as `is_sound` tests.
+    /// The head is sound with the runs.
     pub(crate) fn first_missing(&self, runs: &[Run], position: usize) -> usize {
         position.max(self.end_of_first(runs, self.runs_by(runs, position)))
     }
@@ -285,7 +285,7 @@ impl AssemblerHead {
     ///
     /// # Requires
     ///
-    /// The head is sound with the runs, as `is_sound` tests.
+    /// The head is sound with the runs.
     pub(crate) fn next_hole(&self, runs: &[Run], position: usize) -> (usize, Option<usize>) {
         let count = self.runs_by(runs, position);
         let start = position.max(self.end_of_first(runs, count));
@@ -301,7 +301,7 @@ impl AssemblerHead {
     ///
     /// # Requires
     ///
-    /// The head is sound with the runs, as `is_sound` tests.
+    /// The head is sound with the runs.
     pub(crate) fn count_between(&self, runs: &[Run], start: usize, end: usize) -> usize {
         let from = start.saturating_sub(self.first_start);
         let to = end.saturating_sub(self.first_start);
@@ -330,7 +330,7 @@ impl AssemblerHead {
     ///
     /// # Requires
     ///
-    /// The head is sound with the runs, as `is_sound` tests.
+    /// The head is sound with the runs.
     #[inline]
     pub(crate) fn holes<'a>(&self, runs: &'a [Run]) -> HoleIter<'a> {
         let mut rest = self.iter_data(runs);
@@ -350,7 +350,7 @@ impl AssemblerHead {
     ///
     /// # Requires
     ///
-    /// The head is sound with the runs, as `is_sound` tests.
+    /// The head is sound with the runs.
     pub(crate) fn hole_at(&self, runs: &[Run], k: usize) -> Option<(usize, usize)> {
         if self.first_start == 0 {
             return self.hole_after(runs, k);
@@ -369,7 +369,7 @@ impl AssemblerHead {
     ///
     /// # Requires
     ///
-    /// Both heads are sound with their runs, as `is_sound` tests.
+    /// Both heads are sound with their runs.
     pub(crate) fn is_same(&self, runs: &[Run], other: &AssemblerHead, other_runs: &[Run]) -> bool {
         if self.used == 0 {
             return other.used == 0;

@@ -16,7 +16,7 @@ use crate::storage::{AssemblerHead, Run};
 /// so, and each call leaves it so.
 ///
 /// Head, bytes and runs are those of a buffer if the runs are those of an assembler and end within the bytes, and
-/// within a known size, which is at most that of the bytes: `HasSoundParts` in contracts. `is_sound` tests it.
+/// within a known size, which is at most that of the bytes: `HasSoundParts` in contracts.
 #[repr(C)]
 #[derive(Debug, Clone, Copy)]
 pub struct FragmentsHead {
