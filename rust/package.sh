@@ -1,7 +1,8 @@
 #!/bin/sh
 # Packs the crate, and builds and tests it from the archive, where each file that README links or names has to be: the
 # library's own tests, its examples, those of the documentation, and what must not compile. Then the folder `tests`, which
-# the archive lacks, is laid into it, with the manifest as it is here, without the workspace's other crate.
+# the archive lacks, is laid into it, with the manifest as it is here, without the workspace's other crate; and the tests
+# of that one run.
 set -eu
 cd "$(dirname "$0")"
 here=$PWD
@@ -39,3 +40,6 @@ sh "$here/examples/net_bench/run.sh" "$CARGO_TARGET_DIR/debug/examples/net_bench
 cp -r "$here/tests" .
 sed '/^members/d' Cargo.toml.orig > Cargo.toml
 cargo test --offline --quiet --tests
+# What the archive lacks: heads as C calls them.
+cd "$here"
+cargo test --offline --quiet --lib --package net-base-exports
