@@ -55,14 +55,14 @@ OPERATORS = {'Add', 'Sub', 'Mul', 'Div', 'Rem', 'Shl', 'Shr', 'BitAnd', 'BitOr',
 NARROW = {'u8', 'u16', 'u32', 'bool', 'char'}
 # What gives a `usize` of a value or a function that has one, and nothing new: all else that has one is an operation.
 # Derived hashes give a hasher the number of a variant.
-FORMS = re.compile(r'(?:copy|move|const|&|\(|\[|Len\(|PtrMetadata\(|discriminant\(|(?:Lt|Le|Gt|Ge|Eq|Ne)\(|[\w:]+(?:::)?(?:<.*>)?(?:::\w+)?(?: \{.*\}|\(.*\))?$)')
+FORMS = re.compile(r'(?:copy|move|deref_copy|const|&|\(|\[|Len\(|PtrMetadata\(|discriminant\(|(?:Lt|Le|Gt|Ge|Eq|Ne)\(|[\w:]+(?:::)?(?:<.*>)?(?:::\w+)?(?: \{.*\}|\(.*\))?$)')
 KNOWN = re.compile(r"""<[iu]size\ as\ core::(?:cmp::Ord>::(?:min|max|cmp)|cmp::Partial(?:Ord|Eq)>::\w+|clone::Clone>::clone|default::Default>::default)
   | <isize\ as\ core::hash::Hash>::hash.*
   | <.*\ as\ core::ops::(?:Index(?:Mut)?<.*>>::index(?:_mut)?|Try>::branch|FromResidual.*|Fn(?:Once|Mut)?<.*>>::call(?:_once|_mut)?)
   | <core::ops::Range<usize>\ as\ core::iter::(?:IntoIterator>::into_iter|Iterator>::next)
   | <core::iter::Filter<core::slice::Iter<.*>\ as\ core::iter::Iterator>::count
   | <core::option::Option<.*>\ as\ core::(?:clone::Clone|default::Default)>::\w+
-  | core::(?:vec::Vec::<.*>::len|option::Option::<.*>::is_some|slice::<impl\ \[.*\]>::(?:len|get|first|iter|iter_mut|split_at)(?:::<.*>)?|mem::replace::<.*>|fmt::rt::Argument::<'_>::new_display::<usize>)
+  | core::(?:vec::Vec::<.*>::len|option::Option::<.*>::(?:is_some|filter::<.*>)|slice::<impl\ \[.*\]>::(?:len|get|first|iter|iter_mut|split_at)(?:::<.*>)?|mem::replace::<.*>|fmt::rt::Argument::<'_>::new_display::<usize>)
 """, re.X)
 OWN = re.compile(r'(?!core::)[a-z_]+\w*::|<.* as (?!core::)\w+::|<(?!core::)\w+::.* as '
                  r'core::iter::(?:Iterator|DoubleEndedIterator)>::(?:next|next_back|size_hint)$')
@@ -479,7 +479,7 @@ def with_bounds(crate):
     """A copy of the crate that is erased with all bounds."""
     shutil.copytree(REPOSITORY / 'rust', crate, ignore=shutil.ignore_patterns('target', 'rows'))
     erase.Eraser.bounds, said = True, []
-    for path, text in erase.erased(said).items():
+    for path, text in erase.formatted(erase.erased(said), said).items():
         (crate / path.relative_to(REPOSITORY / 'rust')).write_text(text)
     erase.Eraser.bounds = False
     if said:
