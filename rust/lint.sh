@@ -4,7 +4,7 @@
 # tools/parts/erase_list.py lacks is named here. Of the program the example is looked at, and its test.
 set -eu
 cd "$(dirname "$0")"
-for folder in . exports ../c ../compare; do
+for folder in . benches exports fuzz ../c ../compare; do
     (cd "$folder" && cargo fmt --check)
 done
 (cd ../tools/growth && cargo fmt --check -- --config-path ../../rust)
@@ -18,5 +18,7 @@ for features in "" "--features segmentation-offload,std"; do
 done
 cargo clippy --offline --quiet --features segmentation-offload -- -D warnings \
     -D clippy::must_use_candidate -D clippy::return_self_not_must_use
-(cd ../c && cargo clippy --offline --quiet -- -D warnings)
+for folder in fuzz ../c; do
+    (cd "$folder" && cargo clippy --offline --quiet -- -D warnings)
+done
 (cd ../compare && cargo clippy --offline --quiet --package peers -- -D warnings)

@@ -61,7 +61,7 @@ KNOWN = re.compile(r"""<[iu]size\ as\ core::(?:cmp::Ord>::(?:min|max|cmp)|cmp::P
   | <.*\ as\ core::ops::(?:Index(?:Mut)?<.*>>::index(?:_mut)?|Try>::branch|FromResidual.*|Fn(?:Once|Mut)?<.*>>::call(?:_once|_mut)?)
   | <core::ops::Range<usize>\ as\ core::iter::(?:IntoIterator>::into_iter|Iterator>::next)
   | <core::iter::Filter<core::slice::Iter<.*>\ as\ core::iter::Iterator>::count
-  | <core::option::Option<.*>\ as\ core::(?:clone::Clone|default::Default)>::\w+
+  | <core::option::Option<.*>\ as\ core::(?:clone::Clone|cmp::PartialEq|default::Default)>::\w+
   | core::(?:vec::Vec::<.*>::len|option::Option::<.*>::(?:is_some|filter::<.*>)|slice::<impl\ \[.*\]>::(?:len|get|first|iter|iter_mut|split_at)(?:::<.*>)?|mem::replace::<.*>|fmt::rt::Argument::<'_>::new_display::<usize>)
 """, re.X)
 OWN = re.compile(r'(?!core::)[a-z_]+\w*::|<.* as (?!core::)\w+::|<(?!core::)\w+::.* as '
@@ -430,7 +430,7 @@ def laws(paths):
             if re.fullmatch(NUMBER, given) and int(given.replace('_', '').removesuffix('usize')) <= MOST:
                 continue
             length = rf'\blet {re.escape(given)} = (?:[\w.]+\.len\(\)|self\.\w+\(\w+\));'
-            is_made = re.fullmatch('[a-z]\\w*', given) and re.search(rf'[(,]\s*{given}: usize\b|{length}', text)
+            is_made = re.fullmatch('_?[a-z]\\w*', given) and re.search(rf'[(,]\s*{given}: usize\b|{length}', text)
             if not is_made or re.search(HIDES.format(rf'\b{given}\b'), re.sub(length, '', text)):
                 yield f'{path}:{file.code.count(chr(10), 0, call.start()) + 1}: is_usize({given})'
 

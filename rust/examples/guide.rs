@@ -36,7 +36,7 @@ fn packets() {
 
 fn receiver() {
     let mut storage = [0u8; 16];
-    let mut receiver = Receiver::<2>::empty(&mut storage[..]); // two ranges may wait
+    let mut receiver = Receiver::<2>::new(&mut storage[..]); // two ranges may wait
     for (position, bytes) in [(4, "ef"), (8, "ij"), (12, "mn"), (0, "abcd"), (6, "gh")] {
         match receiver.segment(position, bytes.as_bytes()) {
             Ok(it) => println!("{position}: kept {}, {} can be read", it.kept, receiver.queued()),
@@ -55,7 +55,7 @@ fn receiver() {
 fn quic() {
     let (mut out, mut into) = ([0u8; 32], [0u8; 32]);
     let mut sending = SendBuffer::<8>::new_at(&mut out[..], 0);
-    let mut receiving = FiniteReceiver::<8>::empty_at(&mut into[..], 0);
+    let mut receiving = FiniteReceiver::<8>::new_at(&mut into[..], 0);
     assert_eq!(sending.write(b"the quick brown fox"), 19);
     sending.close(); // the end has a number too, 19
     let (max_stream_data, mut packet) = (32, 0);
@@ -93,7 +93,7 @@ fn quic() {
 
 fn fragments() {
     let (mut bytes, now) = ([0u8; 1_500], Instant::ZERO);
-    let mut packet = FragmentBuffer::<4>::empty(&mut bytes[..], now + Duration::from_secs(60));
+    let mut packet = FragmentBuffer::<4>::new(&mut bytes[..], now + Duration::from_secs(60));
     // The last fragment comes first.
     for (offset, data, is_last) in
         [(16, "end", true), (0, "12345678", false), (8, "abcdefgh", false)]

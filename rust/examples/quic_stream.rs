@@ -100,7 +100,7 @@ fn main() {
     let mut random = Rand::new(1);
     let file: Vec<u8> = (0..50_000).map(|_| random.rand_u32() as u8).collect();
     let mut path = Path { random, packets: VecDeque::new() };
-    let mut receiving = FiniteReceiver::<16>::empty_at(vec![0; CAPACITY], 0);
+    let mut receiving = FiniteReceiver::<16>::new_at(vec![0; CAPACITY], 0);
     let mut sender = Sender {
         stream: SendBuffer::new_at(vec![0; CAPACITY], 0),
         ranges: BTreeMap::new(),

@@ -52,7 +52,7 @@ fn main() {
     let file: Vec<u8> = (0..200_000).map(|_| random.rand_u32() as u8).collect();
     let mut path = Path { random, datagrams: VecDeque::new() };
     let mut sending = SendingEnd::<8>::new_at(vec![0; CAPACITY], 0, Duration::from_secs(1), BOUNDS);
-    let mut receiving = ReceivingEnd::<8>::empty_at(vec![0; CAPACITY], 0, SIZE as u16);
+    let mut receiving = ReceivingEnd::<8>::new_at(vec![0; CAPACITY], 0, SIZE as u16);
     let it = Announcement { seq: 0, ack: 0, window: receiving.open(0, 0).into() };
     sending.open(it, SIZE, Sack::Permitted, Instant::ZERO);
     // How many positions may be in flight.

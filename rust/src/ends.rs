@@ -24,6 +24,18 @@ pub use send_buffer::{AckKind, SegmentBytes, SendBuffer, SendBufferOver, Sending
 pub use sending_end::{AckSegment, Acknowledged, Expired, Outgoing, SendingEnd, SendingEndOver};
 
 impl<'a, const N: usize> SendBuffer<'a, N> {
+    /// Returns a buffer of a stream that begins at position 0, as a stream of QUIC does, to which nothing was written.
+    ///
+    /// ```
+    /// # use net_base::ends::SendBuffer;
+    /// let mut storage = [0; 16];
+    /// assert_eq!(SendBuffer::<8>::new(&mut storage).window(), 16);
+    /// ```
+    #[must_use]
+    pub fn new<S: Into<ManagedSlice<'a, u8>>>(storage: S) -> Self {
+        SendBufferOver::over_at(storage.into(), 0)
+    }
+
     /// Returns a buffer of a stream that begins at position `first`, to which nothing was written.
     ///
     /// ```
@@ -44,6 +56,24 @@ impl<'a, const N: usize> SendBuffer<'a, N> {
 }
 
 impl<'a, const N: usize> SendingEnd<'a, N> {
+    /// Returns an end of a stream that begins at position 0: [`new_at`](Self::new_at) with 0.
+    ///
+    /// ```
+    /// # use net_base::ends::SendingEnd;
+    /// # use net_base::tcp::TimeoutBounds;
+    /// # use net_base::time::Duration;
+    /// let (mut storage, second) = ([0; 16], Duration::from_secs(1));
+    /// assert_eq!(SendingEnd::<8>::new(&mut storage, second, TimeoutBounds::new()).window(), 16);
+    /// ```
+    #[must_use]
+    pub fn new<S: Into<ManagedSlice<'a, u8>>>(
+        storage: S,
+        first_timeout: Duration,
+        bounds: TimeoutBounds,
+    ) -> Self {
+        SendingEndOver::over_at(storage.into(), 0, first_timeout, bounds)
+    }
+
     /// Returns an end of a stream that begins at position `first`, to which nothing was written. Its timeout is
     /// `first_timeout` until a round trip is known, and then within the bounds.
     ///
@@ -72,6 +102,18 @@ impl<'a, const N: usize> SendingEnd<'a, N> {
 }
 
 impl<'a, const N: usize> ReceivingEnd<'a, N> {
+    /// Returns an end of a stream whose first byte has position 0: [`new_at`](Self::new_at) with 0.
+    ///
+    /// ```
+    /// # use net_base::ends::ReceivingEnd;
+    /// let mut storage = [0; 16];
+    /// assert_eq!(ReceivingEnd::<8>::new(&mut storage, 1_460).receiver().end(), None);
+    /// ```
+    #[must_use]
+    pub fn new<S: Into<ManagedSlice<'a, u8>>>(storage: S, segment_size: u16) -> Self {
+        ReceivingEndOver::over_at(storage.into(), 0, segment_size)
+    }
+
     /// Returns an end of a stream whose first byte has position `first`, to which nothing came. Segments have at most
     /// `segment_size` bytes: the window is announced in steps of so many.
     ///
@@ -79,7 +121,7 @@ impl<'a, const N: usize> ReceivingEnd<'a, N> {
     /// # use net_base::ends::ReceivingEnd;
     /// # use net_base::finite::Part;
     /// let mut storage = [0; 16];
-    /// let mut end = ReceivingEnd::<4>::empty_at(&mut storage[..], 1, 8);
+    /// let mut end = ReceivingEnd::<4>::new_at(&mut storage[..], 1, 8);
     /// assert!(end.arrived(1, b"hello", Part::More).is_ok());
     /// let mut into = [0; 8];
     /// assert_eq!((end.read(&mut into), &into[..5]), (5, &b"hello"[..]));
@@ -90,7 +132,7 @@ impl<'a, const N: usize> ReceivingEnd<'a, N> {
     /// If `first` is `u64::MAX`: no number is left for the end.
     #[must_use]
     #[track_caller]
-    pub fn empty_at<S: Into<ManagedSlice<'a, u8>>>(
+    pub fn new_at<S: Into<ManagedSlice<'a, u8>>>(
         storage: S,
         first: u64,
         segment_size: u16,

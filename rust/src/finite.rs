@@ -9,7 +9,7 @@
 //! let syn = SequenceNumber::new(u32::MAX - 2);
 //! let (mut out, mut into) = ([0u8; 16], [0u8; 16]);
 //! let mut sender = FiniteSender::new_at(&mut out[..], 1);
-//! let mut receiver = FiniteReceiver::<4>::empty_at(&mut into[..], 1);
+//! let mut receiver = FiniteReceiver::<4>::new_at(&mut into[..], 1);
 //! // The receiver announces its room, without a scale, and the sender keeps to it.
 //! let mut advertised = AdvertisedWindow::new(1);
 //! let room = receiver.window_end().expect("positions are left");
@@ -52,12 +52,25 @@ impl From<TooManyHolesError> for FiniteError {
 }
 
 impl<'a, const N: usize> FiniteReceiver<'a, N> {
+    /// Returns a receiver of a stream that ends, whose first byte has position 0, with room for `N` held runs. Where
+    /// the type of a variable or a field names no `N` it is 4.
+    ///
+    /// ```
+    /// # use net_base::finite::FiniteReceiver;
+    /// let mut storage = [0; 16];
+    /// assert_eq!(FiniteReceiver::<8>::new(&mut storage).end(), None);
+    /// ```
+    #[must_use]
+    pub fn new<S: Into<ManagedSlice<'a, u8>>>(storage: S) -> Self {
+        FiniteReceiver::over(storage.into())
+    }
+
     /// Returns a receiver of a stream that ends, whose first byte has position `first`, with room for `N` held runs.
     ///
     /// ```
     /// # use net_base::finite::{FiniteReceiver, Part};
     /// let mut storage = [0; 16];
-    /// let mut receiver = FiniteReceiver::<4>::empty_at(&mut storage[..], 1);
+    /// let mut receiver = FiniteReceiver::<4>::new_at(&mut storage[..], 1);
     /// assert!(receiver.keep(1, b"abc", Part::Last).is_ok());
     /// assert_eq!((receiver.is_complete(), receiver.end()), (true, Some(4)));
     /// ```
@@ -66,12 +79,25 @@ impl<'a, const N: usize> FiniteReceiver<'a, N> {
     ///
     /// Panics if `first` is `u64::MAX`: no number is left for the end.
     #[must_use]
-    pub fn empty_at<S: Into<ManagedSlice<'a, u8>>>(storage: S, first: u64) -> Self {
+    #[track_caller]
+    pub fn new_at<S: Into<ManagedSlice<'a, u8>>>(storage: S, first: u64) -> Self {
         FiniteReceiver::over_at(storage.into(), first)
     }
 }
 
 impl<'a> FiniteSender<'a> {
+    /// Returns a sender of a stream that begins at position 0, to which nothing was written.
+    ///
+    /// ```
+    /// # use net_base::finite::FiniteSender;
+    /// let mut storage = [0; 16];
+    /// assert_eq!(FiniteSender::new(&mut storage).window(), 16);
+    /// ```
+    #[must_use]
+    pub fn new<S: Into<ManagedSlice<'a, u8>>>(storage: S) -> Self {
+        FiniteSender::over(storage.into())
+    }
+
     /// Returns a sender of a stream that begins at position `first`, to which nothing was written.
     ///
     /// ```

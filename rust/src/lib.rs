@@ -15,7 +15,7 @@
 //! use net_base::receiver::Receiver;
 //!
 //! let mut storage = [0u8; 8];
-//! let mut receiver = Receiver::<1>::empty(&mut storage[..]); // at most one run is held
+//! let mut receiver = Receiver::<1>::new(&mut storage[..]); // at most one run is held
 //! assert!(receiver.segment(2, b"cd").is_ok()); // too early: held
 //! assert!(receiver.segment(6, b"gh").is_err()); // a second run: refused, and nothing changes
 //! assert!(receiver.segment(4, b"ef").is_ok()); // it touches the run, which grows

@@ -1,11 +1,38 @@
 //! What a sender knows of the positions that the other end has.
 //!
-//! By hand: a default, what is compared, and what is printed.
+//! By hand: what has no `N`, a default, what is compared, and what is printed.
 use core::fmt;
 
 use crate::storage::Listed;
 
 pub use crate::stream::{ReportError, Scoreboard};
+
+impl Scoreboard {
+    /// Returns a scoreboard of a stream that begins at position 0, which has room for 4 runs. For another number write
+    /// `Scoreboard::<8>::empty()`.
+    ///
+    /// ```
+    /// # use net_base::scoreboard::Scoreboard;
+    /// assert!(!Scoreboard::new().contains(0));
+    /// ```
+    #[must_use]
+    pub const fn new() -> Scoreboard {
+        Scoreboard::empty()
+    }
+
+    /// Returns a scoreboard of a stream that begins at position `first`, which has room for 4 runs. For another number
+    /// write `Scoreboard::<8>::empty_at(first)`.
+    ///
+    /// ```
+    /// # use net_base::scoreboard::Scoreboard;
+    /// let scoreboard = Scoreboard::new_at(100);
+    /// assert!(scoreboard.contains(99) && !scoreboard.contains(100));
+    /// ```
+    #[must_use]
+    pub const fn new_at(first: u64) -> Scoreboard {
+        Scoreboard::empty_at(first)
+    }
+}
 
 impl<const N: usize> Default for Scoreboard<N> {
     fn default() -> Self {

@@ -17,7 +17,7 @@ fn length(storage: ManagedSlice<u8>) -> usize {
 #[test]
 fn a_receiver() {
     let mut storage = [0; 8];
-    let mut receiver: Receiver<4> = Receiver::empty_at(&mut storage[..], 100);
+    let mut receiver: Receiver<4> = Receiver::new_at(&mut storage[..], 100);
     assert!(receiver.segment(100, b"abcdef").is_ok() && receiver.segment(107, b"h").is_ok());
     assert_eq!(receiver.held_count(), 1);
     receiver.remove(4);
@@ -32,7 +32,7 @@ fn a_receiver() {
 #[test]
 fn a_receiver_of_a_stream_that_ends() {
     let mut storage = [0; 8];
-    let mut receiver: FiniteReceiver<4> = FiniteReceiver::empty_at(&mut storage[..], 100);
+    let mut receiver: FiniteReceiver<4> = FiniteReceiver::new_at(&mut storage[..], 100);
     assert!(receiver.keep(102, b"c", Part::Last).is_ok());
     assert_eq!((receiver.count_new(100, 9), receiver.end()), (2, Some(103)));
     assert!(receiver.keep(100, b"ab", Part::More).is_ok() && !receiver.has_read_all());
@@ -67,7 +67,7 @@ fn a_scoreboard_and_a_buffer_of_fragments() {
     assert_eq!((board.first_unreported(), board.reported().count()), (7, 0));
     assert_eq!(board.report(9..10, 200), Ok(()));
     let mut storage = [0; 8];
-    let mut buffer: FragmentBuffer<4> = FragmentBuffer::empty(&mut storage[..], Instant::ZERO);
+    let mut buffer: FragmentBuffer<4> = FragmentBuffer::new(&mut storage[..], Instant::ZERO);
     assert!(buffer.add(3, b"d").is_ok());
     assert_eq!(length(buffer.into_storage()), 8);
     let mut timer = RetransmissionTimeout::default();
@@ -138,7 +138,7 @@ fn storage_is_written_only_where_bytes_are_kept() {
     });
     assert_eq!(&packets, b"ghidef..");
     let receiver = left_by(|storage| {
-        let mut receiver: Receiver<1> = Receiver::empty(storage);
+        let mut receiver: Receiver<1> = Receiver::new(storage);
         assert!(receiver.segment(0, b"ab").is_ok() && receiver.segment(4, b"e").is_ok());
         assert!(receiver.segment(6, b"g").is_err());
         assert_eq!((receiver.read(&mut [0; 2]), receiver.segment(10, b"xyz").is_ok()), (2, true));
@@ -146,7 +146,7 @@ fn storage_is_written_only_where_bytes_are_kept() {
     });
     assert_eq!(&receiver, b"ab..e...");
     let finite = left_by(|storage| {
-        let mut finite: FiniteReceiver<1> = FiniteReceiver::empty_at(storage, 0);
+        let mut finite: FiniteReceiver<1> = FiniteReceiver::new_at(storage, 0);
         assert!(
             finite.keep(0, b"ab", Part::More).is_ok() && finite.keep(4, b"e", Part::Last).is_ok()
         );

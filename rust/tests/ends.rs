@@ -428,7 +428,7 @@ fn a_timer_runs_for_what_is_in_flight() {
 /// sent.
 #[test]
 fn a_full_window_and_an_end() {
-    let mut end = ReceivingEnd::<4>::empty_at(vec![0; 3], 0, 1_000);
+    let mut end = ReceivingEnd::<4>::new_at(vec![0; 3], 0, 1_000);
     assert_eq!(end.open(0, 0), 3);
     assert!(end.arrived(0, b"abc", Part::Last).is_ok());
     assert!(end.is_due() && end.is_wanted());
@@ -437,7 +437,7 @@ fn a_full_window_and_an_end() {
     assert_eq!(end.read_with(|bytes| (1, bytes.len())), (1, 3));
     assert_eq!((end.read(&mut [0; 3]), end.is_wanted()), (2, false));
     // Room for a segment is worth an update, and one byte less isn't.
-    let mut end = ReceivingEnd::<4>::empty_at(vec![0; 40], 0, 8);
+    let mut end = ReceivingEnd::<4>::new_at(vec![0; 40], 0, 8);
     assert_eq!((end.open(0, 0), end.arrived(0, &[7; 20], Part::More).is_ok()), (40, true));
     assert_eq!((end.acknowledgement().window, end.is_wanted()), (20, false));
     assert_eq!((end.read(&mut [0; 7]), end.is_wanted()), (7, false));
@@ -452,7 +452,7 @@ fn what_is_read_is_what_was_written() {
         let text = (0..3_000).map(byte).collect::<Vec<_>>();
         let mut sending =
             SendingEnd::<4>::new_at(vec![0; 300], 9, SECOND, TimeoutBounds::default());
-        let mut receiving = ReceivingEnd::<4>::empty_at(vec![0; 200], 9, 50);
+        let mut receiving = ReceivingEnd::<4>::new_at(vec![0; 200], 9, 50);
         let window = u64::from(receiving.open(9, 0));
         sending.open(Announcement { seq: 0, ack: 9, window }, 50, Sack::Permitted, Instant::ZERO);
         let (mut rest, mut read, mut now) = (&text[..], Vec::<u8>::new(), Instant::ZERO);
@@ -505,7 +505,7 @@ fn what_is_read_is_what_was_written() {
 /// within the second block.
 #[test]
 fn what_came_twice_is_reported_once() {
-    let mut end = ReceivingEnd::<4>::empty_at(vec![0; 40], 100, 8);
+    let mut end = ReceivingEnd::<4>::new_at(vec![0; 40], 100, 8);
     let blocks = |end: &mut ReceivingEnd<'_, 4>| end.acknowledgement().blocks.as_slice().to_vec();
     assert!(end.arrived(100, b"abcd", Part::More).is_ok());
     assert_eq!(blocks(&mut end), []);

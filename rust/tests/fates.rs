@@ -137,7 +137,7 @@ impl Schedule {
         let mut bounds = TimeoutBounds::new();
         bounds.least = Duration::from_millis(50);
         bounds.most = Duration::from_secs(2);
-        let mut receiving = ReceivingEnd::empty_at(vec![0; room], FIRST, size);
+        let mut receiving = ReceivingEnd::new_at(vec![0; room], FIRST, size);
         let window = u64::from(receiving.open(FIRST, 0));
         let mut sending = SendingEnd::new_at(vec![0; 700], FIRST, Duration::from_secs(1), bounds);
         sending.open(

@@ -8,7 +8,7 @@ use support::message;
 #[test]
 fn closures() {
     let mut storage = [0u8; 8];
-    let mut it = FiniteReceiver::<2>::empty_at(&mut storage[..], 5);
+    let mut it = FiniteReceiver::<2>::new_at(&mut storage[..], 5);
     assert!(it.keep(5, b"abcdef", Part::Last).is_ok());
     assert_eq!(it.read_with(|part| (2, part.to_vec())), (2, b"abcdef".to_vec()));
     assert_eq!((it.receiver().queued(), it.acknowledged(), it.has_read_all()), (4, 12, false));
@@ -33,7 +33,7 @@ fn no_number_for_the_end() {
     assert_eq!(message(|| sender.reset_at(u64::MAX)), none);
     assert_eq!(message(|| FiniteSender::new_at(&mut bytes[..], u64::MAX).len()), none);
     assert_eq!(
-        message(|| FiniteReceiver::<2>::empty_at(&mut bytes[..], u64::MAX).acknowledged()),
+        message(|| FiniteReceiver::<2>::new_at(&mut bytes[..], u64::MAX).acknowledged()),
         none
     );
 }

@@ -44,7 +44,7 @@ impl End {
     fn new(capacity: usize, text: Vec<u8>) -> End {
         End {
             sending: SendingEnd::new_at(vec![0; 64_000], FIRST, Duration::from_secs(1), BOUNDS),
-            receiving: ReceivingEnd::empty_at(vec![0; capacity], FIRST, 0),
+            receiving: ReceivingEnd::new_at(vec![0; capacity], FIRST, 0),
             peer_scale: 0,
             text,
             written: 0,

@@ -72,8 +72,8 @@ const BYTES: &[u8] = &[7; 24];
 fn receivers() {
     let mut draw = Draw(0x9e37_79b9_7f4a_7c15, 0);
     let (mut storage, mut other) = ([0; 16], [0; 16]);
-    let mut plain = Receiver::<2>::empty_at(&mut storage[..], 0);
-    let mut finite = FiniteReceiver::<2>::empty_at(&mut other[..], 0);
+    let mut plain = Receiver::<2>::new_at(&mut storage[..], 0);
+    let mut finite = FiniteReceiver::<2>::new_at(&mut other[..], 0);
     let mut into = [0; 9];
     for _ in 0..calls() {
         let ([pos, other], bytes) = (draw.numbers(), draw.bytes(BYTES));
@@ -361,7 +361,7 @@ fn receiving_ends() {
 fn fragments() {
     let mut draw = Draw(0xbf58_476d_1ce4_e5b9, 0);
     let mut storage = [0; 16];
-    let mut buffer = FragmentBuffer::<2>::empty(&mut storage[..], Instant::ZERO);
+    let mut buffer = FragmentBuffer::<2>::new(&mut storage[..], Instant::ZERO);
     let mut slots = [(); 2].map(|()| FragmentSlot::<u64, [u8; 16], 2>::over([0; 16]));
     for _ in 0..calls() {
         let ([offset, size], bytes) =

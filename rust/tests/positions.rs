@@ -26,7 +26,7 @@ fn aliases(pos: u64) -> impl Iterator<Item = u64> {
 fn received() {
     for first in begins() {
         let mut storage = [0u8; 16];
-        let mut it = Receiver::new_at(&mut storage[..], first);
+        let mut it = Receiver::<4>::new_at(&mut storage[..], first);
         assert_eq!((it.next(), it.window_end()), (first, first.checked_add(16)));
         // What is a word away is beyond the window, or long acknowledged: it changes nothing.
         for pos in aliases(first).chain(aliases(first + 4)).filter(|&pos| pos < u64::MAX - 1) {
@@ -107,7 +107,7 @@ fn reported() {
 fn finite() {
     for first in begins() {
         let (mut storage, mut bytes) = ([0u8; 16], [0u8; 16]);
-        let mut it = FiniteReceiver::<2>::empty_at(&mut storage[..], first);
+        let mut it = FiniteReceiver::<2>::new_at(&mut storage[..], first);
         assert_eq!(it.keep(first + 2, b"cd", Part::Last).map(|kept| kept.kept), Ok(2));
         for pos in aliases(first + 2).filter(|&pos| pos < u64::MAX - 2) {
             assert_eq!(
@@ -141,7 +141,7 @@ fn finite() {
 #[test]
 fn last_positions() {
     let mut storage = [0u8; 16];
-    let mut it = Receiver::new_at(&mut storage[..], u64::MAX - 4);
+    let mut it = Receiver::<4>::new_at(&mut storage[..], u64::MAX - 4);
     assert_eq!((it.window(), it.window_end()), (16, None));
     assert_eq!(it.segment(u64::MAX - 2, b"cd").map(|kept| (kept.kept, kept.queued)), Ok((2, 0)));
     assert_eq!(it.segment(u64::MAX - 4, b"abcd").map(|kept| (kept.kept, kept.queued)), Ok((4, 4)));
@@ -196,7 +196,7 @@ fn longest_ring() {
 #[test]
 fn fragments() {
     let mut storage = [0u8; 8];
-    let mut it = FragmentBuffer::<2>::empty(&mut storage[..], Instant::ZERO);
+    let mut it = FragmentBuffer::<2>::new(&mut storage[..], Instant::ZERO);
     for offset in [9, 1 << 31, usize::MAX - 1, usize::MAX] {
         assert_eq!(it.add(offset, b"ab"), Err(FragmentError::TooLong), "{offset}");
         assert_eq!(it.set_total_size(offset), Err(FragmentError::TooLong), "{offset}");

@@ -155,6 +155,34 @@ fn two_sides_in_each_order_of_their_steps() {
     play_all(&[b"abc"], &[2]);
 }
 
+/// Slices of each length, at each place of a small ring, with each number of bytes queued before.
+#[test]
+fn slices_over_the_end_of_the_storage() {
+    for (at, queued, size) in (0..6)
+        .flat_map(|at| (0..4).flat_map(move |queued| (0..5).map(move |size| (at, queued, size))))
+    {
+        let mut ring = SplitRing::<3>::new();
+        let (mut writer, mut reader) = ring.split();
+        for _ in 0..at {
+            assert_eq!((writer.write(b"-"), reader.read(&mut [0])), (1, 1));
+        }
+        assert_eq!(writer.write(&b"abc"[..queued]), queued);
+        assert_eq!((writer.len(), reader.len(), writer.is_empty()), (queued, queued, queued == 0));
+        let count = writer.write(&b"defgh"[..size]);
+        assert_eq!((count, reader.len()), (size.min(3 - queued), queued + count));
+        let mut into = *b".....";
+        let taken = reader.read(&mut into[..size]);
+        assert_eq!((taken, writer.capacity()), (size.min(queued + count), reader.capacity()));
+        let all: Vec<u8> = b"abc"[..queued].iter().chain(&b"defgh"[..count]).copied().collect();
+        assert_eq!((&into[..taken], &into[taken..]), (&all[..taken], &b"....."[taken..]));
+        assert_eq!((reader.len(), reader.is_empty()), (all.len() - taken, all.len() == taken));
+        assert_eq!(
+            (ring.len(), ring.capacity(), ring.is_empty()),
+            (all.len() - taken, 3, all.len() == taken)
+        );
+    }
+}
+
 #[test]
 fn a_ring_without_room_takes_nothing() {
     let ring = SplitRing::<0>::new();

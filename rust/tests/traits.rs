@@ -9,6 +9,9 @@ use std::iter::FusedIterator;
 use net_base::checksum::PartsSum;
 use net_base::ends::{ReceivingEndOver, SendBufferOver, SendingEndOver};
 use net_base::finite::{FiniteError, FiniteReceiverOver, FiniteSenderOver, Part};
+use net_base::managed::ManagedSlice;
+use net_base::phy::{Checksum, ChecksumCapabilities, DeviceCapabilities, SegmentationCapabilities};
+use net_base::rand::Rand;
 use net_base::receiver::{Receiver, ReceiverOver};
 use net_base::scoreboard::Scoreboard;
 use net_base::sequence_number::SequenceNumber;
@@ -69,6 +72,49 @@ fn arrays_as_storage() {
     for call in calls {
         assert!(std::panic::catch_unwind(|| call(&mut [0; 3])).is_err());
     }
+}
+
+/// A ring over any storage that is a slice behind its own type.
+#[test]
+fn storage_of_each_type() {
+    fn wraps<S: Storage<u8>>(storage: S) {
+        let mut ring = RingOver::over(storage);
+        assert_eq!((ring.enqueue_slice(b"ab"), ring.capacity()), (2, 3));
+        assert_eq!(ring.dequeue_one().copied(), Ok(b'a'));
+        assert_eq!(ring.enqueue_slice(b"cde"), 2);
+        assert!(ring.is_full() && ring.get_allocated(2, 9) == b"d");
+        assert_eq!(ring.as_slices(), (&b"bc"[..], &b"d"[..]));
+        assert_eq!((ring.iter().nth(2), ring.iter().len()), (Some(&b'd'), 3));
+        assert_eq!(ring.dequeue_many(2), b"bc");
+    }
+    wraps([0; 3]);
+    wraps(&mut [0; 3]);
+    wraps(&mut [0; 3][..]);
+    #[cfg(feature = "alloc")]
+    {
+        wraps(vec![0; 3]);
+        wraps(&mut vec![0; 3]);
+        wraps(Box::new([0; 3]));
+        wraps(Box::<[u8]>::from([0; 3]));
+        wraps(ManagedSlice::from(Box::new([0; 3])));
+        wraps(ManagedSlice::from(Box::<[u8]>::from([0; 3])));
+        wraps(ManagedSlice::from(&mut vec![0; 3]));
+    }
+    wraps(ManagedSlice::from(&mut [0; 3]));
+}
+
+#[test]
+fn values_are_compared() {
+    assert!(Rand::new(1) == Rand::new(1).clone() && Rand::new(1) != Rand::new(2));
+    assert_ne!(Checksum::Both, Checksum::Tx);
+    let mut capabilities = DeviceCapabilities::default();
+    assert_eq!(capabilities, DeviceCapabilities::default());
+    capabilities.checksum.udp = Checksum::None;
+    assert_ne!(capabilities.checksum, ChecksumCapabilities::default());
+    assert_ne!(capabilities, DeviceCapabilities::default());
+    assert_eq!(capabilities.segmentation, SegmentationCapabilities::default());
+    let slots: [PacketMetadata<u8>; 2] = Default::default();
+    assert!(PacketsOver::over(slots, [0; 4]).is_empty());
 }
 
 #[test]
@@ -277,6 +323,13 @@ fn counts() {
     let mut back = ring.iter();
     assert_eq!((back.next_back(), back.count()), (Some(&b'c'), 2));
     assert_eq!((&ring).into_iter().copied().collect::<Vec<_>>(), b"abc");
+    // Of three elements one is at the storage's end, and two at its beginning.
+    assert_eq!(
+        (ring.as_slices().0.len(), counted(ring.iter()), counted(ring.iter().rev())),
+        (1, 3, 3)
+    );
+    ring.extend(b"d");
+    assert!(ring.iter().clone().eq(b"abcd"));
     let mut assembler = Assembler::<4>::empty();
     assert!(
         assembler.add(0, 2).is_ok() && assembler.add(5, 1).is_ok() && assembler.add(9, 1).is_ok()
@@ -285,12 +338,12 @@ fn counts() {
     let texts = format!("{:?} {:?}", assembler.iter_data(), assembler.holes());
     assert_eq!(texts, "[(0, 2), (5, 6), (9, 10)] [(2, 5), (6, 9)]");
     let mut storage = [0; 16];
-    let mut receiver = Receiver::<4>::empty(&mut storage[..]);
+    let mut receiver = Receiver::<4>::new(&mut storage[..]);
     assert!(receiver.segment(2, b"c").is_ok() && receiver.segment(5, b"f").is_ok());
     assert_eq!(counted(receiver.held()), 2);
     assert_eq!(format!("{:?}", receiver.held()), "[(2, 3), (5, 6)]");
-    assert_eq!(receiver.newest_runs(5, &mut [0; 3]).count(), 2);
-    assert_eq!(receiver.newest_runs(5, &mut [0; 1]).count(), 1);
+    assert_eq!(counted(receiver.newest_runs(5, &mut [0; 3])), 2);
+    assert_eq!(counted(receiver.newest_runs(5, &mut [0; 1])), 1);
 }
 
 #[test]
@@ -354,12 +407,12 @@ mod streams {
         assert_eq!(ring.enqueue_slice(b"cd"), 2);
         reads(ring, Some(ErrorKind::WouldBlock));
         let (mut one, mut other) = ([0; 6], [0; 6]);
-        let mut receiver = Receiver::<4>::empty(&mut one[..]);
+        let mut receiver = Receiver::<4>::new(&mut one[..]);
         assert!(receiver.segment(0, b"----ab").is_ok() && receiver.read(&mut [0; 4]) == 4);
         assert!(receiver.segment(6, b"cd").is_ok());
         reads(receiver, Some(ErrorKind::WouldBlock));
         for is_last in [false, true] {
-            let mut finite = FiniteReceiver::<4>::empty_at(&mut other[..], 0);
+            let mut finite = FiniteReceiver::<4>::new_at(&mut other[..], 0);
             assert!(finite.keep(0, b"----ab", Part::More).is_ok() && finite.read(&mut [0; 4]) == 4);
             assert!(finite.keep(6, b"cd", is_last.into()).is_ok());
             reads(finite, if is_last { None } else { Some(ErrorKind::WouldBlock) });
@@ -378,7 +431,7 @@ mod streams {
     #[test]
     fn a_part_is_missing() {
         let mut storage = [0; 32];
-        let mut receiver = FiniteReceiver::<4>::empty_at(&mut storage[..], 0);
+        let mut receiver = FiniteReceiver::<4>::new_at(&mut storage[..], 0);
         let (mut text, mut copied) = (String::new(), Vec::new());
         assert_eq!(refusal(receiver.read_to_string(&mut text)), ErrorKind::WouldBlock);
         assert!(receiver.keep(0, b"GET /pay?sum=10", Part::More).is_ok());

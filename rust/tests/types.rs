@@ -57,7 +57,7 @@ fn texts_of_values() {
     assert_eq!(debug(Instant::from_micros(-7)), "Instant { micros: -7 }");
     assert_eq!(debug(Duration::from_micros(7)), "Duration { micros: 7 }");
     let (mut storage, bytes) = ([0; 8], b"ab");
-    let mut receiver = Receiver::new(&mut storage[..]);
+    let mut receiver = Receiver::<4>::new(&mut storage[..]);
     assert_eq!(
         debug(receiver.segment(5, bytes)),
         "Ok(Kept { kept: 2, queued: 0, sack: [Some((5, 7)), None, None] })"
@@ -87,13 +87,13 @@ fn texts_of_values() {
 #[test]
 fn texts_of_what_stores() {
     let (mut bytes, mut slots) = ([9u8; 16], [PacketMetadata::<u8>::EMPTY; 3]);
-    let mut fragments = FragmentBuffer::<2>::empty(&mut bytes[..], Instant::from_secs(5));
+    let mut fragments = FragmentBuffer::<2>::new(&mut bytes[..], Instant::from_secs(5));
     assert_eq!(fragments.add(4, b"ab"), Ok(()));
     assert_eq!(
         debug(&fragments),
         "FragmentBuffer { capacity: 16, total_size: None, expires_at: Instant { micros: 5000000 } }"
     );
-    let mut fragments = FragmentBuffer::new(&mut bytes[..], Instant::from_secs(7));
+    let mut fragments = FragmentBuffer::<4>::new(&mut bytes[..], Instant::from_secs(7));
     assert_eq!(fragments.set_total_size(9), Ok(()));
     assert_eq!(
         debug(&fragments),
@@ -113,13 +113,13 @@ fn texts_of_what_stores() {
         debug(&queue),
         "PacketBuffer { packet_capacity: 3, slots_used: 1, payload_capacity: 16, payload_bytes_count: 5 }"
     );
-    let mut receiver = Receiver::<2>::empty_at(&mut bytes[..], 100);
+    let mut receiver = Receiver::<2>::new_at(&mut bytes[..], 100);
     assert!(receiver.keep(103, b"d").is_ok() && receiver.keep(106, b"g").is_ok());
     assert_eq!(
         debug(&receiver),
         "Receiver { next: 100, len: 0, window: 16, held: [(103, 104), (106, 107)] }"
     );
-    let mut receiver = FiniteReceiver::<2>::empty_at(&mut bytes[..], 100);
+    let mut receiver = FiniteReceiver::<2>::new_at(&mut bytes[..], 100);
     assert!(
         receiver.keep(100, b"abc", Part::More).is_ok()
             && receiver.keep(105, b"f", Part::Last).is_ok()
@@ -167,10 +167,10 @@ fn comparisons() {
     all(Medium::Ethernet, Medium::Ip);
     all(FragmentError::TooLong, FragmentError::OtherSize);
     all(FiniteError::TooManyHoles, FiniteError::OtherEnd);
-    let kept = |pos, bytes| Receiver::new(&mut [0; 8][..]).keep(pos, bytes);
+    let kept = |pos, bytes| Receiver::<4>::new(&mut [0; 8][..]).keep(pos, bytes);
     all(kept(0, b"a"), kept(0, b"ab"));
     all(kept(0, b"a"), kept(1, b"a"));
-    let kept = |pos| Receiver::new(&mut [0; 8][..]).segment(pos, b"a");
+    let kept = |pos| Receiver::<4>::new(&mut [0; 8][..]).segment(pos, b"a");
     all(kept(4), kept(5));
     all(SequenceNumber::new(3), SequenceNumber::new(4));
     let numbering = |number| Numbering { first: SequenceNumber::new(number) };
@@ -327,7 +327,7 @@ fn lifetimes() {
     assert_eq!(queue(PacketBuffer::new(slots, leak()), &short).payload_capacity(), 4);
     assert_eq!(fragments(FragmentBuffer::new(leak(), Instant::ZERO), &short).capacity(), 4);
     assert_eq!(receiver(Receiver::new(leak()), &short).capacity(), 4);
-    assert_eq!(finite(FiniteReceiver::empty_at(leak(), 5), &short).acknowledged(), 5);
+    assert_eq!(finite(FiniteReceiver::new_at(leak(), 5), &short).acknowledged(), 5);
     assert_eq!(sender(FiniteSender::new_at(leak(), 0), &short).capacity(), 4);
     assert_eq!(slice(ManagedSlice::from(leak()), &short).len(), 4);
     let slots = Box::leak(vec![PacketMetadata::EMPTY; 2].into_boxed_slice());

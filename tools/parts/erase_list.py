@@ -97,7 +97,7 @@ LIFETIMES = [
 
 MANY = '    #[allow(clippy::too_many_arguments)] // a segment has as many fields\n'
 # These in attributes alone: what is printed is by hand, but for a ring's iterator; what can be cloned in Rust, where
-# that isn't refused; and features.
+# that isn't refused; and features: without `alloc` no storage owns a vector.
 ATTRIBUTES = [
     ('#[derive(Debug)]\npub struct RingOver<', '#[derive(Clone)]\npub struct RingOver<', {RING: 1}),
     ('#[derive(Debug, Drop)]\npub struct PacketsOver<', '#[derive(Clone)]\npub struct PacketsOver<', {PACKETS: 1}),
@@ -107,9 +107,12 @@ ATTRIBUTES = [
      {ASSEMBLER: 2, 'net_receiver/held_runs': 1, f'{FRAGMENTS}/table': 1, 'net_ends/receiving_end': 1,
       'net_ends/send_buffer': 1, 'net_ends/sending_end': 1}),
     ('#[derive(Debug, Drop)]\npub struct ', '#[derive(Clone, Debug)]\npub struct ', {'net_receiver/held_runs': 1}),
-    ('pub struct Iter<', '#[derive(Debug)]\npub struct Iter<', {'net_ring/ring_buffer/iter': 1}),
+    ('pub struct Iter<', '#[derive(Clone, Debug)]\npub struct Iter<', {'net_ring/ring_buffer/iter': 1}),
     ('#[derive(Debug, Drop)]\npub struct Ack', '#[derive(Clone, Debug, PartialEq, Eq)]\npub struct Ack', {RECEIVING: 1}),
     ('#[derive(Debug, Drop)]\npub struct Sack', '#[derive(Clone, PartialEq, Eq)]\npub struct Sack', {RECEIVING: 1}),
+    ('#[derive(Debug, Drop)]\npub struct Rand', '#[derive(Debug, Clone, PartialEq, Eq)]\npub struct Rand', {'net_base/rand': 1}),
+    ('#[derive(Debug, Clone, Copy, Default)]\npub enum Checksum', '#[derive(Debug, Clone, Copy, PartialEq, Eq, Default)]\npub enum Checksum', {PHY: 1}),
+    ('#[derive(Debug, Clone, Default, Drop)]\n', '#[derive(Debug, Clone, PartialEq, Eq, Default)]\n', {PHY: 3}),
     ('#[derive(Debug, Drop)]\npub struct Assembler<', 'pub struct Assembler<', {ASSEMBLER: 1}),
     ("\nimpl<T> Storage<T> for Vec<T>", "\n#[cfg(feature = \"alloc\")]\nimpl<T> Storage<T> for Vec<T>", {MANAGED: 1}),
     ("\nimpl<'a, T> From<Vec<T>>", "\n#[cfg(feature = \"alloc\")]\nimpl<'a, T> From<Vec<T>>", {MANAGED: 1, RING: 1}),
@@ -169,8 +172,8 @@ TYPES = [
     ('Assembler<const N: usize> {', 'Assembler<const N: usize = 4> {', {ASSEMBLER: 1}),
     ("'lines: while", 'while', {'net_bench_lib/bench': 1}),
     ("'reads: for", 'for', {'net_bench_lib/bench': 1}),
+    ('Scoreboard<const N: usize> {', 'Scoreboard<const N: usize = 4> {', {'net_receiver/scoreboard': 1}),
     ('Assembler::new()', 'Assembler::empty()', {'net_bench_lib/asm': 1}),
-    ('Receiver::new_at(', 'Receiver::empty_at(', {'net_bench_lib/stream': 2}),
 ]
 
 REPLACED = LIFETIMES + ATTRIBUTES + TYPES

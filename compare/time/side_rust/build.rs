@@ -10,7 +10,7 @@ const ROOT: &[(&str, &str)] = &[
     ("use original4::storage::{", "use net_base::storage::{"),
     ("mix(sum, smoltcp_checksum(", "mix(sum, net_base::checksum::checksum("),
     ("receive(m, Receiver::<Assembler4>::new(", "receive(m, net_base::receiver::Receiver::<4>::new_at("),
-    ("receive(m, Receiver::<Assembler32>::new(", "receive(m, net_base::receiver::Receiver::<32>::empty_at("),
+    ("receive(m, Receiver::<Assembler32>::new(", "receive(m, net_base::receiver::Receiver::<32>::new_at("),
 ];
 
 const RECEIVER: &[(&str, &str)] = &[

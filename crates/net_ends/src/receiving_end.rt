@@ -32,7 +32,7 @@ pub mod laws;
 /// use net_base::finite::Part;
 ///
 /// let mut storage = [0u8; 64];
-/// let mut receiving = ReceivingEnd::<4>::empty_at(&mut storage[..], 100, 8);
+/// let mut receiving = ReceivingEnd::<4>::new_at(&mut storage[..], 100, 8);
 /// let _window = receiving.open(100, 0);
 /// receiving.arrived(108, &[7; 8], Part::More).expect("one range may wait");
 /// let told = receiving.acknowledgement();
@@ -56,7 +56,7 @@ pub struct Acknowledgement {
 /// use net_base::finite::Part;
 ///
 /// let mut storage = [0u8; 64];
-/// let mut receiving = ReceivingEnd::<4>::empty_at(&mut storage[..], 100, 8);
+/// let mut receiving = ReceivingEnd::<4>::new_at(&mut storage[..], 100, 8);
 /// let _window = receiving.open(100, 0);
 /// receiving.arrived(108, &[7; 8], Part::More).expect("one range may wait");
 /// receiving.arrived(124, &[7; 8], Part::More).expect("two ranges may wait");
@@ -143,7 +143,7 @@ fn count_of(blocks: [Option<(u64, u64)>; 4]) -> usize
 /// use net_base::finite::Part;
 ///
 /// let mut storage = [0u8; 64];
-/// let mut receiving = ReceivingEnd::<4>::empty_at(&mut storage[..], 100, 8);
+/// let mut receiving = ReceivingEnd::<4>::new_at(&mut storage[..], 100, 8);
 /// let _window = receiving.open(100, 0);
 /// receiving.arrived(100, b"abc", Part::More).expect("it is in order");
 /// assert_eq!(receiving.announce(), AckFields { next: 103, window: 61 });
@@ -393,7 +393,7 @@ impl ReceivingHead {
 ///
 /// // 64 bytes may wait, and at most 4 ranges that arrived out of order. A segment has at most 8 bytes.
 /// let mut storage = [0u8; 64];
-/// let mut receiving = ReceivingEnd::<4>::empty_at(&mut storage[..], 100, 8);
+/// let mut receiving = ReceivingEnd::<4>::new_at(&mut storage[..], 100, 8);
 /// assert_eq!(receiving.open(100, 0), 64);
 /// ```
 pub type ReceivingEnd<'a, const N: usize> = ReceivingEndOver<ManagedSlice<'a, u8>, N>;
@@ -405,7 +405,7 @@ pub type ReceivingEnd<'a, const N: usize> = ReceivingEndOver<ManagedSlice<'a, u8
 /// use net_base::finite::Part;
 ///
 /// let mut storage = [0u8; 64];
-/// let mut receiving = ReceivingEnd::<4>::empty_at(&mut storage[..], 100, 8);
+/// let mut receiving = ReceivingEnd::<4>::new_at(&mut storage[..], 100, 8);
 /// assert_eq!(receiving.open(100, 0), 64);
 /// // The second segment comes first: it is answered at once, and reported.
 /// assert!(receiving.arrived(108, b"bytes ok", Part::Last).is_ok() && receiving.is_due());
@@ -470,7 +470,7 @@ impl<S: Storage<u8>, const N: usize> ReceivingEndOver<S, N> {
     /// ```
     /// # use net_base::ends::ReceivingEnd;
     /// # let mut storage = [0u8; 64];
-    /// # let mut receiving = ReceivingEnd::<4>::empty_at(&mut storage[..], 100, 8);
+    /// # let mut receiving = ReceivingEnd::<4>::new_at(&mut storage[..], 100, 8);
     /// assert_eq!(receiving.open(100, 3), 64); // in a SYN the window has no scale
     /// assert_eq!(receiving.announce().window, 8); // in units of 2^3
     /// ```
@@ -493,7 +493,7 @@ impl<S: Storage<u8>, const N: usize> ReceivingEndOver<S, N> {
     /// ```
     /// # use net_base::ends::ReceivingEnd;
     /// # let mut storage = [0u8; 64];
-    /// # let mut receiving = ReceivingEnd::<4>::empty_at(&mut storage[..], 100, 8);
+    /// # let mut receiving = ReceivingEnd::<4>::new_at(&mut storage[..], 100, 8);
     /// use net_base::tcp::{Arrival, Segment};
     ///
     /// let _window = receiving.open(100, 0);
@@ -528,7 +528,7 @@ impl<S: Storage<u8>, const N: usize> ReceivingEndOver<S, N> {
     /// # use net_base::ends::ReceivingEnd;
     /// # use net_base::finite::Part;
     /// # let mut storage = [0u8; 64];
-    /// # let mut receiving = ReceivingEnd::<4>::empty_at(&mut storage[..], 100, 8);
+    /// # let mut receiving = ReceivingEnd::<4>::new_at(&mut storage[..], 100, 8);
     /// let _window = receiving.open(100, 0);
     /// let kept = receiving.arrived(103, b"def", Part::Last).expect("one range may wait");
     /// assert_eq!((kept.kept, kept.queued), (3, 0));
@@ -566,7 +566,7 @@ impl<S: Storage<u8>, const N: usize> ReceivingEndOver<S, N> {
     /// ```
     /// # use net_base::ends::ReceivingEnd;
     /// # let mut storage = [0u8; 64];
-    /// # let mut receiving = ReceivingEnd::<4>::empty_at(&mut storage[..], 100, 8);
+    /// # let mut receiving = ReceivingEnd::<4>::new_at(&mut storage[..], 100, 8);
     /// let _window = receiving.open(100, 0);
     /// receiving.answer(); // a segment was out of the window
     /// assert!(receiving.is_due());
@@ -583,7 +583,7 @@ impl<S: Storage<u8>, const N: usize> ReceivingEndOver<S, N> {
     /// # use net_base::ends::ReceivingEnd;
     /// # use net_base::finite::Part;
     /// # let mut storage = [0u8; 64];
-    /// # let mut receiving = ReceivingEnd::<4>::empty_at(&mut storage[..], 100, 8);
+    /// # let mut receiving = ReceivingEnd::<4>::new_at(&mut storage[..], 100, 8);
     /// let _window = receiving.open(100, 0);
     /// // One segment may wait for a second one.
     /// receiving.arrived(100, &[7; 8], Part::More).expect("it is in order");
@@ -606,7 +606,7 @@ impl<S: Storage<u8>, const N: usize> ReceivingEndOver<S, N> {
     /// # use net_base::ends::ReceivingEnd;
     /// # use net_base::finite::Part;
     /// # let mut storage = [0u8; 64];
-    /// # let mut receiving = ReceivingEnd::<4>::empty_at(&mut storage[..], 100, 8);
+    /// # let mut receiving = ReceivingEnd::<4>::new_at(&mut storage[..], 100, 8);
     /// let _window = receiving.open(100, 0);
     /// assert!(!receiving.is_wanted());
     /// receiving.arrived(100, b"abc", Part::More).expect("it is in order");
@@ -630,7 +630,7 @@ impl<S: Storage<u8>, const N: usize> ReceivingEndOver<S, N> {
     /// # use net_base::ends::ReceivingEnd;
     /// # use net_base::finite::Part;
     /// # let mut storage = [0u8; 64];
-    /// # let mut receiving = ReceivingEnd::<4>::empty_at(&mut storage[..], 100, 8);
+    /// # let mut receiving = ReceivingEnd::<4>::new_at(&mut storage[..], 100, 8);
     /// let _window = receiving.open(100, 0);
     /// receiving.arrived(100, b"abc", Part::More).expect("it is in order");
     /// let told = receiving.announce();
@@ -655,7 +655,7 @@ impl<S: Storage<u8>, const N: usize> ReceivingEndOver<S, N> {
     /// # use net_base::ends::ReceivingEnd;
     /// # use net_base::finite::Part;
     /// # let mut storage = [0u8; 64];
-    /// # let mut receiving = ReceivingEnd::<4>::empty_at(&mut storage[..], 100, 8);
+    /// # let mut receiving = ReceivingEnd::<4>::new_at(&mut storage[..], 100, 8);
     /// let _window = receiving.open(100, 0);
     /// receiving.arrived(100, b"abc", Part::More).expect("it is in order");
     /// receiving.arrived(100, b"abc", Part::More).expect("it came twice");
@@ -704,7 +704,7 @@ impl<S: Storage<u8>, const N: usize> ReceivingEndOver<S, N> {
     /// # use net_base::ends::ReceivingEnd;
     /// # use net_base::finite::Part;
     /// # let mut storage = [0u8; 64];
-    /// # let mut receiving = ReceivingEnd::<4>::empty_at(&mut storage[..], 100, 8);
+    /// # let mut receiving = ReceivingEnd::<4>::new_at(&mut storage[..], 100, 8);
     /// let _window = receiving.open(100, 0);
     /// receiving.arrived(100, b"abc", Part::More).expect("it is in order");
     /// let mut into = [0; 8];
@@ -763,7 +763,7 @@ impl<S: Storage<u8>, const N: usize> ReceivingEndOver<S, N> {
     /// # use net_base::ends::ReceivingEnd;
     /// # use net_base::finite::Part;
     /// # let mut storage = [0u8; 64];
-    /// # let mut receiving = ReceivingEnd::<4>::empty_at(&mut storage[..], 100, 8);
+    /// # let mut receiving = ReceivingEnd::<4>::new_at(&mut storage[..], 100, 8);
     /// let _window = receiving.open(100, 0);
     /// receiving.arrived(100, b"abc", Part::Last).expect("it is in order");
     /// assert!(!receiving.receiver().has_read_all());

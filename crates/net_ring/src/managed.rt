@@ -9,14 +9,35 @@ use std::ops::IndexMut;
 
 /// A list of elements, parts of which can be shown and lent: the storage of a ring.
 ///
+/// It is there for slices, vectors, boxes and arrays, lent or owned. A program may implement it for
+/// memory of another kind. All calls have to be about the same elements, whose number stays. Otherwise a
+/// buffer may panic, or show other elements than were written; it touches no other memory.
+///
 /// ```
 /// use net_base::storage::{RingOver, Storage};
 ///
-/// fn first_free<S: Storage<u8>>(ring: &mut RingOver<u8, S>) -> Option<&mut u8> {
-///     ring.enqueue_one().ok()
+/// struct Page([u8; 512]);
+///
+/// impl Storage<u8> for Page {
+///     fn count(&self) -> usize {
+///         self.0.len()
+///     }
+///     fn part(&self, from: usize, to: usize) -> &[u8] {
+///         &self.0[from..to]
+///     }
+///     fn part_mut(&mut self, from: usize, to: usize) -> &mut [u8] {
+///         &mut self.0[from..to]
+///     }
+///     fn element_mut(&mut self, at: usize) -> &mut u8 {
+///         &mut self.0[at]
+///     }
+///     fn element(&self, at: usize) -> &u8 {
+///         &self.0[at]
+///     }
 /// }
-/// let mut lent = [1, 2];
-/// assert_eq!(first_free(&mut RingOver::over(&mut lent[..])), Some(&mut 1));
+///
+/// let mut ring = RingOver::over(Page([0; 512]));
+/// assert_eq!((ring.enqueue_slice(b"abc"), ring.window()), (3, 509));
 /// ```
 pub trait Storage<T> {
     /// The elements, in order.

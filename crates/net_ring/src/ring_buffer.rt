@@ -957,8 +957,7 @@ impl<T, S: Storage<T>> RingOver<T, S> {
         )
     }
 
-    /// Returns an iterator over the queue, which shows the elements in order. It doesn't tell how many
-    /// are left, and is no `ExactSizeIterator`.
+    /// Returns an iterator over the queue, which shows the elements in order.
     ///
     /// ```
     /// # use net_base::storage::RingBuffer;
@@ -974,6 +973,8 @@ impl<T, S: Storage<T>> RingOver<T, S> {
         ensures queue { result ≡ queue self.now }
         ensures count { length result ≡ self.now.count }
     {
+        let _length = self.len();
+        crate::laws::is_usize(_length);
         let (first, second) = self.as_slices();
         Iter { first, second }
     }

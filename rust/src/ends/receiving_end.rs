@@ -13,7 +13,7 @@ use core::ops::Range;
 /// use net_base::finite::Part;
 ///
 /// let mut storage = [0u8; 64];
-/// let mut receiving = ReceivingEnd::<4>::empty_at(&mut storage[..], 100, 8);
+/// let mut receiving = ReceivingEnd::<4>::new_at(&mut storage[..], 100, 8);
 /// let _window = receiving.open(100, 0);
 /// receiving.arrived(108, &[7; 8], Part::More).expect("one range may wait");
 /// let told = receiving.acknowledgement();
@@ -38,7 +38,7 @@ pub struct Acknowledgement {
 /// use net_base::finite::Part;
 ///
 /// let mut storage = [0u8; 64];
-/// let mut receiving = ReceivingEnd::<4>::empty_at(&mut storage[..], 100, 8);
+/// let mut receiving = ReceivingEnd::<4>::new_at(&mut storage[..], 100, 8);
 /// let _window = receiving.open(100, 0);
 /// receiving.arrived(108, &[7; 8], Part::More).expect("one range may wait");
 /// receiving.arrived(124, &[7; 8], Part::More).expect("two ranges may wait");
@@ -103,7 +103,7 @@ fn count_of(blocks: [Option<(u64, u64)>; 4]) -> usize {
 /// use net_base::finite::Part;
 ///
 /// let mut storage = [0u8; 64];
-/// let mut receiving = ReceivingEnd::<4>::empty_at(&mut storage[..], 100, 8);
+/// let mut receiving = ReceivingEnd::<4>::new_at(&mut storage[..], 100, 8);
 /// let _window = receiving.open(100, 0);
 /// receiving.arrived(100, b"abc", Part::More).expect("it is in order");
 /// assert_eq!(receiving.announce(), AckFields { next: 103, window: 61 });
@@ -288,7 +288,7 @@ impl ReceivingHead {
 ///
 /// // 64 bytes may wait, and at most 4 ranges that arrived out of order. A segment has at most 8 bytes.
 /// let mut storage = [0u8; 64];
-/// let mut receiving = ReceivingEnd::<4>::empty_at(&mut storage[..], 100, 8);
+/// let mut receiving = ReceivingEnd::<4>::new_at(&mut storage[..], 100, 8);
 /// assert_eq!(receiving.open(100, 0), 64);
 /// ```
 pub type ReceivingEnd<'a, const N: usize> = ReceivingEndOver<ManagedSlice<'a, u8>, N>;
@@ -300,7 +300,7 @@ pub type ReceivingEnd<'a, const N: usize> = ReceivingEndOver<ManagedSlice<'a, u8
 /// use net_base::finite::Part;
 ///
 /// let mut storage = [0u8; 64];
-/// let mut receiving = ReceivingEnd::<4>::empty_at(&mut storage[..], 100, 8);
+/// let mut receiving = ReceivingEnd::<4>::new_at(&mut storage[..], 100, 8);
 /// assert_eq!(receiving.open(100, 0), 64);
 /// // The second segment comes first: it is answered at once, and reported.
 /// assert!(receiving.arrived(108, b"bytes ok", Part::Last).is_ok() && receiving.is_due());
@@ -348,7 +348,7 @@ impl<S: Storage<u8>, const N: usize> ReceivingEndOver<S, N> {
     /// ```
     /// # use net_base::ends::ReceivingEnd;
     /// # let mut storage = [0u8; 64];
-    /// # let mut receiving = ReceivingEnd::<4>::empty_at(&mut storage[..], 100, 8);
+    /// # let mut receiving = ReceivingEnd::<4>::new_at(&mut storage[..], 100, 8);
     /// assert_eq!(receiving.open(100, 3), 64); // in a SYN the window has no scale
     /// assert_eq!(receiving.announce().window, 8); // in units of 2^3
     /// ```
@@ -367,7 +367,7 @@ impl<S: Storage<u8>, const N: usize> ReceivingEndOver<S, N> {
     /// ```
     /// # use net_base::ends::ReceivingEnd;
     /// # let mut storage = [0u8; 64];
-    /// # let mut receiving = ReceivingEnd::<4>::empty_at(&mut storage[..], 100, 8);
+    /// # let mut receiving = ReceivingEnd::<4>::new_at(&mut storage[..], 100, 8);
     /// use net_base::tcp::{Arrival, Segment};
     ///
     /// let _window = receiving.open(100, 0);
@@ -397,7 +397,7 @@ impl<S: Storage<u8>, const N: usize> ReceivingEndOver<S, N> {
     /// # use net_base::ends::ReceivingEnd;
     /// # use net_base::finite::Part;
     /// # let mut storage = [0u8; 64];
-    /// # let mut receiving = ReceivingEnd::<4>::empty_at(&mut storage[..], 100, 8);
+    /// # let mut receiving = ReceivingEnd::<4>::new_at(&mut storage[..], 100, 8);
     /// let _window = receiving.open(100, 0);
     /// let kept = receiving.arrived(103, b"def", Part::Last).expect("one range may wait");
     /// assert_eq!((kept.kept, kept.queued), (3, 0));
@@ -430,7 +430,7 @@ impl<S: Storage<u8>, const N: usize> ReceivingEndOver<S, N> {
     /// ```
     /// # use net_base::ends::ReceivingEnd;
     /// # let mut storage = [0u8; 64];
-    /// # let mut receiving = ReceivingEnd::<4>::empty_at(&mut storage[..], 100, 8);
+    /// # let mut receiving = ReceivingEnd::<4>::new_at(&mut storage[..], 100, 8);
     /// let _window = receiving.open(100, 0);
     /// receiving.answer(); // a segment was out of the window
     /// assert!(receiving.is_due());
@@ -445,7 +445,7 @@ impl<S: Storage<u8>, const N: usize> ReceivingEndOver<S, N> {
     /// # use net_base::ends::ReceivingEnd;
     /// # use net_base::finite::Part;
     /// # let mut storage = [0u8; 64];
-    /// # let mut receiving = ReceivingEnd::<4>::empty_at(&mut storage[..], 100, 8);
+    /// # let mut receiving = ReceivingEnd::<4>::new_at(&mut storage[..], 100, 8);
     /// let _window = receiving.open(100, 0);
     /// // One segment may wait for a second one.
     /// receiving.arrived(100, &[7; 8], Part::More).expect("it is in order");
@@ -466,7 +466,7 @@ impl<S: Storage<u8>, const N: usize> ReceivingEndOver<S, N> {
     /// # use net_base::ends::ReceivingEnd;
     /// # use net_base::finite::Part;
     /// # let mut storage = [0u8; 64];
-    /// # let mut receiving = ReceivingEnd::<4>::empty_at(&mut storage[..], 100, 8);
+    /// # let mut receiving = ReceivingEnd::<4>::new_at(&mut storage[..], 100, 8);
     /// let _window = receiving.open(100, 0);
     /// assert!(!receiving.is_wanted());
     /// receiving.arrived(100, b"abc", Part::More).expect("it is in order");
@@ -487,7 +487,7 @@ impl<S: Storage<u8>, const N: usize> ReceivingEndOver<S, N> {
     /// # use net_base::ends::ReceivingEnd;
     /// # use net_base::finite::Part;
     /// # let mut storage = [0u8; 64];
-    /// # let mut receiving = ReceivingEnd::<4>::empty_at(&mut storage[..], 100, 8);
+    /// # let mut receiving = ReceivingEnd::<4>::new_at(&mut storage[..], 100, 8);
     /// let _window = receiving.open(100, 0);
     /// receiving.arrived(100, b"abc", Part::More).expect("it is in order");
     /// let told = receiving.announce();
@@ -506,7 +506,7 @@ impl<S: Storage<u8>, const N: usize> ReceivingEndOver<S, N> {
     /// # use net_base::ends::ReceivingEnd;
     /// # use net_base::finite::Part;
     /// # let mut storage = [0u8; 64];
-    /// # let mut receiving = ReceivingEnd::<4>::empty_at(&mut storage[..], 100, 8);
+    /// # let mut receiving = ReceivingEnd::<4>::new_at(&mut storage[..], 100, 8);
     /// let _window = receiving.open(100, 0);
     /// receiving.arrived(100, b"abc", Part::More).expect("it is in order");
     /// receiving.arrived(100, b"abc", Part::More).expect("it came twice");
@@ -536,7 +536,7 @@ impl<S: Storage<u8>, const N: usize> ReceivingEndOver<S, N> {
     /// # use net_base::ends::ReceivingEnd;
     /// # use net_base::finite::Part;
     /// # let mut storage = [0u8; 64];
-    /// # let mut receiving = ReceivingEnd::<4>::empty_at(&mut storage[..], 100, 8);
+    /// # let mut receiving = ReceivingEnd::<4>::new_at(&mut storage[..], 100, 8);
     /// let _window = receiving.open(100, 0);
     /// receiving.arrived(100, b"abc", Part::More).expect("it is in order");
     /// let mut into = [0; 8];
@@ -574,7 +574,7 @@ impl<S: Storage<u8>, const N: usize> ReceivingEndOver<S, N> {
     /// # use net_base::ends::ReceivingEnd;
     /// # use net_base::finite::Part;
     /// # let mut storage = [0u8; 64];
-    /// # let mut receiving = ReceivingEnd::<4>::empty_at(&mut storage[..], 100, 8);
+    /// # let mut receiving = ReceivingEnd::<4>::new_at(&mut storage[..], 100, 8);
     /// let _window = receiving.open(100, 0);
     /// receiving.arrived(100, b"abc", Part::Last).expect("it is in order");
     /// assert!(!receiving.receiver().has_read_all());

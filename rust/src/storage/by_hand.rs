@@ -1,5 +1,7 @@
 //! By hand, of rings, packet queues, assemblers and buffers of fragments: storage that is converted; what has no `N`;
 //! what is printed, since Rattle would print the storage; traits that Rattle hasn't.
+#[cfg(feature = "alloc")]
+use alloc::{boxed::Box, vec::Vec};
 use core::{fmt, iter};
 
 use super::fragment_table::FragmentSlot;
@@ -44,6 +46,17 @@ impl<T, S: Storage<T>> Extend<T> for RingOver<T, S> {
     }
 }
 
+/// Panics if there is no room for an element: those before it are queued.
+impl<'e, T: Copy + 'e, S: Storage<T>> Extend<&'e T> for RingOver<T, S> {
+    fn extend<I: IntoIterator<Item = &'e T>>(&mut self, elements: I) {
+        self.extend(elements.into_iter().copied());
+    }
+}
+
+impl<T> ExactSizeIterator for Iter<'_, T> {}
+
+impl<T> iter::FusedIterator for Iter<'_, T> {}
+
 /// A text for which there is no room isn't queued, nor a part of it.
 impl<S: Storage<u8>> fmt::Write for RingOver<u8, S> {
     fn write_str(&mut self, text: &str) -> fmt::Result {
@@ -85,6 +98,13 @@ impl<'a, H> PacketBuffer<'a, H> {
     }
 }
 
+/// An empty slot.
+impl<H> Default for PacketMetadata<H> {
+    fn default() -> Self {
+        Self::EMPTY
+    }
+}
+
 impl<H, M: Storage<PacketMetadata<H>>, B: Storage<u8>> fmt::Debug for PacketsOver<H, M, B> {
     fn fmt(&self, f: &mut fmt::Formatter) -> fmt::Result {
         f.debug_struct("PacketBuffer")
@@ -97,8 +117,9 @@ impl<H, M: Storage<PacketMetadata<H>>, B: Storage<u8>> fmt::Debug for PacketsOve
 }
 
 impl Assembler {
-    /// Returns an assembler with no position, which has room for 4 runs, as smoltcp's has. For as many as features say
-    /// write `Assembler::<ASSEMBLER_MAX_SEGMENT_COUNT>::empty()`, with the constant of [`config`](crate::config).
+    /// Returns an assembler with no position, which has room for 4 runs, as smoltcp's has. For another number write
+    /// `Assembler::<8>::empty()`; for as many as features say, `Assembler::<ASSEMBLER_MAX_SEGMENT_COUNT>::empty()` with
+    /// the constant of [`config`](crate::config).
     ///
     /// ```
     /// # use net_base::storage::Assembler;
@@ -170,32 +191,18 @@ impl From<TooManyHolesError> for FragmentError {
     }
 }
 
-impl<'a> FragmentBuffer<'a> {
-    /// Returns a buffer with no byte, which has room for 4 runs.
+impl<'a, const N: usize> FragmentBuffer<'a, N> {
+    /// Returns a buffer with no byte, which has room for `N` runs. Where the type of a variable or a field names no `N`
+    /// it is 4.
     ///
     /// ```
     /// # use net_base::storage::FragmentBuffer;
     /// # use net_base::time::Instant;
     /// # let mut bytes = [0u8; 8];
-    /// assert!(FragmentBuffer::new(&mut bytes[..], Instant::ZERO).is_empty());
+    /// assert!(FragmentBuffer::<8>::new(&mut bytes, Instant::ZERO).is_empty());
     /// ```
     #[must_use]
     pub fn new<S: Into<ManagedSlice<'a, u8>>>(storage: S, expires_at: Instant) -> Self {
-        FragmentBuffer::empty(storage, expires_at)
-    }
-}
-
-impl<'a, const N: usize> FragmentBuffer<'a, N> {
-    /// Returns a buffer with no byte, which has room for `N` runs.
-    ///
-    /// ```
-    /// # use net_base::storage::FragmentBuffer;
-    /// # use net_base::time::Instant;
-    /// # let mut bytes = [0u8; 8];
-    /// assert!(FragmentBuffer::<8>::empty(&mut bytes[..], Instant::ZERO).is_empty());
-    /// ```
-    #[must_use]
-    pub fn empty<S: Into<ManagedSlice<'a, u8>>>(storage: S, expires_at: Instant) -> Self {
         FragmentBuffer::over(storage.into(), expires_at)
     }
 }
@@ -219,35 +226,56 @@ impl<B: Storage<u8>, const N: usize> fmt::Debug for FragmentsOver<B, N> {
     }
 }
 
-/// An array of its own as storage: then the constructors `over` can make a `static`, as in the example `interrupt`.
-///
-/// ```
-/// use net_base::storage::RingOver;
-///
-/// const RING: RingOver<u8, [u8; 4]> = RingOver::over([0; 4]);
-/// let mut ring = RING;
-/// assert_eq!((ring.enqueue_slice(b"abcde"), ring.get_allocated(1, 9)), (4, &b"bcd"[..]));
-/// ```
-impl<T, const N: usize> Storage<T> for [T; N] {
-    fn count(&self) -> usize {
-        N
-    }
+/// Storage that is a slice behind its own type: an array, and what lends or owns one.
+macro_rules! as_slices {
+    ($($(#[$attribute:meta])* [$($parameter:tt)*] $storage:ty;)*) => {$(
+        $(#[$attribute])*
+        impl<T, $($parameter)*> Storage<T> for $storage {
+            fn count(&self) -> usize {
+                self.len()
+            }
 
-    fn part(&self, from: usize, to: usize) -> &[T] {
-        &self[from..to]
-    }
+            fn part(&self, from: usize, to: usize) -> &[T] {
+                &self[from..to]
+            }
 
-    fn part_mut(&mut self, from: usize, to: usize) -> &mut [T] {
-        &mut self[from..to]
-    }
+            fn part_mut(&mut self, from: usize, to: usize) -> &mut [T] {
+                &mut self[from..to]
+            }
 
-    fn element_mut(&mut self, at: usize) -> &mut T {
-        &mut self[at]
-    }
+            fn element_mut(&mut self, at: usize) -> &mut T {
+                &mut self[at]
+            }
 
-    fn element(&self, at: usize) -> &T {
-        &self[at]
-    }
+            fn element(&self, at: usize) -> &T {
+                &self[at]
+            }
+        }
+    )*};
+}
+
+as_slices! {
+    /// An array of its own as storage: then the constructors `over` can make a `static`, as in the example `interrupt`.
+    ///
+    /// ```
+    /// use net_base::storage::RingOver;
+    ///
+    /// const RING: RingOver<u8, [u8; 4]> = RingOver::over([0; 4]);
+    /// let mut ring = RING;
+    /// assert_eq!((ring.enqueue_slice(b"abcde"), ring.get_allocated(1, 9)), (4, &b"bcd"[..]));
+    /// ```
+    [const N: usize] [T; N];
+    /// An array that is lent.
+    [const N: usize] &mut [T; N];
+    /// A boxed slice.
+    #[cfg(feature = "alloc")]
+    [] Box<[T]>;
+    /// A boxed array.
+    #[cfg(feature = "alloc")]
+    [const N: usize] Box<[T; N]>;
+    /// A vector that is lent: its length is the capacity.
+    #[cfg(feature = "alloc")]
+    [] &mut Vec<T>;
 }
 
 /// Prints what a closure's iterator yields, as a list.

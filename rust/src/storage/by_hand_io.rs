@@ -73,7 +73,7 @@ impl<S: Storage<u8>> BufRead for RingOver<u8, S> {
 /// use std::io::{ErrorKind, Read};
 ///
 /// let mut storage = [0; 16];
-/// let mut receiver = Receiver::new(&mut storage[..]);
+/// let mut receiver = Receiver::<4>::new(&mut storage[..]);
 /// assert!(receiver.segment(2, b"cd").is_ok());
 /// let mut into = [0; 4];
 /// assert_eq!(receiver.read_exact(&mut into).unwrap_err().kind(), ErrorKind::WouldBlock);
@@ -109,7 +109,7 @@ impl<S: Storage<u8>, const N: usize> BufRead for ReceiverOver<S, N> {
 /// use std::io::{ErrorKind, Read};
 ///
 /// let mut storage = [0u8; 32];
-/// let mut receiver = FiniteReceiver::<4>::empty_at(&mut storage[..], 0);
+/// let mut receiver = FiniteReceiver::<4>::new_at(&mut storage[..], 0);
 /// assert!(receiver.keep(0, b"sum=10", Part::More).is_ok());
 /// let mut text = String::new();
 /// let refused = receiver.read_to_string(&mut text).unwrap_err();

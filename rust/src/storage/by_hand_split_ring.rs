@@ -78,7 +78,53 @@ impl<const N: usize> SplitRing<N> {
         }
     }
 
+    /// Returns how many bytes there is room for in all.
+    ///
+    /// ```
+    /// # use net_base::storage::SplitRing;
+    /// assert_eq!(SplitRing::<8>::new().capacity(), 8);
+    /// ```
+    #[must_use]
+    pub const fn capacity(&self) -> usize {
+        N
+    }
+
+    /// Returns how many bytes are queued. Before the other side's next call the side that reads finds at least so many,
+    /// and the side that writes has room for at least the rest of the [`capacity`](Self::capacity).
+    ///
+    /// ```
+    /// # use net_base::storage::SplitRing;
+    /// static RING: SplitRing<4> = SplitRing::new();
+    /// assert_eq!((RING.write(b"abc"), RING.len()), (3, 3));
+    /// ```
+    #[must_use]
+    pub fn len(&self) -> usize {
+        let written = self.written.load(Ordering::Acquire);
+        let taken = self.taken.load(Ordering::Acquire);
+        let counts = SplitCounts { written, taken };
+        // Why: Of a third side's counts one may be older than the other.
+        if counts.is_sound(N) {
+            counts.queued(N, N).span.count
+        } else {
+            0
+        }
+    }
+
+    /// Returns whether no byte is queued.
+    ///
+    /// ```
+    /// # use net_base::storage::SplitRing;
+    /// assert!(SplitRing::<4>::new().is_empty());
+    /// ```
+    #[must_use]
+    pub fn is_empty(&self) -> bool {
+        self.len() == 0
+    }
+
     /// Lends both ends, each for one side. What is queued stays so.
+    ///
+    /// The ring is borrowed for writing, so that a second writer doesn't compile: a call of `&self` could be made twice.
+    /// A `static` is split where its owner has it as `&'static mut`, as `Box::leak` and the crate `static_cell` give it.
     ///
     /// ```
     /// use net_base::storage::SplitRing;
@@ -110,7 +156,12 @@ impl<const N: usize> SplitRing<N> {
             return 0;
         }
         let lent = counts.free(N, data.len());
-        for (place, byte) in self.places(lent).zip(data) {
+        let (first, rest) = self.places(lent);
+        let (data, more) = data.split_at(first.len());
+        for (place, byte) in first.iter().zip(data) {
+            place.store(*byte, Ordering::Relaxed);
+        }
+        for (place, byte) in rest.iter().zip(more) {
             place.store(*byte, Ordering::Relaxed);
         }
         self.written.store(lent.next, Ordering::Release);
@@ -136,18 +187,23 @@ impl<const N: usize> SplitRing<N> {
             return 0;
         }
         let lent = counts.queued(N, into.len());
-        for (place, byte) in self.places(lent).zip(into) {
+        let (first, rest) = self.places(lent);
+        let (into, more) = into.split_at_mut(first.len());
+        for (place, byte) in first.iter().zip(into) {
+            *byte = place.load(Ordering::Relaxed);
+        }
+        for (place, byte) in rest.iter().zip(more) {
             *byte = place.load(Ordering::Relaxed);
         }
         self.taken.store(lent.next, Ordering::Release);
         lent.span.count
     }
 
-    /// The places of the bytes that are lent, in order. No index is tested, so no call can panic.
-    fn places(&self, lent: SplitSpan) -> impl Iterator<Item = &AtomicU8> {
+    /// The places of the bytes that are lent, in order: up to the storage's end, and from its beginning.
+    fn places(&self, lent: SplitSpan) -> (&[AtomicU8], &[AtomicU8]) {
         let span = lent.span;
-        let first = self.storage.iter().skip(span.from).take(span.contiguous);
-        first.chain(self.storage.iter().take(span.count.saturating_sub(span.contiguous)))
+        let first = &self.storage[span.from..][..span.contiguous];
+        (first, &self.storage[..span.count - span.contiguous])
     }
 }
 
@@ -162,6 +218,24 @@ impl<const N: usize> SplitWriter<'_, N> {
     pub fn write(&mut self, data: &[u8]) -> usize {
         self.0.write(data)
     }
+
+    /// Returns how many bytes there is room for in all.
+    #[must_use]
+    pub const fn capacity(&self) -> usize {
+        N
+    }
+
+    /// Returns how many bytes are queued: there is room for the rest of the capacity, or more.
+    #[must_use]
+    pub fn len(&self) -> usize {
+        self.0.len()
+    }
+
+    /// Returns whether no byte is queued.
+    #[must_use]
+    pub fn is_empty(&self) -> bool {
+        self.0.is_empty()
+    }
 }
 
 impl<const N: usize> SplitReader<'_, N> {
@@ -169,5 +243,23 @@ impl<const N: usize> SplitReader<'_, N> {
     /// is.
     pub fn read(&mut self, into: &mut [u8]) -> usize {
         self.0.read(into)
+    }
+
+    /// Returns how many bytes there is room for in all.
+    #[must_use]
+    pub const fn capacity(&self) -> usize {
+        N
+    }
+
+    /// Returns how many bytes are queued, or fewer than that.
+    #[must_use]
+    pub fn len(&self) -> usize {
+        self.0.len()
+    }
+
+    /// Returns whether no byte is queued.
+    #[must_use]
+    pub fn is_empty(&self) -> bool {
+        self.0.is_empty()
     }
 }

@@ -17,7 +17,7 @@ pub use head::FragmentsHead;
 /// use net_base::time::Instant;
 ///
 /// let mut bytes = [0u8; 4];
-/// let mut buffer = FragmentBuffer::new(&mut bytes[..], Instant::ZERO);
+/// let mut buffer = FragmentBuffer::<4>::new(&mut bytes[..], Instant::ZERO);
 /// assert_eq!(buffer.add(0, b"abcde"), Err(FragmentError::TooLong));
 /// assert!(buffer.is_empty());
 /// ```
@@ -61,7 +61,7 @@ pub struct FragmentsOver<B: Storage<u8>, const N: usize> {
 /// use net_base::time::Instant;
 ///
 /// let mut bytes = [0u8; 8];
-/// let mut buffer = FragmentBuffer::new(&mut bytes[..], Instant::from_secs(60));
+/// let mut buffer = FragmentBuffer::<4>::new(&mut bytes[..], Instant::from_secs(60));
 /// buffer.add_fragment(2, b"cd", true)?;
 /// buffer.add_fragment(0, b"ab", false)?;
 /// assert_eq!(buffer.assemble(), Some(&b"abcd"[..]));
@@ -109,7 +109,7 @@ impl<B: Storage<u8>, const N: usize> FragmentsOver<B, N> {
     /// # use net_base::storage::FragmentBuffer;
     /// # use net_base::time::Instant;
     /// # let mut bytes = [0u8; 8];
-    /// assert_eq!(FragmentBuffer::new(&mut bytes[..], Instant::ZERO).capacity(), 8);
+    /// assert_eq!(FragmentBuffer::<4>::new(&mut bytes[..], Instant::ZERO).capacity(), 8);
     /// ```
     #[must_use]
     pub fn capacity(&self) -> usize {
@@ -123,7 +123,7 @@ impl<B: Storage<u8>, const N: usize> FragmentsOver<B, N> {
     /// # use net_base::storage::FragmentBuffer;
     /// # use net_base::time::Instant;
     /// # let mut bytes = [0u8; 8];
-    /// # let mut buffer = FragmentBuffer::new(&mut bytes[..], Instant::ZERO);
+    /// # let mut buffer = FragmentBuffer::<4>::new(&mut bytes[..], Instant::ZERO);
     /// assert!(buffer.add(2, b"").is_ok() && buffer.is_empty());
     /// assert!(buffer.add(2, b"c").is_ok() && !buffer.is_empty());
     /// ```
@@ -139,7 +139,7 @@ impl<B: Storage<u8>, const N: usize> FragmentsOver<B, N> {
     /// # use net_base::storage::FragmentBuffer;
     /// # use net_base::time::Instant;
     /// # let mut bytes = [0u8; 8];
-    /// let buffer = FragmentBuffer::new(&mut bytes[..], Instant::from_millis(5));
+    /// let buffer = FragmentBuffer::<4>::new(&mut bytes[..], Instant::from_millis(5));
     /// assert_eq!(buffer.expires_at(), Instant::from_millis(5));
     /// ```
     #[must_use]
@@ -155,7 +155,7 @@ impl<B: Storage<u8>, const N: usize> FragmentsOver<B, N> {
     /// # use net_base::storage::{FragmentBuffer, FragmentError};
     /// # use net_base::time::Instant;
     /// # let mut bytes = [0u8; 8];
-    /// let mut buffer = FragmentBuffer::<1>::empty(&mut bytes[..], Instant::ZERO);
+    /// let mut buffer = FragmentBuffer::<1>::new(&mut bytes[..], Instant::ZERO);
     /// assert_eq!(buffer.add(6, b"ghi"), Err(FragmentError::TooLong));
     /// assert_eq!(buffer.add(6, b"gh"), Ok(()));
     /// assert_eq!(buffer.add(0, b"ab"), Err(FragmentError::TooManyHoles));
@@ -178,7 +178,7 @@ impl<B: Storage<u8>, const N: usize> FragmentsOver<B, N> {
     /// # use net_base::storage::{FragmentBuffer, FragmentError};
     /// # use net_base::time::Instant;
     /// # let mut bytes = [0u8; 8];
-    /// # let mut buffer = FragmentBuffer::new(&mut bytes[..], Instant::ZERO);
+    /// # let mut buffer = FragmentBuffer::<4>::new(&mut bytes[..], Instant::ZERO);
     /// buffer.add_fragment(3, b"de", true)?;
     /// assert_eq!(buffer.add_fragment(0, b"abc", true), Err(FragmentError::OtherSize));
     /// buffer.add_fragment(0, b"abc", false)?;
@@ -209,7 +209,7 @@ impl<B: Storage<u8>, const N: usize> FragmentsOver<B, N> {
     /// # use net_base::storage::{FragmentBuffer, FragmentError};
     /// # use net_base::time::Instant;
     /// # let mut bytes = [0u8; 8];
-    /// # let mut buffer = FragmentBuffer::new(&mut bytes[..], Instant::ZERO);
+    /// # let mut buffer = FragmentBuffer::<4>::new(&mut bytes[..], Instant::ZERO);
     /// buffer.add(0, b"abc")?;
     /// let refused = buffer.reset_with(7, b"de", true, Instant::ZERO);
     /// assert_eq!(refused, Err(FragmentError::TooLong));
@@ -240,7 +240,7 @@ impl<B: Storage<u8>, const N: usize> FragmentsOver<B, N> {
     /// # use net_base::storage::{FragmentBuffer, FragmentError};
     /// # use net_base::time::Instant;
     /// # let mut bytes = [0u8; 8];
-    /// # let mut buffer = FragmentBuffer::new(&mut bytes[..], Instant::ZERO);
+    /// # let mut buffer = FragmentBuffer::<4>::new(&mut bytes[..], Instant::ZERO);
     /// buffer.add(0, b"abc")?;
     /// assert_eq!(buffer.set_total_size(9), Err(FragmentError::TooLong));
     /// assert_eq!(buffer.set_total_size(2), Err(FragmentError::OtherSize));
@@ -265,7 +265,7 @@ impl<B: Storage<u8>, const N: usize> FragmentsOver<B, N> {
     /// # use net_base::storage::{FragmentBuffer, FragmentError};
     /// # use net_base::time::Instant;
     /// # let mut bytes = [0u8; 8];
-    /// # let mut buffer = FragmentBuffer::new(&mut bytes[..], Instant::ZERO);
+    /// # let mut buffer = FragmentBuffer::<4>::new(&mut bytes[..], Instant::ZERO);
     /// assert_eq!(buffer.total_size(), None);
     /// buffer.add_fragment(3, b"de", true)?;
     /// assert_eq!(buffer.total_size(), Some(5));
@@ -286,7 +286,7 @@ impl<B: Storage<u8>, const N: usize> FragmentsOver<B, N> {
     /// # use net_base::storage::{FragmentBuffer, FragmentError};
     /// # use net_base::time::Instant;
     /// # let mut bytes = [0u8; 8];
-    /// # let mut buffer = FragmentBuffer::new(&mut bytes[..], Instant::ZERO);
+    /// # let mut buffer = FragmentBuffer::<4>::new(&mut bytes[..], Instant::ZERO);
     /// buffer.add(2, b"cd")?;
     /// assert!(buffer.overlaps(0, 3) && !buffer.overlaps(0, 2) && !buffer.overlaps(2, 0));
     /// # Ok::<(), FragmentError>(())
@@ -306,7 +306,7 @@ impl<B: Storage<u8>, const N: usize> FragmentsOver<B, N> {
     /// # use net_base::storage::{FragmentBuffer, FragmentError};
     /// # use net_base::time::Instant;
     /// # let mut bytes = [0u8; 8];
-    /// # let mut buffer = FragmentBuffer::new(&mut bytes[..], Instant::ZERO);
+    /// # let mut buffer = FragmentBuffer::<4>::new(&mut bytes[..], Instant::ZERO);
     /// buffer.add(2, b"cd")?;
     /// assert!(!buffer.differs(2, b"cd") && !buffer.differs(0, b"abcdef"));
     /// assert!(buffer.differs(3, b"De") && !buffer.differs(4, b"De"));
@@ -325,7 +325,7 @@ impl<B: Storage<u8>, const N: usize> FragmentsOver<B, N> {
     /// # use net_base::storage::{FragmentBuffer, FragmentError};
     /// # use net_base::time::Instant;
     /// # let mut bytes = [0u8; 8];
-    /// # let mut buffer = FragmentBuffer::new(&mut bytes[..], Instant::ZERO);
+    /// # let mut buffer = FragmentBuffer::<4>::new(&mut bytes[..], Instant::ZERO);
     /// buffer.add(0, b"abc")?;
     /// assert_eq!(buffer.assemble(), None);
     /// buffer.set_total_size(3)?;
@@ -349,7 +349,7 @@ impl<B: Storage<u8>, const N: usize> FragmentsOver<B, N> {
     /// # use net_base::storage::{FragmentBuffer, FragmentError};
     /// # use net_base::time::Instant;
     /// # let mut bytes = [0u8; 8];
-    /// # let mut buffer = FragmentBuffer::new(&mut bytes[..], Instant::ZERO);
+    /// # let mut buffer = FragmentBuffer::<4>::new(&mut bytes[..], Instant::ZERO);
     /// buffer.add(2, b"cdef")?;
     /// assert_eq!(buffer.get(3, 2), Some(&b"de"[..]));
     /// assert_eq!((buffer.get(1, 2), buffer.get(5, 2)), (None, None));
@@ -373,7 +373,7 @@ impl<B: Storage<u8>, const N: usize> FragmentsOver<B, N> {
     /// # use net_base::storage::FragmentBuffer;
     /// # use net_base::time::Instant;
     /// # let mut bytes = [0u8; 8];
-    /// let buffer = FragmentBuffer::new(&mut bytes[..], Instant::from_millis(5));
+    /// let buffer = FragmentBuffer::<4>::new(&mut bytes[..], Instant::from_millis(5));
     /// assert!(!buffer.is_expired(Instant::from_millis(5)));
     /// assert!(buffer.is_expired(Instant::from_micros(5_001)));
     /// ```
@@ -388,7 +388,7 @@ impl<B: Storage<u8>, const N: usize> FragmentsOver<B, N> {
     /// # use net_base::storage::{FragmentBuffer, FragmentError};
     /// # use net_base::time::Instant;
     /// # let mut bytes = [0u8; 8];
-    /// # let mut buffer = FragmentBuffer::new(&mut bytes[..], Instant::ZERO);
+    /// # let mut buffer = FragmentBuffer::<4>::new(&mut bytes[..], Instant::ZERO);
     /// buffer.add(0, b"abc")?;
     /// buffer.set_total_size(3)?;
     /// buffer.reset(Instant::from_millis(5));

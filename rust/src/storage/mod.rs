@@ -1,6 +1,6 @@
 //! Rings, packet queues, assemblers and buffers of fragments, over storage that is lent or owned.
 //!
-//! By hand: what is printed, storage that is converted, an array as storage, and traits that Rattle hasn't.
+//! By hand: what is printed, storage that is converted, arrays and boxes as storage, and traits that Rattle hasn't.
 mod by_hand;
 #[cfg(feature = "std")]
 mod by_hand_io;

@@ -697,8 +697,7 @@ impl<T, S: Storage<T>> RingOver<T, S> {
         (self.storage.part(from, from + first), self.storage.part(0, self.head.length - first))
     }
 
-    /// Returns an iterator over the queue, which shows the elements in order. It doesn't tell how many
-    /// are left, and is no `ExactSizeIterator`.
+    /// Returns an iterator over the queue, which shows the elements in order.
     ///
     /// ```
     /// # use net_base::storage::RingBuffer;

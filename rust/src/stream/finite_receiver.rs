@@ -50,7 +50,7 @@ pub struct FiniteReceiverOver<S: Storage<u8>, const N: usize> {
 /// use net_base::finite::{FiniteReceiver, Part};
 ///
 /// let mut storage = [0u8; 16];
-/// let mut receiver = FiniteReceiver::<4>::empty_at(&mut storage[..], 100);
+/// let mut receiver = FiniteReceiver::<4>::new_at(&mut storage[..], 100);
 /// assert!(receiver.keep(100, b"abc", Part::Last).is_ok());
 /// let mut text = [0; 9];
 /// assert_eq!((receiver.read(&mut text), &text[..3], receiver.has_read_all()), (3, &b"abc"[..], true));
@@ -95,7 +95,7 @@ impl<S: Storage<u8>, const N: usize> FiniteReceiverOver<S, N> {
     /// ```
     /// # use net_base::finite::{FiniteReceiver, Part};
     /// # let mut storage = [0u8; 16];
-    /// # let mut receiver = FiniteReceiver::<4>::empty_at(&mut storage[..], 0);
+    /// # let mut receiver = FiniteReceiver::<4>::new_at(&mut storage[..], 0);
     /// assert!(receiver.keep(0, b"abc", Part::Last).is_ok());
     /// assert_eq!((receiver.receiver().queued(), receiver.receiver().window()), (3, 13));
     /// ```
@@ -110,7 +110,7 @@ impl<S: Storage<u8>, const N: usize> FiniteReceiverOver<S, N> {
     /// ```
     /// # use net_base::finite::{FiniteReceiver, Part};
     /// # let mut storage = [0u8; 16];
-    /// # let mut receiver = FiniteReceiver::<4>::empty_at(&mut storage[..], 0);
+    /// # let mut receiver = FiniteReceiver::<4>::new_at(&mut storage[..], 0);
     /// assert!(receiver.keep(0, b"abc", Part::Last).is_ok());
     /// receiver.reset_at(7);
     /// assert_eq!((receiver.acknowledged(), receiver.end()), (7, None));
@@ -133,7 +133,7 @@ impl<S: Storage<u8>, const N: usize> FiniteReceiverOver<S, N> {
     /// ```
     /// # use net_base::finite::{FiniteReceiver, Part};
     /// # let mut storage = [0u8; 16];
-    /// # let mut receiver = FiniteReceiver::<4>::empty_at(&mut storage[..], 0);
+    /// # let mut receiver = FiniteReceiver::<4>::new_at(&mut storage[..], 0);
     /// assert!(receiver.keep(2, b"cd", Part::More).is_ok());
     /// assert!(receiver.can_end(4) && !receiver.can_end(3)); // the bytes at 2 and 3 have arrived
     /// assert!(receiver.keep(4, b"e", Part::Last).is_ok());
@@ -164,7 +164,7 @@ impl<S: Storage<u8>, const N: usize> FiniteReceiverOver<S, N> {
     /// ```
     /// # use net_base::finite::{FiniteError, FiniteReceiver, Part};
     /// # let mut storage = [0u8; 16];
-    /// # let mut receiver = FiniteReceiver::<4>::empty_at(&mut storage[..], 0);
+    /// # let mut receiver = FiniteReceiver::<4>::new_at(&mut storage[..], 0);
     /// assert!(receiver.keep(0, b"abc", Part::More).is_ok());
     /// assert!(receiver.keep(9, b"forged", Part::Last).is_ok());
     /// assert_eq!(receiver.keep(4, b"e", Part::Last), Err(FiniteError::OtherEnd));
@@ -191,7 +191,7 @@ impl<S: Storage<u8>, const N: usize> FiniteReceiverOver<S, N> {
     /// ```
     /// # use net_base::finite::{FiniteReceiver, Part};
     /// # let mut storage = [0u8; 16];
-    /// # let mut receiver = FiniteReceiver::<4>::empty_at(&mut storage[..], 0);
+    /// # let mut receiver = FiniteReceiver::<4>::new_at(&mut storage[..], 0);
     /// assert!(receiver.keep(0, b"abc", Part::Last).is_ok());
     /// let mut into = *b"-----";
     /// assert_eq!((receiver.read(&mut into), &into, receiver.has_read_all()), (3, b"abc--", true));
@@ -212,7 +212,7 @@ impl<S: Storage<u8>, const N: usize> FiniteReceiverOver<S, N> {
     /// ```
     /// # use net_base::finite::{FiniteReceiver, Part};
     /// # let mut storage = [0u8; 16];
-    /// # let mut receiver = FiniteReceiver::<4>::empty_at(&mut storage[..], 0);
+    /// # let mut receiver = FiniteReceiver::<4>::new_at(&mut storage[..], 0);
     /// assert!(receiver.keep(0, b"abc", Part::Last).is_ok());
     /// assert_eq!(receiver.read_with(|bytes| (2, bytes.len())), (2, 3));
     /// assert_eq!((receiver.receiver().queued(), receiver.has_read_all()), (1, false));
@@ -236,7 +236,7 @@ impl<S: Storage<u8>, const N: usize> FiniteReceiverOver<S, N> {
     /// ```
     /// # use net_base::finite::{FiniteReceiver, Part};
     /// # let mut storage = [0u8; 16];
-    /// # let mut receiver = FiniteReceiver::<4>::empty_at(&mut storage[..], 0);
+    /// # let mut receiver = FiniteReceiver::<4>::new_at(&mut storage[..], 0);
     /// assert!(receiver.keep(0, b"abc", Part::More).is_ok());
     /// receiver.remove(2);
     /// assert_eq!(receiver.receiver().peek(0, 9), b"c");
@@ -256,7 +256,7 @@ impl<S: Storage<u8>, const N: usize> FiniteReceiverOver<S, N> {
     /// ```
     /// # use net_base::finite::{FiniteReceiver, Part};
     /// # let mut storage = [0u8; 16];
-    /// # let mut receiver = FiniteReceiver::<4>::empty_at(&mut storage[..], 0);
+    /// # let mut receiver = FiniteReceiver::<4>::new_at(&mut storage[..], 0);
     /// assert!(receiver.keep(0, b"abc", Part::More).is_ok() && receiver.end().is_none());
     /// assert!(receiver.keep(5, b"f", Part::Last).is_ok());
     /// assert_eq!(receiver.end(), Some(6));
@@ -271,7 +271,7 @@ impl<S: Storage<u8>, const N: usize> FiniteReceiverOver<S, N> {
     /// ```
     /// # use net_base::finite::{FiniteReceiver, Part};
     /// # let mut storage = [0u8; 16];
-    /// # let mut receiver = FiniteReceiver::<4>::empty_at(&mut storage[..], 0);
+    /// # let mut receiver = FiniteReceiver::<4>::new_at(&mut storage[..], 0);
     /// assert!(receiver.keep(2, b"c", Part::Last).is_ok() && !receiver.is_complete());
     /// assert!(receiver.keep(0, b"ab", Part::More).is_ok() && receiver.is_complete());
     /// ```
@@ -280,13 +280,28 @@ impl<S: Storage<u8>, const N: usize> FiniteReceiverOver<S, N> {
         self.receiver.next() == end_or_max(self.after_end)
     }
 
+    /// Returns the first missing position, as `next` of the receiver of the bytes does: at most the end. An
+    /// acknowledgement of TCP carries `acknowledged`.
+    ///
+    /// ```
+    /// # use net_base::finite::{FiniteReceiver, Part};
+    /// # let mut storage = [0u8; 16];
+    /// # let mut receiver = FiniteReceiver::<4>::new_at(&mut storage[..], 0);
+    /// assert!(receiver.keep(0, b"abc", Part::Last).is_ok());
+    /// assert_eq!((receiver.next(), receiver.acknowledged()), (3, 4));
+    /// ```
+    #[must_use]
+    pub fn next(&self) -> u64 {
+        self.receiver.next()
+    }
+
     /// Returns the number that an acknowledgement carries: the first missing position, or, once all
     /// bytes and the end have arrived, the end plus 1, since the end has a number.
     ///
     /// ```
     /// # use net_base::finite::{FiniteReceiver, Part};
     /// # let mut storage = [0u8; 16];
-    /// # let mut receiver = FiniteReceiver::<4>::empty_at(&mut storage[..], 0);
+    /// # let mut receiver = FiniteReceiver::<4>::new_at(&mut storage[..], 0);
     /// assert!(receiver.keep(0, b"abc", Part::More).is_ok() && receiver.acknowledged() == 3);
     /// assert!(receiver.keep(3, b"", Part::Last).is_ok() && receiver.acknowledged() == 4);
     /// ```
@@ -300,7 +315,7 @@ impl<S: Storage<u8>, const N: usize> FiniteReceiverOver<S, N> {
     /// ```
     /// # use net_base::finite::{FiniteReceiver, Part};
     /// # let mut storage = [0u8; 16];
-    /// # let mut receiver = FiniteReceiver::<4>::empty_at(&mut storage[..], 0);
+    /// # let mut receiver = FiniteReceiver::<4>::new_at(&mut storage[..], 0);
     /// assert!(receiver.keep(0, b"abc", Part::Last).is_ok() && !receiver.has_read_all());
     /// assert!(receiver.read(&mut [0; 3]) == 3 && receiver.has_read_all());
     /// ```
@@ -316,7 +331,7 @@ impl<S: Storage<u8>, const N: usize> FiniteReceiverOver<S, N> {
     /// ```
     /// # use net_base::finite::{FiniteReceiver, Part};
     /// # let mut storage = [0u8; 3];
-    /// # let mut receiver = FiniteReceiver::<4>::empty_at(&mut storage[..], 0);
+    /// # let mut receiver = FiniteReceiver::<4>::new_at(&mut storage[..], 0);
     /// assert!(receiver.keep(0, b"abc", Part::More).is_ok());
     /// assert_eq!((receiver.acknowledged(), receiver.window_end()), (3, Some(3)));
     /// assert!(receiver.keep(3, b"", Part::Last).is_ok());
@@ -338,7 +353,7 @@ impl<S: Storage<u8>, const N: usize> FiniteReceiverOver<S, N> {
     /// ```
     /// # use net_base::finite::{FiniteReceiver, Part};
     /// # let mut storage = [0u8; 8];
-    /// # let mut receiver = FiniteReceiver::<4>::empty_at(&mut storage[..], 0);
+    /// # let mut receiver = FiniteReceiver::<4>::new_at(&mut storage[..], 0);
     /// assert!(receiver.keep(3, b"d", Part::Last).is_ok());
     /// let parts = receiver.parts_of(2, 9);
     /// assert_eq!((parts.in_window, parts.beyond, parts.past_end), (2, 0, 7));
@@ -360,7 +375,7 @@ impl<S: Storage<u8>, const N: usize> FiniteReceiverOver<S, N> {
     /// ```
     /// # use net_base::finite::{FiniteReceiver, Part};
     /// # let mut storage = [0u8; 16];
-    /// # let mut receiver = FiniteReceiver::<4>::empty_at(&mut storage[..], 0);
+    /// # let mut receiver = FiniteReceiver::<4>::new_at(&mut storage[..], 0);
     /// assert!(receiver.keep(2, b"c", Part::More).is_ok());
     /// assert_eq!((receiver.count_new(0, 4), receiver.count_new(2, 1)), (3, 0));
     /// ```

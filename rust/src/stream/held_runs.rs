@@ -13,7 +13,7 @@ use crate::storage::RunIter;
 /// use net_base::receiver::{HeldRunIter, Receiver};
 ///
 /// let mut storage = [0u8; 16];
-/// let mut receiver = Receiver::<4>::empty(&mut storage[..]);
+/// let mut receiver = Receiver::<4>::new(&mut storage[..]);
 /// assert!(receiver.keep(2, b"c").is_ok() && receiver.keep(5, b"fg").is_ok());
 /// let mut held: HeldRunIter = receiver.held();
 /// assert_eq!((held.next(), held.next(), held.next()), (Some((2, 3)), Some((5, 7)), None));
@@ -30,7 +30,7 @@ pub struct HeldRunIter<'a> {
 /// use net_base::receiver::{HeldRuns, Receiver};
 ///
 /// let mut storage = [0u8; 16];
-/// let mut receiver = Receiver::<4>::empty(&mut storage[..]);
+/// let mut receiver = Receiver::<4>::new(&mut storage[..]);
 /// assert!(receiver.keep(2, b"c").is_ok());
 /// let held: HeldRuns<'_, 4> = receiver.held();
 /// assert_eq!((held.len(), receiver.held_count()), (1, 1));
@@ -78,7 +78,7 @@ pub struct HeldRun {
 /// use net_base::receiver::{NewestRunIter, Receiver};
 ///
 /// let mut storage = [0u8; 16];
-/// let mut receiver = Receiver::<4>::empty(&mut storage[..]);
+/// let mut receiver = Receiver::<4>::new(&mut storage[..]);
 /// assert!(receiver.keep(2, b"c").is_ok() && receiver.keep(5, b"fg").is_ok());
 /// let mut newest: NewestRunIter<3> = receiver.newest_runs(5, &mut [0; 3]);
 /// assert_eq!((newest.next(), newest.next(), newest.next()), (Some((5, 7)), Some((2, 3)), None));
@@ -110,6 +110,13 @@ impl<const K: usize> Iterator for NewestRunIter<K> {
         self.from += 1;
         debug_assert!(self.from <= self.count);
         Some(item)
+    }
+
+    #[inline]
+    fn size_hint(&self) -> (usize, Option<usize>) {
+        let runs: &[HeldRun] = &self.runs;
+        let count = self.count.min(runs.len()).saturating_sub(self.from);
+        (count, Some(count))
     }
 }
 

@@ -8,7 +8,7 @@
 /// use net_base::receiver::{Kept, Receiver};
 ///
 /// let mut storage = [0u8; 16];
-/// let mut receiver = Receiver::new(&mut storage[..]);
+/// let mut receiver = Receiver::<4>::new(&mut storage[..]);
 /// let Ok(Kept { kept, queued, sack, .. }) = receiver.segment(5, b"fg") else {
 ///     panic!("a first run is never refused");
 /// };
@@ -32,7 +32,7 @@ pub struct Kept {
 /// use net_base::receiver::{KeptBytes, Receiver};
 ///
 /// let mut storage = [0u8; 4];
-/// let mut receiver = Receiver::<4>::empty(&mut storage[..]);
+/// let mut receiver = Receiver::<4>::new(&mut storage[..]);
 /// // One byte of three is beyond the window, and the first one is missing.
 /// assert_eq!(receiver.keep(2, b"cde").map(|it| (it.kept, it.queued)), Ok((2, 0)));
 /// assert_eq!(receiver.keep(0, b"ab").map(|it| (it.kept, it.queued)), Ok((2, 4)));
@@ -52,7 +52,7 @@ pub struct KeptBytes {
 /// use net_base::receiver::{Receiver, SegmentParts};
 ///
 /// let mut storage = [0u8; 4];
-/// let mut receiver = Receiver::<4>::empty(&mut storage[..]);
+/// let mut receiver = Receiver::<4>::new(&mut storage[..]);
 /// assert!(receiver.keep(0, b"ab").is_ok());
 /// let SegmentParts { old, in_window, beyond, past_end: _, .. } = receiver.parts_of(1, 5);
 /// assert_eq!((old, in_window, beyond), (1, 2, 2));
@@ -77,7 +77,7 @@ pub struct SegmentParts {
 /// use net_base::finite::{FiniteError, FiniteReceiver, Part};
 ///
 /// let mut storage = [0u8; 16];
-/// let mut receiver = FiniteReceiver::<1>::empty_at(&mut storage[..], 0);
+/// let mut receiver = FiniteReceiver::<1>::new_at(&mut storage[..], 0);
 /// assert!(receiver.keep(2, b"cd", Part::More).is_ok());
 /// assert_eq!(receiver.keep(6, b"g", Part::More), Err(FiniteError::TooManyHoles));
 /// assert_eq!(receiver.keep(2, b"c", Part::Last), Err(FiniteError::OtherEnd));

@@ -15,7 +15,7 @@ use crate::stream::sequence_number::SequenceNumber;
 ///
 /// let numbering = Numbering { first: SequenceNumber::new(7) };
 /// let mut ring = [0; 8];
-/// let mut receiver = Receiver::<4>::empty_at(&mut ring[..], Numbering::first_position());
+/// let mut receiver = Receiver::<4>::new_at(&mut ring[..], Numbering::first_position());
 /// let pos = numbering.position(SequenceNumber::new(5), receiver.next());
 /// assert_eq!(pos, Numbering::first_position() - 2);
 /// assert!(receiver.keep(pos, b"..ab").is_ok());

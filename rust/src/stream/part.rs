@@ -7,7 +7,7 @@
 /// use net_base::finite::{FiniteReceiver, Part};
 ///
 /// let mut storage = [0u8; 16];
-/// let mut receiver = FiniteReceiver::<4>::empty_at(&mut storage[..], 0);
+/// let mut receiver = FiniteReceiver::<4>::new_at(&mut storage[..], 0);
 /// assert!(receiver.keep(0, b"ab", Part::More).is_ok() && !receiver.is_complete());
 /// assert!(receiver.keep(2, b"c", Part::Last).is_ok() && receiver.is_complete());
 /// assert_eq!(Part::from(true), Part::Last); // of a flag

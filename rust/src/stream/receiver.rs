@@ -55,7 +55,7 @@ pub struct ReceiverOver<S: Storage<u8>, const N: usize> {
 /// use net_base::receiver::Receiver;
 ///
 /// let mut storage = [0u8; 8];
-/// let mut receiver = Receiver::new_at(&mut storage[..], 100);
+/// let mut receiver = Receiver::<4>::new_at(&mut storage[..], 100);
 /// assert_eq!(receiver.segment(103, b"de").map(|it| it.queued), Ok(0));
 /// assert_eq!(receiver.segment(100, b"abc").map(|it| it.queued), Ok(5));
 /// let mut into = [0; 8];
@@ -123,7 +123,7 @@ impl<S: Storage<u8>, const N: usize> ReceiverOver<S, N> {
     /// ```
     /// # use net_base::receiver::Receiver;
     /// # let mut storage = [0u8; 16];
-    /// # let mut receiver = Receiver::new(&mut storage[..]);
+    /// # let mut receiver = Receiver::<4>::new(&mut storage[..]);
     /// assert!(receiver.segment(0, b"abc").is_ok());
     /// receiver.reset_at(7);
     /// assert_eq!((receiver.next(), receiver.queued()), (7, 0));
@@ -154,7 +154,7 @@ impl<S: Storage<u8>, const N: usize> ReceiverOver<S, N> {
     /// # use net_base::receiver::Receiver;
     /// # use net_base::storage::TooManyHolesError;
     /// let mut storage = [0u8; 16];
-    /// let mut receiver = Receiver::<1>::empty(&mut storage[..]);
+    /// let mut receiver = Receiver::<1>::new(&mut storage[..]);
     /// assert_eq!(receiver.segment(4, b"e").map(|it| it.sack), Ok([Some((4, 5)), None, None]));
     /// assert_eq!(receiver.segment(6, b"g"), Err(TooManyHolesError));
     /// assert_eq!(receiver.segment(0, b"abcd").map(|it| it.queued), Ok(5));
@@ -197,7 +197,7 @@ impl<S: Storage<u8>, const N: usize> ReceiverOver<S, N> {
     /// ```
     /// # use net_base::receiver::Receiver;
     /// let mut storage = [0u8; 16];
-    /// let mut receiver = Receiver::new(&mut storage[..]);
+    /// let mut receiver = Receiver::<4>::new(&mut storage[..]);
     /// assert_eq!(receiver.keep(2, b"cd").map(|it| (it.kept, it.queued)), Ok((2, 0)));
     /// assert_eq!(receiver.keep(0, b"ab").map(|it| (it.kept, it.queued)), Ok((2, 4)));
     /// ```
@@ -256,7 +256,7 @@ impl<S: Storage<u8>, const N: usize> ReceiverOver<S, N> {
     /// ```
     /// # use net_base::receiver::Receiver;
     /// # let mut storage = [0u8; 16];
-    /// # let mut receiver = Receiver::new(&mut storage[..]);
+    /// # let mut receiver = Receiver::<4>::new(&mut storage[..]);
     /// assert!(receiver.segment(0, b"abc").is_ok());
     /// let mut into = *b"--";
     /// assert_eq!((receiver.read(&mut into), &into, receiver.queued()), (2, b"ab", 1));
@@ -278,7 +278,7 @@ impl<S: Storage<u8>, const N: usize> ReceiverOver<S, N> {
     /// ```
     /// # use net_base::receiver::Receiver;
     /// # let mut storage = [0u8; 16];
-    /// # let mut receiver = Receiver::new(&mut storage[..]);
+    /// # let mut receiver = Receiver::<4>::new(&mut storage[..]);
     /// assert!(receiver.segment(0, b"abc").is_ok());
     /// let mut into = *b"--";
     /// assert_eq!((receiver.peek_slice(&mut into), &into, receiver.queued()), (2, b"ab", 3));
@@ -301,7 +301,7 @@ impl<S: Storage<u8>, const N: usize> ReceiverOver<S, N> {
     /// ```
     /// # use net_base::receiver::Receiver;
     /// # let mut storage = [0u8; 16];
-    /// # let mut receiver = Receiver::new(&mut storage[..]);
+    /// # let mut receiver = Receiver::<4>::new(&mut storage[..]);
     /// assert!(receiver.segment(0, b"abc").is_ok());
     /// assert_eq!(receiver.peek(1, 9), b"bc");
     /// ```
@@ -323,7 +323,7 @@ impl<S: Storage<u8>, const N: usize> ReceiverOver<S, N> {
     /// ```
     /// # use net_base::receiver::Receiver;
     /// # let mut storage = [0u8; 4];
-    /// # let mut receiver = Receiver::new(&mut storage[..]);
+    /// # let mut receiver = Receiver::<4>::new(&mut storage[..]);
     /// assert!(receiver.segment(0, b"abc").is_ok());
     /// assert_eq!(receiver.read(&mut [0; 2]), 2);
     /// assert!(receiver.segment(3, b"def").is_ok());
@@ -346,7 +346,7 @@ impl<S: Storage<u8>, const N: usize> ReceiverOver<S, N> {
     /// ```
     /// # use net_base::receiver::Receiver;
     /// # let mut storage = [0u8; 16];
-    /// # let mut receiver = Receiver::new(&mut storage[..]);
+    /// # let mut receiver = Receiver::<4>::new(&mut storage[..]);
     /// assert!(receiver.segment(0, b"abc").is_ok());
     /// assert_eq!(receiver.read_with(|bytes| (2, bytes.len())), (2, 3));
     /// assert_eq!(receiver.peek(0, 9), b"c");
@@ -371,7 +371,7 @@ impl<S: Storage<u8>, const N: usize> ReceiverOver<S, N> {
     /// ```
     /// # use net_base::receiver::Receiver;
     /// # let mut storage = [0u8; 16];
-    /// # let mut receiver = Receiver::new(&mut storage[..]);
+    /// # let mut receiver = Receiver::<4>::new(&mut storage[..]);
     /// assert!(receiver.segment(0, b"abc").is_ok());
     /// receiver.remove(2);
     /// assert_eq!((receiver.peek(0, 9), receiver.next()), (&b"c"[..], 3));
@@ -406,7 +406,7 @@ impl<S: Storage<u8>, const N: usize> ReceiverOver<S, N> {
     /// ```
     /// # use net_base::receiver::Receiver;
     /// # let mut storage = [0u8; 16];
-    /// # let mut receiver = Receiver::new(&mut storage[..]);
+    /// # let mut receiver = Receiver::<4>::new(&mut storage[..]);
     /// assert!(receiver.segment(0, b"abc").is_ok());
     /// assert_eq!(receiver.next(), 3);
     /// ```
@@ -420,7 +420,7 @@ impl<S: Storage<u8>, const N: usize> ReceiverOver<S, N> {
     /// ```
     /// # use net_base::receiver::Receiver;
     /// # let mut storage = [0u8; 16];
-    /// # let mut receiver = Receiver::new(&mut storage[..]);
+    /// # let mut receiver = Receiver::<4>::new(&mut storage[..]);
     /// assert!(receiver.segment(0, b"abc").is_ok());
     /// assert_eq!(receiver.queued(), 3);
     /// ```
@@ -435,7 +435,7 @@ impl<S: Storage<u8>, const N: usize> ReceiverOver<S, N> {
     /// ```
     /// # use net_base::receiver::Receiver;
     /// # let mut storage = [0u8; 16];
-    /// # let mut receiver = Receiver::new(&mut storage[..]);
+    /// # let mut receiver = Receiver::<4>::new(&mut storage[..]);
     /// assert!(receiver.segment(0, b"abc").is_ok());
     /// assert_eq!(receiver.window(), 13);
     /// ```
@@ -450,7 +450,7 @@ impl<S: Storage<u8>, const N: usize> ReceiverOver<S, N> {
     /// ```
     /// # use net_base::receiver::Receiver;
     /// # let mut storage = [0u8; 16];
-    /// # let mut receiver = Receiver::new_at(&mut storage[..], 100);
+    /// # let mut receiver = Receiver::<4>::new_at(&mut storage[..], 100);
     /// assert!(receiver.segment(100, b"abc").is_ok());
     /// assert_eq!(receiver.window_end(), Some(116));
     /// assert_eq!(receiver.read(&mut [0; 3]), 3);
@@ -466,7 +466,7 @@ impl<S: Storage<u8>, const N: usize> ReceiverOver<S, N> {
     /// ```
     /// # use net_base::receiver::Receiver;
     /// let mut storage = [0u8; 16];
-    /// assert_eq!(Receiver::new(&mut storage[..]).capacity(), 16);
+    /// assert_eq!(Receiver::<4>::new(&mut storage[..]).capacity(), 16);
     /// ```
     #[must_use]
     pub fn capacity(&self) -> usize {
@@ -478,7 +478,7 @@ impl<S: Storage<u8>, const N: usize> ReceiverOver<S, N> {
     /// ```
     /// # use net_base::receiver::Receiver;
     /// # let mut storage = [0u8; 16];
-    /// # let mut receiver = Receiver::new(&mut storage[..]);
+    /// # let mut receiver = Receiver::<4>::new(&mut storage[..]);
     /// assert!(receiver.segment(1, b"b").is_ok());
     /// assert!(receiver.is_empty());
     /// ```
@@ -494,7 +494,7 @@ impl<S: Storage<u8>, const N: usize> ReceiverOver<S, N> {
     /// ```
     /// # use net_base::receiver::Receiver;
     /// # let mut storage = [0u8; 16];
-    /// # let mut receiver = Receiver::new_at(&mut storage[..], 100);
+    /// # let mut receiver = Receiver::<4>::new_at(&mut storage[..], 100);
     /// assert!(receiver.segment(105, b"abc").is_ok());
     /// assert!(receiver.held().eq([(105, 108)]));
     /// ```
@@ -508,7 +508,7 @@ impl<S: Storage<u8>, const N: usize> ReceiverOver<S, N> {
     /// ```
     /// # use net_base::receiver::Receiver;
     /// # let mut storage = [0u8; 16];
-    /// # let mut receiver = Receiver::new(&mut storage[..]);
+    /// # let mut receiver = Receiver::<4>::new(&mut storage[..]);
     /// assert!(receiver.segment(1, b"b").is_ok() && receiver.segment(3, b"d").is_ok());
     /// assert_eq!(receiver.held_count(), 2);
     /// ```
@@ -522,8 +522,7 @@ impl<S: Storage<u8>, const N: usize> ReceiverOver<S, N> {
     ///
     /// The first is the run that has `position`, that of the segment just taken, if it is held. Then
     /// come the runs of the starts in `recent`, in their order, and then the others, in rising order;
-    /// each comes once. The caller keeps `recent` from call to call, zeros at first. The iterator doesn't
-    /// tell how many are left, and is no `ExactSizeIterator`.
+    /// each comes once. The caller keeps `recent` from call to call, zeros at first.
     ///
     /// A sender that is told the first runs again and again learns late of others. smoltcp reports the
     /// first run alone.
@@ -531,7 +530,7 @@ impl<S: Storage<u8>, const N: usize> ReceiverOver<S, N> {
     /// ```
     /// # use net_base::receiver::Receiver;
     /// # let mut storage = [0u8; 16];
-    /// # let mut receiver = Receiver::new_at(&mut storage[..], 100);
+    /// # let mut receiver = Receiver::<4>::new_at(&mut storage[..], 100);
     /// let mut recent = [0; 3];
     /// assert!(receiver.segment(108, b"i").is_ok());
     /// assert!(receiver.newest_runs(108, &mut recent).eq([(108, 109)]));
@@ -556,7 +555,7 @@ impl<S: Storage<u8>, const N: usize> ReceiverOver<S, N> {
     /// ```
     /// # use net_base::receiver::Receiver;
     /// # let mut storage = [0u8; 16];
-    /// # let mut receiver = Receiver::new(&mut storage[..]);
+    /// # let mut receiver = Receiver::<4>::new(&mut storage[..]);
     /// assert!(receiver.keep(0, b"abc").is_ok() && receiver.keep(6, b"ghi").is_ok());
     /// assert_eq!(receiver.duplicate_of(1, 4), Some(1..3));
     /// assert_eq!((receiver.duplicate_of(4, 3), receiver.duplicate_of(3, 3)), (Some(6..7), None));
@@ -578,7 +577,7 @@ impl<S: Storage<u8>, const N: usize> ReceiverOver<S, N> {
     /// ```
     /// # use net_base::receiver::Receiver;
     /// # let mut storage = [0u8; 4];
-    /// # let mut receiver = Receiver::new(&mut storage[..]);
+    /// # let mut receiver = Receiver::<4>::new(&mut storage[..]);
     /// assert!(receiver.keep(0, b"ab").is_ok());
     /// let parts = receiver.parts_of(1, 5);
     /// assert_eq!((parts.old, parts.in_window, parts.beyond), (1, 2, 2));
@@ -618,8 +617,8 @@ impl<S: Storage<u8>, const N: usize> ReceiverOver<S, N> {
     /// ```
     /// # use net_base::receiver::Receiver;
     /// let (mut storage, mut other) = ([0u8; 4], [0u8; 8]);
-    /// let receiver = Receiver::new(&mut storage[..]);
-    /// assert!(receiver.same_state(&Receiver::new(&mut other[..])));
+    /// let receiver = Receiver::<4>::new(&mut storage[..]);
+    /// assert!(receiver.same_state(&Receiver::<4>::new(&mut other[..])));
     /// ```
     #[must_use]
     pub fn same_state<O: Storage<u8>>(&self, other: &ReceiverOver<O, N>) -> bool {

@@ -26,7 +26,7 @@ use core::ops::Range;
 /// assert_eq!(scoreboard.next_hole(140, 200), Some(160..200));
 /// ```
 #[derive(Clone)]
-pub struct Scoreboard<const N: usize> {
+pub struct Scoreboard<const N: usize = 4> {
     // Invariant: the runs are those of an assembler, counted from the first position that wasn't
     // reported, which is in none of them. Each end fits 64 bits. If there is no run, that assembler's head
     // is 0 in both numbers.

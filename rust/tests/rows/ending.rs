@@ -21,7 +21,7 @@ pub fn with_ending<const N: usize>(
     with_storage!(
         stored,
         bytes,
-        |make| Ending::<_, N> { receiver: FiniteReceiver::empty_at(make(), first), first },
+        |make| Ending::<_, N> { receiver: FiniteReceiver::new_at(make(), first), first },
         Ending::<_, N> { receiver: FiniteReceiverOver::over_at(make(), first), first },
         f
     )

@@ -16,7 +16,7 @@ pub fn with_buffer<const N: usize>(
     with_storage!(
         stored,
         bytes,
-        |make| Buffer::<_, N>(FragmentBuffer::empty(make(), expires_at)),
+        |make| Buffer::<_, N>(FragmentBuffer::new(make(), expires_at)),
         Buffer::<_, N>(FragmentsOver::over(make(), expires_at)),
         f
     )

@@ -22,7 +22,7 @@ pub fn with_end<const N: usize>(
     with_storage!(
         stored,
         bytes,
-        |make| Receiving { end: ReceivingEnd::<N>::empty_at(make(), first, size), first },
+        |make| Receiving { end: ReceivingEnd::<N>::new_at(make(), first, size), first },
         Receiving { end: ReceivingEndOver::<_, N>::over_at(make(), first, size), first },
         f
     )

@@ -1,4 +1,5 @@
 //! The elements of a queue, one after another.
+use crate::width::most;
 use std::marker::Model;
 
 /// An iterator over the elements of a queue, the first one first, made by `RingOver::iter`.
@@ -21,17 +22,20 @@ pub struct Iter<'a, T> {
 
 /// Contracts see the list of the elements that are left.
 impl<'a, T> Model for Iter<'a, T> {
-    ghost use Rattle.std.specs.Prelude.{◌+◌, ◌^◌, ◌<◌, List, ◌++◌, length};
+    ghost use Rattle.std.specs.Prelude.{◌+◌, List, ◌++◌, length};
+    ghost use Rattle.net_ring.specs.Width.{IsUsize};
 
     ghost Value = { List T };
 
     ghost view = { λ s. s.first.now ++ s.second.now };
 
-    ghost invariant = { λ s. length s.first.now + length s.second.now < 2 ^ 64 };
+    ghost invariant = { λ s. IsUsize (length s.first.now + length s.second.now) };
 }
 
 impl<'a, T> Iterator for Iter<'a, T> {
-    ghost use Rattle.std.specs.Iterator.{YieldsFirstRef, item_count};
+    ghost use Rattle.std.specs.Iterator.{UpTo, YieldsFirstRef, at_most, item_count};
+    ghost use Rattle.std.specs.Iterator.SizeHint.{IsWithinCount};
+    ghost use Rattle.std.specs.Prelude.{◌≡◌, length, Some, IfSome};
 
     type Item = &'a T;
 
@@ -51,6 +55,16 @@ impl<'a, T> Iterator for Iter<'a, T> {
             return Some(&second[0]);
         }
         None
+    }
+
+    fn size_hint(&self) -> (usize, Option<usize>)
+        ensures lower { IsWithinCount result.0 (at_most (length self.now)) }
+        ensures upper { IfSome result.1 (UpTo (at_most (length self.now))) }
+        ensures exact { result ≡ (length self.now, Some (length self.now)) }
+    {
+        let count = self.first.len() + self.second.len();
+        prove!(count <= most(), "in any `usize`");
+        (count, Some(count))
     }
 }
 

@@ -99,7 +99,7 @@ impl<'a, A: Allocator + Copy, const N: usize> StreamSession<'a, A, N> {
         StreamSession {
             first,
             capacity: storage.len(),
-            present: Receiver::empty_at(ManagedSlice::from(storage), first),
+            present: Receiver::new_at(ManagedSlice::from(storage), first),
             ended: None,
             second: Some(second),
         }
@@ -128,7 +128,7 @@ impl<'a, A: Allocator + Copy, const N: usize> StreamSession<'a, A, N> {
         let storage = vec![in alloc; 0u8; self.capacity]?;
         let second = self.second.take().unwrap();
         *second = storage;
-        let fresh = Receiver::empty_at(ManagedSlice::from(second.as_mut_slice()), self.first);
+        let fresh = Receiver::new_at(ManagedSlice::from(second.as_mut_slice()), self.first);
         self.ended = Some(mem::replace(&mut self.present, fresh));
         Ok(())
     }
