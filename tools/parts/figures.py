@@ -9,8 +9,9 @@ from pathlib import Path
 
 ROOT = Path(__file__).resolve().parent.parent.parent
 # What no file counts: what is asked for, and versions.
-FIXED = ["32 and 64 bits", "16 bytes of buffer", "lets 4 ranges wait", "smoltcp 0.14.0", "until 1.0", "Rust 1.87 and Python 3.9",
-         "that is 1 |", "smoltcp's is 1", "[0BSD]"]
+FIXED = ["32 and 64 bits", "smoltcp 0.14.0", "until 1.0", "Until 1.0", "Rust 1.87 and Python 3.9",
+         "that is 1 |", "smoltcp's is 1", "[0BSD]", "N = 2 ranges", "16 bytes of room and N = 4",
+         "0.87 to 0.93, 0.79 to 0.85 and 0.75 to 0.82", "up to 1.36"]
 WORDS = [*"none one two three four five six seven eight nine ten eleven twelve".split(), *map(str, range(13, 100))]
 NUMBER = rf"(\d(?:[\w.,-]*\w)?|(?i:{'|'.join(WORDS)}))"
 
@@ -49,19 +50,12 @@ def measured():
     paths = {row[0]: [*map(value, row[1:3])] for row in cells(sizes) if ";" in row[1]}
     ours = [here / there for name in ("net-base's `Receiver`, `keep`", "the same, `segment`")
             for here, there in zip(paths[name], paths["smoltcp"])]
-    yield "{} to {}; by `Receiver` {} to {}", sizes, [*span(ratios), *span(ours)]
+    yield "{} to {}; through `Receiver` {} to {}", sizes, [*span(ratios), *span(ours)]
     linux = {row[0]: [*map(value, row[4:])] for row in cells(peers) if len(row) == 6}
-    lost, late, many = (linux[name][0] for name in ("1 % lost", "5 % delayed", "10 % lost"))
-    yield "{} with 1 % lost, {} with 5 % late, {} times with 10 % lost", peers, [
-        f"{lost:.2f}", f"{late:.2f}", f"{many:.0f}"]
-    yield "{} of CUBIC's with 0.5 % lost", peers, [f"{linux['0.5 % lost'][1]:.2f}"]
+    yield "{} clean; {} with 0.5 % lost; {} with 5 % late", peers, [
+        f"{linux[name][0]:.2f}" for name in ("clean", "0.5 % lost", "5 % delayed")]
     for name, ratios in linux.items():
         yield f"| {name} | {{}} | {{}} |", peers, [f"{ratio:.2f}" for ratio in ratios]
-    pairs = [row for row in cells(peers) if len(row) == 8]
-    ratios_of = lambda columns: [value(row[k]) for row in pairs for k in columns if re.match(r"[\d.]+;", row[k])]
-    yield "{} to {} of the time that Linux takes; with bursts and 10 % lost {} s", peers, [
-        *span(ratios_of((2, 3))), re.search(r"([\d.]+) s;", " ".join(row[2] for row in pairs))[1]]
-    yield "with another peer {} to {}", peers, span(ratios_of((1, 4, 5, 6, 7)))
 
 
 def counted():
@@ -69,21 +63,25 @@ def counted():
     left, calls = "tools/parts/same_names.txt", "overlay/calls.rs"
     first = lambda form, path: (re.search(form, (ROOT / path).read_text(), re.M | re.S) or "00")[1]
     yield "Rust {} or later", cargo, [first(r'^rust-version = "(.*?)"', cargo)]
-    yield "Version {};", cargo, [first(r'^version = "(.*?)"', cargo)]
-    for text in ("each function; [{}]", "Each of {} [wrong bodies]"):
+    yield "version {}.", cargo, [first(r'^version = "(.*?)"', cargo)]
+    for text in ("has to refuse each | {}", "Each of {} [wrong bodies]"):
         yield text, "crates/must-fail.md", [str(count(r"^\| .* \| `.*` \| `", "crates/must-fail.md"))]
-    yield "{} tests; {} rows", f"rust/src, rust/tests, {rows}", [
-        tens(count(r"#\[test\]", "rust/src/**/*.rs", "rust/tests/**/*.rs")), tens(count(" => ", rows))]
-    yield "{} by hand; {}", "tools/exports.txt, c/targets/run.py", [
-        tens(count(" -> ", "tools/exports.txt")), f'{int(first(r"^CALLS.*? = ([0-9_]+)", "c/targets/run.py")):,}']
+    yield "tests of Rust, also on ARMv7 | what the pages say | {}", "rust/src, rust/tests", [
+        tens(count(r"#\[test\]", "rust/src/**/*.rs", "rust/tests/**/*.rs"))]
+    yield "calls with their replies | what the pages say | {}", rows, [tens(count(" => ", rows))]
+    yield "by an emulator | a second compiler's build | {}", "c/targets/run.py", [f'{int(first(r"^CALLS.*? = ([0-9_]+)", "c/targets/run.py")):,}']
     seeds, kinds = first(r"SEEDS: u64 = (\d+)", calls), first(r"KINDS: [^=]*; (\d+)\]", calls)
-    for text in ("{} sequences |", "{} sequences of [random calls]"):
+    for text in ("with its faults mended | {}", "{} sequences of [random calls]"):
         yield text, calls, [f"{int(seeds) * int(kinds):,}"]
-    for text in ("each proved function but [{}]", "{} functions, each with its reason"):
+    for text in ("each function but [{}]", "{} functions, each with its reason"):
         yield text, left, [WORDS[first(r"^== left\n(.*)", left).count(" ~~ ") // 2]]
     yield "[{} functions](std-calls.md)", "docs/std-calls.md", [
         str(sum(len(re.findall(r"`\w+`", names)) for names in re.findall(
             r"^- `\w+`: (.*(?:\n  .*)*)", (ROOT / "docs/std-calls.md").read_text(), re.M)))]
+    bytes_of = dict(re.findall(r"^\| `(\w+)` \| \d+ \| (\d+) \|$", (ROOT / "docs/C.md").read_text(), re.M))
+    yield "takes {} bytes on a Cortex-M4, both ends of a connection {}, and all the code of the C library {}", "docs/C.md", [
+        bytes_of["ring"], str(int(bytes_of["receiving_end"]) + int(bytes_of["sending_end"])),
+        first(r"^\| `thumbv7em-none-eabi` \| ([\d,]+) \|", "docs/C.md")]
     yield "declares {}.", rattle, [WORDS[count(r'^\s*(?:unsafe )?extern(?: "\w+")? \{', rattle)]]
     yield "{} `unsafe impl`", rattle, [WORDS[count(r"^\s*unsafe impl\b", rattle)]]
     yield "by hand of [{} functions]", "crates/*/proofs", [WORDS[len([*ROOT.glob("crates/*/proofs/**/Proof.antt")])]]
