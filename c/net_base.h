@@ -235,7 +235,10 @@ enum NET_BASE_32_BITS net_base_arrival_status {
      * window is shut, and the peer asks whether it has opened.
      */
     NET_BASE_ARRIVAL_ACKNOWLEDGEMENT_ONLY = 7,
-    /** Send an acknowledgement, and take nothing of a segment. */
+    /** Send an acknowledgement, and take nothing of a segment. Of bytes that all came before it
+     * reports so (RFC 2883), if the receiving end was told: `net_base_receiving_end_arrived` keeps
+     * none of them.
+     */
     NET_BASE_ARRIVAL_ANSWER = 8,
     /** Take nothing of a segment, and send nothing. */
     NET_BASE_ARRIVAL_IGNORE = 9,

@@ -145,9 +145,11 @@ static void take_segment(const struct segment *segment, int64_t now) {
                    && net_base_answer_limit_allows(&limit, &numbers, now);
     if (answers || arrival == NET_BASE_ARRIVAL_ACKNOWLEDGEMENT_ONLY)
         net_base_receiving_end_answer(&to);
-    if (arrival == NET_BASE_ARRIVAL_TAKE)
+    /* All of it came before: the answer says so (RFC 2883). Nothing of it is kept. */
+    bool is_old = answers && numbers.seq <= next && segment->size <= next - numbers.seq;
+    if (arrival == NET_BASE_ARRIVAL_TAKE || is_old)
         must(net_base_receiving_end_arrived(&to, incoming, WINDOW, numbers.seq, segment->bytes,
-                 segment->size, segment->is_last, &counts)
+                 segment->size, segment->is_last && !is_old, &counts)
                  == NET_BASE_SEGMENT_DONE,
             "arrived");
     if (net_base_receiving_end_is_due(&to)) acknowledge(now);

@@ -23,6 +23,9 @@ mod os;
 #[rustfmt::skip]
 #[path = "../../../rust/examples/endpoint/tcp.rs"]
 mod tcp;
+#[rustfmt::skip]
+#[path = "../../../rust/examples/endpoint/timestamps.rs"]
+mod timestamps;
 #[allow(dead_code)]
 #[rustfmt::skip]
 #[path = "../../../rust/examples/endpoint/wire.rs"]

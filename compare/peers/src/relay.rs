@@ -158,8 +158,9 @@ fn hide_blocks(packet: &mut [u8]) {
 /// take what does no harm for long. `end` is the number after all that the target has sent: what it has sent, and what
 /// hasn't arrived, is never acknowledged.
 fn forge(packet: &[u8], end: u32, rand: &mut Rand) -> Vec<u8> {
-    let mut forged = packet[..40].to_vec();
-    forged[32] = 0x50;
+    // With the timestamps of that, if it has them, as who sees the path knows, or without.
+    let has_times = packet.get(40..44) == Some(&[1, 1, 8, 10]) && rand.below(2) == 0;
+    let mut forged = packet[..if has_times { 52 } else { 40 }].to_vec();
     let (number, ack, some) = (u32_at(packet, 24), u32_at(packet, 28), rand.below(40_000));
     let wild = rand.rand_u32();
     let mut put = |at: usize, word: u32| forged[at..at + 4].copy_from_slice(&word.to_be_bytes());
@@ -174,7 +175,6 @@ fn forge(packet: &[u8], end: u32, rand: &mut Rand) -> Vec<u8> {
         // Another window, or blocks.
         5 => forged[34..36].copy_from_slice(&[0, wild as u8 & 1]),
         6 => {
-            forged[32] = 0x80;
             forged.extend([1, 1, 5, 10]);
             forged.extend(ack.wrapping_add(1 + some).to_be_bytes());
             forged.extend(ack.wrapping_add(1 + 2 * some).to_be_bytes());
@@ -186,6 +186,7 @@ fn forge(packet: &[u8], end: u32, rand: &mut Rand) -> Vec<u8> {
         }
     }
     let len = forged.len() as u16;
+    forged[32] = (len as u8 - 20) / 4 * 16;
     forged[2..4].copy_from_slice(&len.to_be_bytes());
     forged[10..12].fill(0);
     let sum = net_base::checksum::checksum(&forged[..20]);

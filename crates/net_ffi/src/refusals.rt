@@ -72,7 +72,8 @@ pub const NET_BASE_TAKE: Status = 6;
 /// peer asks whether it has opened.
 pub const NET_BASE_ACKNOWLEDGEMENT_ONLY: Status = 7;
 
-/// Send an acknowledgement, and take nothing of a segment.
+/// Send an acknowledgement, and take nothing of a segment. Of bytes that all came before it reports so (RFC 2883), if
+/// the receiving end was told: `net_base_receiving_end_arrived` keeps none of them.
 pub const NET_BASE_ANSWER: Status = 8;
 
 /// Take nothing of a segment, and send nothing.

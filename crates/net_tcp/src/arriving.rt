@@ -84,7 +84,8 @@ pub enum Arrival {
     /// below the first missing one, as it may be before the peer has heard of that, or to ask whether this
     /// end is there.
     AcknowledgementOnly,
-    /// Send an acknowledgement, and take nothing.
+    /// Send an acknowledgement, and take nothing. Of bytes that all came before it reports so (RFC 2883), if the
+    /// receiving end was told: `ReceivingEndOver::arrived` keeps none of them.
     Answer,
     /// Take nothing, and send nothing.
     Ignore,

@@ -7,6 +7,7 @@ mod path;
 mod peer;
 mod receiving;
 mod sending;
+mod times;
 mod words;
 
 #[allow(dead_code)]
@@ -18,6 +19,8 @@ mod settings;
 #[allow(dead_code)]
 #[path = "../../examples/endpoint/tcp.rs"]
 mod tcp;
+#[path = "../../examples/endpoint/timestamps.rs"]
+mod timestamps;
 #[allow(dead_code)]
 #[path = "../../examples/endpoint/wire.rs"]
 mod wire;

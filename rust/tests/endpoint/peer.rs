@@ -161,6 +161,15 @@ impl Packet {
     }
 }
 
+impl Packet {
+    /// Adds the peer's clock, and what it echoes.
+    pub fn times(mut self, value: u32, echoed: u32) -> Packet {
+        self.options.extend([1, 1, 8, 10]);
+        self.options.extend([value, echoed].map(u32::to_be_bytes).concat());
+        self
+    }
+}
+
 /// A packet after `at` of the peer's bytes, which acknowledges `acked` of the endpoint's.
 pub fn peer(at: u32, acked: u32) -> Packet {
     Packet {

@@ -311,6 +311,26 @@ fn each_second_segment_is_acknowledged() {
     assert_eq!((talk.say(&peer(11, 0)), talk.wait(0)), (vec![], vec![]));
 }
 
+/// All of a segment came before: the answer says so (RFC 2883), once.
+#[test]
+fn what_comes_twice_is_reported() {
+    let mut talk = Talk::<4>::open(1 << 16, OPTIONS);
+    assert_eq!(talk.say(&peer(0, 0).text(b"ab")), []);
+    challenge(&talk.say(&peer(2, 0).text(b"cd")), 4);
+    assert_eq!(challenge(&talk.say(&peer(0, 0).text(b"XYZ")), 4).blocks(), [(0, 3)]);
+    assert_eq!(challenge(&talk.say(&peer(9, 0).text(b"j")), 4).blocks(), [(9, 10)]);
+    // Before what waits beyond a hole.
+    assert_eq!(challenge(&talk.say(&peer(1, 0).text(b"YZ")), 4).blocks(), [(1, 3), (9, 10)]);
+    // Not text of a second SYN; and none that acknowledges what was never sent is kept.
+    assert_eq!(challenge(&talk.say(&peer(1, 0).text(b"Y").with(SYN)), 4).blocks(), [(9, 10)]);
+    assert_eq!(challenge(&talk.say(&peer(0, 9).text(b"XYZ")), 4).blocks(), [(0, 3), (9, 10)]);
+    assert_eq!(talk.read(9), b"abcd");
+    // Nor is an end that comes again part of it.
+    challenge(&talk.say(&peer(4, 0).text(b"efghi").with(FIN)), 10);
+    assert_eq!(challenge(&talk.say(&peer(4, 0).text(b"EFGHI").with(FIN)), 10).blocks(), [(4, 9)]);
+    assert_eq!(talk.read(9), b"efghi");
+}
+
 #[test]
 fn the_end() {
     // In order; out of order; alone; with a window of one byte.

@@ -211,9 +211,11 @@ fn congestion() {
     assert_eq!(talk.wait(0).len(), 2);
     talk.say(&peer(0, 3001));
     assert_eq!(talk.wait(0).len(), 4);
-    // Not more than that for an acknowledgement of many.
+    // Five for five, and eight for more (RFC 9406, 4.3).
     talk.say(&peer(0, 8001));
-    assert_eq!(talk.wait(0).len(), 7);
+    assert_eq!(talk.wait(0).len(), 10);
+    talk.say(&peer(0, 20_001));
+    assert_eq!(talk.wait(0).len(), 20);
     let mut talk = self::talk(60_000);
     assert_eq!(talk.wait(0).len(), 10);
     // After a timeout one segment, and slow start.
@@ -225,6 +227,13 @@ fn congestion() {
     // That ends above half of what was on the way: ten segments, and the probe.
     talk.say(&peer(0, 6001));
     assert_eq!(talk.wait(0).len(), 1);
+    // There an acknowledgement of many counts as one of two.
+    let mut talk = self::talk(60_000);
+    assert_eq!(talk.wait(0).len(), 10);
+    talk.say(&peer(0, 1).report(&[(1001, 6001)]));
+    assert_eq!(places(&talk.time_out().1), [(1, 1000)]);
+    talk.say(&peer(0, 6001));
+    assert_eq!(talk.wait(0).len(), 3);
     // It is two segments at least, where less was on the way: three runs show that a byte is lost.
     let mut talk = self::talk(0);
     for at in 1..7 {
@@ -236,6 +245,12 @@ fn congestion() {
     talk.say(&peer(0, 7));
     write(&mut talk, 7, 7_007);
     assert_eq!(talk.wait(0).len(), 2);
+    // It is half of what was on the way before acknowledgements that come together: of ten segments, not of six.
+    let mut talk = self::talk(60_000);
+    assert_eq!(talk.wait(0).len(), 10);
+    talk.say(&peer(0, 4_001));
+    talk.say(&peer(0, 4_001).report(&[(5_001, 10_001)]));
+    assert_eq!(talk.wait(0).len(), 5);
     // A buffer of less than a segment doesn't limit it.
     let mut talk = Talk::<4>::open(100, OPTIONS);
     for (from, to, acked) in [(0, 1, 1), (1, 2, 1), (2, 60, 1)] {
