@@ -27,7 +27,7 @@ FEW, MANY = 32, 1024
 MOST = {"looks": 1.1, "searches": 2.2, "passes": 36}
 # How many times more it has to take, since its class would else be a better one; and calls whose case isn't their
 # worst.
-LEAST, BETTER = {"looks": 0, "searches": 1, "passes": 2.2}, {"sending_end_next_segment"}
+LEAST, BETTER = {"looks": 0, "searches": 1, "passes": 2.2}, {"sending_end_next_segment", "send_buffer_next"}
 # How many instructions an export may take besides; one of an acknowledgement, which copies its runs as ranges. The copy
 # takes 10 of these, and 14 with two runs.
 OVER, OVER_OF_RUNS = 30, 45
@@ -53,6 +53,7 @@ LEFT_OUT = {
     "only a program makes it, and it takes queued bytes": "as_slices peek peek_slice read_with",
     "only a program makes it, and it gives bytes, or ends the stream": "close set_nagle_enabled write",
     "only a program makes it: it compares two values": "same_state",
+    "it passes once and searches at each run, so it grows 47 times with 32 times as many runs": "lose",
 }
 HERE = Path(__file__).resolve().parent
 PAGE = HERE.parent / "compare/results/growth.md"

@@ -1,7 +1,6 @@
 //! The tasks of docs/GUIDE.md of the repository, whose page quotes them: `cargo run --example guide -- TASK`, where
 //! TASK is ring, packets, receiver, quic or fragments.
-use net_base::ends::{SegmentBytes, SendBuffer, Sending};
-use net_base::finite::FiniteReceiver;
+use net_base::finite::{FiniteReceiver, RangeAck, SegmentBytes, SendBuffer};
 use net_base::receiver::Receiver;
 use net_base::storage::{FragmentBuffer, PacketBuffer, PacketMetadata, RingBuffer};
 use net_base::time::{Duration, Instant};
@@ -61,13 +60,10 @@ fn quic() {
     let (max_stream_data, mut packet) = (32, 0);
     while !sending.is_done() {
         let mut acknowledged = vec![];
-        // The end's number is no data, so it may be one beyond what the peer allows.
-        let is_last = sending.is_closed() && sending.numbers_end() == max_stream_data + 1;
-        let limit = max_stream_data + u64::from(is_last);
-        while let Some(range) = sending.next(limit, u64::MAX, 8) {
+        while let Some(range) = sending.next(max_stream_data, 8) {
             let SegmentBytes { front, back, part } = sending.bytes(range.clone());
             let data = [front, back].concat();
-            assert!(sending.mark(range.clone(), Sending::Segment)); // it was written
+            assert!(sending.mark(range.clone())); // it was written
             packet += 1;
             println!("packet {packet}: {range:?} {:?} fin {}", text(&data), part.is_last());
             // Packet 2 is lost. Of each other one the receiver's ACK frame names the packet, and so the range.
@@ -82,7 +78,7 @@ fn quic() {
             }
         }
         for range in acknowledged {
-            sending.acknowledge_range(range, 8).expect("no more than was sent");
+            assert_eq!(sending.acknowledge(range), RangeAck::Taken);
         }
         sending.lose_all(); // your loss detection: here all that isn't acknowledged
     }

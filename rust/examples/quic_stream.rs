@@ -5,14 +5,17 @@
 use std::collections::{BTreeMap, VecDeque};
 use std::ops::Range;
 
-use net_base::ends::{SegmentBytes, SendBuffer, Sending};
-use net_base::finite::FiniteReceiver;
+use net_base::finite::{FiniteReceiver, RangeAck, SegmentBytes, SendBuffer};
 use net_base::rand::Rand;
 
 /// The most bytes of a STREAM frame.
 const SIZE: usize = 500;
 /// How many bytes may wait on either side.
 const CAPACITY: usize = 8_000;
+/// How many packets may be in flight.
+const WINDOW: usize = 16;
+/// How many packets may overtake one before it counts as lost: RFC 9002 has 3, and this path has packets come as they like.
+const OVERTAKING: u64 = 8;
 /// How many ticks without an acknowledgement tell that all that is in flight is lost.
 const TIMEOUT: u64 = 100;
 
@@ -40,7 +43,7 @@ impl Path {
     }
 }
 
-/// The side that sends: the stream, and the range of each packet that isn't acknowledged.
+/// The side that sends: the stream, and the range of each packet that is in flight.
 struct Sender {
     stream: SendBuffer<'static, 16>,
     ranges: BTreeMap<u64, Range<u64>>,
@@ -50,31 +53,38 @@ struct Sender {
 }
 
 impl Sender {
-    /// Sends all that the peer's flow control and 16 frames in flight allow.
+    /// Sends what the peer's flow control and the window of packets allow.
     fn send(&mut self, path: &mut Path, now: u64) {
-        let is_last =
-            self.stream.is_closed() && self.stream.numbers_end() == self.max_stream_data + 1;
-        // The end's number is no data, so it may be one beyond what the peer allows.
-        let limit = self.max_stream_data + u64::from(is_last);
-        while let Some(range) = self.stream.next(limit, 16 * SIZE as u64, SIZE) {
+        while self.ranges.len() < WINDOW {
+            let Some(range) = self.stream.next(self.max_stream_data, SIZE) else { break };
             let SegmentBytes { front, back, part } = self.stream.bytes(range.clone());
             let (number, data) = (self.next_number, [front, back].concat());
             let fin = part.is_last();
             path.send(now, &Packet::Stream { number, offset: range.start, data, fin });
-            assert!(self.stream.mark(range.clone(), Sending::Segment), "it was written");
+            assert!(self.stream.mark(range.clone()), "it was written");
             self.ranges.insert(number, range);
             self.next_number += 1;
         }
     }
 
-    /// Takes an ACK frame. Three frames that are acknowledged above a range tell that it is lost, and so that
-    /// `SendBuffer::next` returns it again.
-    /// A scheme that counts packets gives what it finds lost to `SendBuffer::lose`.
+    /// Takes an ACK frame. What was sent that long before a packet of it is lost (RFC 9002, 6.1.1).
     fn acknowledged(&mut self, packets: &[u64], now: u64) {
-        for range in packets.iter().filter_map(|number| self.ranges.remove(number)) {
-            self.stream.acknowledge_range(range, SIZE).expect("it was sent");
+        for &number in packets {
+            let Some(range) = self.ranges.remove(&number) else { continue };
+            assert_ne!(self.stream.acknowledge(range), RangeAck::Refused, "it was sent");
             self.heard = now;
+            let in_flight = self.ranges.split_off(&(number + 1).saturating_sub(OVERTAKING));
+            for lost in std::mem::replace(&mut self.ranges, in_flight).into_values() {
+                assert!(self.stream.lose(lost), "it was sent");
+            }
         }
+    }
+
+    /// Loses all that is in flight, since no answer came for a while.
+    fn timed_out(&mut self, now: u64) {
+        self.stream.lose_all();
+        self.ranges.clear();
+        self.heard = now;
     }
 }
 
@@ -139,8 +149,7 @@ fn main() {
             None => {}
         }
         if now >= sender.heard + TIMEOUT {
-            sender.stream.lose_all();
-            sender.heard = now;
+            sender.timed_out(now);
         }
     }
     assert!(receiving.has_read_all() && read == file);

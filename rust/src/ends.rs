@@ -1,6 +1,8 @@
 //! The two ends of a connection, each of them one machine: a sender with what it knows of losses, its timer and
-//! the peer's window; and a receiver with what it announced. What the first knows without a clock is a [`SendBuffer`].
-//! (Not in smoltcp.)
+//! the peer's window; and a receiver with what it announced. (Not in smoltcp.)
+//!
+//! Both are TCP's. A stream of QUIC, whose connection has the timer and finds the losses, has a
+//! [`SendBuffer`](crate::finite::SendBuffer).
 //!
 //! They know positions, moments and bytes: no headers, no states of a connection and no clock. How much may be
 //! in flight is the caller's choice.
@@ -15,45 +17,13 @@ use crate::tcp::TimeoutBounds;
 use crate::time::Duration;
 
 pub(crate) mod receiving_end;
-pub(crate) mod send_buffer;
 pub(crate) mod sending_end;
 pub(crate) mod sending_head;
+pub(crate) mod tcp_buffer;
 
+pub use crate::stream::SegmentBytes;
 pub use receiving_end::{AckFields, Acknowledgement, ReceivingEnd, ReceivingEndOver, SackBlocks};
-pub use send_buffer::{AckKind, SegmentBytes, SendBuffer, SendBufferOver, Sending, TakenAck};
 pub use sending_end::{AckSegment, Acknowledged, Expired, Outgoing, SendingEnd, SendingEndOver};
-
-impl<'a, const N: usize> SendBuffer<'a, N> {
-    /// Returns a buffer of a stream that begins at position 0, as a stream of QUIC does, to which nothing was written.
-    ///
-    /// ```
-    /// # use net_base::ends::SendBuffer;
-    /// let mut storage = [0; 16];
-    /// assert_eq!(SendBuffer::<8>::new(&mut storage).window(), 16);
-    /// ```
-    #[must_use]
-    pub fn new<S: Into<ManagedSlice<'a, u8>>>(storage: S) -> Self {
-        SendBufferOver::over_at(storage.into(), 0)
-    }
-
-    /// Returns a buffer of a stream that begins at position `first`, to which nothing was written.
-    ///
-    /// ```
-    /// # use net_base::ends::SendBuffer;
-    /// let mut storage = [0; 16];
-    /// let mut buffer = SendBuffer::<4>::new_at(&mut storage[..], 1);
-    /// assert_eq!((buffer.write(b"hello"), buffer.window()), (5, 11));
-    /// ```
-    ///
-    /// # Panics
-    ///
-    /// If `first` is `u64::MAX`: no number is left for the end.
-    #[must_use]
-    #[track_caller]
-    pub fn new_at<S: Into<ManagedSlice<'a, u8>>>(storage: S, first: u64) -> Self {
-        SendBufferOver::over_at(storage.into(), first)
-    }
-}
 
 impl<'a, const N: usize> SendingEnd<'a, N> {
     /// Returns an end of a stream that begins at position 0: [`new_at`](Self::new_at) with 0.
@@ -138,15 +108,6 @@ impl<'a, const N: usize> ReceivingEnd<'a, N> {
         segment_size: u16,
     ) -> Self {
         ReceivingEndOver::over_at(storage.into(), first, segment_size)
-    }
-}
-
-impl<S: Storage<u8>, const N: usize> fmt::Debug for SendBufferOver<S, N> {
-    fn fmt(&self, f: &mut fmt::Formatter) -> fmt::Result {
-        f.debug_struct("SendBuffer")
-            .field("numbers", &self.numbers())
-            .field("window", &self.window())
-            .finish_non_exhaustive()
     }
 }
 

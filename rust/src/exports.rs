@@ -15,8 +15,8 @@ mod for_c {
     mod receiver_head;
     mod ring_head;
     mod scoreboard_head;
-    mod send_buffer;
     mod sender_head;
+    mod tcp_buffer;
 }
 pub mod heads;
 pub mod packets;
@@ -44,8 +44,8 @@ pub use for_c::packets_head::FirstPacket;
 
 pub use crate::checksum::PartsSum;
 pub use crate::ends::receiving_end::{ReceivingHead, Room};
-pub use crate::ends::send_buffer::{BufferHead, Queued};
 pub use crate::ends::sending_head::SendingHead;
+pub use crate::ends::tcp_buffer::{BufferHead, Queued};
 pub use crate::storage::assembler::{AssemblerHead, Run};
 pub use crate::storage::fragments::FragmentsHead;
 pub use crate::storage::packets_head::{PacketPlace, PacketsHead};

@@ -42,7 +42,7 @@ use crate::storage::{Listed, Storage, TooManyHolesError};
 
 pub use crate::stream::{
     FiniteError, FiniteReceiver, FiniteReceiverOver, FiniteSender, FiniteSenderOver, LentBytes,
-    Part,
+    Part, RangeAck, SegmentBytes, SendBuffer, SendBufferOver,
 };
 
 impl From<TooManyHolesError> for FiniteError {
@@ -82,6 +82,38 @@ impl<'a, const N: usize> FiniteReceiver<'a, N> {
     #[track_caller]
     pub fn new_at<S: Into<ManagedSlice<'a, u8>>>(storage: S, first: u64) -> Self {
         FiniteReceiver::over_at(storage.into(), first)
+    }
+}
+
+impl<'a, const N: usize> SendBuffer<'a, N> {
+    /// Returns a buffer of a stream that begins at position 0, as a stream of QUIC does, to which nothing was written.
+    ///
+    /// ```
+    /// # use net_base::finite::SendBuffer;
+    /// let mut storage = [0; 16];
+    /// assert_eq!(SendBuffer::<8>::new(&mut storage).window(), 16);
+    /// ```
+    #[must_use]
+    pub fn new<S: Into<ManagedSlice<'a, u8>>>(storage: S) -> Self {
+        SendBufferOver::over_at(storage.into(), 0)
+    }
+
+    /// Returns a buffer of a stream that begins at position `first`, to which nothing was written.
+    ///
+    /// ```
+    /// # use net_base::finite::SendBuffer;
+    /// let mut storage = [0; 16];
+    /// let mut buffer = SendBuffer::<4>::new_at(&mut storage[..], 1);
+    /// assert_eq!((buffer.write(b"hello"), buffer.window()), (5, 11));
+    /// ```
+    ///
+    /// # Panics
+    ///
+    /// If `first` is `u64::MAX`: no number is left for the end.
+    #[must_use]
+    #[track_caller]
+    pub fn new_at<S: Into<ManagedSlice<'a, u8>>>(storage: S, first: u64) -> Self {
+        SendBufferOver::over_at(storage.into(), first)
     }
 }
 
@@ -140,5 +172,14 @@ impl<S: Storage<u8>> fmt::Debug for FiniteSenderOver<S> {
             .field("numbers_end", &self.numbers_end())
             .field("is_closed", &self.is_closed())
             .finish()
+    }
+}
+
+impl<S: Storage<u8>, const N: usize> fmt::Debug for SendBufferOver<S, N> {
+    fn fmt(&self, f: &mut fmt::Formatter) -> fmt::Result {
+        f.debug_struct("SendBuffer")
+            .field("numbers", &self.numbers())
+            .field("window", &self.window())
+            .finish_non_exhaustive()
     }
 }

@@ -8,7 +8,7 @@
 //! are acknowledged, [`scoreboard::Scoreboard`], which says what to send again, [`sequence_number::SequenceNumber`],
 //! TCP's numbers that wrap, the small machines of [`tcp`], and [`storage::Assembler`]s of any number of runs. [`ends`]
 //! has all of these as the two ends of a connection. For a stream of QUIC there are [`finite::FiniteReceiver`] and
-//! [`ends::SendBuffer`].
+//! [`finite::SendBuffer`].
 //! `docs/GUIDE.md` of the repository has each as code, and the order of their calls.
 //!
 //! ```

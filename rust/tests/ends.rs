@@ -4,12 +4,11 @@
 // One block is a slice of one range.
 #![allow(clippy::single_range_in_vec_init)]
 use net_base::ends::{
-    AckFields, AckKind, AckSegment, Acknowledged, Expired, ReceivingEnd, SegmentBytes, SendBuffer,
-    SendBufferOver, Sending, SendingEnd, TakenAck,
+    AckFields, AckSegment, Acknowledged, Expired, ReceivingEnd, SegmentBytes, SendingEnd,
 };
 use net_base::finite::Part;
 use net_base::rand::Rand;
-use net_base::tcp::{Announcement, Sack, SentNumbers, TimeoutBounds};
+use net_base::tcp::{Announcement, Sack, TimeoutBounds};
 use net_base::time::{Duration, Instant};
 use std::ops::Range;
 
@@ -529,126 +528,6 @@ fn what_came_twice_is_reported_once() {
     assert_eq!((blocks(&mut end), end.acknowledgement().next), (vec![], 107));
 }
 
-/// What a stream has sent, told by what a connection knows: no clock, no window of a peer.
-#[test]
-fn a_send_buffer() {
-    let buffer = SendBuffer::<2>::new_at(vec![0; 8], 7);
-    assert_eq!((buffer.window(), buffer.numbers_end()), (8, 7));
-    let mut buffer = SendBufferOver::<_, 2>::over_at([0; 8], 7);
-    buffer.expect_reports(Sack::Permitted);
-    assert_eq!((buffer.window(), buffer.write(b"abcd")), (8, 4));
-    buffer.close();
-    assert!(buffer.is_closed() && buffer.window() == 0 && buffer.numbers_end() == 12);
-    for range in [7..9, 9..11, 11..12] {
-        assert_eq!(buffer.next(12, 10, 2), Some(range.clone()));
-        assert!(buffer.mark(range, Sending::Segment));
-    }
-    // It was never written, and so nothing changes.
-    assert!(!buffer.mark(12..13, Sending::Segment) && !buffer.mark(7..13, Sending::WindowProbe));
-    assert_eq!(buffer.numbers(), SentNumbers { first_unacknowledged: 7, sent: 12 });
-    let it = buffer.bytes(9..12);
-    assert_eq!((it.front, it.back, it.part), (&b"cd"[..], &[][..], Part::Last));
-    let taken = Some((0, true, false));
-    assert_eq!(buffer.acknowledge(7, &[9..11], 2, AckKind::Other).map(fields), taken);
-    assert!(buffer.contains(9) && !buffer.is_blind() && !buffer.is_recovering());
-    // No answer for two round trips.
-    assert!(buffer.find_overdue() && buffer.is_recovering());
-    assert_eq!(buffer.next_probe(12, 2), Some(7..9));
-    assert_eq!(buffer.acknowledge(13, &[], 2, AckKind::Other), None);
-    buffer.lose_all();
-    assert_eq!(buffer.next(12, 10, 2), Some(7..9));
-    let taken = Some((5, false, false));
-    assert_eq!(buffer.acknowledge(12, &[], 2, AckKind::Repeat).map(fields), taken);
-    assert!(buffer.is_done());
-    buffer.reset_at(5);
-    let text =
-        "SendBuffer { numbers: SentNumbers { first_unacknowledged: 5, sent: 5 }, window: 8, .. }";
-    assert_eq!(format!("{buffer:?}"), text);
-    assert_eq!((buffer.numbers_end(), buffer.window(), buffer.is_recovering()), (5, 8, false));
-}
-
-fn fields(it: TakenAck) -> (u64, bool, bool) {
-    (it.new, it.reports, it.begins)
-}
-
-/// A loss that was none: what was sent again comes twice, as an acknowledgement says that is too old to be taken.
-#[test]
-fn a_send_buffer_takes_a_recovery_back() {
-    let mut buffer = SendBuffer::<4>::new_at(vec![0; 100], 0);
-    assert_eq!(buffer.write(&[7; 90]), 90);
-    while let Some(range) = buffer.next(90, 90, 10) {
-        assert!(buffer.mark(range, Sending::Segment));
-    }
-    let taken = Some((10, true, true));
-    assert_eq!(buffer.acknowledge(10, &[20..50], 10, AckKind::Other).map(fields), taken);
-    assert_eq!((buffer.next(90, 90, 10), buffer.take_back()), (Some(10..20), false));
-    assert!(buffer.mark(10..20, Sending::Segment));
-    assert!(buffer.acknowledge(60, &[], 10, AckKind::Other).is_some() && !buffer.take_back());
-    assert_eq!(buffer.acknowledge(50, &[10..20], 10, AckKind::Other), None);
-    assert!(!buffer.take_back());
-    buffer.note_duplicate(50, &[10..20]);
-    assert_eq!(
-        [buffer.take_back(), buffer.take_back(), buffer.is_recovering()],
-        [true, false, false]
-    );
-}
-
-/// A stream as QUIC has it: whatever the limit is, all that was written is sent in as many ranges, and ranges that
-/// arrive in any order acknowledge it.
-#[test]
-fn a_stream_of_ranges() {
-    for limit in [20, 21, 33, u64::MAX] {
-        let mut stream = SendBuffer::<2>::new_at(vec![0; 32], 0);
-        assert_eq!(stream.write(&[7; 19]), 19);
-        stream.close();
-        let mut ranges = vec![];
-        while let Some(range) = stream.next(limit, u64::MAX, 5) {
-            ranges.push(range.clone());
-            assert!(stream.mark(range, Sending::Segment));
-        }
-        assert_eq!(ranges, [0..5, 5..10, 10..15, 15..20], "{limit}");
-        assert_eq!(stream.next_probe(limit, 5), Some(15..20));
-        let mut take = |range| stream.acknowledge_range(range, 5).map(|it| (it.new, it.reports));
-        assert_eq!(
-            (take(15..21), take(10..15), take(5..10)),
-            (None, Some((0, true)), Some((0, true)))
-        );
-        assert_eq!((take(5..15), take(3..5)), (Some((0, false)), Some((0, true))));
-        // The first range acknowledges up to the first number that none has.
-        assert_eq!(
-            (take(0..3), take(0..3), take(15..20)),
-            (Some((15, false)), Some((0, false)), Some((5, false)))
-        );
-        assert!(stream.is_done());
-    }
-}
-
-/// A range that is followed by its prefix isn't taken for one that the peer dropped. What packets lose is sent again, as
-/// far as it isn't acknowledged, and nothing else is.
-#[test]
-fn what_packets_lose() {
-    let mut stream = SendBuffer::<4>::new_at(vec![0; 40], 0);
-    assert_eq!(stream.write(&[7; 40]), 40);
-    while let Some(range) = stream.next(u64::MAX, u64::MAX, 10) {
-        assert!(stream.mark(range, Sending::Segment));
-    }
-    let begins = |it: Option<TakenAck>| it.map(|it| it.begins);
-    assert_eq!(begins(stream.acknowledge_range(10..20, 10)), Some(false));
-    assert_eq!(begins(stream.acknowledge_range(0..10, 10)), Some(false));
-    assert_eq!((stream.next(u64::MAX, u64::MAX, 10), stream.is_recovering()), (None, false));
-    assert!(!stream.lose(30..41) && stream.lose(0..20));
-    assert_eq!(stream.next(u64::MAX, u64::MAX, 10), None);
-    // Only one range at a time is to be sent again.
-    for (lost, again, other) in [(25..35, 25..35, 20..25), (15..25, 20..25, 30..40)] {
-        assert!(stream.lose(lost) && !stream.lose(other));
-        assert_eq!(stream.next(u64::MAX, u64::MAX, 10), Some(again.clone()));
-        assert!(stream.mark(again, Sending::Segment));
-        assert_eq!(stream.next(u64::MAX, u64::MAX, 10), None);
-    }
-    assert!(stream.acknowledge_range(20..40, 10).is_some_and(|it| it.new == 20));
-    assert!(stream.lose(30..40) && stream.next(u64::MAX, u64::MAX, 10).is_none());
-}
-
 /// What an end that begins again knows of the stream before: nothing but whether Nagle's rule is enabled.
 #[test]
 fn an_end_begins_again() {
@@ -681,10 +560,4 @@ fn timeouts_of_an_end() {
     assert_eq!((end.expires_at(), end.expired(passed)), (Some(passed), Expired::Lost));
     assert_eq!(ranges(&mut end, passed).len(), 1);
     assert_eq!(end.expires_at(), Some(Instant::from_secs(8)));
-}
-/// A first number beyond 32 bits stays whole.
-#[test]
-fn first_numbers_are_of_64_bits() {
-    let buffer = SendBuffer::<4>::new_at(vec![0; 4], (1 << 40) + 3);
-    assert_eq!(buffer.numbers().first_unacknowledged, (1 << 40) + 3);
 }

@@ -2,10 +2,9 @@
 //! many calls are made of each kind.
 use net_base::checksum::{checksum, is_valid, updated_checksum, PartsSum};
 use net_base::ends::{
-    AckKind, AckSegment, Acknowledged, Expired, ReceivingEndOver, SegmentBytes, SendBufferOver,
-    Sending, SendingEndOver,
+    AckSegment, Acknowledged, Expired, ReceivingEndOver, SegmentBytes, SendingEndOver,
 };
-use net_base::finite::{FiniteReceiver, FiniteSender, Part};
+use net_base::finite::{FiniteReceiver, FiniteSender, Part, RangeAck, SendBufferOver};
 use net_base::receiver::Receiver;
 use net_base::scoreboard::Scoreboard;
 use net_base::sequence_number::SequenceNumber;
@@ -266,10 +265,6 @@ fn carrier(draw: &mut Draw) -> AckSegment {
     [AckSegment::WithData, AckSegment::Pure][usize::from(draw.bit())]
 }
 
-fn sending(draw: &mut Draw) -> Sending {
-    [Sending::Segment, Sending::TailProbe, Sending::WindowProbe][draw.below(3) as usize]
-}
-
 #[test]
 fn send_buffers() {
     let mut draw = Draw(0xd1b5_4a32_d192_ed03, 0);
@@ -279,38 +274,28 @@ fn send_buffers() {
         if draw.bit() {
             draw.1 = if draw.bit() { before.sent } else { before.first_unacknowledged };
         }
-        let ([from, to, window], size) = (draw.numbers(), draw.number() as usize);
-        match draw.below(20) {
+        let ([from, to, limit], size) = (draw.numbers(), draw.number() as usize);
+        match draw.below(16) {
             0 => buffer = SendBufferOver::over_at([0; 16], from.min(u64::MAX - 1)),
-            1 => buffer.expect_reports(sack(draw.bit())),
-            2..=5 => assert!(buffer.write(draw.bytes(BYTES)) <= 16),
-            6 => buffer.close(),
-            7..=10 => {
-                let blocks = blocks(&mut draw);
-                let kind = if draw.bit() { AckKind::Repeat } else { AckKind::Other };
-                let taken = buffer.acknowledge(from, &blocks, size, kind);
-                assert!(taken.is_none() || from <= before.sent && !buffer.contains(from));
+            1..=4 => assert!(buffer.write(draw.bytes(BYTES)) <= 16),
+            5 => buffer.close(),
+            6..=8 => {
+                let taken = buffer.acknowledge(from..to);
+                assert_eq!(taken == RangeAck::Refused, before.sent < to);
+                assert!(taken != RangeAck::Taken || from >= to || buffer.is_acknowledged(to - 1));
             }
-            11 => assert!(!buffer.find_overdue() || buffer.is_recovering()),
-            12 => buffer.lose_all(),
-            13 => {
-                let probe = buffer.next_probe(to, size);
-                assert!(probe.is_none_or(|it| it.start < it.end && it.end <= to.max(before.sent)));
+            9 => buffer.lose_all(),
+            10 => assert!(buffer.bytes(from..to).front.len() <= 16),
+            11 => assert_eq!(buffer.mark(from..to), to <= buffer.numbers_end()),
+            12 | 13 => {
+                assert_eq!(buffer.lose(from..to), to <= before.sent);
+                let is_lost = from < to && to <= before.sent && !buffer.is_acknowledged(from);
+                assert!(!is_lost || buffer.is_open(from));
             }
-            14 => assert!(buffer.bytes(from..to).front.len() <= 16),
-            15 => {
-                let is_written = to <= buffer.numbers_end();
-                assert_eq!(buffer.mark(from..to, sending(&mut draw)), is_written);
-            }
-            16 => {
-                let taken = buffer.acknowledge_range(from..to, size);
-                assert_eq!(taken.is_some(), to <= before.sent);
-            }
-            17 => assert!(!buffer.lose(from..to) || to <= before.sent),
             _ => {
-                if let Some(range) = buffer.next(to, window, size) {
+                if let Some(range) = buffer.next(limit, size) {
                     assert!(before.first_unacknowledged <= range.start && !range.is_empty());
-                    assert!(buffer.mark(range, sending(&mut draw)));
+                    assert!(buffer.mark(range.clone()) && !buffer.is_open(range.start));
                 }
             }
         }

@@ -7,8 +7,8 @@ use std::hash::{Hash, Hasher};
 use std::iter::FusedIterator;
 
 use net_base::checksum::PartsSum;
-use net_base::ends::{ReceivingEndOver, SendBufferOver, SendingEndOver};
-use net_base::finite::{FiniteError, FiniteReceiverOver, FiniteSenderOver, Part};
+use net_base::ends::{ReceivingEndOver, SendingEndOver};
+use net_base::finite::{FiniteError, FiniteReceiverOver, FiniteSenderOver, Part, SendBufferOver};
 use net_base::managed::ManagedSlice;
 use net_base::phy::{Checksum, ChecksumCapabilities, DeviceCapabilities, SegmentationCapabilities};
 use net_base::rand::Rand;

@@ -64,7 +64,7 @@ EXPORTS = 'net_ffi'
 HEADS = {'net_ring/head': 'RingHead', 'net_packets/head': 'PacketsHead', 'net_assembler/assembler/head': 'AssemblerHead',
          'net_base/storage/fragments/head': 'FragmentsHead', 'net_receiver/receiver_head': 'ReceiverHead',
          'net_receiver/finite_sender_head': 'FiniteSenderHead', 'net_receiver/sender_head': 'SenderHead',
-         'net_receiver/scoreboard_head': 'ScoreboardHead', 'net_ends/send_buffer': 'BufferHead'}
+         'net_receiver/scoreboard_head': 'ScoreboardHead', 'net_ends/tcp_buffer': 'BufferHead'}
 FOR_C = {file: [f'{head}::is_sound'] for file, head in HEADS.items()} | {
     'net_receiver/finite_receiver_head': ['FiniteReceiverHead'],
 }
@@ -104,8 +104,8 @@ ATTRIBUTES = [
     ('\npub struct ', '\n#[derive(Clone)]\npub struct ',
      {RECEIVER: 1, FINITE: 1, 'net_receiver/finite_sender': 1, FRAGMENTS: 1}),
     ('#[derive(Drop)]\npub struct ', '#[derive(Clone)]\npub struct ',
-     {ASSEMBLER: 2, 'net_receiver/held_runs': 1, f'{FRAGMENTS}/table': 1, 'net_ends/receiving_end': 1,
-      'net_ends/send_buffer': 1, 'net_ends/sending_end': 1}),
+     {ASSEMBLER: 2, 'net_receiver/held_runs': 1, 'net_receiver/send_buffer': 1, f'{FRAGMENTS}/table': 1,
+      'net_ends/receiving_end': 1, 'net_ends/sending_end': 1}),
     ('#[derive(Debug, Drop)]\npub struct ', '#[derive(Clone, Debug)]\npub struct ', {'net_receiver/held_runs': 1}),
     ('pub struct Iter<', '#[derive(Clone, Debug)]\npub struct Iter<', {'net_ring/ring_buffer/iter': 1}),
     ('#[derive(Debug, Drop)]\npub struct Ack', '#[derive(Clone, Debug, PartialEq, Eq)]\npub struct Ack', {RECEIVING: 1}),
@@ -131,10 +131,10 @@ GROWING = {
           'struct DeviceCapabilities {'],
     'net_receiver/kept': ['struct Kept {', 'struct KeptBytes {', 'struct SegmentParts {', 'enum FiniteError {'],
     'net_receiver/scoreboard_head': ['enum ReportError {'],
+    'net_receiver/send_buffer': ['enum RangeAck {'],
     FRAGMENTS: ['enum FragmentError {'],
     f'{FRAGMENTS}/table': ['enum AcceptError {', 'struct FragmentSlot<'],
     'net_ends/receiving_end': ['struct Acknowledgement {'],
-    'net_ends/send_buffer': ['enum AckKind {', 'struct TakenAck {', 'enum Sending {'],
     'net_ends/sending_end': ['enum Acknowledged {', 'enum Expired {', 'struct Outgoing {'],
     'net_tcp/answer_limit': ['struct AnswerLimit {'],
     'net_tcp/retransmission': ['struct TimeoutBounds {'],

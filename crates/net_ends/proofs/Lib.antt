@@ -1,16 +1,12 @@
 pub mod ChainLaws
 pub mod Ends
 pub mod Expiries
-pub mod Loops
 pub mod PairLaws
 pub mod PathLaws
 pub mod Progress
-pub mod Ranges
 pub mod Blocks
-pub mod Losses
 pub mod Receiving
 pub mod ReceivingLaws
 pub mod RoundLaws
-pub mod Segments
 pub mod Small
 pub mod Steps

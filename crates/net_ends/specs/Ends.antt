@@ -18,7 +18,6 @@
 --     is_probe e window lost others      whether the next segment is such a probe
 --     may_send e from to      whether a range may be sent
 --     is_pure segment      whether a segment has neither a byte nor a FIN
---     IsSegment s from to xs last      the bytes of a range
 --     Event, after_event, after_events      what happens to an end, and what that leaves
 --     commands      the sender's commands that they come to
 --     Run, run      an end, the greatest edge that the peer gave, and what was sent
@@ -54,6 +53,7 @@ use Rattle.net_receiver.specs.SenderState.{end_of}
 use Rattle.net_receiver.specs.FiniteSender.{FiniteSenderState, first_number, numbers_end, accepts, SenderCommand}
 use Rattle.net_receiver.specs.FiniteSender.{Writes, Closes, Marks, Acknowledges, sender_after_command}
 use Rattle.net_receiver.specs.FiniteSender.{fresh_finite_sender}
+pub use Rattle.net_receiver.specs.Segments.{IsSegment}
 
 -- the positions as a code
 abbrev pub positions_code : Coded Positions
@@ -282,14 +282,6 @@ range_of (Some it) = Some (record { start = it.pos; end = it.end })
 -- a range that may be sent: a probe is the first number alone
 abbrev pub may_send : End → ℕ → ℕ → Bool
 may_send e from to = nat_lt from to && nat_le to (limit e) && nat_le (first e) from && is_due e from to
-
--- the bytes from one position on, below another, and whether the stream ends after them, below that too
-pub record IsSegment (s : FiniteSenderState) (from to : ℕ) (xs : List ℕ) (last : Bool) : Type 0 where
-  pub bytes : s.sender.first_unacknowledged ≤ from →
-      xs ≡ take (min (to - from) (end_of s.sender - from)) (drop (from - s.sender.first_unacknowledged) s.sender.queue)
-  pub before : from < s.sender.first_unacknowledged → xs ≡ []
-  pub end : IsTrue last
-      ↔ ((s.closed ≡ 1) × (from + length xs ≡ end_of s.sender) × (from + length xs < to) × (s.finished ≡ 0))
 
 -- while something waits the timer runs
 abbrev pub waiting : End → ℤ → RetransmissionTimer

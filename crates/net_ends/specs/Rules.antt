@@ -27,7 +27,7 @@ use Rattle.net_tcp.specs.LossRecovery.{next_probe}
 use Rattle.net_receiver.specs.declared.sent_numbers.SentNumbers.{SentNumbers}
 use Rattle.net_tcp.specs.Retransmission.{Timer, started, new_timer}
 use Rattle.net_tcp.specs.declared.peer_window.PeerWindow.{PeerWindow}
-use Rattle.net_ends.specs.declared.send_buffer.Queued.{Queued}
+use Rattle.net_ends.specs.declared.tcp_buffer.Queued.{Queued}
 use Rattle.net_ends.specs.declared.sending_head.SendingHead.{SendingHead}
 
 abbrev pub queued_of : FiniteSenderState → Queued

@@ -3,15 +3,13 @@
 
 pub mod laws;
 pub mod receiving_end;
-pub mod send_buffer;
 pub mod sending_end;
 pub mod sending_head;
+pub mod tcp_buffer;
 
 pub use receiving_end::{
     AckFields, Acknowledgement, ReceivingEnd, ReceivingEndOver, ReceivingHead, Room, SackBlocks,
 };
-pub use send_buffer::{
-    AckKind, BufferHead, Queued, SegmentBytes, SendBuffer, SendBufferOver, Sending, TakenAck,
-};
 pub use sending_end::{AckSegment, Acknowledged, Expired, Outgoing, SendingEnd, SendingEndOver};
 pub use sending_head::SendingHead;
+pub use tcp_buffer::{AckKind, BufferHead, Queued, Sending, TakenAck};

@@ -62,11 +62,11 @@ ghost use Rattle.net_ends.specs.Ends.{AreHoles, open_to, found, due_of, range_of
 ghost use Rattle.std.specs.Option.{option_or};
 ghost use Rattle.net_tcp.specs.Windows.{after_update, acknowledgement_number};
 
-use crate::send_buffer::{Queued, SegmentBytes, accept, lend, mark};
 use crate::sending_head::SendingHead;
+use crate::tcp_buffer::{Queued, accept, mark};
 use net_assembler::Run;
 use net_base::time::{Duration, Instant};
-use net_receiver::{FiniteSenderOver, SentNumbers};
+use net_receiver::{FiniteSenderOver, SegmentBytes, SentNumbers, lend};
 use net_ring::{ManagedSlice, Storage};
 use net_tcp::{Announcement, Expiry, Sack, TimeoutBounds};
 use std::marker::Model;

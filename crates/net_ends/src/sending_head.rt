@@ -44,8 +44,8 @@ ghost use Rattle.net_ends.specs.Ends.{AreHoles, open_to, found, due_of, range_of
 ghost use Rattle.std.specs.Option.{option_or};
 ghost use Rattle.net_tcp.specs.Windows.{after_update, acknowledgement_number};
 
-use crate::send_buffer::{AckKind, BufferHead, Queued, Sending, TakenAck};
 use crate::sending_end::{Acknowledged, Expired, Outgoing};
+use crate::tcp_buffer::{AckKind, BufferHead, Queued, Sending, TakenAck};
 use net_assembler::Run;
 use net_base::time::{Duration, Instant};
 use net_receiver::SentNumbers;

@@ -3,34 +3,17 @@ ghost use Rattle.std.specs.Prelude.{◌≡◌, ◌<◌, ◌≤◌, ℕ, List, Is
 ghost use Rattle.net_receiver.specs.Finite.{MatchesFinite, acknowledged, is_last};
 ghost use Rattle.net_receiver.specs.FiniteSender.{IsSoundSent};
 ghost use Rattle.net_ends.specs.Ends.{IsUnacknowledged, rest, runs, Event, small_sends, expiries, has_timed_out};
-ghost use Rattle.net_ends.specs.Buffers.{remaining};
 ghost use Rattle.net_ends.specs.Ends.{first, end};
 ghost use Rattle.net_ends.specs.Receiving.{IsSoundReceiving};
 
 use net_base::time::Instant;
 use net_ends::{
     AckSegment, Acknowledged, Acknowledgement, Outgoing, ReceivingEnd, ReceivingEndOver,
-    SendBufferOver, Sending, SendingEndOver, laws, receiving_end,
+    SendingEndOver, laws, receiving_end,
 };
 use net_receiver::Part;
 use net_ring::{ManagedSlice, Storage};
 use net_tcp::{Announcement, Sack};
-
-/// Sends all that a buffer has below a limit. Whatever the limit is, the loop ends: by clause `ends` of `next` each range
-/// leaves less that may be sent before an answer.
-pub fn send_all<S: Storage<u8>, const N: usize>(
-    buffer: &mut SendBufferOver<S, N>,
-    limit: u64,
-    congestion_window: u64,
-    segment_size: usize,
-)
-    ensures { remaining buffer.new ≤ remaining buffer.old }
-{
-    // The label is the loop's name in its proof.
-    'sending: while let Some(range) = buffer.next(limit, congestion_window, segment_size) {
-        let _is_written = buffer.mark(range, Sending::Segment);
-    }
-}
 
 /// Takes an acknowledgement, and returns when the timer ends. It runs while something that was sent isn't acknowledged,
 /// if it did before.

@@ -5,7 +5,7 @@ use Rattle.std.proofs.lemmas.List.{length-replicate}
 use Rattle.std.specs.Prelude.{Bool, max, slice_get, unwrap_or}
 use Rattle.net_receiver.specs.FiniteSender.{finite_sender_of, IsLent, LendsAt}
 use Rattle.net_receiver.specs.declared.finite_sender_head.FiniteSenderHead.{FiniteSenderHead}
-use Rattle.net_ends.proofs.Segments.{two_parts, lent_below}
+use Rattle.net_receiver.proofs.Segments.{two_parts, lent_below}
 use Rattle.net_ends.specs.Ends.{IsSegment}
 use Rattle.net_ends.specs.Receiving.{range_of}
 use Rattle.net_ffi.specs.SendingEnds.{ranges_of}

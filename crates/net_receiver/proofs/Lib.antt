@@ -10,6 +10,9 @@ pub mod OneStream
 pub mod NewestRuns
 pub mod Scoreboards
 pub mod FiniteReceivers
+pub mod Forgetting
+pub mod SendBuffers
+pub mod Segments
 pub mod Senders
 pub mod BoardSearches
 pub mod HeldSearches

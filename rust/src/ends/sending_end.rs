@@ -20,11 +20,11 @@
 // after each acknowledgement the first number that isn't acknowledged counts as missing (clause `missing` of
 // `acknowledged`), and a timeout sends it again.
 
-use crate::ends::send_buffer::{accept, lend, mark, Queued, SegmentBytes};
 use crate::ends::sending_head::SendingHead;
+use crate::ends::tcp_buffer::{accept, mark, Queued};
 use crate::storage::Run;
 use crate::storage::{ManagedSlice, Storage};
-use crate::stream::{FiniteSenderOver, SentNumbers};
+use crate::stream::{lend, FiniteSenderOver, SegmentBytes, SentNumbers};
 use crate::tcp::{Announcement, Expiry, Sack, TimeoutBounds};
 use crate::time::{Duration, Instant};
 use core::ops::Range;

@@ -2,8 +2,8 @@
 //! The rules of a sending end, of numbers alone: what a sender of TCP does with an acknowledgement, with the end of its
 //! timer, and with what is to be sent. Rust and C have the same.
 
-use crate::ends::send_buffer::{AckKind, BufferHead, Queued, Sending, TakenAck};
 use crate::ends::sending_end::{Acknowledged, Expired, Outgoing};
+use crate::ends::tcp_buffer::{AckKind, BufferHead, Queued, Sending, TakenAck};
 use crate::storage::Run;
 use crate::stream::SentNumbers;
 use crate::tcp::{

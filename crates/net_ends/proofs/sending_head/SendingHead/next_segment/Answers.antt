@@ -12,7 +12,7 @@ use Rattle.net_ends.specs.Acknowledgements.{numbers_of, after_segment}
 use Rattle.net_ends.specs.Buffers.{board_of, is_tail_probe}
 use Rattle.net_ends.specs.Ends.{End, asks, first, may_send}
 use Rattle.net_ends.specs.Parts.{end_of}
-use Rattle.net_ends.specs.declared.send_buffer.Queued.{Queued}
+use Rattle.net_ends.specs.declared.tcp_buffer.Queued.{Queued}
 use Rattle.net_ends.proofs.Steps.{may_is, worth_is, sent_is}
 use Rattle.net_ends.proofs.sending_head.SendingHead.next_segment.Goals as goal
 

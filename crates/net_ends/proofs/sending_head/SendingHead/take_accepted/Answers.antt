@@ -2,7 +2,7 @@ use Rattle.std.proofs.Common.{sym, ap, ◌∙◌}
 use Rattle.net_tcp.specs.Retransmission.{Timer, timer_of, after_acknowledged}
 use Rattle.net_ends.specs.Buffers.{board_of}
 use Rattle.net_ends.specs.Ends.{told, sampled}
-use Rattle.net_ends.specs.declared.send_buffer.BufferHead.{BufferHead}
+use Rattle.net_ends.specs.declared.tcp_buffer.BufferHead.{BufferHead}
 use Rattle.net_ends.specs.declared.sending_head.SendingHead.{SendingHead}
 use Rattle.net_ends.proofs.sending_head.SendingHead.take_accepted.Goals as goal
 

@@ -7,7 +7,7 @@ use Rattle.net_tcp.specs.LossRecovery.{recovery_of}
 use Rattle.net_ends.specs.Acknowledgements.{is_sought, numbers_of, after_wait, begins_by}
 use Rattle.net_ends.specs.Parts.{end_of}
 use Rattle.net_ends.specs.Rules.{known_by, window_shut}
-use Rattle.net_ends.specs.declared.send_buffer.Queued.{Queued}
+use Rattle.net_ends.specs.declared.tcp_buffer.Queued.{Queued}
 use Rattle.net_ends.specs.declared.sending_end.Expired.TheVariants.{Overdue}
 use Rattle.net_ends.proofs.sending_head.SendingHead.take_silence.Goals as goal
 

@@ -1,4 +1,0 @@
-use Rattle.net_ends.proofs.send_buffer.SendBufferOver.reset_at.Goals as goal
-
-pub invariant_of-self : goal.invariant_of-self
-invariant_of-self g c = (c.new_at-self-inside.ensures.sound c.self.inside.runs, c.self.invariant.1)

@@ -1,0 +1,49 @@
+//! The bytes of a range of a stream, wherever the storage ends.
+#![tactic(auto)]
+
+ghost use Rattle.std.specs.Prelude.{◌++◌};
+ghost use Rattle.net_receiver.specs.Finite.{is_last};
+ghost use Rattle.net_receiver.specs.Segments.{IsSegment};
+
+use crate::finite_sender::FiniteSenderOver;
+use crate::part::Part;
+use net_ring::Storage;
+use std::ops::Range;
+
+/// The bytes of a segment, in two parts: the storage may end between them.
+///
+/// ```
+/// use net_base::finite::{Part, SendBuffer};
+///
+/// let mut storage = [0u8; 64];
+/// let mut buffer = SendBuffer::<4>::new_at(&mut storage[..], 0);
+/// assert_eq!(buffer.write(b"abcdef"), 6);
+/// buffer.close();
+/// let it = buffer.bytes(2..7);
+/// assert_eq!(([it.front, it.back].concat(), it.part), (b"cdef".to_vec(), Part::Last));
+/// ```
+#[derive(Copy, Clone, Debug, PartialEq, Eq)]
+pub struct SegmentBytes<'a> {
+    /// The first bytes.
+    pub front: &'a [u8],
+    /// The bytes after those.
+    pub back: &'a [u8],
+    /// `Last` if the stream ends after them.
+    pub part: Part,
+}
+
+/// Lends the bytes of a segment, in two parts, and returns whether the stream ends after them.
+#[tactic(auto, using(crate::proofs::Segments::segments))]
+pub fn lend<S: Storage<u8>>(sender: &FiniteSenderOver<S>, range: Range<u64>) -> SegmentBytes<'_>
+    ensures { IsSegment sender.now range.start range.end
+        (result.front.now ++ result.back.now) (is_last result.part) }
+{
+    let front = sender.peek_at(range.start, range.end).bytes;
+    let after = range.start + front.len() as u64;
+    let back = sender.peek_at(after, range.end);
+    SegmentBytes {
+        front,
+        back: back.bytes,
+        part: back.part,
+    }
+}

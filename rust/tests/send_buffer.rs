@@ -1,0 +1,319 @@
+//! A `SendBuffer` against sets of numbers: what is next, what is acknowledged and what is lost, whatever is called; and
+//! no stream stalls, however few runs have room.
+#![cfg(feature = "alloc")]
+// One range is no list of its numbers.
+#![allow(clippy::single_range_in_vec_init)]
+use net_base::finite::{Part, RangeAck, SendBuffer, SendBufferOver};
+use net_base::rand::Rand;
+use net_base::tcp::SentNumbers;
+use std::collections::{BTreeMap, BTreeSet, VecDeque};
+use std::ops::Range;
+
+const RUNS: u64 = if cfg!(target_pointer_width = "64") { 1_000 } else { 40 };
+
+/// What is known of a stream, in sets. Below `first` all is in each.
+struct Model {
+    first: u64,
+    acknowledged: BTreeSet<u64>,
+    settled: BTreeSet<u64>,
+    sent: u64,
+    bytes: u64,
+    is_closed: bool,
+}
+
+impl Model {
+    fn is_open(&self, p: u64) -> bool {
+        p >= self.first && !self.acknowledged.contains(&p) && !self.settled.contains(&p)
+    }
+
+    /// Where a set begins to have holes.
+    fn front(&self, set: &BTreeSet<u64>) -> u64 {
+        (self.first..u64::MAX).find(|p| !set.contains(p)).unwrap_or(u64::MAX)
+    }
+
+    /// How many runs a set has beyond that.
+    fn runs(&self, set: &BTreeSet<u64>) -> usize {
+        let front = self.front(set);
+        set.iter().filter(|&&p| p > front && !set.contains(&(p - 1))).count()
+    }
+
+    fn end(&self) -> u64 {
+        self.bytes + u64::from(self.is_closed)
+    }
+
+    fn next(&self, limit: u64, size: u64) -> Option<Range<u64>> {
+        let top = if self.bytes <= limit { self.end() } else { limit };
+        let from = (self.first..top).find(|&p| self.is_open(p))?;
+        let top = if from < self.sent { top.min(self.sent) } else { top };
+        let end = (from..top).find(|&p| !self.is_open(p)).unwrap_or(top);
+        let most = from.saturating_add(size.max(1));
+        Some(from..if end <= most || most == self.bytes { end } else { most })
+    }
+
+    /// Adds a range, unless it begins beyond the first hole and makes too many runs.
+    fn settle(&mut self, range: Range<u64>, room: usize) {
+        let mut set = self.settled.clone();
+        set.extend(range.start.max(self.first)..range.end);
+        if range.start <= self.front(&self.settled) || self.runs(&set) <= room {
+            self.settled = set;
+        }
+    }
+
+    /// Takes a range out, and more where the rest has too many runs. Returns whether it was so.
+    fn lose(&mut self, range: Range<u64>, room: usize) -> bool {
+        if range.is_empty() {
+            return false;
+        }
+        let (front, was) = (self.front(&self.settled), self.settled.clone());
+        self.settled.retain(|p| !range.contains(p));
+        if self.runs(&self.settled) <= room {
+            return false;
+        }
+        let start = (self.first..range.start).rev().take_while(|p| was.contains(p)).last();
+        let start = start.unwrap_or(range.start);
+        let end = (range.end..u64::MAX).find(|p| !was.contains(p)).unwrap_or(u64::MAX);
+        if range.start < front || end - range.end <= range.start - start {
+            self.settled.retain(|p| !(range.end..end).contains(p));
+        } else {
+            self.settled.retain(|p| !(start..range.start).contains(p));
+        }
+        true
+    }
+}
+
+fn against_sets<const N: usize>(seed: u64) -> (u32, u32) {
+    let rand = &mut Rand::new(seed);
+    let capacity = [0, 1, 5, 17, 90][rand.below(5) as usize];
+    let first = [0, 100, u64::from(u32::MAX) - 20, u64::MAX - 60][rand.below(4) as usize];
+    let mut buffer = SendBuffer::<N>::new_at(vec![0; capacity as usize], first);
+    let (acknowledged, settled) = (BTreeSet::new(), BTreeSet::new());
+    let mut model =
+        Model { first, acknowledged, settled, sent: first, bytes: first, is_closed: false };
+    let (mut written, mut forgotten, mut coarser) = (vec![], 0, 0);
+    for _ in 0..60 {
+        let (low, end) = (model.front(&model.acknowledged), model.end());
+        let from = low.saturating_sub(3).saturating_add(rand.below((end - low) as u32 + 5).into());
+        let some = from..from.saturating_add(rand.below(9).into());
+        let any = [some.clone(), low..some.end, some.start..low][rand.below(3) as usize].clone();
+        match rand.below(12) {
+            0..=2 => {
+                let bytes: Vec<u8> = (0..rand.below(30)).map(|_| rand.below(256) as u8).collect();
+                let room = (capacity - (model.bytes - low.min(model.bytes)))
+                    .min(u64::MAX - 1 - model.bytes)
+                    .min(if model.is_closed { 0 } else { u64::MAX });
+                let count = room.min(bytes.len() as u64);
+                assert_eq!((buffer.window() as u64, buffer.write(&bytes) as u64), (room, count));
+                written.extend_from_slice(&bytes[..count as usize]);
+                model.bytes += count;
+            }
+            3 if rand.below(4) == 0 => {
+                buffer.close();
+                model.is_closed = true;
+            }
+            3..=6 => {
+                let limit = [u64::MAX, from][rand.below(2) as usize];
+                let size = rand.below(9);
+                let next = buffer.next(limit, size as usize);
+                assert_eq!(next, model.next(limit, size.into()), "{buffer:?}");
+                let Some(range) = next else { continue };
+                let it = buffer.bytes(range.clone());
+                let (start, end) = (range.start - first, range.end.min(model.bytes) - first);
+                let bytes = [it.front, it.back].concat();
+                assert_eq!(bytes, written[start as usize..end as usize]);
+                assert_eq!(it.part, Part::from(model.is_closed && range.end == model.end()));
+                let to = range.end - u64::from(rand.below(5) == 0);
+                assert!(buffer.mark(range.start..to));
+                model.sent = model.sent.max(to);
+                // All below is settled or acknowledged.
+                model.settled.extend(first..to);
+            }
+            7 => {
+                assert_eq!(buffer.mark(any.clone()), any.end <= end);
+                if any.end <= end {
+                    model.sent = model.sent.max(any.end);
+                    if (first..any.start).any(|p| model.is_open(p)) {
+                        model.settle(any, N);
+                    } else {
+                        model.settled.extend(first..any.end);
+                    }
+                }
+            }
+            8 | 9 => {
+                let taken = buffer.acknowledge(any.clone());
+                if any.end > model.sent {
+                    assert_eq!(taken, RangeAck::Refused);
+                } else if any.is_empty() {
+                    assert_eq!(taken, RangeAck::Taken);
+                } else {
+                    let mut set = model.acknowledged.clone();
+                    set.extend(any.start.max(first)..any.end);
+                    if any.start > low && model.runs(&set) > N {
+                        assert_eq!(taken, RangeAck::SentAgain);
+                        model.lose(any, N);
+                        forgotten += 1;
+                    } else {
+                        assert_eq!(taken, RangeAck::Taken);
+                        model.acknowledged = set;
+                        model.settle(any, N);
+                        model.settled.extend(first..model.front(&model.acknowledged));
+                    }
+                }
+            }
+            10 if rand.below(8) == 0 => {
+                buffer.lose_all();
+                model.settled = (first..low).collect();
+            }
+            _ => {
+                assert_eq!(buffer.lose(any.clone()), any.end <= model.sent);
+                if any.end <= model.sent {
+                    coarser += u32::from(model.lose(any.start.max(low)..any.end, N));
+                }
+            }
+        }
+        for p in first.saturating_sub(2)..model.end() {
+            let is_acknowledged = p < first || model.acknowledged.contains(&p);
+            assert_eq!(buffer.is_acknowledged(p), is_acknowledged, "{p} {buffer:?}");
+            assert_eq!(buffer.is_open(p), model.is_open(p), "{p} {buffer:?}");
+        }
+        let first_unacknowledged = model.front(&model.acknowledged);
+        assert_eq!(buffer.numbers(), SentNumbers { first_unacknowledged, sent: model.sent });
+        assert_eq!(buffer.numbers_end(), model.end());
+        assert_eq!(buffer.is_done(), model.is_closed && first_unacknowledged == model.end());
+    }
+    // What is in flight is lost or acknowledged, each range in turn: nothing was forgotten.
+    buffer.close();
+    buffer.lose_all();
+    while !buffer.is_done() {
+        let mut flight = vec![];
+        while let Some(range) = buffer.next(u64::MAX, 3) {
+            assert!(buffer.mark(range.clone()));
+            flight.push(range);
+        }
+        assert!(!flight.is_empty(), "{buffer:?}");
+        while !flight.is_empty() {
+            let range = flight.swap_remove(rand.below(flight.len() as u32) as usize);
+            let is_lost = rand.below(3) == 0;
+            assert!(!is_lost || buffer.lose(range.clone()));
+            assert!(is_lost || buffer.acknowledge(range) != RangeAck::Refused);
+        }
+    }
+    (forgotten, coarser)
+}
+
+#[test]
+fn whatever_is_called() {
+    let sum = |a: (u32, u32), b: (u32, u32)| (a.0 + b.0, a.1 + b.1);
+    let [mut one, mut few, mut many] = [(0, 0); 3];
+    for seed in 0..RUNS {
+        one = sum(one, against_sets::<1>(seed));
+        few = sum(few, against_sets::<3>(seed));
+        many = sum(many, against_sets::<64>(seed));
+    }
+    assert!(one.0 > 0 && one.1 > 0 && few.0 > 0 && few.1 > 0 && many == (0, 0));
+}
+
+/// Packets by their numbers, as RFC 9002 has them: what is three below an acknowledged one is lost, and where nothing is
+/// answered, all that is in flight. Returns how many packets it took to send so many.
+fn packets<const N: usize>(count: u64, one_in: u32, window: usize, seed: u64) -> u64 {
+    let rand = &mut Rand::new(seed);
+    let mut stream = SendBuffer::<N>::new_at(vec![0; 100 * count as usize], 0);
+    assert_eq!(stream.write(&vec![7; 100 * count as usize]) as u64, 100 * count);
+    stream.close();
+    let (mut path, mut flight, mut number) = (VecDeque::<u64>::new(), BTreeMap::new(), 0);
+    loop {
+        while flight.len() < window {
+            let Some(range) = stream.next(u64::MAX, 100) else { break };
+            assert!(stream.mark(range.clone()));
+            flight.insert(number, range);
+            if rand.below(one_in) > 0 {
+                path.push_back(number);
+            }
+            number += 1;
+        }
+        if let Some(came) = path.pop_front() {
+            if let Some(range) = flight.remove(&came) {
+                assert_ne!(stream.acknowledge(range), RangeAck::Refused);
+            }
+            let later = flight.split_off(&came.saturating_sub(2));
+            for range in std::mem::replace(&mut flight, later).into_values().rev() {
+                assert!(stream.lose(range));
+            }
+        } else if stream.is_done() {
+            return number;
+        } else {
+            assert!(!flight.is_empty(), "it stalls");
+            flight.clear();
+            stream.lose_all();
+        }
+    }
+}
+
+#[test]
+fn no_stream_stalls() {
+    for seed in 0..RUNS / 100 {
+        let enough = packets::<32>(1_000, 10, 128, seed);
+        assert_eq!(enough, packets::<128>(1_000, 10, 128, seed));
+        assert!(packets::<16>(1_000, 10, 128, seed) <= enough * 11 / 10);
+        for one_in in [3, 10, 50] {
+            packets::<1>(300, one_in, 64, seed);
+            packets::<4>(300, one_in, 64, seed);
+        }
+    }
+}
+
+/// Ranges that are acknowledged in any order, where one run has room.
+#[test]
+fn a_range_without_room() {
+    let mut stream = SendBuffer::<1>::new_at(vec![0; 400], 0);
+    assert_eq!(stream.write(&[7; 400]), 400);
+    for range in [0..100, 100..200, 200..300, 300..400] {
+        assert_eq!(stream.next(u64::MAX, 100), Some(range.clone()));
+        assert!(stream.mark(range));
+    }
+    let answers = [100..200, 300..400, 0..100, 200..300].map(|range| stream.acknowledge(range));
+    let taken = RangeAck::Taken;
+    assert_eq!(answers, [taken, RangeAck::SentAgain, taken, taken]);
+    assert_eq!(stream.next(u64::MAX, 100), Some(300..400));
+}
+
+/// Of more lost ranges than have room, what is between two of them is lost too.
+#[test]
+fn many_losses() {
+    let mut stream = SendBuffer::<2>::new_at(vec![0; 100], 0);
+    assert!(stream.write(&[7; 100]) == 100 && stream.mark(0..100));
+    assert!(stream.lose(10..20) && stream.lose(50..60) && stream.lose(70..75));
+    let mut again = vec![];
+    while let Some(range) = stream.next(u64::MAX, 100) {
+        again.push(range.clone());
+        assert!(stream.mark(range));
+    }
+    assert_eq!(again, [10..20, 50..75]);
+}
+
+#[test]
+fn the_end_is_no_data() {
+    for limit in [19, 20, 33, u64::MAX] {
+        let mut stream = SendBuffer::<2>::new_at(vec![0; 32], 0);
+        assert_eq!(stream.write(&[7; 19]), 19);
+        stream.close();
+        let mut ranges = vec![];
+        while let Some(range) = stream.next(limit, 5) {
+            ranges.push(range.clone());
+            assert!(stream.mark(range));
+        }
+        assert_eq!(ranges, [0..5, 5..10, 10..15, 15..20], "{limit}");
+        assert!(stream.lose(15..20));
+        assert_eq!((stream.next(limit, 4), stream.next(18, 9)), (Some(15..20), Some(15..18)));
+        assert!(stream.mark(15..19));
+        assert_eq!((stream.next(limit, 0), stream.next(18, 9)), (Some(19..20), None));
+    }
+    let mut empty = SendBufferOver::<_, 2>::over_at([0; 8], 7);
+    assert_eq!(empty.next(u64::MAX, 8), None);
+    empty.close();
+    assert_eq!((empty.next(6, 8), empty.next(7, 8)), (None, Some(7..8)));
+    let text =
+        "SendBuffer { numbers: SentNumbers { first_unacknowledged: 7, sent: 7 }, window: 0, .. }";
+    assert_eq!(format!("{empty:?}"), text);
+    empty.reset_at(1 << 40);
+    assert_eq!((empty.numbers().sent, empty.window(), empty.is_closed()), (1 << 40, 8, false));
+}
