@@ -1,18 +1,11 @@
 #!/usr/bin/env python3
-"""places.py: what a new call of the core lacks, by names. Status 1 if
-
-- a public `&mut self` method of a packet queue has no clause `call`, which says which call of its history it is, or if no
-  clause makes a call of the history;
-- a public call that requires something has no guard (guards.py, which proves that the guards are enough),
-
-but for those that a list has with its reason, or if a list has what isn't so.
+"""places.py: what a new call of a packet queue lacks. Status 1 if a public `&mut self` method has no clause `call`, which
+says which call of its history it is, or if no clause makes a call of the history, but for those that a list has with its
+reason, or if a list has what isn't so.
 """
 import re
 import sys
 from pathlib import Path
-
-sys.dont_write_bytecode = True
-import guards
 
 CRATES = Path(__file__).resolve().parent.parent / "crates"
 # Methods without this clause, and why.
@@ -39,14 +32,7 @@ def lacking():
                 for it in sorted(set(NO_CALLS) - without))
 
 
-def main():
-    guarded = [*guards.guarded()]
-    wrong = [*lacking(),
-             *(f"{name}: requires something, and no guard tests it" for name, _, _, tests in guarded if not tests)]
-    print("\n".join([*wrong,
-                     f"{len(guarded)} guarded calls: {len(wrong)} places are missing"]))
-    return 1 if wrong else 0
-
-
 if __name__ == "__main__":
-    sys.exit(main())
+    WRONG = [*lacking()]
+    print(*WRONG, f"{len(WRONG)} places are missing", sep="\n")
+    sys.exit(bool(WRONG))

@@ -20,8 +20,12 @@ of idle functions: these give nothing, write to their own places, and call none 
 that Rust lacks, gives what nothing of Rust's is equal to. Nor is compared what is derived, but for orders and defaults;
 the text of a panic; types that a callee is given; and the functions of `LEFT`, which parts/same_names.txt has with
 reasons, beside names that the two have otherwise. What one side has alone is in `ALONE`. A form that isn't known is an
-error, and so is a line that another build would read otherwise, another compiler or kit, and an exception of this
-script, whatever it reads. The status is 1 if a function differs or isn't understood, 2 if there is no compiler.
+error, and so is another compiler or kit, and an exception of this script, whatever it reads. The status is 1 if a
+function differs or isn't understood, 2 if there is no compiler.
+
+What is compared has the exports for C, and each feature. In other builds, `BUILDS`, of the crate as it is published
+each function has the same text in rustc's program, but for what parts/same_names.txt has with reasons, and for debug
+assertions: without them the bounds of widths.py aren't tested.
 
 Read parts/same_names.txt first: it has each form of term with an example. same_terms.py computes with them,
 same_side.py has events and places, same_proved.py and same_compiled.py the two programs, same_body.py a function of
@@ -38,11 +42,11 @@ sys.dont_write_bytecode = True
 import libraries
 import widths
 from parts import erase_list as given
-from parts.mir_text import erased_files, tables
+from parts.mir_text import tables
 from parts.same_body import CompiledSide
 from parts.same_compiled import Compiled
 from parts.same_pair import Pair
-from parts.same_proved import Proved, ProvedSide
+from parts.same_proved import Proved, ProvedSide, is_own
 from parts.same_terms import Broken, Differ, Unknown, reading
 
 REPOSITORY, SCHEDULE, PROGRAM = widths.REPOSITORY, given.SCHEDULE.replace('/', '::'), 'toolchain/mir.json'
@@ -51,7 +55,8 @@ REPOSITORY, SCHEDULE, PROGRAM = widths.REPOSITORY, given.SCHEDULE.replace('/', '
 # refuses a call.
 ALONE = re.compile('|'.join([
     r'.*::(?:(?:RingOver|PacketsOver|Assembler|SackBlocks)Debug|\w*(?:Empty|Full|Error)Display)::fmt: .*',
-    r'.*::(?:\w*IterIterator::size_hint|Assembler::new|Instant::from_(?:micros|millis|secs)): .*',
+    r'.*::(?:Assembler::new|Instant::from_(?:micros|millis|secs)): .*',
+    r'.*::(?:Iter|NewestRunIter)Iterator::size_hint: not compiled',
     r'.*::[A-Z]\w*: not proved', r'(?:\w+::)+laws::\w+: not compiled',
     *(f'{name.replace("/", "::")}::.*' for names in given.UNERASED.values()
       for name in names if name != given.SCHEDULE),
@@ -59,6 +64,15 @@ ALONE = re.compile('|'.join([
       for name in names)]))
 # What isn't understood, and was read: the digest of both texts as they were read. same_names.txt also says why.
 LEFT = {name: read for name, _, read in (row.split(' ~~ ') for row in tables('same_names.txt')['left'])}
+# Other builds of the crate than the one that is compared, which has its exports and every feature: the words of cargo,
+# and those of rustc; and what another build has otherwise. An example has no exports, and wants the feature `std`. Other
+# words than debug assertions are added to the build that has none.
+BUILDS = {'default': ((), ()), 'none': (('--no-default-features',), ()),
+          'narrow': (('--target', 'armv7-unknown-linux-gnueabihf'), ()),
+          'release': ((), ('-Cdebug-assertions=off', '-Aexplicit_builtin_cfgs_in_flags', '--cfg=test',
+                           '--cfg=target_endian="big"'))}
+OTHERWISE = [tuple(row.split(' ~~ ')) for row in tables('same_names.txt')['builds']]
+ASKED = re.compile(r'= const (?:true|false);(?= +// scope \d+ at [^\n]*/macros/mod\.rs)')
 # What is derived and compared: an order, and what a default is.
 DERIVED = r'::(?:default|cmp|partial_cmp)$'
 
@@ -140,13 +154,30 @@ def wrong(proved, rust, found):
                 yield name, f'{"not understood: " if how == "unknown" else ""}{reason}{again}'
 
 
-def conditional(root):
-    """The lines of the erased text that another build would read otherwise, but for those of the eraser's list."""
-    own = {line.strip() for _, new, _ in given.ATTRIBUTES for line in new.split('\n')}
-    lines = ((file, line.split('//')[0].strip()) for folder in ('src', 'examples/net_bench')
-             for file in erased_files(root, folder) for line in (root / file).read_text().split('\n'))
-    return [(file, f'another build: {line}') for file, line in lines
-            if re.search(r'\b(?:cfg\w*|debug_assert\w*|target_\w+|env|option_env)\b', line) and line not in own]
+def text(item):
+    """An item's steps, without places; what `debug_assert!` asks first is one."""
+    return re.sub(r' *//[^\n]*', '', ASKED.sub('= const debug;', item or '')).split('{', 1)[-1]
+
+
+def builds(root, kit, target, programs):
+    """What other builds of the crate and of its example have otherwise than the programs that are compared, by names."""
+    unused = {*OTHERWISE}
+    for build, (words, flags) in BUILDS.items():
+        others = []
+        for what, place in (('--lib', 'deps'), ('--example=net_bench', 'examples'))[:1 + (not words)]:
+            widths.rustc(root, kit, target / build, what, words, flags, check=True)
+            of_example = ('examples/net_bench', *others) if others else ()
+            others.append(Compiled(root, widths.mir_of(target / build, place), *of_example))
+        for rust, other in zip(programs, others):
+            for one, two in ((getattr(program, kind) for program in (rust, other))
+                             for kind in ('functions', 'constants', 'promoted')):
+                for key in sorted(two):
+                    name = key if isinstance(key, str) else key[0]
+                    rows = {row for row in OTHERWISE if row[0] in (build, 'each') and re.fullmatch(row[1], name)}
+                    unused -= rows
+                    if is_own(name) and not rows and text(one.get(key)) != text(two[key]):
+                        yield name, f'{build}: this build has another text'
+    yield from ((name, f'{build}: no such build has it otherwise: parts/same_names.txt') for build, name, _ in sorted(unused))
 
 
 def kept(crate):
@@ -190,9 +221,11 @@ def main(arguments):
     try:
         with tempfile.TemporaryDirectory() as temporary, reading('the programs'):
             proved, sides = programs(arguments, Path(temporary))
+            kit, both = widths.kit_of(arguments, Path(temporary)), (sides[0][1], sides[-1][1])
+            bad = [f'{name}: {reason}' for name, reason in builds(REPOSITORY / 'rust', kit, Path(temporary), both)]
     except (Broken, Unknown) as reason:
         sys.exit(f'{Path(sys.argv[0]).stem}: {reason}')
-    bad, left = [f'{name}: {reason}' for name, reason in conditional(REPOSITORY / 'rust')], {*LEFT}
+    left = {*LEFT}
     for within, rust in sides:
         program = proved[within.split('::')[0]]
         found = compared(program, rust, within)

@@ -6,7 +6,9 @@
 Each part is tested: terms; rustc's side and the pair by bodies that mean the same, or don't; the prover's by changes of
 its programs; the whole by changes of the erased text; and its lists by leaving out each entry. With --bodies only the
 terms and the bodies are, which want no proof."""
+import contextlib
 import copy
+import io
 import json
 import os
 import random
@@ -16,11 +18,13 @@ import subprocess
 import sys
 import tempfile
 from pathlib import Path
+from unittest import TestCase, mock
 
 sys.dont_write_bytecode = True
 import erase
 import same_program
 import widths
+from parts import erase_list as given
 from parts import same_pair
 from parts.mir_text import tables
 from parts.same_body import CompiledSide
@@ -46,12 +50,15 @@ UNEQUAL = [
     (cast(8, 64, integer(256)), integer(0)),
     (put(X, [term('i', Y)], X), put(X, [term('i', X)], X)), (sliced(term('sp', X), term('len', Y)), X),
     (take(X, term('v', (0, 0))), take(X, term('v', (1, 0)))),
-    (take(term('agg', 1, X), term('v', (0, 0))), X),
+    (take(term('agg', 1, X), term('v', (0, 0))), X), (take(put(X, [term('i', Y)], Y), LAST), take(X, LAST)),
 ]
 # What bodies call; pairs of bodies that mean the same, and that don't or aren't understood. In the erased text: a file,
-# a part of it, what is there in its place, and the function that is then another.
-HEAD, *PAIRS, PLANTS = tables('same_bodies.txt').values()
-MEAN_ONE, MEAN_TWO, PLANTS = ([row.split(' ~~ ') for row in rows] for rows in (*PAIRS, PLANTS))
+# a part of it, what is there in its place, and the function that is then another, here or in another build.
+HEAD, *ROWS = tables('same_bodies.txt').values()
+MEAN_ONE, MEAN_TWO, PLANTS, OTHERWISE = ([row.split(' ~~ ') for row in rows] for rows in ROWS)
+TEXTS = [(name, how, f'//! A text.\nghost use Rattle.std.specs.Prelude.{{◌≡◌, ◌+◌, ◌*◌, ◌<◌, ◌↔◌, IsTrue, IsFalse, IsOk, IfOk, '
+          f'min}};\n\n{text.strip()}\n') for name, how, text in re.findall(
+              r'^== (\w+) \| (\w+)\n((?:(?!== |# ).*\n)*)', (Path(__file__).parent / 'parts/planted_texts.txt').read_text(), re.M)]
 
 
 class AsProved(CompiledSide):
@@ -59,7 +66,7 @@ class AsProved(CompiledSide):
     word, gives_unit = 'A', False
 
 
-def bodies(folder, compiler):
+def bodies(folder, kit):
     """Pairs of bodies: rustc's reader and the pair say of each whether they mean the same."""
     pairs = [(one, two, is_one) for found, is_one in ((MEAN_ONE, True), (MEAN_TWO, False)) for one, two in found]
     source = folder / 'src/pairs.rs'
@@ -67,8 +74,9 @@ def bodies(folder, compiler):
     source.write_text(erase.HEADER.format('crates/pairs/src/lib.rt') + '\n'.join(HEAD) + '\n' +
                       ''.join(f'pub fn f{k}{word}(a: u64, b: u64, xs: &mut [u8], s: &mut S) -> u64 {{\n    {body}\n}}\n'
                                      for k, pair in enumerate(pairs) for word, body in zip('ab', pair)))
-    (folder / 'src/lib.rs').write_text('#![no_std]\npub mod pairs;\n')
-    subprocess.run([compiler, '--edition', '2024', '--crate-type', 'lib', *widths.FLAGS, '-o', 'out.mir',
+    (folder / 'src/lib.rs').write_text('#![no_std]\npub mod pairs;\npub mod mem {\n'
+                                       '    pub fn replace<K>(_: &mut K, new: K) -> K {\n        new\n    }\n}\n')
+    subprocess.run([kit / 'rustc', '--edition', '2024', '--crate-type', 'lib', *widths.FLAGS, '-o', 'out.mir',
                     'src/lib.rs'], cwd=folder, check=True,
                    env=dict(os.environ, RUSTC_BOOTSTRAP='1'))
     rust = Compiled(folder, (folder / 'out.mir').read_text())
@@ -77,17 +85,29 @@ def bodies(folder, compiler):
         for a, b in (names, names[::-1], names[:1] * 2):
             how = same_program.why(None, rust, a, b, lambda _, name: AsProved(rust, rust.functions[name], name))
             assert how[0] in (('same',) if is_one or a == b else ('differ', 'unknown')), (one, two, how)
-    check_faults(rust, names[0])
+    check_faults(rust, names[0], kit)
     return len(pairs)
 
 
-def check_faults(rust, name):
-    """An exception of these scripts says of which function it is, and is wrong whatever the function."""
+def check_faults(rust, name, kit):
+    """An exception of these scripts says of which function it is, and is wrong whatever the function; so are two functions
+    of a name, a function of `LEFT` with another digest, and another build; and what is wrong is said."""
     how, reason = same_program.why(None, rust, name, name, lambda *_: {}['here'])
     assert how == 'broken' and re.match(rf'{name}: same_program_tests.py:\d+ fails: KeyError', reason), reason
-    one = next(iter(same_program.LEFT))
-    found = {'same': [(one, 1)], 'differ': [(name, 'not proved')], 'unknown': [], 'broken': [(one, 'it fails')]}
-    assert [pair[0] for pair in same_program.wrong(None, rust, found)] == [one, one, name]
+    as_it_is = lambda _, name: AsProved(rust, rust.functions[name], name)
+    for one, wanted in (('pairs::GHolds::keep', ('differ', 'two functions of this name')),
+                        ('pairs::most', ('unknown', 'constant core::num::<impl isize>::MAX'))):
+        assert same_program.why(None, rust, one, one, as_it_is) == wanted, one
+    one, proved = next(iter(same_program.LEFT)), mock.Mock(functions={})
+    found = {'same': [(one, 1)], 'differ': [(name, 'not proved'), (one, 'another digest')], 'unknown': [(name, 'a form')],
+             'broken': [(one, 'it fails')]}
+    assert [pair[0] for pair in same_program.wrong(proved, rust, found)] == [one, one, name, one, name]
+    for found in ([], [(name, 'default: this build has another text')]):
+        with contextlib.redirect_stdout(io.StringIO()) as told, mock.patch.multiple(
+                same_program, programs=lambda *_: ({'pairs': 0}, [('pairs', rust)]), builds=lambda *_: found, LEFT={},
+                compared=lambda *_: dict.fromkeys(('same', 'differ', 'unknown', 'broken'), [])):
+            status = same_program.main([str(kit)])
+        assert status == len(found) == sum(line.startswith(f'{name}: ') for line in told.getvalue().split('\n'))
 
 
 def changed(proved, function, draw):
@@ -188,7 +208,7 @@ def planted(kit, temporary, proved):
     config = crate / 'src/config.rs'
     config.write_text(config.read_text() + '\npub(crate) fn head() -> crate::storage::AssemblerHead {\n'
                       '    crate::storage::AssemblerHead::new()\n}\n')
-    for file, part, plant, _ in PLANTS:
+    for file, part, plant, _ in PLANTS + OTHERWISE:
         is_program = file.split('/')[0] in same_program.given.PROGRAM
         folder = crate / ('examples/net_bench' if is_program else 'src')
         path = folder / f'{erase.placed(file.removesuffix(".rs"))}.rs'
@@ -198,13 +218,58 @@ def planted(kit, temporary, proved):
     found = []
     for name in sorted({file.split('/')[0] for file, *_ in PLANTS}):
         rust = example if name in same_program.given.PROGRAM else library
-        found += [one if reason != 'not proved' else f'{one}: {reason}' for one, reason in
+        found += [f'{one}: {reason}' if reason.startswith('not ') else one for one, reason in
                   same_program.wrong(proved[name], rust, same_program.compared(proved[name], rust, name))]
     for name in (name for *_, name in PLANTS):
         assert any(one.endswith(f'::{name}') for one in found), f'not found: {name}: {found}'
     others = [one for one in found if not any(one.endswith(f'::{name}') for *_, name in PLANTS)]
     assert not others, others
-    return len(PLANTS)
+    built = {f'{one}: {reason.split(":")[0]}' for one, reason in
+             same_program.builds(crate, kit, temporary / 'builds', (library, example))}
+    assert all(any(one.endswith(f'::{name}') for one in built) for *_, name in OTHERWISE) and \
+        len({one.partition(': ')[0] for one in built}) == len(OTHERWISE), built
+    return len(PLANTS) + len(OTHERWISE) + texts(crate, kit, temporary / 'texts')
+
+
+def refused():
+    """What the eraser refuses."""
+    ghosts = erase.Ghosts((Path(f'{name}.rt'), text) for name, _, text in TEXTS)
+    for name, how, text in TEXTS:
+        if how == 'eraser':
+            with TestCase().assertRaises(erase.Refused, msg=name):
+                erase.Eraser(text, 'planted', (), f'crates/planted/src/{name}.rt', ghosts).run()
+
+
+def texts(crate, kit, temporary):
+    """Texts that mean something else once they are erased: proved, and added to a copy of the crate, where each is found.
+    Returns how many."""
+    source, out = temporary / 'crates/planted/src', crate / 'src/planted'
+    for folder in (source, out):
+        folder.mkdir(parents=True)
+    given.CRATES, given.FOLDERS['planted'] = [*given.CRATES, 'planted'], 'planted'
+    files = {name: text for name, how, text in TEXTS if how in ('same', 'widths') or name == 'config'}
+    ghosts = erase.Ghosts((Path(f'{name}.rt'), text) for name, text in files.items())
+    traits = {name for text in files.values() for name in re.findall(r'^(?:pub )?trait (\w+)', text, re.M)}
+    for name, text in files.items():
+        (source / f'{name}.rt').write_text(text)
+        eraser = erase.Eraser(text, 'planted', (), f'crates/planted/src/{name}.rt', ghosts, traits)
+        (out / f'{name}.rs').write_text(erase.relocated(eraser.run()))
+    modules = ''.join(f'pub mod {name};\n' for name in files)
+    (source / 'lib.rt').write_text(f'//! Texts.\n#![tactic(auto)]\n\n{modules}')
+    (out / 'mod.rs').write_text(f'#![allow(unreachable_pub)]\n{modules}')
+    (temporary / 'crates.txt').write_text('planted:\n')
+    root = crate / 'src/with_exports.rs'
+    root.write_text(root.read_text() + '\npub mod planted;\n')
+    subprocess.run(['rt', 'lib'], cwd=source.parent, check=True, stdout=subprocess.DEVNULL)
+    mir = source.parent / 'out/rlib/planted.rlib' / same_program.PROGRAM
+    rust = widths.compiled(crate, kit, temporary / 'target2')
+    how = same_program.compared(same_program.Proved(json.loads(mir.read_text())), rust, 'planted')
+    assert not how['broken'], how['broken']
+    found = dict.fromkeys((name.split('::')[1] for name, item in widths.erased(rust, rust.derived)
+                           if name.startswith('planted::') and widths.opened(rust, name, item)[0]), 'widths')
+    found |= {name.split('::')[1]: 'same' for name, _ in how['differ'] + how['unknown']}
+    assert found == {name: how for name, how, _ in TEXTS if how in ('same', 'widths')}, found
+    return len(TEXTS)
 
 
 def lists(proved, sides):
@@ -228,7 +293,8 @@ def main(arguments):
     with tempfile.TemporaryDirectory() as temporary:
         temporary = Path(temporary)
         kit = widths.kit_of(folders, temporary)
-        count = bodies(temporary / 'bodies', str(kit / 'rustc'))
+        count = bodies(temporary / 'bodies', kit)
+        refused()
         if folders != arguments:
             print(f'{len(EQUAL)} terms are one, {len(UNEQUAL)} are two; {count} pairs of bodies')
             return 0

@@ -1,19 +1,18 @@
 #!/usr/bin/env python3
 """Finds the operations of the erased text that are right where a `usize` has 64 bits, and for which nothing proves that
-they are so where it has 32:
+they are so where it has 32; and what of std the text calls:
 
-    python3 tools/widths.py [FOLDER]
+    python3 tools/widths.py [--write] [FOLDER]
 
-The text is erased again with all bounds, `debug_assert!(sum <= bound, "in any `usize`")`, and the exports for C, and
-rustc says what each operation is, by its types. `usize::MAX`, which the eraser writes for `most()` alone, is a number of
-a `usize`, and so is a difference, a quotient, a rest, `min`, `max` or `saturating_sub` of two. Any other operation has a
-cover:
+The text is erased again with all bounds, `debug_assert!(sum <= bound, "in any `usize`")`, and the exports for C. Each
+function is run as tools/same_program.py runs it, with symbols for numbers, and a `usize` of 32 bits. `usize::MAX`, which
+the eraser writes for `most()` alone, is a symbol too. A difference, a quotient, a rest,
+`min`, `max` or `saturating_sub` of numbers of a `usize` is one. Any other operation has a cover, on each way from it to
+a return:
 
-    bound     on each way that runs it, a bound of its value is tested before the value is changed, and no way leaves
-              before; or such a bound of the same expression was tested, and none of its variables is assigned in
-              between. The right side is a `usize`, or one as a `u64`: `usize::MAX`, a length, a variable or a field that
-              was there before and isn't changed since, and no expression. A bound of a sum is one of the sum in it,
-              since it is proved of numbers of any size
+    bound     a bound of its value, or of a sum of it and others, is tested after it, or was tested of the same value
+              before. The right side is a `usize`, or one as a `u64`, that was there before the operation, and holds no
+              sum, product or shift; or it is `usize::MAX`
     end       it is the end of the range of a slice, or of `part`: the index is proved to be at most a length
     cut       a cast of the lesser of two numbers, one of which was a `usize`
     wrapped   the negative of a number, as the last argument of a function of `WRAPS`: `wrapping_add` alone is given it,
@@ -21,418 +20,352 @@ cover:
     index     one less than a number, in numbers that wrap, as the whole argument of `get`: of 0 it is the greatest
               `usize`, an index that no slice has
     lesser    a sum or product that stops at the greatest `usize`, of which the lesser and another number is taken
-    constant  a literal that has 32 bits
-    derived hash  a field that a derived `Hash` gives to a hasher, of which no clause says the bytes
+    constant  a value that is known, and has 32 bits
 
-What isn't known is open: each value or call with a `usize` or an `isize` in its type, that is none of `FORMS` and
-`KNOWN`.
+What isn't known is open: a form that the readers of same_program.py don't know, an `isize`, a greater constant, and a
+call of std's with a `usize` or an `isize` in its type that `KNOWN` lacks. Derived code isn't read.
 
 The law `is_usize` is given a parameter, a length, what a method of `self` returned, or a literal: of a sum it would
 state what is to be proved. No proof but those of `most` and of this law unfolds `shortfall`, but for that it is below
-2^64. The compiler is that of rust/kit.sh, unpacked in FOLDER, or in a temporary one. The status is 1 if an operation is
-open, and 2 if there is no compiler.
+2^64. docs/std-calls.md is to have what std's functions are called, but for operators, indices, `?`, calls of closures
+and what prints, and docs/TRUST.md the ported crates of crates.txt; --write writes the first. The compiler is that of
+rust/kit.sh, unpacked in FOLDER, or in a temporary one. The status is 1 if something is open or a page has other lines,
+and 2 if there is no compiler.
 """
+import collections
 import os
 import re
 import shutil
 import subprocess
 import sys
 import tempfile
+import textwrap
 from pathlib import Path
 
 sys.dont_write_bytecode = True
 import erase
-from parts.mir_text import called, erased_files
+from parts.mir_text import called
+from parts.same_body import LIMIT, CompiledSide
+from parts.same_compiled import Compiled
+from parts.same_pair import Pair
+from parts.same_side import Branch, Call, Panic, Return, Store
+from parts.same_terms import UNIT, Differ, Unknown, any_part, mentions, reading, term
 
 REPOSITORY = Path(__file__).resolve().parent.parent
+PAGE = REPOSITORY / 'docs/std-calls.md'
 MARK = '"in any `usize`"'
 MOST = 2 ** 32 - 1                                # the greatest `usize` of 32 bits
-NUMBER = r'\d[\d_]*(?:usize)?'
-PATH = r'(?:[a-z_]\w*|[A-Z][A-Z_]*)(?:\.\w+)*'
-# Of numbers that a narrow `usize` has too these give such a number, and the same.
-SAFE = {'Sub', 'Div', 'Rem', 'Shr', 'BitAnd', 'BitOr', 'BitXor', 'call saturating_sub', 'call abs_diff'}
-OPERATORS = {'Add', 'Sub', 'Mul', 'Div', 'Rem', 'Shl', 'Shr', 'BitAnd', 'BitOr', 'BitXor', 'Not', 'Neg'}
+SIZE = re.compile(r'\b[iu]size\b')
 NARROW = {'u8', 'u16', 'u32', 'bool', 'char'}
-# What gives a `usize` of a value or a function that has one, and nothing new: all else that has one is an operation.
-# Derived hashes give a hasher the number of a variant.
-FORMS = re.compile(r'(?:copy|move|deref_copy|const|&|\(|\[|Len\(|PtrMetadata\(|discriminant\(|(?:Lt|Le|Gt|Ge|Eq|Ne)\(|[\w:]+(?:::)?(?:<.*>)?(?:::\w+)?(?: \{.*\}|\(.*\))?$)')
-KNOWN = re.compile(r"""<[iu]size\ as\ core::(?:cmp::Ord>::(?:min|max|cmp)|cmp::Partial(?:Ord|Eq)>::\w+|clone::Clone>::clone|default::Default>::default)
-  | <isize\ as\ core::hash::Hash>::hash.*
-  | <.*\ as\ core::ops::(?:Index(?:Mut)?<.*>>::index(?:_mut)?|Try>::branch|FromResidual.*|Fn(?:Once|Mut)?<.*>>::call(?:_once|_mut)?)
-  | <core::ops::Range<usize>\ as\ core::iter::(?:IntoIterator>::into_iter|Iterator>::next)
-  | <core::iter::Filter<core::slice::Iter<.*>\ as\ core::iter::Iterator>::count
-  | <core::option::Option<.*>\ as\ core::(?:clone::Clone|cmp::PartialEq|default::Default)>::\w+
-  | core::(?:vec::Vec::<.*>::len|option::Option::<.*>::(?:is_some|filter::<.*>)|slice::<impl\ \[.*\]>::(?:len|get|first|iter|iter_mut|split_at)(?:::<.*>)?|mem::replace::<.*>|fmt::rt::Argument::<'_>::new_display::<usize>)
-""", re.X)
-OWN = re.compile(r'(?!core::)[a-z_]+\w*::|<.* as (?!core::)\w+::|<(?!core::)\w+::.* as '
-                 r'core::iter::(?:Iterator|DoubleEndedIterator)>::(?:next|next_back|size_hint)$')
-# A pattern that has a name: of `let`, of `for`, of a closure, of an arm.
-HIDES = r'\blet\b[^=;]*{0}|\bfor\b[^{{]*{0}[^{{]*\bin\b|\|[^|;]*{0}[^|;]*\||{0}[^;{{]*=>'
+GREATEST = term('N', 'usize::MAX')
+# A bound that was tested is kept among the operations that lack a cover.
+KEPT = 'kept'
+# Operations, and what covers each; after `wrapping_` and `saturating_` they are calls.
+COVERS = {'Add': 'bound end', 'Mul': 'bound end', 'Shl': '', 'usize.wrapping_add': 'bound', 'usize.wrapping_sub': 'index',
+          'usize.wrapping_neg': 'wrapped', 'usize.saturating_add': 'lesser', 'usize.saturating_mul': 'lesser'}
+# Calls of std's that give a `usize` of a value or a function that has one, and nothing new. An operator of any type, or
+# a conversion, isn't one of them.
+KNOWN = re.compile(r'''usize:(?:Ord\.(?:min|max|cmp)|Partial(?:Eq|Ord)\.\w+|Clone\.clone|Default\.default)
+  | usize\.(?:saturating_(?:sub|add|mul)|abs_diff|wrapping_(?:add|sub|neg))|slice\ of\ a\ range
+  | [\w?]+:(?:Index(?:Mut)?|Try|FromResidual|Fn(?:Once|Mut)?)\.\w+|Option:(?:Clone|PartialEq|Default)\.\w+|Option\.(?:is_some|filter)
+  | slice\.(?:len|get|first|iter|iter_mut|split_at)|Vec\.len|Range:IntoIterator\.into_iter|mem\.replace
+  | Argument\.new_display''', re.X)
+ANY = re.compile(r'\?:(?:(?:Add|Sub|Mul|Div|Rem|Neg|Not|Sh[lr]|Bit\w+)(?:Assign)?|TryFrom|TryInto|FromStr)\.\w+'
+                 r'|Iterator\.(?:sum|product)')
+OWN = re.compile(r' as (?!core::|std::|alloc::)\w+::')
+# Calls that docs/std-calls.md hasn't.
+NO_CALL = re.compile(r'slice of a range|Arguments\..*|(?:.*:)?(?:Index|Try|FromResidual|FnOnce|panicking)\..*|.*\.(?:write_fmt|debug_\w+)')
 # What follows each use of the last parameter, `by`, of these functions: they pass it on, or give it to `wrapping_add`.
 WRAPS = {'take_out': [':', ')'], 'wrapped': [':', '.wrapping_add', '.wrapping_add']}
+# A pattern that has a name: of `let`, of `for`, of a closure, of an arm.
+HIDES = r'\blet\b[^=;]*{0}|\bfor\b[^{{]*{0}[^{{]*\bin\b|\|[^|;]*{0}[^|;]*\||{0}[^;{{]*=>'
 # The proofs that say how many bits a `usize` has.
 KNOWING = {'net_ring/proofs/width/most/Answers.antt', 'net_ring/proofs/laws/is_usize/Answers.antt'}
 FLAGS = ['--emit=mir', '-Coverflow-checks=on', '-Zmir-opt-level=0', '-Zmir-include-spans=on',
          '-Ztrim-diagnostic-paths=no', '-Awarnings']
 
 
-class File:
-    """A file's text, with spaces for comments and texts, its brackets, and where its lines begin."""
-
-    def __init__(self, text):
-        self.text = text
-        blank = lambda m: m.group() if m.group() == MARK else re.sub(r'[^\n]', ' ', m.group())
-        self.code = re.sub(r'//[^\n]*|b?"(?:\\[\s\S]|[^"\\])*"|b?\'(?:\\.[^\']*|[^\\\'])\'', blank, text)
-        self.lines = [0]
-        for line in text.split('\n'):
-            self.lines.append(self.lines[-1] + len(line) + 1)
-        self.close, opened = {}, []
-        for at, sign in enumerate(self.code):
-            if sign in '([{':
-                opened.append(at)
-            elif sign in ')]}':
-                self.close[opened.pop()] = at
-
-    def place(self, line, column):
-        return self.lines[line - 1] + column - 1
-
-    def blocks(self, at):
-        """The braces around a place, the innermost first, up to the body of its function."""
-        around = sorted((o for o, c in self.close.items() if self.code[o] == '{' and o < at <= c), reverse=True)
-        for k, brace in enumerate(around):
-            if re.search(r'\bfn\s+\w+(?:[^][{};]|\[[^]{}]*\])*$', self.code[:brace]):
-                return around[:k + 1]
-        return around
-
-    def statements(self, brace):
-        """Where the statements of a block begin and end."""
-        start = k = brace + 1
-        while k < self.close[brace]:
-            sign = self.code[k]
-            if sign in '([{':
-                k = self.close[k]
-                after = self.code[k + 1:].lstrip()
-                if sign == '{' and not re.match(r'else\b|[.?;,)\]]|as\b|[-+*/<>=&|]', after) and self.begins(start):
-                    yield start, k + 1
-                    start = k + 1
-            elif sign == ';':
-                yield start, k + 1
-                start = k + 1
-            k += 1
-        if self.code[start:k].strip():
-            yield start, k
-
-    def begins(self, start):
-        """Whether a statement is a block, a branch or a loop, which ends with its brace."""
-        return re.match(r'\s*(?:if|while|for|loop|match|unsafe|\{|#\[)', self.code[start:])
+def wide(value):
+    """A number as it is where a `usize` has 64 bits: without casts to 32 and to 64."""
+    while value[:1] == ('cast',) and {abs(value.width), abs(value.old)} == {32, 64}:
+        value = value.value
+    return value
 
 
-def plain(text):
-    return re.sub(r'\s+', '', text)
+def is_in(value, total):
+    """Whether a number is this one, or one of those that it is the sum of."""
+    value, total = wide(value), wide(total)
+    return value == total or total[:2] == ('op', '+') and (is_in(value, total.one) or is_in(value, total.two))
 
 
-class Reader:
-    """The operations of a crate's MIR, and what covers each."""
+def is_widened(value):
+    return value[:3] == ('cast', 64, 32)
 
-    def __init__(self, root, mir):
-        self.root, self.erased, self.files = root, erased_files(root) if root else {}, {}
-        self.operations, self.large = {}, {}
-        self.read(mir)
-        self.negatives = {}
 
-    def file(self, name):
-        if name not in self.files:
-            self.files[name] = File((self.root / name).read_text())
-        return self.files[name]
+def grows(value):
+    return value[:1] == ('op',) and re.match(r'[+*]|<<|wrapping|saturating', value.sign)
 
-    def read(self, mir):
-        types = {}
-        for line in mir.split('\n'):
-            if line and not line.startswith(' '):
-                types = {n: t.strip() for n, t in re.findall(r'(_\d+): ([^,()]+)', line)}
-                types['_0'] = (re.search(r'-> ([^{]*?) \{', line) or ['', ''])[1]
-                continue
-            local = re.match(r'\s+let (?:mut )?(_\d+): (.*);', line)
-            if local:
-                types[local[1]] = local[2]
-            step = re.match(r'\s+(.+?) = (.*?)(?:;| -> .*;)\s+// scope \d+ at ([^:]*):(\d+):(\d+): (\d+):(\d+)', line)
-            if not step or step[3] not in self.erased:
-                continue
-            to, value, name, *span = step.groups()
-            file = self.file(name)
-            at = name, file.place(int(span[0]), int(span[1])), file.place(int(span[2]), int(span[3]))
-            inner = re.match(r'\(?\(.*\.\d+: ([\w, ()]+)\)$', to)
-            into = inner[1] if inner else types.get(to, '')
-            kind = self.kind(into, value, types) or self.unknown(into, value, ' -> ' in line)
-            if kind:
-                self.operations[at, kind] = None
-            for number in re.findall(r'const (\d+)_usize', value):
-                if int(number) > MOST:
-                    self.large[at, int(number)] = None
 
-    @staticmethod
-    def kind(into, value, types):
-        """What is done to a `usize`; nothing if it is none."""
-        cast = re.match(r'(.*) as (\w+) \((?:IntToInt|FloatToInt|PointerExposeProvenance)\)', value)
-        if cast:
-            local = re.search(r'(_\d+)$', cast[1])
-            literal = re.search(r'(?:_|impl )([iu]\w+)(?:>::MAX)?$', cast[1])
-            source = types.get(local[1], '?') if local else literal[1] if literal else '?'
-            if cast[2] == 'usize' and source != 'usize' and source not in NARROW:
-                return f'cast {source} to usize'
-            if cast[2] == 'isize' and source not in ('isize', 'usize', 'u8', 'u16', 'i8', 'i16', 'i32', 'bool'):
-                return f'cast {source} to isize'
-            return f'cast usize to {cast[2]}' if source == 'usize' and cast[2] in ('isize', 'u64') else None
-        if call := re.search(r'impl usize>::(\w+)', value):
-            return f'call {call[1]}'
-        if 'impl isize>::' in value:
-            return 'isize'
-        sign = re.match(r'(\w+?)(?:WithOverflow|Unchecked)?\(', value)
-        of_usize = into in ('usize', '(usize, bool)', 'isize', '(isize, bool)')
-        return sign[1] if sign and sign[1] in OPERATORS and of_usize else None
+def is_apart(load, to):
+    """Whether what is read is another field of what has the place that is stored to."""
+    return to is not None and to[0] == 'addr' and to.pointer == load.pointer and load.path[:1] and \
+        load.path[0][0] == to.path[0][0] == 'f' and load.path[0] != to.path[0]
 
-    @staticmethod
-    def unknown(into, value, is_call):
-        """What is done with a type that has a `usize` in it, or with one that isn't known, and isn't one of the known
-        forms."""
-        value = re.sub(r'^(?:move|copy) (?=.*\))', '', value) if is_call else value
-        path = re.sub(r'\b(?:std|alloc)::', 'core::', called(value)) if is_call and value.endswith(')') else ''
-        if OWN.match(path):
-            return None
-        if re.match(r'<\w+ as core::ops::(?!Index|Fn|Deref|Try|FromResidual)|<[A-Z]\w* as core::(?:convert::Try|str::FromStr)'
-                    r'|.*::(?:sum|product)::<', path):
-            return f'unknown {path}'               # of any type, so of a `usize` too
-        if into and not re.search(r'\b[iu]size\b', f'{into} {path}'):
-            return None
-        return None if (KNOWN.fullmatch(path) if path else FORMS.match(value)) else f'unknown {path or value}'
 
-    # ---- covers
+def is_young(value, since):
+    """Whether a term is a result since then, or what memory has since then, but for other fields than were stored."""
+    return value[:1] == ('sym',) and (None, value) in since or value[:1] == ('load',) and \
+        any(value.ver == memory for _, memory in since) and not all(is_apart(value, to) for to, _ in since)
 
-    def cover(self, at, kind):
-        name, start, end = at
-        file = self.file(name)
-        if kind.startswith('unknown <usize as core::hash::Hash>') and \
-                re.fullmatch(r'(?:pub )?\w+: usize', file.code[start:end]):
-            return 'derived hash'                  # of a field: no clause says what a hasher is given
-        if kind.startswith('unknown') or kind == 'isize':
-            return None
-        text = re.sub(r'^\(([^()]*)\)$', r'\1', plain(file.code[start:end]))
-        if kind in SAFE or kind in ('cast usize to u64', 'call MAX'):
-            return 'no growth'
-        bound = self.bound_at(file, start)
-        if bound:
-            is_sum = kind == 'Add' and (bound[2] == text or bound[2].startswith(f'{text}+'))
-            return is_sum and self.is_there(file, bound[3], bound[2], start) and 'bound'
-        shift = re.fullmatch(f'({NUMBER})<<({NUMBER})', text)
-        if kind == 'Shl' and shift and int(shift[1]) << int(shift[2]) <= MOST:
-            return 'constant'
-        if kind == 'call wrapping_neg':
-            return self.is_wrapped(file, start, end) and 'wrapped'
-        if kind == 'call wrapping_sub' and re.fullmatch(r'\w+\.wrapping_sub\(1\)', text):
-            return file.code[:start].endswith('.get(') and file.code[end:].startswith(')') and 'index'
-        if kind in ('call saturating_add', 'call saturating_mul') and file.code[end:].startswith('.min('):
-            return 'lesser'
-        if kind not in ('Add', 'Mul', 'call wrapping_add') and not kind.startswith('cast u64'):
-            return None
-        if kind == 'Add' and self.is_end(file, start, end):
-            return 'end'
-        if kind.startswith('cast') and self.is_cut(at, text):
-            return 'cut'
-        return self.is_bounded(file, start, end, text) and 'bound'
 
-    def bound_at(self, file, at):
-        return next((bound for bound in self.bounds(file) if bound[0] <= at < bound[1]), None)
+class Sized(CompiledSide):
+    """A function of rustc's program, with a `usize` of 32 bits.
 
-    def bounds(self, file):
-        """The bounds of a file: where, the left side, with `:u64` if the right one is a `usize` as that, and the right
-        one."""
-        if not hasattr(file, 'bounds'):
-            file.bounds = []
-            for m in re.finditer(r'debug_assert!\(((?:(?!assert!)[^;])*?),\s*' + re.escape(MARK) + r',?\s*\);', file.code):
-                sides = re.fullmatch(r'(.*?[^<])<=?([^<=].*)', plain(m[1]))
-                if sides and '&&' not in m[1] and '||' not in m[1]:
-                    of_u64 = ':u64' * sides[2].endswith('asu64')
-                    file.bounds.append((m.start(), m.end(), sides[1] + of_u64, sides[2].removesuffix('asu64')))
-        return file.bounds
+    In its state 'owed' has the operations that lack a cover, and the bounds that were tested: where it is, what covers
+    it, terms that have its value, and what was made since: results, and memory after stores with their places."""
+    widths = CompiledSide.widths | {'usize': 32, 'isize': -32}
 
-    @staticmethod
-    def is_end(file, start, end):
-        """Whether an expression is the end of the range of a slice, or of `part`."""
-        before, after = file.code[:start].rstrip(), file.code[end:].lstrip()
-        if before.endswith('..') and after.startswith(']'):
-            opened = max(o for o, c in file.close.items() if o < start <= c)
-            return file.code[opened] == '[' and bool(re.search(r'[\w)\]]$', file.code[:opened]))
-        return bool(re.search(r'\.part(?:_mut)?\(\s*[\w.]+,$', before) and re.match(r',?\s*\)', after))
+    def __init__(self, program, item, name):
+        super().__init__(program, item, name)
+        self.open, self.covers, self.marks, self.bounds, self.into = {}, {}, {}, set(), ''
 
-    def is_cut(self, at, text):
-        """Whether a cast is of the lesser of two numbers, one of which was a `usize`."""
-        name, start, end = at
-        file, lesser = self.file(name), re.fullmatch(r'\(?(.+?)\.min\((.*?)\)\)?asusize', text)
-        if not lesser:
-            return False
-        widened = [(a, b) for (there, a, b), kind in self.operations if there == name and kind == 'cast usize to u64']
-        sides = {side.strip('()') for side in lesser.groups()}
-        if any(start <= a and b <= end and plain(file.code[a:b]).strip('()') in sides for a, b in widened):
-            return True
-        for brace in file.blocks(start):
-            for a, b in file.statements(brace):
-                given = re.match(r'\s*let (\w+) = (.*) as u64;$', file.code[a:b], re.S)
-                if given and b <= start and lesser[1] == given[1] and any(a <= c and d == b - 1 for c, d in widened):
-                    return not self.changes(file.code[b:start], given[1])
-        return False
+    def note(self, what):
+        self.open[what] = None
 
-    def is_bounded(self, file, start, end, text):
-        """Whether on each way a bound of an expression's value follows it, or a bound of the expression precedes it."""
-        cast = re.fullmatch(r'\(?([\w.-]+)\)?asusize', text)
-        own = {text, f'{cast[1]}:u64'} if cast else {text}
-        blocks = file.blocks(start)
-        if not blocks:                             # a constant's: no test follows it
-            return False
-        statement = next((a, b) for a, b in file.statements(blocks[0]) if a <= start < b)
-        names = own | self.named(file, statement, start, end)
-        # What is run with the operation, and after it, may give its value to the right side of a bound.
-        changing = file.code[slice(*statement)]
-        for brace in blocks:
-            statements = list(file.statements(brace))
-            here = next(k for k, (a, b) in enumerate(statements) if a <= start < b)
-            if self.bounded_after(file, statements[here:], names, changing, start, end):
-                return True
-            changing += file.code[statements[here][1]:file.close[brace]]
-            known = names - self.assigned(file, statement)
-            if self.bounded_before(file, statements[:here + 1], known, start, text.removesuffix('asusize')):
-                return True
-            # A way that leaves a block, or runs it again, passes no bound after it.
-            rest = file.code[max(end, statements[here][0]):file.close[brace]]
-            if self.leaves(rest) or re.search(r'\b(?:while|for|loop)\b[^{};]*$', file.code[:brace]):
-                names = own
-            if re.search(r'\|\s*$|=>\s*$', file.code[:brace]):
-                return False
-        return False
+    def partial(self, state, value):
+        """What may panic is proved not to."""
 
-    @staticmethod
-    def named(file, statement, start, end):
-        """The names that have an expression's value after its statement, if it is all that is assigned."""
-        before, after = file.code[statement[0]:start], file.code[end:statement[1]]
-        if after.strip() not in (';', ''):
-            return set()
-        given = re.fullmatch(r'\s*(?:let (?:mut )?)?([\w.]+) = ', before)
-        if given:
-            return {given[1]}
-        added = re.match(r'([\w.]+)\s*\+=', file.code[start:end])
-        return {added[1]} if added and not before.strip() else set()
+    def step(self, state, step, after):
+        self.site = after
+        return super().step(state, step, after)
 
-    @staticmethod
-    def assigned(file, statement):
-        """What a statement assigns: after it a bound that was tested before says nothing of that."""
-        return set(re.findall(r'([\w.]+)\s*[-+*/]?=(?!=)', file.code[statement[0]:statement[1]]))
+    # ---- operations
 
-    @staticmethod
-    def leaves(code):
-        return re.search(r'\b(?:return|break|continue)\b|\?', code)
+    def owe(self, state, value, covers):
+        """Notes that an operation's value wants one of some covers."""
+        if value[0] == 'int':
+            self.covers[self.site] = 'constant'
+        elif 'bound' in covers and (by := [site for site, of, names, _ in state['owed']
+                                           if of == KEPT and any(is_in(value, name) for name in names)]):
+            self.covers[self.site] = 'bound'
+            self.marks |= dict.fromkeys(by, True)
+        elif any(one[:2] == (self.site, covers) for one in state['owed']):
+            self.note(f'in a loop: {value}')
+        else:
+            state['owed'] += (self.site, covers, (value,), frozenset()),
 
-    def bound_of(self, file, statement):
-        """The bound that a statement is, if it is one."""
-        a, b = statement
-        return next((x for x in self.bounds(file) if a <= x[0] and x[1] <= b and not file.code[a:x[0]].strip()), None)
-
-    def bounded_after(self, file, statements, names, changing, start, end):
-        """Whether a bound of one of the names follows the first statement, with nothing that leaves or assigns it in
-        between, or changes the bound's right side."""
-        (a, b), *after = statements
-        if self.leaves(file.code[end:b]):
-            return False
-        # Gone are names that the rest of the statement changes, and expressions that what is before them in it changes.
-        names = {name for name in names if not self.changed(file.code[end:b], name) and (
-            re.fullmatch(r'[\w.]+', name) or not self.changed(file.code[a:start], name))}
-        for statement in after:
-            code = file.code[slice(*statement)]
-            if bound := self.bound_of(file, statement):
-                if bound[2] in names and self.is_there(file, bound[3], bound[2], start) and \
-                        not self.changed(changing, bound[3]):
-                    return True
-            elif self.leaves(code):
-                return False
+    def pay(self, state, cover, value, bound=()):
+        """Covers the operations of a value."""
+        owed, is_one = [], is_in if cover == 'bound' else lambda one, two: wide(one) == wide(two)
+        for one in state['owed']:
+            site, covers, names, since = one
+            if cover in covers.split() and any(is_one(name, value) for name in names) and \
+                    not any_part(bound, lambda part: is_young(part, since)):
+                self.covers[site] = cover
+                if cover == 'bound':
+                    self.marks[self.site] = True
             else:
-                names, changing = {name for name in names if not self.changed(code, name)}, changing + code
-        return False
+                owed.append(one)
+        state['owed'] = tuple(owed)
 
-    def bounded_before(self, file, statements, names, start, text):
-        """Whether a bound of the expression precedes the last statement, with no variable of it assigned in between."""
-        *before, last = statements
-        if self.is_nested(file, last[0], start) and self.changed(file.code[slice(*last)], text):
-            return False
-        within = re.sub(r'^\s*(?:let (?:mut )?)?[\w.]+ [-+*/]?= ', '', file.code[last[0]:start])
-        for whole, *field in (path.split('.') for path in re.findall(PATH, text)):
-            if self.changes(within, whole) or field and re.search(rf'(?<![\w.]){whole}\s*[,)]', within):
-                return False
-        for statement in reversed(before):
-            if bound := self.bound_of(file, statement):
-                if bound[2] in names and self.is_there(file, bound[3], bound[2], start):
-                    return True
-            elif self.changed(file.code[slice(*statement)], text):
-                return False
-        return False
+    def switch(self, state, value, ends):
+        """A branch, which may be a bound's."""
+        branch = super().switch(state, value, ends)
+        test, end = branch.value, branch.ends.get(0)
+        if end and self.is_marked(end.node, state):
+            self.marks.setdefault(self.site, any_part(branch.value, lambda one: one == GREATEST))
+            if test in self.bounds:
+                least = term('op', '+', test.one, term('int', 1)) if test.sign == '<' else test.one
+                self.pay(state, 'bound', least, test.two)
+                others = [one for one in state['owed'] if one[:2] != (self.site, KEPT)]
+                state['owed'] = (*others, (self.site, KEPT, (least,), frozenset()))
+        return branch
+
+    def is_marked(self, node, state):
+        """Whether the way from a node is the panic of a bound, which has the mark."""
+        promoted = (name for step in self.nodes[node[0]] for name in re.findall(r'::(promoted\[\d+\])', step))
+        return any(MARK in self.program.promoted.get((self.path, name), '') for name in promoted) and \
+            isinstance(self.run(node, dict(state)), Panic)
+
+    def constant(self, text):
+        limit, number = LIMIT.fullmatch(text), re.fullmatch(r'(\d+)_usize', text)
+        if limit and 'usize' in limit.groups() and limit[3] == 'MAX':
+            return GREATEST
+        if limit and SIZE.fullmatch(limit[1] or limit[2]) or number and int(number[1]) > MOST:
+            self.note(f'the constant {text}')
+        return super().constant(text)
+
+    def kind_of(self, text):
+        limit = LIMIT.fullmatch(text.removeprefix('const '))
+        return limit[1] or limit[2] if limit else super().kind_of(text)
+
+    def binary(self, state, sign, how, one, two):
+        made = super().binary(state, sign, how, one, two)
+        kind, value = self.kind_of(one) or self.kind_of(two), made.parts[0] if how == 'WithOverflow' else made
+        if kind in (None, 'isize'):
+            self.note(f'{sign} of {kind}: {value}')
+        elif kind == 'usize' and sign in COVERS:
+            self.owe(state, value, COVERS[sign])
+        elif value[0] == 'op' and value.sign in ('<', '<=') and not any_part(value.two, grows) and \
+                (kind == 'usize' or kind == 'u64' and is_widened(value.two)):
+            self.bounds.add(value)
+        return made
+
+    def unary(self, state, word, of):
+        if word in ('Not', 'Neg') and self.kind_of(of) in (None, 'usize', 'isize'):
+            self.note(f'{word} of {self.kind_of(of)}')
+        return super().unary(state, word, of)
+
+    def converted(self, state, text, operand, to, how):
+        made, of = super().converted(state, text, operand, to, how), self.kind_of(operand)
+        lesser = made.value[2:] if made[0] == 'cast' and made.value[:2] == ('op', 'min') else ()
+        if (of, to) == ('u64', 'usize') and any(map(is_widened, lesser)):
+            self.covers[self.site] = 'cut'
+        elif (of, to) == ('u64', 'usize'):
+            self.owe(state, made, 'bound')
+        elif how == 'IntToInt' and ('isize' in (of, to) or to == 'usize' and of not in {'usize', *NARROW}):
+            self.note(f'cast {of} to {to}')
+        return made
+
+    def call(self, state, place, text, after):
+        self.into = self.kind_of(place) or ''
+        return super().call(state, place, text, after)
+
+    def pure(self, state, head, name, arguments, kind):
+        is_own = '::' in name or OWN.search(head) or name in self.program.traits.values()
+        is_known = KNOWN.fullmatch(name) or name == 'Iterator.count' and '<core::iter::Filter<core::slice::Iter<' in head
+        if ANY.fullmatch(name) or SIZE.search(f'{self.into} {head}') and not is_own and not is_known:
+            self.note(f'call of {name}')
+        for cover, form, given in (('end', r'.*[.:]part(?:_mut)?|slice of a range', arguments[-1:]),
+                                   ('index', r'slice\.get', arguments[-1:]), ('lesser', r'usize:Ord\.min', arguments),
+                                   ('wrapped', f'.*::(?:{"|".join(WRAPS)})', arguments[-1:])):
+            for one in given if re.fullmatch(form, name) else ():
+                self.pay(state, cover, one.parts[-1] if name == 'slice of a range' and one[0] == 'agg' else one)
+        made = super().pure(state, head, name, arguments, kind)
+        if name in COVERS or name.endswith(':Ord.min'):
+            made = term('op', name.split('.')[1], arguments[0], arguments[-1])
+        if name == 'usize.wrapping_sub' and arguments[1] != term('int', 1):
+            self.note(f'call of {name}')
+        elif name in COVERS:
+            self.owe(state, made, COVERS[name])
+        return made
+
+
+class Walk(Pair):
+    """A function from its start on: as a pair with itself, whose two sides are one."""
+
+    def __init__(self, side):
+        super().__init__(side, side, {})
+
+    def arguments(self, name, one, two, state):
+        return [*zip(one, two)]
+
+    def reach(self, node, state):
+        super().reach(node, {'owed': ()} | state)
+
+    def step(self, node, state):
+        state['B', 'drops'], side = UNIT, self.b
+        event = self.event(side, node[0], state)
+        if isinstance(event, Return):
+            for _, covers, names, _ in state['owed']:
+                covers == KEPT or side.note(f'no cover: {names[:1]}')
+        elif isinstance(event, Store):
+            state['ver'], to = self.fresh(state, ('ver', node)), side.behind(event.to)
+            self.since(state, event.to, state['ver'], lambda names: (side.read(state, to),) * (event.value in names))
+            self.reach((event.after,) * 2, state)
+        elif isinstance(event, (Branch, Call)):
+            self.branch(event, event, state) if isinstance(event, Branch) else self.call(node, event, event, state)
 
     @staticmethod
-    def is_nested(file, a, start):
-        return any(file.code[o] == '{' and a <= o < start <= c for o, c in file.close.items())
+    def since(state, to, made, more=lambda names: ()):
+        """Notes of each operation what is made after it, and more terms that have its value."""
+        state['owed'] = tuple((site, covers, names + more(names), since | {(to, made)})
+                              for site, covers, names, since in state['owed'])
 
-    @classmethod
-    def changed(cls, code, text):
-        """Whether code changes what an expression is made of."""
-        paths = set(re.findall(PATH, text))
-        wholes = {path.split('.')[0] + '.' for path in paths if '.' in path or '(' in text}
-        return any(cls.changes(code, name) for name in paths | wholes)
-
-    @staticmethod
-    def changes(code, name):
-        """Whether code assigns a variable or a field, lends it to be changed, or hides it. Of a field, or of what a
-        call reads, that is also whether it calls a method of the whole, or passes it."""
-        whole, field, _ = name.partition('.')
-        name = re.escape(name)
-        hides = HIDES.format(rf'(?<![.:])\b{whole}\b(?![(:])')
-        assigned = rf'(?<![\w.]){name}(?:\.\w+)*\s*(?:[-+*/%&|^]|<<|>>)?=(?!=)'
-        in_pattern = rf'\([^()=;]*\b{name}\b[^()=;]*\)\s*=(?!=)|\bref mut\b'
-        if re.search(rf'{assigned}|{in_pattern}|&mut {whole}\b|{hides}', code):
-            return True
-        return field and re.search(rf'(?<![\w.]){whole}(?:(?:\.\w+)*\.\w+\(|\s*[,)=;}}]|\s*\[)', code)
-
-    def is_there(self, file, right, left, start):
-        """Whether the right side of a bound is a number that was there before the operation."""
-        if right == left:
-            return False
-        if right == 'usize::MAX':
-            return True
-        path = re.fullmatch(rf'({PATH})(?:\.len\(\))?', right)
-        if not path:
-            return False
-        # It isn't made of the value: it is no variable that a statement after the operation defines.
-        body = file.blocks(start)[-1]
-        variable = re.escape(path[1].split('.')[0])
-        made = [m.start() for m in re.finditer(rf'\blet (?:mut )?{variable}\b', file.code[body:file.close[body]])]
-        return all(body + m < start for m in made)
+    def fresh(self, state, key):
+        symbol = super().fresh(state, key)
+        if key[0] != 'ver':
+            self.since(state, None, symbol)
+        return symbol
 
     @staticmethod
-    def is_wrapped(file, start, end):
-        """Whether a number that wraps is the last argument of `take_out`, and `wrapping_add` alone is given it."""
-        given = re.search(r'\b(\w+)\([^()]*$', file.code[:start])
-        bodies = {name: re.search(rf'(?ms)^fn {name}\(.*?^\}}', file.code) for name in WRAPS}
-        return bool(given and given[1] in WRAPS and file.code[end] == ')' and all(
-            body and re.findall(r'\bby\b(\W\w*)', body[0]) == WRAPS[name] for name, body in bodies.items()))
+    def joined(key, old, new):
+        """What two states have in common: of an operation, what has its value on each way that makes it; of a bound, if
+        both have it."""
+        both = [{name: value for name, value in state.items() if name != 'owed'} for state in (old, new)]
+        out, owed = Pair.joined(key, *both), {}
+        at, bounds = out or both[0], [{one[0] for one in state['owed'] if one[1] == KEPT} for state in (old, new)]
+        for state in (old, new):
+            images = {}
+            for name in at.keys() - {'facts', 'done'}:
+                note_images(state[name], at[name], images)
+            for site, covers, names, since in state['owed']:
+                kept = {name for name in names if state is old and out is None or not mentions(name, key)}
+                kept.update(*(images.get(name, ()) for name in names))
+                _, _, others, more = owed.get((site, covers), (None, None, kept, frozenset()))
+                if covers != KEPT or site in bounds[0] & bounds[1]:
+                    owed[site, covers] = site, covers, tuple(sorted(kept & {*others}, key=str)), since | more
+        owed = tuple(owed[one] for one in sorted(owed))
+        return None if out is None and {*owed} == {*old['owed']} else {**at, 'owed': owed}
+
+
+def note_images(one, two, images):
+    """Notes of each part of a term what is there in another one."""
+    if isinstance(one, tuple) and isinstance(two, tuple):
+        images.setdefault(one, set()).add(two)
+        for a, b in zip(one, two) if len(one) == len(two) else ():
+            note_images(a, b, images)
+
+
+def opened(rust, name, item):
+    """What is open of a function or constant, each with its place, and the covers of its operations."""
+    side = Sized(rust, item, name)
+    try:
+        with reading(name):
+            Walk(side).compare()
+    except (Unknown, Differ) as reason:
+        side.note(f'not understood: {reason}')
+    idle = ['a bound of no operation' for is_used in side.marks.values() if not is_used]
+    return [*side.open, *idle], [*side.covers.values()]
+
+
+def erased(rust, but):
+    """The functions and constants of the erased text, but for some: each name with its item."""
+    crates = {module.split('::')[0] for module, _ in rust.erased.values()}
+    items = [*rust.functions.items(), *rust.constants.items(), *((path, item) for (path, _), item in rust.promoted.items())]
+    return [(name, item) for name, item in items if name.split('::')[0] in crates and name not in but]
+
+
+def wraps(root, files):
+    """Where a number that wraps goes elsewhere than to `wrapping_add`: a function of `WRAPS`."""
+    for name, uses in WRAPS.items():
+        found = [body for file in files for body in re.findall(rf'(?ms)^fn {name}\(.*?^\}}', (root / file).read_text())]
+        if any(re.findall(r'\bby\b(\W\w*)', body) != uses for body in found):
+            yield f'{name}: `by` is used otherwise'
+
+
+def of_crate(root, rust):
+    """What is open in a crate, and how many operations have which cover."""
+    found, counts = [*wraps(root, rust.erased)], collections.Counter()
+    for name, item in erased(rust, rust.derived - rust.twice):
+        said, covers = opened(rust, name, item)
+        counts.update(covers)
+        found += [f'{name}: {what}' for what in said]
+    return [*found, *(f'{name}: two functions of this name' for name in rust.twice)], counts
 
 
 def laws(paths):
     """Where the law `is_usize` is given something else than a literal, a parameter, a length, or what `self` says."""
     for path in paths:
-        file = File(path.read_text())
-        for call in re.finditer(r'\bis_usize\(([^;]*)\);', file.code):
-            given, text = call[1].strip(), file.code[file.code.rfind('fn ', 0, call.start()):call.start()]
-            if re.fullmatch(NUMBER, given) and int(given.replace('_', '').removesuffix('usize')) <= MOST:
+        code = re.sub(r'//[^\n]*', '', path.read_text())
+        for call in re.finditer(r'\bis_usize\(([^;]*)\);', code):
+            given, text = call[1].strip(), code[code.rfind('fn ', 0, call.start()):call.start()]
+            if re.fullmatch(r'\d[\d_]*(?:usize)?', given) and int(given.removesuffix('usize')) <= MOST:
                 continue
             length = rf'\blet {re.escape(given)} = (?:[\w.]+\.len\(\)|self\.\w+\(\w+\));'
             is_made = re.fullmatch('_?[a-z]\\w*', given) and re.search(rf'[(,]\s*{given}: usize\b|{length}', text)
             if not is_made or re.search(HIDES.format(rf'\b{given}\b'), re.sub(length, '', text)):
-                yield f'{path}:{file.code.count(chr(10), 0, call.start()) + 1}: is_usize({given})'
+                yield f'{path}:{code.count(chr(10), 0, call.start()) + 1}: is_usize({given})'
 
 
 def unfolded(crates):
@@ -460,18 +393,18 @@ def kit_of(folders, temporary):
     return kit
 
 
-def rustc(crate, kit, target, what='--lib', **options):
-    """Compiles an erased crate, with its exports for C, or an example of it."""
+def rustc(crate, kit, target, what='--lib', words=('--features', 'segmentation-offload,std'), flags=(), **options):
+    """Compiles an erased crate, with its exports for C if there are no other words, or an example of it."""
     environment = dict(os.environ, RUSTC=str(kit / 'rustc'), RUSTC_BOOTSTRAP='1', CARGO_TARGET_DIR=str(target))
     package, named = (['--package', 'net-base-exports'], ['--remap-path-prefix=exports/../src=src']) \
-        if what == '--lib' else ([], [])
-    words = ['cargo', 'rustc', '--offline', '--quiet', what, *package, '--features', 'segmentation-offload,std']
-    return subprocess.run([*words, '--', *FLAGS, *named], cwd=crate, env=environment, **options)
+        if what == '--lib' and words[:1] == ('--features',) else ([], [])
+    command = ['cargo', 'rustc', '--offline', '--quiet', what, *package, *words, '--', *FLAGS, *named, *flags]
+    return subprocess.run(command, cwd=crate, env=environment, **options)
 
 
 def mir_of(target, folder='deps'):
     """What `rustc` wrote."""
-    mir, = (target / 'debug' / folder).glob('*.mir')
+    mir, = target.glob(f'**/debug/{folder}/*.mir')
     return mir.read_text()
 
 
@@ -488,38 +421,49 @@ def with_bounds(crate):
 
 
 def compiled(crate, kit, target):
-    """The reader of an erased crate."""
+    """Rustc's program of an erased crate."""
     rustc(crate, kit, target, check=True)
-    return Reader(crate, mir_of(target))
+    return Compiled(crate, mir_of(target))
 
 
-def show(reader):
-    """Prints what is open, and returns how many there are of each kind of cover."""
-    counts = {'open': 0}
-    for (at, kind) in sorted(reader.operations):
-        name, start, end = at
-        cover = reader.cover(at, kind) or 'open'
-        counts[cover] = counts.get(cover, 0) + 1
-        if cover == 'open':
-            file = reader.file(name)
-            line = file.code.count('\n', 0, start) + 1
-            print(f'open: {name.removeprefix("src/")}:{line}: {kind}: {" ".join(file.text[start:end].split())}')
-    for (name, start, _), number in reader.large:
-        counts['open'] += 1
-        print(f'open: {name}: the constant {number}')
-    return counts
+def std_calls(rust):
+    """The lines of docs/std-calls.md: of each type or trait of std's its functions that the erased text calls."""
+    found = collections.defaultdict(set)
+    for _, item in erased(rust, ()):
+        for text in re.findall(r'^ +[^=]+? = (?:move |copy )?([^\n]+\)) -> ', item, re.M):
+            head = called(text)
+            name = rust.callee(head)
+            of, call = name.split(':')[-1].rpartition('.')[::2]
+            if re.match('<|(?:core|std|alloc)::(?!fmt::rt)', head) and not ('::' in name or OWN.search(head) or NO_CALL.fullmatch(name)):
+                found['numbers' if re.fullmatch(r'[iu](?:\d+|size)', of) else of].add(call)
+    rows = [f'`{of}`: {", ".join(f"`{call}`" for call in sorted(calls))}' for of, calls in sorted(found.items())]
+    return '\n'.join('\n  '.join(textwrap.wrap(f'- {row}', 116)) for row in rows)
 
 
-def main(folders):
+def ported():
+    """The ported crates, as docs/TRUST.md is to name them."""
+    rows = re.sub('#.*', '', (REPOSITORY / 'crates.txt').read_text()).split('\n')
+    used = {crate for row in rows for crate in row.partition(':')[2].split()}
+    return f'({", ".join(f"`{it}`" for it in sorted(used) if not (REPOSITORY / "crates" / it).exists())})'
+
+
+def main(arguments):
     with tempfile.TemporaryDirectory() as temporary:
         temporary = Path(temporary)
-        kit = kit_of(folders, temporary)
-        counts = show(compiled(with_bounds(temporary / 'crate'), kit, temporary / 'target'))
-    for line in [*laws(sorted((REPOSITORY / 'crates').glob('*/src/**/*.rt'))), *unfolded(REPOSITORY / 'crates')]:
-        counts['open'] += 1
-        print(f'open: {line}')
-    print(', '.join(f'{count} {cover}' for cover, count in sorted(counts.items(), key=lambda pair: pair[0] != 'open')))
-    return int(counts['open'] > 0)
+        kit = kit_of([word for word in arguments if word != '--write'], temporary)
+        rust = compiled(root := with_bounds(temporary / 'crate'), kit, temporary / 'target')
+        found, counts = of_crate(root, rust)
+    found += [*laws(sorted((REPOSITORY / 'crates').glob('*/src/**/*.rt'))), *unfolded(REPOSITORY / 'crates')]
+    head, block = PAGE.read_text().split('\n\n- ', 1)[0], std_calls(rust)
+    if '--write' in arguments:
+        PAGE.write_text(f'{head}\n\n{block}\n')
+    elif PAGE.read_text() != f'{head}\n\n{block}\n':
+        found.append(f'{PAGE.name}: tools/widths.py --write has other lines')
+    if ported() not in ' '.join((REPOSITORY / 'docs/TRUST.md').read_text().split()):
+        found.append(f'docs/TRUST.md has other crates than crates.txt, which has {ported()}')
+    print(*(f'open: {what}' for what in found), sep='\n', end='\n' * bool(found))
+    print(', '.join(f'{count} {cover}' for cover, count in (('open', len(found)), *sorted(counts.items()))))
+    return int(bool(found))
 
 
 if __name__ == '__main__':

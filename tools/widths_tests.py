@@ -5,7 +5,7 @@ Each text is the body of a function, or items; the status is 2 if there is no co
 import contextlib
 import io
 import os
-import shutil
+import re
 import subprocess
 import sys
 import tempfile
@@ -18,56 +18,32 @@ import libraries
 import widths
 from parts.mir_text import tables
 
-# Bodies by what covers their operation, and those that nothing covers; items, each with how many of their operations
-# are open; functions that may state of a number that it is one, and functions that may not.
+# Bodies by what covers their operation, and those that nothing covers; items, each behind whether one of their
+# operations is open; functions that may state of a number that it is one, and functions that may not.
 COVERED = tables('widths_bodies.txt')
 HEAD, OPEN, ITEMS, LAWFUL, UNLAWFUL, EXPORTS = (
     COVERED.pop(name) for name in ('head', 'open', 'items', 'lawful', 'unlawful', 'exports'))
-HEAD = '\n'.join(HEAD)
-ITEMS = [(text, int(count)) for count, text in (item.split(' ', 1) for item in ITEMS)]
-EXPORTS = [row.split(' ~~ ') for row in EXPORTS]
-
-
-class Shown(widths.Reader):
-    """A reader of one line of text, with a given operation or a given large number."""
-
-    def __init__(self, operation, large):
-        super().__init__(None, '')
-        self.files = {'src/a.rs': widths.File('fn f() { a + b; a.min(b); }')}
-        self.operations, self.large = dict.fromkeys(operation), dict.fromkeys(large)
-
-
-# Operations and large numbers of a file, and a law beside it: what is shown, and how many there are.
-SUM, MIN, HERE = (('src/a.rs', 9, 14), 'Add'), (('src/a.rs', 16, 24), 'Sub'), ('src/a.rs', 9, 14)
-STATUSES = [
-    ([], [], LAWFUL[0], ['0 open']), ([MIN], [], LAWFUL[0], ['0 open, 1 no growth']),
-    ([SUM, MIN], [], LAWFUL[0], ['open: a.rs:1: Add: a + b', '1 open, 1 no growth']),
-    ([], [(HERE, 5_000_000_000)], LAWFUL[0], ['open: src/a.rs: the constant 5000000000', '1 open']),
-    ([], [], UNLAWFUL[1], ['open: {}:1: is_usize(a + 1)', '1 open']),
-]
-
-
-PLANT = erase.HEADER.format('crates/plants/src/plant.rt')
+BODY = 'pub fn f(a: usize, b: usize, x: u64, xs: &mut [u8], s: &mut S) -> usize {{\n    {}\n}}'
 
 
 def read(folder, compiler, modules):
-    """The reader of a crate with these modules."""
+    """What is said of each module of a crate: what is open, and which covers there are."""
     (folder / 'src').mkdir(parents=True)
-    (folder / 'src/lib.rs').write_text('#![allow(warnings)]\n' + ''.join(f'pub mod {name};\n' for name in modules))
+    (folder / 'src/lib.rs').write_text('#![no_std]\n#![allow(warnings)]\n#[macro_use]\nextern crate std;\n' + ''.join(
+        f'pub mod {name};\n' for name in modules))
     for name, text in modules.items():
-        (folder / 'src' / f'{name}.rs').write_text(f'{PLANT}{HEAD}\n{text}\n')
+        (folder / f'src/{name}.rs').write_text('\n'.join([erase.HEADER.format(f'crates/plants/src/{name}.rt'), *HEAD, text]))
     subprocess.run([compiler, '--edition', '2024', '--crate-type', 'lib', *widths.FLAGS, '-o', 'out.mir', 'src/lib.rs'],
                    cwd=folder, check=True, env=dict(os.environ, RUSTC_BOOTSTRAP='1'))
-    return widths.Reader(folder, (folder / 'out.mir').read_text())
-
-
-def covers(reader, name):
-    """What covers the operations of a module, without those of its head."""
-    begin = len(PLANT + HEAD)
-    found = [reader.cover(at, kind) for at, kind in reader.operations if at[0].endswith(f'/{name}.rs')
-             and at[1] >= begin]
-    found += [None for at, _ in reader.large if at[0].endswith(f'/{name}.rs')]
-    return [cover for cover in found if cover != 'no growth']
+    rust = widths.Compiled(folder, re.sub(r'(?<![\w:])(?:std|alloc)::', 'core::', (folder / 'out.mir').read_text()))
+    found = {name: ([], set()) for name in modules}
+    for name, item in widths.erased(rust, rust.derived):
+        said, covers = widths.opened(rust, name, item)
+        found[name.split('::')[1]][0].extend(said)
+        found[name.split('::')[1]][1].update(covers)
+    for name in modules:
+        found[name][0].extend(widths.wraps(folder, [f'src/{name}.rs']))
+    return found
 
 
 def check_refusals(folder):
@@ -82,61 +58,60 @@ def check_refusals(folder):
                 refuse()
 
 
+def check_laws(folder):
+    """Calls of the law, and proofs that say how many bits a `usize` has."""
+    law, path, source = folder / 'law.rt', folder / 'crates/a/proofs/b/Answers.antt', folder / 'crates/a/src/b/c.rt'
+    for file in (path, source):
+        file.parent.mkdir(parents=True)
+    for text in (*LAWFUL, *UNLAWFUL):
+        law.write_text(text)
+        assert bool([*widths.laws([law])]) == (text in UNLAWFUL), text
+    of_both = 'word : shortfall < 2 ^ 64\nunfolding shortfall\nword = omega arith'
+    for file, text, count in ((path, 'returns c = omega arith', 0), (path, 'unfolding shortfall', 1),
+                              (path, 'unfolding front shortfall', 1), (path, of_both, 0),
+                              (path, of_both.replace('64', '63'), 1), (path, of_both.replace('<', '≡'), 1),
+                              (path, '', 0), (source, '#[tactic(auto, unfolding shortfall)]', 1)):
+        file.write_text(f'use a.{{shortfall}}\n{text}\n')
+        assert len([*widths.unfolded(folder / 'crates')]) == count, text
+    assert all(re.search('unfolding.*shortfall', (widths.REPOSITORY / 'crates' / name).read_text(), re.S)
+               for name in widths.KNOWING)
+
+
+def check_status(kit):
+    """What is open is said and counted, and so is another page."""
+    page = '- ' + widths.PAGE.read_text().split('\n\n- ', 1)[1].rstrip('\n')
+    for found, said, wanted in (([], page, []), (['a: b'], page, ['open: a: b']),
+                                ([], '- `A`: `b`', ['open: std-calls.md: tools/widths.py --write has other lines'])):
+        told = contextlib.redirect_stdout(io.StringIO())
+        with told as out, mock.patch.multiple(widths, compiled=lambda *_: None, with_bounds=str, of_crate=lambda *_: ([*found], {'bound': 3}),
+                                              std_calls=lambda _: said):
+            status = widths.main([str(kit)])
+        lines = [*wanted, f'{len(wanted)} open, 3 bound']
+        assert (status, out.getvalue().splitlines()) == (int(bool(wanted)), lines), out.getvalue()
+
+
 def main(arguments):
     with tempfile.TemporaryDirectory() as temporary:
         temporary = Path(temporary)
         kit = widths.kit_of(arguments, temporary)
         check_refusals(temporary / 'others')
-        body = 'pub fn f(a: usize, b: usize, x: u64, xs: &mut [u8], s: &mut S) -> usize {{\n    {}\n}}'
         covered = [(text, cover) for cover, texts in COVERED.items() for text in texts]
-        modules = {f'covered{k}': body.format(text) for k, (text, _) in enumerate(covered)}
-        modules |= {f'open{k}': body.format(text) for k, text in enumerate(OPEN)}
-        modules |= {f'items{k}': text for k, (text, _) in enumerate(ITEMS)}
-        reader = read(temporary / 'plants', str(kit / 'rustc'), modules)
-        for k, (text, cover) in enumerate(covered):
-            assert {*covers(reader, f'covered{k}')} == {cover}, (text, covers(reader, f'covered{k}'))
-        for k, text in enumerate(OPEN):
-            assert None in covers(reader, f'open{k}') or False in covers(reader, f'open{k}'), text
-        for k, (text, count) in enumerate(ITEMS):
-            assert sum(not cover for cover in covers(reader, f'items{k}')) == count, (text, covers(reader, f'items{k}'))
+        rows = [(BODY.format(text), {cover}, False) for text, cover in covered]
+        rows += [(BODY.format(text), None, True) for text in OPEN]
+        rows += [(text, None, is_open != '0') for is_open, text in (item.split(' ', 1) for item in ITEMS)]
+        found = read(temporary / 'plants', str(kit / 'rustc'), {f'row{k}': text for k, (text, *_) in enumerate(rows)})
+        for (text, covers, is_open), (said, seen) in zip(rows, found.values()):
+            assert bool(said) == is_open and covers in (None, seen), (text, said, seen)
         crate = temporary / 'crate'
         widths.with_bounds(crate)
-        for file, part, plant in EXPORTS:
+        for file, part, plant in (row.split(' ~~ ') for row in EXPORTS):
             path = crate / 'src/exports' / file
             assert part in path.read_text(), (file, part)
             path.write_text(path.read_text().replace(part, plant, 1))
-        reader = widths.compiled(crate, kit, temporary / 'target')
-        found = [at for at, kind in reader.operations if not reader.cover(at, kind)] + [at for at, _ in reader.large]
-        assert len(found) == len(EXPORTS), found
-        path = temporary / 'law.rt'
-        for text in (*LAWFUL, *UNLAWFUL):
-            path.write_text(text)
-            assert bool(list(widths.laws([path]))) == (text in UNLAWFUL), text
-        path = temporary / 'crates/a/proofs/b/Answers.antt'
-        path.parent.mkdir(parents=True)
-        of_both = 'word : shortfall < 2 ^ 64\nunfolding shortfall\nword = omega arith'
-        for text, count in (('returns c = omega arith', 0), ('unfolding shortfall', 1),
-                            ('unfolding front shortfall', 1),
-                            (of_both, 0), (of_both.replace('64', '63'), 1), (of_both.replace('<', '≡'), 1)):
-            path.write_text(f'use a.{{shortfall}}\n{text}\n')
-            assert len(list(widths.unfolded(temporary / 'crates'))) == count, text
-        source = temporary / 'crates/a/src/b/c.rt'
-        source.parent.mkdir(parents=True)
-        source.write_text('#[tactic(auto, unfolding shortfall)]\n')
-        path.write_text('\n')
-        assert len(list(widths.unfolded(temporary / 'crates'))) == 1
-        unfolds = [widths.REPOSITORY / 'crates' / name for name in widths.KNOWING]
-        assert all('unfolding' in file.read_text() and 'shortfall' in file.read_text() for file in unfolds)
-        # What is open is counted and said, and so is a wrong law.
-        widths.REPOSITORY, widths.kit_of, widths.compiled = temporary, lambda *_: kit, lambda *_: shown
-        widths.with_bounds = lambda _: None
-        for at, large, law, wanted in STATUSES:
-            shown = Shown(at, large)
-            source.write_text(law)
-            with contextlib.redirect_stdout(io.StringIO()) as told:
-                status = widths.main([str(kit)])
-            lines = told.getvalue().splitlines()
-            assert (status, lines) == (int(wanted[-1][0] != '0'), [line.format(source) for line in wanted]), lines
+        said, _ = widths.of_crate(crate, widths.compiled(crate, kit, temporary / 'target'))
+        assert len(said) == len(EXPORTS), said
+        check_laws(temporary)
+        check_status(kit)
     print(f'{len(covered)} covers, {len(OPEN) + len(EXPORTS)} plants, {len(ITEMS)} items, '
           f'{len(LAWFUL) + len(UNLAWFUL)} calls of the law')
     return 0

@@ -488,9 +488,40 @@ mod streams {
 #[test]
 #[cfg(feature = "std")]
 fn long_queues_are_lent_whole() {
+    use net_base::finite::FiniteReceiver;
     use std::io::BufRead;
     let mut storage = [7; 5000];
     let mut ring = RingBuffer::new(&mut storage[..]);
     ring.enqueue_unallocated(5000);
     assert_eq!(ring.fill_buf().unwrap().len(), 5000);
+    let mut receiver = Receiver::<4>::new_at(vec![0; 90_000], 0);
+    assert_eq!(receiver.keep(0, &[7; 90_000]).unwrap().queued, 90_000);
+    assert_eq!(receiver.fill_buf().unwrap().len(), 90_000);
+    let mut finite = FiniteReceiver::<4>::new_at(vec![0; 90_000], 0);
+    assert!(finite.keep(0, &[7; 90_000], Part::More).is_ok());
+    assert_eq!(finite.fill_buf().unwrap().len(), 90_000);
+}
+
+/// No conversion cuts storage, the number of the first byte, or the size of a segment.
+#[test]
+#[cfg(feature = "alloc")]
+fn nothing_is_cut() {
+    use net_base::ends::ReceivingEnd;
+    use net_base::finite::SendBuffer;
+    use net_base::managed::ManagedSlice;
+    assert_eq!(ManagedSlice::from(vec![0u8; 70_000]).iter().count(), 70_000);
+    assert_eq!(SendBuffer::<4>::new_at(vec![0; 4], 1 << 63).numbers_end(), 1 << 63);
+    let mut end = ReceivingEnd::<4>::new_at(vec![0; 60_000], 0, 9_000);
+    assert!(end.arrived(0, &[7; 50_000], Part::More).is_ok());
+    end.acknowledgement();
+    assert_eq!((end.read(&mut [0; 8_999]), end.is_wanted()), (8_999, false));
+    assert_eq!((end.read(&mut [0; 1]), end.is_wanted()), (1, true));
+}
+
+/// A part of a vector that isn't there is refused.
+#[test]
+#[cfg(feature = "alloc")]
+#[should_panic(expected = "range end index 9 out of range for slice of length 3")]
+fn no_part_of_a_vector_is_cut() {
+    Storage::part_mut(&mut vec![0u8; 3], 1, 9);
 }

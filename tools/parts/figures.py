@@ -7,6 +7,8 @@ import functools
 import re
 from pathlib import Path
 
+import guards
+
 ROOT = Path(__file__).resolve().parent.parent.parent
 # What no file counts: what is asked for, and versions.
 FIXED = ["32 and 64 bits", "smoltcp 0.14.0", "until 1.0", "Until 1.0", "Rust 1.87 and Python 3.9",
@@ -75,6 +77,9 @@ def counted():
         yield text, calls, [f"{int(seeds) * int(kinds):,}"]
     for text in ("each function but [{}]", "{} functions, each with its reason"):
         yield text, left, [WORDS[first(r"^== left\n(.*)", left).count(" ~~ ") // 2]]
+    same = ("tools/same_program.py", "tools/parts/same_*.py", "tools/parts/mir_text.py")
+    yield "with its parts {} lines of Python", ", ".join(same), [tens(count("\n", *same))]
+    yield "those of {} others are", "tools/guards.py", [WORDS[len([*guards.guarded()])]]
     yield "[{} functions](std-calls.md)", "docs/std-calls.md", [
         str(sum(len(re.findall(r"`\w+`", names)) for names in re.findall(
             r"^- `\w+`: (.*(?:\n  .*)*)", (ROOT / "docs/std-calls.md").read_text(), re.M)))]

@@ -1,5 +1,5 @@
-"""The brackets and paths of rustc's MIR, where erased text is, and tables of bodies, for tools/widths.py, std_calls.py
-and same_program.py."""
+"""The brackets and paths of rustc's MIR, where erased text is, and tables of bodies, for tools/widths.py and
+same_program.py."""
 import re
 from pathlib import Path
 

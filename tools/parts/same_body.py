@@ -29,7 +29,7 @@ def count(text):
 
 class CompiledSide(Side):
     """A function of rustc's program, by the text of its item."""
-    word = 'B'
+    word, widths = 'B', WIDTHS
 
     def __init__(self, program, item, name):
         self.program, self.path, self.nodes, self.start = program, name, {}, (0, 0)
@@ -105,7 +105,7 @@ class CompiledSide(Side):
             data = list(ast.literal_eval('b' + written[2]))
             static = term('static', json.dumps({'Ints': {'values': data, 'width': 8}}))
             return static if written[1] else term('slice', static, integer(len(data)))
-        if limit and (limit[1] or limit[2]) in WIDTHS.keys() - {'isize'}:           # widths.py knows a `usize`
+        if limit and (limit[1] or limit[2]) in self.widths.keys() - {'isize'}:           # widths.py knows a `usize`
             width = WIDTHS[limit[1] or limit[2]]
             most, least = (2 ** width - 1, 0) if width > 0 else (2 ** (-width - 1) - 1, 2 ** (-width - 1))
             return integer(most if limit[3] == 'MAX' else least)
@@ -151,8 +151,8 @@ class CompiledSide(Side):
     def converted(self, state, text, operand, to, how):
         """A cast: of `copy _1 as u8 (IntToInt)` cast(8, 64, par(1)); of an array's reference that of a slice."""
         of = self.kind_of(operand) or ''
-        if how == 'IntToInt' and of in WIDTHS and to in WIDTHS:
-            return cast(abs(WIDTHS[to]), abs(WIDTHS[of]), self.value(state, operand), WIDTHS[of] < 0)
+        if how == 'IntToInt' and of in self.widths and to in self.widths:
+            return cast(abs(self.widths[to]), abs(self.widths[of]), self.value(state, operand), self.widths[of] < 0)
         size = re.search(r'\[.*; (\w+)\]$', of) if how == 'PointerCoercion' and 'Unsize' in text else None
         if size:
             return term('slice', self.value(state, operand), count(size[1]))
@@ -162,7 +162,7 @@ class CompiledSide(Side):
         """An operator: of `Add(copy _1, copy _2)` op('+', par(1), par(2)), of AddWithOverflow also whether it is too
         much, which is tested, and proved never to be."""
         kind = self.kind_of(one) or (sign not in ('Shl', 'Shr') and self.kind_of(two))
-        made = operation(SIGNS[sign], self.value(state, one), self.value(state, two), WIDTHS.get(kind, 64))
+        made = operation(SIGNS[sign], self.value(state, one), self.value(state, two), self.widths.get(kind, 64))
         if how == 'WithOverflow' or sign in ('Div', 'Rem', 'Shl', 'Shr'):
             self.partial(state, made)
         return aggregate(made, FALSE) if how == 'WithOverflow' else made
@@ -171,10 +171,10 @@ class CompiledSide(Side):
         """What begins with a word and is given one operand or place: `Not(copy _1)`, `Len((*_3))`."""
         kind = self.kind_of(of)
         if word == 'Not':
-            is_number, one = kind in WIDTHS and kind != 'bool', self.value(state, of)
-            return term('op', f'! {abs(WIDTHS[kind])}', one, UNIT) if is_number else negated(one)
+            is_number, one = kind in self.widths and kind != 'bool', self.value(state, of)
+            return term('op', f'! {abs(self.widths[kind])}', one, UNIT) if is_number else negated(one)
         if word == 'Neg':
-            made = operation('-', integer(0), self.value(state, of), WIDTHS.get(kind, 64))
+            made = operation('-', integer(0), self.value(state, of), self.widths.get(kind, 64))
             self.partial(state, made)
             return made
         if word == 'discriminant':

@@ -3,7 +3,6 @@ prover has. tools/parts/same_body.py has one as a graph of steps."""
 import collections
 import re
 
-import widths
 from parts.mir_text import closing, depths, erased_files, without
 from parts.same_proved import tail
 from parts.same_terms import Unknown, reading
@@ -101,13 +100,12 @@ class Compiled:
     def impl(self, name, line, column, end_line, end):
         """The prover's name of an impl, its type, and its trait: RunIterator, Run and Iterator of
         `impl Iterator for Run`; of a derived one there is no type."""
-        if name not in self.files:
-            self.files[name] = widths.File((self.root / name).read_text())
-        file = self.files[name]
-        start, stop = file.place(line, column), file.place(end_line, end)
-        head = file.text[start:stop]
+        text = self.files.setdefault(name, (self.root / name).read_text())
+        lines = text.splitlines(True)
+        start, stop = (sum(map(len, lines[:row - 1])) + place - 1 for row, place in ((line, column), (end_line, end)))
+        head = text[start:stop]
         if not head.startswith('impl'):            # a derive's word
-            return re.search(r'\b(?:struct|enum) (\w+)', file.text[stop:])[1] + head, None, head
+            return re.search(r'\b(?:struct|enum) (\w+)', text[stop:])[1] + head, None, head
         head = re.sub(r"<'\w+(?:, '\w+)*>|'\w+ ", '', re.sub(r'\s*where\b.*', '', head, flags=re.S))[4:].strip()
         head = head[closing(head, 1) + 1:].strip() if head.startswith('<') else head
         trait, _, kind = head.rpartition(' for ')

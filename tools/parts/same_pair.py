@@ -232,6 +232,8 @@ class Pair:
         state['ver'] = term('ver', result)
         if two.after is None:
             return
+        if one.after is None:
+            raise Differ(f'proved: {name} never returns')
         if any([side.write(state, to, result) for side, to in zip(self.sides, (one.to, two.to))]):
             raise Unknown('the result of a call is stored')
         self.reach((one.after, two.after), state)
