@@ -1,8 +1,8 @@
 #!/bin/sh
 # Packs the crate, and builds and tests it from the archive, where each file that README links or names has to be: the
 # library's own tests, its examples, those of the documentation, and what must not compile. Then the folder `tests`, which
-# the archive lacks, is laid into it, with the manifest as it is here, without the workspace's other crate; and the tests
-# of that one run.
+# the archive lacks, is laid into it, and beside it the table that a test shares with net_tests, with the manifest as it
+# is here, without the workspace's other crate; and the tests of that one run.
 set -eu
 cd "$(dirname "$0")"
 here=$PWD
@@ -38,6 +38,8 @@ for example in stream quic_stream transfer reassembly bridge interrupt split_rin
 done
 sh "$here/examples/net_bench/run.sh" "$CARGO_TARGET_DIR/debug/examples/net_bench"
 cp -r "$here/tests" .
+mkdir -p ../crates/net_tests/src/program
+cp "$here/../crates/net_tests/src/program/program_rows.rt" ../crates/net_tests/src/program
 sed '/^members/d' Cargo.toml.orig > Cargo.toml
 cargo test --offline --quiet --tests
 # What the archive lacks: heads as C calls them.

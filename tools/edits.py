@@ -5,7 +5,7 @@
     python3 tools/edits.py --log FILE             all edits, by what `rt ci` printed into a file
     python3 tools/edits.py --table                the table of crates/must-fail.md alone: edits and tests that it
                                                   names are there
-    python3 tools/edits.py --rows [CRATE ..]      the rows of all edits, or of those of some crates
+    python3 tools/edits.py --tests [CRATE ..]     the tests that all edits, or those of some crates, break
 
 crates/must-fail.md has a table of wrong bodies. A row names the edit, and the function, as `rt check --only`
 takes it, with the name of one of its `ensures`; or the test that refuses the body. The name is `ensures`
@@ -15,13 +15,12 @@ in the source or where an answer to it fails; that has to be a goal of this clau
 callee's precondition, a loop's invariant, and a name that a proof no longer finds refuse an edit too,
 and say nothing of the contract.
 
-An edit is the body that its name says: lines `# row: CALL => REPLY` are a block of rows of rust/tests/rows,
-each with what the reply begins with that the wrong body gives, or nothing. `--rows` plays them over the Cargo
-crate with the edited text erased, where each must be so, and over the right text, where one must not. An edit
-of which no call tells has a line `# no row: REASON`.
+A line `# test: FILE NAME` of an edit is a test of rust/tests, by its file or folder and its name, that a call tells the
+wrong body. `--tests` runs it over the Cargo crate with the edited text erased, where it must fail, and all of them over
+the right text, where they must not. An edit of which no test tells has a line `# no test: REASON`.
 
 Ends with status 1 if an edit isn't in one row of the table, a row of it names nothing, another goal refuses an edit,
-or an edit has neither rows nor a reason, or rows that aren't as they say.
+or an edit has neither a test nor a reason, or a test that doesn't see it.
 """
 import collections
 import pathlib
@@ -61,8 +60,8 @@ def differing():
     rows = collections.Counter(f"{crate}/{name}"
                                for _, crate, name, function, _ in ROW.findall(PAGE.read_text()) if function)
     wrong += [f"{it}: {PAGE.name} has {count} rows of this edit" for it, count in sorted(rows.items()) if count > 1]
-    wrong += [f"{name_of(it)}: it has no rows, and says not why" for it in edits_of([])
-              if bool(rows_of(it)) == bool(re.search(r"^# no row: \w", it.read_text(), re.M))]
+    wrong += [f"{name_of(it)}: it has no test, and says not why" for it in edits_of([])
+              if bool(test_of(it)) == bool(re.search(r"^# no test: \w", it.read_text(), re.M))]
     for crate, name in tests:
         files = (CRATES.parent / "rust/tests").rglob("*.rs") if crate == "rust" \
             else (CRATES / crate / "src").rglob("*.rt")
@@ -154,23 +153,15 @@ def compare(edits, printed):
     return wrong
 
 
-# What compares a reply with a row, if a row has only what the reply begins with.
-BEGINS = """macro_rules! begins {
-    ($given:expr, $reply:expr, $($rest:tt)*) => {
-        assert!($given.starts_with(AsRef::<str>::as_ref(&$reply)), "gives {}, not {}", $given, $reply)
-    };
-}"""
+def test_of(edit):
+    """The file and the name of the test that an edit breaks."""
+    found = re.findall(r"^# test: (\w+) (\w+)$", edit.read_text(), re.M)
+    return found[0] if found else ()
 
 
-def rows_of(edit):
-    """The block of rows of an edit."""
-    rows = re.findall(r"^# row: (.*)$", edit.read_text(), re.M)
-    return [row if " => " in row else f"{row} => " for row in rows]
-
-
-def play(copy, crate, texts, rows):
-    """What is said of the first of the rows that isn't so over a copy of the Cargo crate, with these texts of a crate;
-    nothing if each is so."""
+def run(copy, crate, texts, tests):
+    """Runs tests, each a file and a name, over a copy of the Cargo crate, with these texts of a crate. Returns the status
+    and what they print."""
     import erase
 
     sources, refused = erase.sources, []
@@ -181,34 +172,32 @@ def play(copy, crate, texts, rows):
         if place.read_text() != text:
             place.write_text(text)
     erase.sources = sources
-    (copy / "tests/rows/rows.txt").write_text("".join(f"{row}\n" for row in rows))
-    words = ["cargo", "test", "--offline", "--quiet", "--test", "rows", "--target-dir", copy.parent / "target"]
-    said = "".join(refused) or subprocess.run(words, cwd=copy, capture_output=True, text=True).stdout
-    # The test also wants rows of each kind, which come after those that are wrong.
-    told = re.search(r"gives .*, not .*", said)
-    return "" if re.search(r"no row .* was made|test result: ok", said) else told[0] if told \
-            else said or "it doesn't compile"
+    files = [word for file in sorted({file for file, _ in tests}) for word in ("--test", file)]
+    words = ["cargo", "test", "--offline", "--quiet", *files, "--target-dir", copy.parent / "target", "--",
+             *sorted({name for _, name in tests})]
+    ran = subprocess.run(words, cwd=copy, capture_output=True, text=True)
+    return bool(refused) or ran.returncode, "".join(refused) + ran.stdout + ran.stderr
 
 
-def try_rows(edits):
-    """Plays the rows of each edit that has some; returns how many edits have rows that aren't as they say."""
+def try_tests(edits):
+    """Runs the test of each edit that has one; returns how many don't see their edit."""
     wrong = 0
     with tempfile.TemporaryDirectory() as room:
         copy = pathlib.Path(room) / "rust"
         shutil.copytree(ROOT / "rust", copy, ignore=shutil.ignore_patterns("target"))
-        test = copy / "tests/rows/main.rs"
-        test.write_text(re.sub(r"assert_eq!(?=\(.*, \*?repl)", "begins!",
-                               test.read_text()).replace("\nuse ", f"\n{BEGINS}\nuse ", 1))
-        edits = [it for it in edits if rows_of(it)]
-        # All over the right text first, which is compiled once.
-        right = {it for it in edits if not play(copy, it.parent.parent.name, {}, rows_of(it))}
+        edits = [it for it in edits if test_of(it)]
+        if edits:
+            status, said = run(copy, "", {}, [test_of(it) for it in edits])
+            if status:
+                print(f"over the right text a test fails:\n{said}")
+                return 1
         for edit in edits:
-            said = play(copy, edit.parent.parent.name, edited(edit.parent.parent, edit), rows_of(edit))
-            how = f"ITS BODY DOESN'T GIVE\n    {said}" if said else "THE RIGHT BODY GIVES TOO" if edit in right \
-                else "its body gives"
-            wrong += bool(said) or edit in right
-            print(f"{name_of(edit)}: {how} {len(rows_of(edit))} rows")
-    print(f"of {len(edits)} edits with rows {wrong} have others")
+            crate, test = edit.parent.parent.name, test_of(edit)
+            status, said = run(copy, crate, edited(edit.parent.parent, edit), [test])
+            sees = status and "could not compile" not in said
+            wrong += not sees
+            print(f"{name_of(edit)}: {' '.join(test)} {'fails' if sees else f'DOES NOT FAIL: {said[-300:]}'}")
+    print(f"of {len(edits)} edits with a test {wrong} aren't seen")
     return wrong
 
 
@@ -217,8 +206,8 @@ def main():
         return 1 if differing() else 0
     if sys.argv[1:2] == ["--log"]:
         return 1 if compare(edits_of([]), pathlib.Path(sys.argv[2]).read_text()) else 0
-    if sys.argv[1:2] == ["--rows"]:
-        return 1 if try_rows(edits_of(sys.argv[2:])) else 0
+    if sys.argv[1:2] == ["--tests"]:
+        return 1 if try_tests(edits_of(sys.argv[2:])) else 0
     edits = edits_of(sys.argv[1:])
     return 1 if compare(edits, must_fail(edits) if edits else "") else 0
 

@@ -1,84 +1,11 @@
-//! Types that begin again, or give their storage back; and calls of streams that end.
+//! What a storage has after calls, and slots of a table of fragments that begin again.
 use net_base::finite::{FiniteReceiver, FiniteSender, Part};
-use net_base::managed::ManagedSlice;
 use net_base::receiver::Receiver;
-use net_base::scoreboard::Scoreboard;
 use net_base::storage::fragment_table::{
     accept, remove_expired, take_complete, AcceptError, FragmentSlot,
 };
-use net_base::storage::{FragmentBuffer, PacketBuffer, PacketMetadata, RingBuffer};
-use net_base::tcp::{RetransmissionTimeout, TimeoutBounds};
-use net_base::time::{Duration, Instant};
-
-fn length(storage: ManagedSlice<u8>) -> usize {
-    storage.len()
-}
-
-#[test]
-fn a_receiver() {
-    let mut storage = [0; 8];
-    let mut receiver: Receiver<4> = Receiver::new_at(&mut storage[..], 100);
-    assert!(receiver.segment(100, b"abcdef").is_ok() && receiver.segment(107, b"h").is_ok());
-    assert_eq!(receiver.held_count(), 1);
-    receiver.remove(4);
-    assert!(receiver.segment(106, b"g").is_ok());
-    assert_eq!((receiver.queued(), receiver.peek(1, 9)), (4, &b"fgh"[..]));
-    receiver.reset_at(7);
-    assert_eq!((receiver.next(), receiver.queued(), receiver.held_count()), (7, 0, 0));
-    assert!(receiver.segment(7, b"xyz").is_ok());
-    assert_eq!(length(receiver.into_storage()), 8);
-}
-
-#[test]
-fn a_receiver_of_a_stream_that_ends() {
-    let mut storage = [0; 8];
-    let mut receiver: FiniteReceiver<4> = FiniteReceiver::new_at(&mut storage[..], 100);
-    assert!(receiver.keep(102, b"c", Part::Last).is_ok());
-    assert_eq!((receiver.count_new(100, 9), receiver.end()), (2, Some(103)));
-    assert!(receiver.keep(100, b"ab", Part::More).is_ok() && !receiver.has_read_all());
-    receiver.remove(3);
-    assert!(receiver.has_read_all());
-    receiver.reset_at(7);
-    assert_eq!(
-        (receiver.end(), receiver.acknowledged(), receiver.receiver().capacity()),
-        (None, 7, 8)
-    );
-    assert_eq!(length(receiver.into_storage()), 8);
-}
-
-#[test]
-fn a_sender_of_a_stream_that_ends() {
-    let mut storage = [0; 4];
-    let mut sender: FiniteSender = FiniteSender::new_at(&mut storage[..], 100);
-    assert_eq!((sender.write(b"abc"), sender.capacity(), sender.window()), (3, 4, 1));
-    sender.close();
-    assert!(!sender.is_empty());
-    assert_eq!((sender.window(), sender.numbers_end()), (0, 104));
-    sender.reset_at(7);
-    assert_eq!((sender.first_number(), sender.numbers_end(), sender.window()), (7, 7, 4));
-    assert_eq!(length(sender.into_storage()), 4);
-}
-
-#[test]
-fn a_scoreboard_and_a_buffer_of_fragments() {
-    let mut board = Scoreboard::<4>::empty_at(100);
-    assert_eq!(board.report(110..120, 200), Ok(()));
-    board.reset_at(7);
-    assert_eq!((board.first_unreported(), board.reported().count()), (7, 0));
-    assert_eq!(board.report(9..10, 200), Ok(()));
-    let mut storage = [0; 8];
-    let mut buffer: FragmentBuffer<4> = FragmentBuffer::new(&mut storage[..], Instant::ZERO);
-    assert!(buffer.add(3, b"d").is_ok());
-    assert_eq!(length(buffer.into_storage()), 8);
-    let mut timer = RetransmissionTimeout::default();
-    assert!(timer.rtt().is_none());
-    let sample = Duration::from_micros(800);
-    let mut bounds = TimeoutBounds::new();
-    [bounds.least, bounds.most, bounds.tick] = [1, 9_000, 1].map(Duration::from_micros);
-    timer.take_sample(bounds, sample);
-    assert_eq!(timer.rtt().map(|it| it.srtt()), Some(sample));
-    assert_eq!(timer.timeout(), Duration::from_micros(2_400));
-}
+use net_base::storage::{PacketBuffer, PacketMetadata, RingBuffer};
+use net_base::time::Instant;
 
 /// A packet keeps its slot. Another one takes a free slot, or else that of the packet that expires first.
 #[test]

@@ -145,19 +145,6 @@ fn whatever_arrives() {
     }
 }
 
-/// 0 to 9 were sent; a forged acknowledgement of 11 stops nothing.
-#[test]
-fn a_forged_acknowledgement_stops_no_timer() {
-    let mut end = SendingEnd::<4>::new_at(vec![0; 20], 0, SECOND, TimeoutBounds::default());
-    end.open(Announcement { seq: 0, ack: 0, window: 100 }, 10, Sack::Permitted, Instant::ZERO);
-    assert_eq!(end.write(&[7; 10]), 10);
-    assert!(end.next_segment(100, Instant::ZERO).is_some());
-    let at = end.expires_at();
-    let it = Announcement { seq: 1, ack: 11, window: 100 };
-    assert_eq!(end.acknowledged(it, &[], AckSegment::Pure, Instant::ZERO), Acknowledged::Refused);
-    assert!(at.is_some() && end.expires_at() == at);
-}
-
 /// What is sent after a pause is probed after two round trips, and not only found by the timeout; one segment alone
 /// after 200 ms more, by which its acknowledgement may be delayed.
 #[test]
@@ -193,35 +180,6 @@ fn what_is_sent_after_a_pause_is_probed() {
     assert_eq!(end.expires_at(), Some(Instant::from_millis(8_000)));
 }
 
-/// A peer that reports no blocks can't answer a probe: it is sent none, and the timeouts are counted until it answers.
-#[test]
-fn a_peer_without_blocks_is_not_probed() {
-    let mut end = SendingEnd::<4>::new_at(vec![0; 30], 0, SECOND, TimeoutBounds::default());
-    end.open(Announcement { seq: 0, ack: 0, window: 100 }, 10, Sack::Absent, Instant::ZERO);
-    assert_eq!(end.write(&[7; 30]), 30);
-    let mut now = Instant::ZERO;
-    for _segment in 0..3 {
-        assert!(end.next_segment(100, now).is_some());
-    }
-    now = Instant::from_millis(10);
-    let it = Announcement { seq: 1, ack: 10, window: 100 };
-    assert_eq!(
-        end.acknowledged(it, &[], AckSegment::Pure, now),
-        Acknowledged::Taken { new: 10, reports: false, begins: false }
-    );
-    for (timeouts, millis) in [(1, 1_010), (2, 3_010), (3, 7_010)] {
-        now = Instant::from_millis(millis);
-        assert_eq!(end.expires_at(), Some(now));
-        assert_eq!((end.expired(now), end.timeouts()), (Expired::Lost, timeouts));
-    }
-    let it = Announcement { seq: 2, ack: 20, window: 100 };
-    assert!(matches!(
-        end.acknowledged(it, &[], AckSegment::Pure, now),
-        Acknowledged::Taken { new: 10, .. }
-    ));
-    assert_eq!(end.timeouts(), 0);
-}
-
 /// Where the segments begin that are sent now, and whether they were sent before.
 fn sent(end: &mut SendingEnd<'_, 4>) -> Vec<(u64, bool)> {
     core::iter::from_fn(|| end.next_segment(1_000, Instant::ZERO).map(|it| (it.pos, it.is_again)))
@@ -244,45 +202,6 @@ fn hear(end: &mut SendingEnd<'_, 4>, ack: u64, blocks: &[Range<u64>]) -> Acknowl
         AckSegment::Pure,
         Instant::ZERO,
     )
-}
-
-/// A peer that reports nothing says the same three times: the first segment is lost. In the recovery an acknowledgement
-/// of something new loses the next one.
-#[test]
-fn the_third_equal_acknowledgement_and_a_partial_one() {
-    let mut end = six_segments(false);
-    for begins in [false, false, true] {
-        assert_eq!(sent(&mut end), []);
-        assert_eq!(hear(&mut end, 10, &[]), Acknowledged::Taken { new: 0, reports: false, begins });
-    }
-    assert_eq!(sent(&mut end), [(10, true)]);
-    assert_eq!(
-        hear(&mut end, 30, &[]),
-        Acknowledged::Taken { new: 20, reports: false, begins: false }
-    );
-    assert_eq!((sent(&mut end), end.is_recovering()), (vec![(30, true)], true));
-    assert_eq!(
-        hear(&mut end, 70, &[]),
-        Acknowledged::Taken { new: 40, reports: false, begins: false }
-    );
-    assert_eq!((sent(&mut end), end.is_recovering()), (vec![], false));
-}
-
-/// A peer acknowledges up to a segment that it reported: it has dropped that, which is sent again with what it reported
-/// above, and nothing beyond.
-#[test]
-fn reports_that_were_dropped() {
-    let mut end = six_segments(true);
-    assert_eq!(
-        hear(&mut end, 10, &[30..50]),
-        Acknowledged::Taken { new: 0, reports: true, begins: false }
-    );
-    assert_eq!(sent(&mut end), []);
-    assert_eq!(
-        hear(&mut end, 30, &[]),
-        Acknowledged::Taken { new: 20, reports: false, begins: true }
-    );
-    assert_eq!(sent(&mut end), [(30, true), (40, true)]);
 }
 
 /// Positions from 0 on, in segments of 20 bytes, to a peer with room for 60, after three segments that it acknowledged.
@@ -498,34 +417,6 @@ fn what_is_read_is_what_was_written() {
         }
         assert!(read == text);
     }
-}
-
-/// What came twice is the first block of the next acknowledgement, and of no other: below what is acknowledged, or
-/// within the second block.
-#[test]
-fn what_came_twice_is_reported_once() {
-    let mut end = ReceivingEnd::<4>::new_at(vec![0; 40], 100, 8);
-    let blocks = |end: &mut ReceivingEnd<'_, 4>| end.acknowledgement().blocks.as_slice().to_vec();
-    assert!(end.arrived(100, b"abcd", Part::More).is_ok());
-    assert_eq!(blocks(&mut end), []);
-    // Some of it was kept; nothing of it was; no byte of it is in the stream.
-    assert!(end.arrived(102, b"cdef", Part::More).is_ok());
-    assert_eq!((blocks(&mut end), blocks(&mut end)), (vec![102..104], vec![]));
-    assert!(end.arrived(90, b"0123456789abcd", Part::More).is_ok());
-    assert_eq!((blocks(&mut end), blocks(&mut end)), (vec![100..104], vec![]));
-    assert!(end.arrived(90, b"0123", Part::More).is_ok());
-    assert_eq!(blocks(&mut end), []);
-    // Beyond the first number that is missing.
-    assert!(end.arrived(110, b"klmn", Part::More).is_ok());
-    assert_eq!(blocks(&mut end), [110..114]);
-    assert!(end.arrived(108, b"ijk", Part::More).is_ok());
-    assert_eq!(blocks(&mut end), [110..111, 108..114]);
-    assert_eq!(blocks(&mut end), [108..114]);
-    // It is beyond an end in order: it wasn't of the stream.
-    assert!(
-        end.arrived(110, b"k", Part::More).is_ok() && end.arrived(106, b"", Part::Last).is_ok()
-    );
-    assert_eq!((blocks(&mut end), end.acknowledgement().next), (vec![], 107));
 }
 
 /// What an end that begins again knows of the stream before: nothing but whether Nagle's rule is enabled.

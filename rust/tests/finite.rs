@@ -1,4 +1,4 @@
-//! Streams that end, as no row shows them: closures, and what has no number for its end.
+//! Streams that end: closures, and what has no number for its end. `model` has calls that are drawn.
 mod support;
 
 use net_base::finite::{FiniteReceiver, FiniteSender, Part};

@@ -4,12 +4,9 @@ use net_base::checksum::{checksum, is_valid, updated_checksum, PartsSum};
 use net_base::ends::{
     AckSegment, Acknowledged, Expired, ReceivingEndOver, SegmentBytes, SendingEndOver,
 };
-use net_base::finite::{FiniteReceiver, FiniteSender, Part, RangeAck, SendBufferOver};
-use net_base::receiver::Receiver;
+use net_base::finite::{Part, RangeAck, SendBufferOver};
 use net_base::scoreboard::Scoreboard;
-use net_base::sequence_number::SequenceNumber;
-use net_base::storage::fragment_table::{accept, remove_expired, take_complete, FragmentSlot};
-use net_base::storage::FragmentBuffer;
+use net_base::storage::fragment_table::{accept, take_complete, FragmentSlot};
 use net_base::tcp::{
     classify, is_acceptable, is_acknowledgement, scaled, AdvertisedWindow, Announcement, Answer,
     Expiry, LossRecovery, PeerWindow, RetransmissionTimer, Sack, Segment, SentNumbers,
@@ -66,83 +63,6 @@ fn calls() -> u64 {
 }
 
 const BYTES: &[u8] = &[7; 24];
-
-#[test]
-fn receivers() {
-    let mut draw = Draw(0x9e37_79b9_7f4a_7c15, 0);
-    let (mut storage, mut other) = ([0; 16], [0; 16]);
-    let mut plain = Receiver::<2>::new_at(&mut storage[..], 0);
-    let mut finite = FiniteReceiver::<2>::new_at(&mut other[..], 0);
-    let mut into = [0; 9];
-    for _ in 0..calls() {
-        let ([pos, other], bytes) = (draw.numbers(), draw.bytes(BYTES));
-        match draw.below(9) {
-            0 => {
-                plain.reset_at(pos);
-                finite.reset_at(pos.min(u64::MAX - 1));
-                draw.1 = pos;
-            }
-            1 => assert!(plain.read(&mut into) <= 9 && finite.read(&mut into) <= 9),
-            2 => assert!(finite.count_new(pos, other as usize) <= finite.receiver().window()),
-            3 => assert!(
-                !finite.can_end(u64::MAX)
-                    && (finite.end().is_none()
-                        || !finite.can_end(pos)
-                        || finite.end() == Some(pos))
-            ),
-            4 => assert!(plain.newest_runs(pos, &mut [other; 2]).count() <= 2),
-            5 => assert!(finite.receiver().newest_runs(pos, &mut [other; 2]).count() <= 2),
-            6 => assert!(plain.keep(pos, bytes).map_or(0, |it| it.kept) <= bytes.len()),
-            _ => {
-                let next = finite.acknowledged();
-                let is_known = finite.end().is_some();
-                let kept = finite.keep(pos, bytes, draw.bit().into());
-                assert!(kept.map_or(0, |it| it.kept) <= bytes.len());
-                assert!(finite.acknowledged() >= next && (finite.end().is_some() || !is_known));
-            }
-        }
-        assert!(plain.next() >= plain.queued() as u64 && finite.window_end() != Some(0));
-    }
-}
-
-#[test]
-fn senders() {
-    let mut draw = Draw(0xd1b5_4a32_d192_ed03, 0);
-    let mut storage = [0; 16];
-    let mut finite = FiniteSender::new_at(&mut storage[..], 0);
-    let mut board = Scoreboard::<2>::empty();
-    for _ in 0..calls() {
-        let [pos, limit, sent] = draw.numbers();
-        let [initial, start] = draw.numbers().map(|it: u64| SequenceNumber::new(it as u32));
-        match draw.below(10) {
-            0 => {
-                finite.reset_at(pos.min(u64::MAX - 1));
-                board.reset_at(pos);
-                draw.1 = pos;
-            }
-            1 => assert!(finite.write(draw.bytes(BYTES)) <= 16),
-            2 => finite.close(),
-            3 => assert!(finite.peek_at(pos, limit).bytes.len() <= 16),
-            4 => assert!(finite.send_at(pos, limit).bytes.len() <= 16),
-            5 => assert!(!finite.acknowledge(pos) || finite.first_number() == pos),
-            6 => assert!(!finite.mark_sent(pos) || finite.sent() >= pos),
-            7 => board.acknowledge(pos),
-            8 => assert!(board.report(pos..limit, sent).is_err() || board.contains(pos)),
-            _ => {
-                assert!(board
-                    .next_hole(pos, limit)
-                    .is_none_or(|it| pos <= it.start && it.end <= limit))
-            }
-        }
-        assert!(start
-            .position(initial, pos)
-            .is_none_or(|it| SequenceNumber::at(initial, it) == start));
-        assert!(
-            board.lost_below(limit as usize, sent as usize)
-                <= board.highest_reported().max(board.first_unreported())
-        );
-    }
-}
 
 #[test]
 fn windows_and_timers() {
@@ -339,36 +259,6 @@ fn receiving_ends() {
             }
         }
         assert!(!end.is_due() || end.is_wanted());
-    }
-}
-
-#[test]
-fn fragments() {
-    let mut draw = Draw(0xbf58_476d_1ce4_e5b9, 0);
-    let mut storage = [0; 16];
-    let mut buffer = FragmentBuffer::<2>::new(&mut storage[..], Instant::ZERO);
-    let mut slots = [(); 2].map(|()| FragmentSlot::<u64, [u8; 16], 2>::over([0; 16]));
-    for _ in 0..calls() {
-        let ([offset, size], bytes) =
-            (draw.numbers().map(|it: u64| it as usize), draw.bytes(BYTES));
-        let (key, at, is_last) = (draw.below(4), draw.instant(), draw.bit());
-        match draw.below(9) {
-            0 => buffer.reset(at),
-            1 => assert!(buffer.add(offset, bytes).is_err() || offset + bytes.len() <= 16),
-            2 => assert!(buffer.add_fragment(offset, bytes, is_last).is_err() || offset <= 16),
-            3 => assert!(buffer.set_total_size(size).is_err() || size <= 16),
-            4 => remove_expired(&mut slots, at),
-            5 => assert!(take_complete(&mut slots, key).is_none_or(|at| slots[at].key.is_none())),
-            _ => {
-                let offset = if draw.bit() { offset } else { draw.below(18) as usize };
-                let taken = accept(&mut slots, key, offset, bytes, is_last, at);
-                assert!(taken.is_err() || offset + bytes.len() <= 16 && !bytes.is_empty());
-            }
-        }
-        assert!(
-            buffer.overlaps(offset, size)
-                || !buffer.differs(offset, &bytes[..size.min(bytes.len())])
-        );
     }
 }
 

@@ -61,16 +61,18 @@ def measured():
 
 
 def counted():
-    cargo, rows, rattle = "rust/Cargo.toml", "rust/tests/rows/rows.txt", "crates/*/src/**/*.rt"
+    cargo, models, rattle = "rust/Cargo.toml", "rust/tests/model/main.rs", "crates/*/src/**/*.rt"
     left, calls = "tools/parts/same_names.txt", "overlay/calls.rs"
     first = lambda form, path: (re.search(form, (ROOT / path).read_text(), re.M | re.S) or "00")[1]
     yield "Rust {} or later", cargo, [first(r'^rust-version = "(.*?)"', cargo)]
     yield "version {}.", cargo, [first(r'^version = "(.*?)"', cargo)]
     for text in ("has to refuse each | {}", "Each of {} [wrong bodies]"):
         yield text, "crates/must-fail.md", [str(count(r"^\| .* \| `.*` \| `", "crates/must-fail.md"))]
-    yield "tests of Rust, also on ARMv7 | what the pages say | {}", "rust/src, rust/tests", [
-        tens(count(r"#\[test\]", "rust/src/**/*.rs", "rust/tests/**/*.rs"))]
-    yield "calls with their replies | what the pages say | {}", rows, [tens(count(" => ", rows))]
+    kinds = count(r"^    \w+: \w+::\w+,$", models)
+    yield "tests of Rust, also on ARMv7 | what the pages say | {}", f"rust/src, rust/tests, {models}", [
+        tens(count(r"#\[test\]", "rust/src/**/*.rs", "rust/tests/**/*.rs") + kinds)]
+    yield "random calls of each type, also on ARMv7 | a plain model of the type | {} runs", models, [
+        f'{kinds * int(first(r"unwrap_or.([0-9]+)", models)):,}']
     yield "by an emulator | a second compiler's build | {}", "c/targets/run.py", [f'{int(first(r"^CALLS.*? = ([0-9_]+)", "c/targets/run.py")):,}']
     seeds, kinds = first(r"SEEDS: u64 = (\d+)", calls), first(r"KINDS: [^=]*; (\d+)\]", calls)
     for text in ("with its faults mended | {}", "{} sequences of [random calls]"):

@@ -1,0 +1,282 @@
+//! A ring is its elements, an index at which the queue begins, and how many are queued.
+use crate::draw::Draw;
+use crate::support::message;
+use net_base::storage::{Empty, Full, RingBuffer, RingOver, Storage};
+use std::mem::replace;
+
+struct Model {
+    all: Vec<u8>,
+    read: usize,
+    length: usize,
+}
+
+impl Model {
+    /// The indices of at most `size` queued elements from `offset` on.
+    fn queued(&self, offset: usize, size: usize) -> Vec<usize> {
+        self.indices(0..self.length, offset, size)
+    }
+
+    fn free(&self, offset: usize, size: usize) -> Vec<usize> {
+        self.indices(self.length..self.all.len(), offset, size)
+    }
+
+    fn indices(&self, of: std::ops::Range<usize>, offset: usize, size: usize) -> Vec<usize> {
+        let from = of.skip(offset).take(size);
+        from.map(|it| (self.read + it) % self.all.len()).collect()
+    }
+
+    fn enqueue(&mut self, count: usize) {
+        self.length += count;
+    }
+
+    fn dequeue(&mut self, count: usize) {
+        self.length -= count;
+        self.read = (self.read + count) % self.all.len().max(1);
+    }
+
+    fn rewind(&mut self) {
+        self.read = if self.length == 0 { 0 } else { self.read };
+    }
+
+    /// What these elements were, which are written over.
+    fn write(&mut self, at: &[usize], bytes: &[u8]) -> Vec<u8> {
+        at.iter().zip(bytes).map(|(&at, &byte)| replace(&mut self.all[at], byte)).collect()
+    }
+
+    fn get(&self, at: &[usize]) -> Vec<u8> {
+        at.iter().map(|&at| self.all[at]).collect()
+    }
+}
+
+/// Those that follow one another without a break.
+fn contiguous(at: Vec<usize>) -> Vec<usize> {
+    let count = at.iter().enumerate().take_while(|(i, it)| at[0] + i == **it).count();
+    at[..count].to_vec()
+}
+
+/// What was lent, which is written over by the beginning of `bytes`.
+fn swap(lent: &mut [u8], bytes: &[u8]) -> Vec<u8> {
+    lent.iter_mut().zip(bytes).map(|(it, byte)| replace(it, *byte)).collect()
+}
+
+pub fn play(draw: &mut Draw) {
+    let capacity = draw.of_these(&[0, 1, 2, 3, 5, 8, 12]);
+    let mut bytes = draw.bytes(capacity);
+    let model = Model { all: bytes.clone(), read: 0, length: 0 };
+    draw.call(format_args!("a ring over {bytes:?}"));
+    match (capacity, draw.below(2)) {
+        (5, 0) => play_over(draw, RingOver::over(<[u8; 5]>::try_from(&bytes[..]).unwrap()), model),
+        #[cfg(feature = "alloc")]
+        (_, 1) => play_over(draw, RingBuffer::new(bytes), model),
+        _ => play_over(draw, RingBuffer::new(&mut bytes[..]), model),
+    }
+}
+
+fn play_over<S: Storage<u8>>(draw: &mut Draw, mut ring: RingOver<u8, S>, mut model: Model) {
+    let capacity = model.all.len();
+    for _ in 0..60 {
+        let (size, offset) = (draw.size(capacity), draw.size(capacity));
+        let bytes = draw.bytes(capacity + 2);
+        let (some, byte) = (&bytes[..draw.length(capacity).min(capacity + 2)], bytes[0]);
+        let taken = draw.below(2) == 0;
+        let kind = draw.below(22);
+        draw.call(format_args!("{kind}: {size} {offset} {taken} {some:?}"));
+        match kind {
+            0 | 1 => {
+                let at = model.free(0, 1);
+                let given = if kind == 0 {
+                    ring.enqueue_one().map(|it| Ok(replace(it, byte)))
+                } else {
+                    let f = |it: &mut u8| {
+                        if taken {
+                            Ok(replace(it, byte))
+                        } else {
+                            Err(replace(it, byte))
+                        }
+                    };
+                    ring.enqueue_one_with(f)
+                };
+                let wanted = model.write(&at, &[byte]).pop().ok_or(Full);
+                model.enqueue(at.len() * usize::from(kind == 0 || taken));
+                assert_eq!(given.map(|it| it.unwrap_or_else(|it| it)), wanted);
+            }
+            2 | 3 => {
+                let at = model.queued(0, 1);
+                let given = if kind == 2 {
+                    ring.dequeue_one().map(|it| Ok(replace(it, byte)))
+                } else {
+                    let f = |it: &mut u8| {
+                        if taken {
+                            Ok(replace(it, byte))
+                        } else {
+                            Err(replace(it, byte))
+                        }
+                    };
+                    ring.dequeue_one_with(f)
+                };
+                let wanted = model.write(&at, &[byte]).pop().ok_or(Empty);
+                model.dequeue(at.len() * usize::from(kind == 2 || taken));
+                assert_eq!(given.map(|it| it.unwrap_or_else(|it| it)), wanted);
+            }
+            4 | 5 => {
+                model.rewind();
+                let at = contiguous(model.free(0, if kind == 4 { size } else { usize::MAX }));
+                let wanted = model.write(&at, &bytes);
+                if kind == 4 {
+                    assert_eq!(swap(ring.enqueue_many(size), &bytes), wanted);
+                    model.enqueue(at.len());
+                } else {
+                    let count = size.min(at.len());
+                    let given = ring.enqueue_many_with(|lent| (count, swap(lent, &bytes)));
+                    assert_eq!(given, (count, wanted));
+                    model.enqueue(count);
+                }
+            }
+            6 | 7 => {
+                let at = contiguous(model.queued(0, if kind == 6 { size } else { usize::MAX }));
+                let wanted = model.write(&at, &bytes);
+                if kind == 6 {
+                    assert_eq!(swap(ring.dequeue_many(size), &bytes), wanted);
+                    model.dequeue(at.len());
+                } else {
+                    let count = size.min(at.len());
+                    let given = ring.dequeue_many_with(|lent| (count, swap(lent, &bytes)));
+                    assert_eq!(given, (count, wanted));
+                    model.dequeue(count);
+                }
+            }
+            8 => {
+                model.rewind();
+                let at = model.free(0, some.len());
+                model.write(&at, some);
+                model.enqueue(at.len());
+                assert_eq!(ring.enqueue_slice(some), at.len());
+            }
+            9 | 10 => {
+                let mut into = some.to_vec();
+                let at = model.queued(if kind == 9 { 0 } else { offset }, into.len());
+                let given = if kind == 9 {
+                    ring.dequeue_slice(&mut into)
+                } else {
+                    ring.read_allocated(offset, &mut into)
+                };
+                let wanted = [&model.get(&at), &some[at.len()..]].concat();
+                model.dequeue(if kind == 9 { at.len() } else { 0 });
+                assert_eq!((given, into), (at.len(), wanted));
+            }
+            11 => {
+                let at = model.free(offset, some.len());
+                model.write(&at, some);
+                assert_eq!(ring.write_unallocated(offset, some), at.len());
+            }
+            12 => {
+                let at = contiguous(model.free(offset, size));
+                assert_eq!(ring.contiguous_unallocated(offset, size), at.len());
+                assert_eq!(
+                    swap(ring.get_unallocated(offset, size), &bytes),
+                    model.write(&at, &bytes)
+                );
+            }
+            13 => {
+                let at = contiguous(model.queued(offset, size));
+                assert_eq!(ring.get_allocated(offset, size), model.get(&at));
+            }
+            14 if size <= capacity - model.length => {
+                ring.enqueue_unallocated(size);
+                model.enqueue(size);
+            }
+            15 if size <= model.length => {
+                ring.dequeue_allocated(size);
+                model.dequeue(size);
+            }
+            14 => drop(message(|| ring.enqueue_unallocated(size))),
+            15 => drop(message(|| ring.dequeue_allocated(size))),
+            16 if draw.once_in(4) => {
+                ring.clear();
+                (model.read, model.length) = (0, 0);
+            }
+            17 => {
+                ring.rewind_if_empty();
+                model.rewind();
+            }
+            _ => {
+                let count = ring.dequeue_many(3).len();
+                assert_eq!(count, contiguous(model.queued(0, 3)).len());
+                model.dequeue(count);
+            }
+        }
+        see(&mut ring, &model);
+    }
+}
+
+/// All that can be seen.
+fn see<S: Storage<u8>>(ring: &mut RingOver<u8, S>, model: &Model) {
+    let (all, queue) = (model.all.len(), model.get(&model.queued(0, usize::MAX)));
+    assert_eq!(
+        (ring.capacity(), ring.len(), ring.window()),
+        (all, model.length, all - model.length)
+    );
+    assert_eq!((ring.is_empty(), ring.is_full()), (model.length == 0, model.length == all));
+    let part = contiguous(model.free(0, usize::MAX)).len();
+    assert_eq!(ring.contiguous_window(), part);
+    let (one, other) = ring.as_slices();
+    assert_eq!([one, other].concat(), queue);
+    assert_eq!(one.len(), contiguous(model.queued(0, usize::MAX)).len());
+    assert!(ring.iter().eq(&queue) && ring.iter().rev().eq(queue.iter().rev()));
+    let free = [
+        ring.get_unallocated(0, usize::MAX).to_vec(),
+        ring.get_unallocated(part, usize::MAX).to_vec(),
+    ];
+    assert_eq!(free.concat(), model.get(&model.free(0, usize::MAX)));
+}
+
+/// Elements of no size, as many as a `usize` counts: a ring is two numbers.
+pub fn play_units(draw: &mut Draw) {
+    let capacity = draw.of_these(&[0, 1, 3, usize::MAX / 2 + 1, usize::MAX]);
+    let mut ring = RingOver::over([(); usize::MAX]);
+    let mut few = [(); 3];
+    let mut short = RingBuffer::new(&mut few[..capacity.min(3)]);
+    let (mut read, mut length) = (0u128, 0u128);
+    let all = if capacity > 3 { usize::MAX as u128 } else { capacity as u128 };
+    for _ in 0..40 {
+        let (size, kind) = (draw.size(capacity), draw.below(4));
+        draw.call(format_args!("{kind}: {size} of {all}"));
+        let rest = |length: u128, read: u128| {
+            if length == 0 {
+                all
+            } else {
+                (all - length).min(all - read)
+            }
+        };
+        macro_rules! call {
+            ($call:ident($($with:expr),*)) => {
+                if capacity > 3 { ring.$call($($with),*).len() } else { short.$call($($with),*).len() }
+            };
+        }
+        match kind {
+            0 | 1 => {
+                read = if length == 0 { 0 } else { read };
+                // Free elements up to the storage's end, or up to the queue.
+                let wraps = read + length >= all;
+                let most = if wraps { all - length } else { all - read - length };
+                let count = most.min(size as u128);
+                assert_eq!(call!(enqueue_many(size)) as u128, count, "{}", rest(length, read));
+                length += count;
+            }
+            2 => {
+                let count = length.min(all - read).min(size as u128);
+                assert_eq!(call!(dequeue_many(size)) as u128, count);
+                (read, length) = ((read + count) % all.max(1), length - count);
+            }
+            _ => {
+                let offset = draw.size(capacity);
+                let count = length.saturating_sub(offset as u128).min(size as u128);
+                let at = (read + offset as u128) % all.max(1);
+                assert_eq!(call!(get_allocated(offset, size)) as u128, count.min(all - at));
+            }
+        }
+        let seen =
+            if capacity > 3 { (ring.len(), ring.window()) } else { (short.len(), short.window()) };
+        assert_eq!((seen.0 as u128, seen.1 as u128), (length, all - length));
+    }
+}
