@@ -60,7 +60,7 @@ class CompiledSide(Side):
         elif behind:
             step = 'deref'
         elif variant:
-            step = term('v', (self.program.variant(variant[2]), int(field[2])))
+            step = term('v', (self.program.variant(variant[2], self.kind_of(variant[1])), int(field[2])))
         elif field:
             step = term('f', int(field[2]))
         else:

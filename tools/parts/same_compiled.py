@@ -160,11 +160,13 @@ class Compiled:
         name = 'slice' if text.startswith('[') else tail(without(text))
         return '?' if re.fullmatch(r'[A-Z]', name) or 'closure' in text else name
 
-    def variant(self, name):
-        """The number of a variant, of which all enums have the same: 1 of Some."""
-        if len(self.numbers[name]) != 1:
+    def variant(self, name, kind):
+        """The number of a variant, of which all enums have the same, or by its type: 1 of Some."""
+        of = self.enums.get(tail(without(kind or '')), ())
+        numbers = self.numbers[name] if len(self.numbers[name]) == 1 or name not in of else [of.index(name)]
+        if len(numbers) != 1:
             raise Unknown(f'variant {name}')
-        return next(iter(self.numbers[name]))
+        return next(iter(numbers))
 
     def variant_of(self, names):
         """The number of a variant by its path, [.., 'Option', 'Some']; None if it is none."""
