@@ -1,51 +1,57 @@
-/* What -DNET_BASE_CHECK=2 tells of calls that break a duty, or are refused. Compile it so. */
+/* What the library with the feature `check` tells of calls that break a duty, or are refused. */
+#include "net_base.h"
 #include <setjmp.h>
 #include <stdio.h>
 #include <string.h>
-static const char *told;
-static jmp_buf after;
-#define NET_BASE_FAIL(text) (told = (text), longjmp(after, 1))
-#include "net_base.h"
 
+static jmp_buf after;
+static uint32_t told;
+static char what[100];
 static int failed;
 
-/* Makes a call, which must be told of by a text that ends so. */
-#define TOLD(call, end)                                                     \
-    do {                                                                    \
-        told = NULL;                                                        \
-        if (!setjmp(after)) (void)!(call);                                  \
-        if (!told || strlen(told) < strlen(end)                             \
-            || strcmp(told + strlen(told) - strlen(end), end) != 0) {       \
-            printf("duties: %s: %s\n", #call, told ? told : "nothing told"); \
-            failed = 1;                                                     \
-        }                                                                   \
+void net_base_broken(uint32_t duty, const char *name, const char *argument) {
+    told = duty;
+    snprintf(what, sizeof what, "%s %s", name + strlen("net_base_0_"), argument);
+    longjmp(after, 1);
+}
+
+/* Makes a call, which must be told of by a number and these words; none if the number is 9. */
+#define TOLD(call, duty, words)                                                                 \
+    do {                                                                                        \
+        told = 9, what[0] = 0;                                                                  \
+        if (!setjmp(after)) (void)!(call);                                                      \
+        if (told != (duty) || strcmp(what, words) != 0) {                                       \
+            printf("duties: %s: told of %u by \"%s\"\n", #call, (unsigned)told, what);          \
+            failed = 1;                                                                         \
+        }                                                                                       \
     } while (0)
 
 int main(void) {
     static uint8_t storage[16], bytes[4];
-    static uint64_t words[8];
+    static uint64_t words[9];
+    volatile size_t most = SIZE_MAX;
     static struct net_base_run runs[4];
     struct net_base_ring ring = {0, 0};
-    struct net_base_assembler assembler = {0, 0};
+    struct net_base_fragments fragments = {0};
     struct net_base_kept_counts counts;
     struct net_base_finite_receiver receiver = {0};
     void *odd = (uint8_t *)words + 1;
-    TOLD(net_base_ring_enqueue_slice(odd, storage, 16, bytes, 4), "place isn't aligned (duty 1)");
-    TOLD(net_base_ring_enqueue_slice(&ring, storage, SIZE_MAX, bytes, 4), "storage_length is above PTRDIFF_MAX (duty 1)");
-    TOLD(net_base_ring_enqueue_slice(&ring, storage, 16, storage + 15, 1), "storage and data overlap (duty 2)");
-    TOLD(net_base_finite_receiver_segment(&receiver, storage, 16, odd, 4, 0, bytes, 4, false, &counts),
-         "runs isn't aligned (duty 1)");
+    TOLD(net_base_ring_enqueue_slice(odd, storage, 16, bytes, 4), 1, "ring_enqueue_slice place");
+    TOLD(net_base_ring_enqueue_slice(&ring, storage, most, bytes, 4), 1, "ring_enqueue_slice storage");
+    TOLD(net_base_ring_enqueue_slice(&ring, storage, 16, storage + 15, 1), 2, "ring_enqueue_slice storage");
+    TOLD(net_base_ring_dequeue_slice(&ring, storage + 1, 4, storage, 2), 2, "ring_dequeue_slice storage");
+    TOLD(net_base_ring_dequeue_slice(&ring, storage + 2, 4, storage, 2), 9, "");
+    TOLD(net_base_finite_receiver_segment(&receiver, storage, 16, odd, 4, 0, bytes, 4, false, &counts), 1,
+        "finite_receiver_segment runs");
     receiver.receiver.held.used = 3;
-    TOLD(net_base_finite_receiver_segment(&receiver, storage, 16, runs, 4, 0, bytes, 4, false, &counts),
-         "(duty 5, 6 or 7)");
-    TOLD(net_base_assembler_add(&assembler, runs, 4, SIZE_MAX, 1), "refused");
-    /* What a refused call returned, passed on: as a slice's length it is told, and nothing else of it is. */
-    told = NULL;
-    size_t none = net_base_ring_dequeue_one(&(struct net_base_ring){16, 1}, 16);
-    if (none != NET_BASE_NONE || net_base_ring_dequeue(&ring, none, 1) || told) failed = 1;
-    TOLD(net_base_ring_enqueue_slice(&ring, storage, none, bytes, 4), "storage_length is above PTRDIFF_MAX (duty 1)");
-    told = NULL;
-    if (net_base_ring_enqueue_slice(&ring, storage, 16, bytes, 4) != 4 || told) failed = 1;
+    TOLD(net_base_finite_receiver_segment(&receiver, storage, 16, runs, 4, 0, bytes, 4, false, &counts), 7,
+        "finite_receiver_segment ");
+    TOLD(net_base_finite_receiver_segment(NULL, storage, 16, runs, 4, 0, bytes, 4, false, &counts), 0,
+        "finite_receiver_segment ");
+    fragments.present.used = 5;
+    TOLD(net_base_fragments_set_total_size(&fragments, 16, runs, 4, 8), 7, "fragments_set_total_size ");
+    TOLD(net_base_ring_enqueue_slice(&ring, storage, 16, bytes, 4), 9, "");
+    TOLD(net_base_ring_enqueue_slice(&ring, (void *)1, 0, NULL, 0), 9, "");
     if (!failed) printf("duties: as it should\n");
     return failed;
 }

@@ -110,15 +110,9 @@ static void use_receiver(void) {
     printf("read \"%.*s\"\n", (int)count, (const char *)into);
 }
 
-static void use_random_words(void) {
-    uint64_t state = 7;
-    printf("a port: %u\n", (unsigned)net_base_rand_source_port(&state));
-}
-
 int main(void) {
     use_ring();
     use_packets();
     use_receiver();
-    use_random_words();
     return 0;
 }

@@ -3,7 +3,7 @@
 #
 # It compares the library's symbols with the header, and the structs' layouts; tries the headers in four languages by
 # each compiler that is here, and by doxygen; a program of another version, which must not link or load; pkg-config and
-# CMake; and runs bare (no C library), hosted, edges, duties, those of programs, each export at the values of
+# CMake; and runs bare (no C library), hosted, edges, duties (over a library that tests them), those of programs, each export at the values of
 # tools/exports.txt and with each pointer null, and a sequence of 1,000,000 calls, whose digest is in c/sequence.txt. CC
 # and CXX name the compilers of C and C++. It wants cargo, Python and nothing else. --record writes the digest.
 set -eu
@@ -75,12 +75,12 @@ at="a warning of the header"
 for each in "$compiler" gcc clang; do
     command -v "$each" > /dev/null || continue
     "$each" -std=c11 $warnings -x c -fsyntax-only "$here/net_base.h"
-    "$each" -std=c2x $warnings -DNET_BASE_CHECK=2 -x c -fsyntax-only "$here/net_base.h"
+    "$each" -std=c2x $warnings -x c -fsyntax-only "$here/net_base.h"
 done
 for each in "${CXX:-c++}" g++ clang++; do
     command -v "$each" > /dev/null || continue
     "$each" -std=c++17 $warnings -Wold-style-cast -x c++ -fsyntax-only "$here/net_base.hpp"
-    "$each" -std=c++20 $warnings -Wold-style-cast -DNET_BASE_CHECK=2 -x c++ -fsyntax-only "$here/net_base.hpp"
+    "$each" -std=c++20 $warnings -Wold-style-cast -x c++ -fsyntax-only "$here/net_base.hpp"
 done
 if command -v doxygen > /dev/null; then
     printf 'INPUT = "%s"\nQUIET = YES\nGENERATE_LATEX = NO\nHAVE_DOT = NO\nOUTPUT_DIRECTORY = "%s"\n' \
@@ -141,9 +141,15 @@ else
 fi
 
 at="duties.c"
-# Calls that keep the duties aren't told of.
+# Over a library that tests duties. Calls that keep them aren't told of.
+(cd "$here" && CARGO_TARGET_DIR="$target/check" cargo build --release --offline --locked --quiet --features check)
+echo '#include "net_base.h"
+void net_base_broken(uint32_t duty, const char *name, const char *argument) { (void)name, (void)argument; if (duty) __builtin_trap(); }' \
+    > "$out/broken.c"
 for each in programs/stream programs/reassembly duties; do
-    "$compiler" -std=c11 -O2 $warnings -DNET_BASE_CHECK=2 -I "$here" "$here/$each.c" "$library" -o "$out/program"
+    broken="$out/broken.c"
+    [ $each != duties ] || broken=
+    "$compiler" -std=c11 -O2 $warnings -I "$here" "$here/$each.c" $broken "$target/check/release/libnet_base.a" -o "$out/program"
     "$out/program" > "$out/said" || { cat "$out/said"; exit 1; }
 done
 

@@ -1,10 +1,10 @@
 #!/bin/sh
-# Prints how many bytes each struct of the header has that a program keeps: sh c/sizes.sh. Of 64 bits they are those of
-# this machine, of 32 bits those of a Cortex-M4, by clang; where there is none, a dash. c/run.sh compares docs/C.md
-# with it.
+# Prints how many bytes each struct of the header has that a program keeps: sh c/sizes.sh [LIBRARY]. Of 64 bits they
+# are those of this machine, of 32 bits those of a Cortex-M4, by clang; where there is none, a dash. c/run.sh compares
+# docs/C.md with it. Of a LIBRARY for a Cortex-M4 it also prints the code that a linker takes of the calls of each task.
 set -eu
 here=$(cd "$(dirname "$0")" && pwd)
-kept="ring packets packet_slot assembler run fragments finite_receiver answer_limit parts_sum receiving_end
+kept="ring packets packet_slot run fragments finite_receiver answer_limit parts_sum receiving_end
 sending_end"
 folder=$(mktemp -d)
 trap 'rm -rf "$folder"' EXIT
@@ -28,3 +28,15 @@ clang --target=thumbv7em-none-eabi -ffreestanding -I "$here" -S -o "$folder/size
     small=$(awk -v label="$name:" '$1 == label { getline; print $2 }' "$folder/sizes.s")
     echo "| \`$name\` | $size | ${small:--} |"
 done
+[ $# = 0 ] || {
+    echo 'void _start(void); void _start(void) {}' > "$folder/start.c"
+    for task in ring packets 'fragments|parts_sum' finite_receiver \
+        'receiving_end|sending_end|sequence_number|answer_limit|finite_receiver_(has_read_all|acknowledged)'; do
+        calls=$(arm-none-eabi-nm -g --defined-only "$1" 2> "$folder/said" | awk '$2 == "T" { print $3 }' |
+            grep -E "^net_base_[0-9]+_($task)" | sed 's/^/-Wl,-u,/')
+        # shellcheck disable=SC2086
+        arm-none-eabi-gcc -mcpu=cortex-m4 -mthumb -nostartfiles -Wl,--gc-sections --specs=nosys.specs $calls \
+            "$folder/start.c" "$1" -o "$folder/task" 2> "$folder/said"
+        echo "code of $task: $(arm-none-eabi-size -A "$folder/task" | awk '/^\.(text|rodata)/ { sum += $2 } END { print sum }')"
+    done
+}

@@ -31,7 +31,7 @@ The rules:
    names places at most; a module with a type of snapshots alone; each parameter and argument of that type; and
    statements, with the comment before them: a call of a law or of such a function, one that makes or is of such a
    type, and `let _name` of a method that is lent `self` alone, to be read. What these are given are places. A name
-   that then only is what a block gives goes too. So does a function of `UNCALLED`: a free one, or a method whose name
+   that then only is what a block gives goes too. So does what `UNCALLED` names: a struct, a free function, or a method whose name
    no trait has. From an import goes what only contracts name, unless it is a trait or std's, and so does a `pub use` of
    another crate. Rustc refuses a text that uses what this rule took out.
 7. Refused are imports of all names, attributes that aren't listed, the rest of a struct from an element, the order of
@@ -156,6 +156,9 @@ class Eraser(Text):
         if kind != 'word' or k in self.cut:
             return k + 1
         if word in ITEMS and not self.margin(head):
+            if self.tokens[after][1] in self.uncalled:
+                self.gone.add(self.tokens[after][1])
+                return self.put(head, self.group(self.until(k, '{')), GONE)
             self.close(head, k, [self.tokens[after][1]])
             self.move(head, self.until(k, '{', ';'), self.tokens[after][1])
         if word == 'fn':
@@ -553,7 +556,7 @@ def erased(said):
         except Refused as refused:
             said.append(f'{REPOSITORY / "crates" / crate / "src" / path}:{refused}')
     for file, names in given.UNCALLED.items():
-        said += [f'tools/parts/erase_list.py: {file} has no function {name}'
+        said += [f'tools/parts/erase_list.py: {file} has no {name}'
                  for name in names if f'{file} {name}' not in gone]
         said += [f'tools/parts/erase_list.py: {name} is also the name of a function of a trait'
                  for name in names if name in of_traits]

@@ -1,8 +1,7 @@
 #!/usr/bin/env python3
 """Writes the declarations of the library for C from the exports of crates/net_ffi.
 
-    python3 tools/ffi.py               writes the exports of heads, of c header, tests of duties, shim and net_base.pc,
-                                       and duties in docs/C.md
+    python3 tools/ffi.py               writes c/net_base.h, the shim, net_base.pc, and duties in docs/C.md
     python3 tools/ffi.py --check       compares the files with what it would write; status 1 if one is stale
     python3 tools/ffi.py --tests FILE  writes the program that calls each export at the values of exports.txt
     python3 tools/ffi.py --sequence FILE    writes the program that makes one long sequence of calls of all
@@ -18,16 +17,14 @@ A slice is a pointer and then a length, with `_length` after the slice's name; `
 struct's name is in snake case, without `Net` before and `Head` after it, and has the prefix `net_base_`. The doc
 comment of a module heads its section, a group of doxygen's, but for what follows its first paragraph: that is in the
 comment of the section's head. Of a struct of another crate only the first paragraph is taken. The duties and refusals
-in the crate's own comment are in the header, and the duties in docs/C.md. The index in the header is that of
-heads.txt.
+in the crate's own comment are in the header, and the duties in docs/C.md. The index in the header is of the
+sections, in their order.
 """
 import argparse
 import dataclasses
 import hashlib
 import pathlib
 import re
-import shutil
-import subprocess
 import sys
 import textwrap
 
@@ -36,9 +33,8 @@ EXPORTS = ROOT / "crates/net_ffi"
 HEADER = ROOT / "c/net_base.h"
 CONFIG = ROOT / "c/net_base.pc"
 ABI = ROOT / "c/abi.txt"
-# Modules whose sections come first: what the others refer to.
-FIRST = ["refusals", "ring", "packets", "assembler", "fragments"]
-FIRST += ["finite_receiver", "finite_sender", "tcp", "answer_limit", "parts_sum", "receiving_end", "sending_end"]
+# Modules whose sections come first, by task.
+FIRST = ["refusals", "ring", "packets", "fragments", "parts_sum", "finite_receiver", "receiving_end", "sending_end"]
 PAGE = ROOT / "docs/C.md"
 PAGE_BEGIN = "<!-- Written by tools/ffi.py from crates/net_ffi/src/lib.rt, up to the line END. -->"
 PAGE_END = "<!-- END -->"
@@ -184,8 +180,8 @@ def module_doc(path):
 
 
 def modules_of(crate):
-    """The files of a crate by section: those in FIRST, then in the order of `mod` in its root. One of src/heads and one
-    by hand of the same name are one section."""
+    """The files of a crate by section: those in FIRST, then in the order of `mod` in its root. One of src/heads and
+    another of the same name are one section."""
     files = [crate / "src/lib.rt"]
     for path in files:
         folder = path.parent if path.name == "lib.rt" else path.with_suffix("")
@@ -211,9 +207,7 @@ def structs_of(name):
 
 def refusal(item):
     """What a refused call returns in place of its result, as code: that of a struct has its own function in net_ffi."""
-    from parts import heads
-
-    if item.name in heads.shut(heads.TABLE.read_text()):
+    if "nothing changes" not in "".join(item.doc) and re.search(r"refused.*: true", " ".join(item.doc)):
         return "true"
     names = {"": "", "bool": "false", "usize": "refusals::no_number()", "u64": "u64::MAX"}
     names |= {name: "refusals::NET_BASE_REFUSED" for name in ANSWERS}
@@ -312,7 +306,7 @@ def plain_text(lines):
 def c_text(lines, structs):
     """A doc comment with the words of C."""
     text = c_limits(plain_text(lines))
-    text = re.sub(r"^# (\w+)\n\n(.)", lambda it: f"{it[1]}: {it[2].lower()}", text, flags=re.M)
+    text = re.sub(r"\n\n# (\w+)\n\n(.)", lambda it: f" {it[1]}: {it[2].lower()}", text)
     text = re.sub(r"\b(\w+)\.len\(\)", r"\1_length", text).replace("`usize`", "`size_t`")
     return re.sub(r"`(\w+)`", lambda it: f"`{c_struct(it[1])}`" if it[1] in structs else it[0], text)
 
@@ -338,7 +332,15 @@ def c_comment(lines, structs, indent=""):
     if len(wrapped) == 1 and len(indent) + len(wrapped[0]) + 7 <= WIDTH:
         return [f"{indent}/** {wrapped[0]} */"]
     body = [f"{indent} * {line}".rstrip() for line in wrapped]
-    return [f"{indent}/** {wrapped[0]}"] + body[1:] + [f"{indent} */"]
+    last = [f"{indent} */"] if len(body[-1]) + 3 > WIDTH else [f"{body.pop()} */"]
+    return [f"{indent}/** {wrapped[0]}", *body[1:], *last]
+
+
+def documented(code, lines, structs):
+    """A field or an enumerator, with its comment behind it, or before it where that is too long."""
+    text = wrapped_text(c_text(lines, structs), 1000)
+    line = f"    {code} /**< {text[0]} */" if len(text) == 1 else ""
+    return [line] if 0 < len(line) <= WIDTH else [*c_comment(lines, structs, "    "), f"    {code}"]
 
 
 def filled(head, parts, tail):
@@ -391,13 +393,13 @@ def c_item(item, library, more=()):
     if item.kind == "struct":
         lines.append(f"{c_struct(item.name)} {{")
         for field in item.members:
-            lines += c_comment(said(field.doc, library.answer(field.type)), structs, "    ")
-            lines += [f"    {part};" for part in c_members(field)]
+            doc = said(field.doc, library.answer(field.type))
+            lines += documented(" ".join(f"{part};" for part in c_members(field)), doc, structs)
         return lines + ["};"]
     if item.kind == "enum":
         lines.append(f"{c_type(item.name).replace('enum', 'enum NET_BASE_32_BITS')} {{")
         for it in item.members:
-            lines += [*c_comment(it.doc, structs, "    "), f"    {enumerator(item.name, it.name)} = {it.text},"]
+            lines += documented(f"{enumerator(item.name, it.name)} = {it.text},", it.doc, structs)
         return [*lines, "};"]
     parameters = [part for member in item.members for part in c_members(member)]
     result = c_type(item.type) if item.type else "void"
@@ -431,19 +433,11 @@ def config():
 
 
 def index_of(library):
-    """The index of heads.txt, by what the exports are for. Each export is in one task."""
-    from parts import heads
-
-    lines, named = [], []
-    for title, rows in heads.tasks_of(heads.TABLE.read_text()):
-        lines += [f"- {title}"]
-        for prefix, *names in rows:
-            named += [f"net_base_{prefix}{name}" for name in names]
-            lines += [f"  `net_base_{prefix}`: {', '.join(names)}"]
-    exports = [item.name for item in library.exports()]
-    if sorted(named) != sorted(exports):
-        sys.exit(f"ffi: not once in the index of heads.txt: {' '.join(sorted(set(named) ^ set(exports)) or named)}")
-    return lines
+    """What each section is for, and its exports."""
+    for doc, section, name in library.sections:
+        names = [item.name.removeprefix(f"net_base_{name}_") for item in section if item.kind == "fn"]
+        if names:
+            yield f"- `net_base_{name}_`: {title_of(doc)}: {', '.join(names)}."
 
 
 # What isn't to be thrown away: C++17 and C23 say it in their own way, where `(void)` allows it; GCC's word allows
@@ -458,6 +452,13 @@ MUST = f"""/** What is returned isn't to be thrown away. */
 #define NET_BASE_32_BITS __attribute__((mode(SI)))
 /** What a call may write overlaps nothing else that it is passed. */
 #define NET_BASE_RESTRICT __restrict"""
+
+# What a library that tests duties calls.
+BROKEN = """/** A function that you write if the library was built with `--features check`: a call broke a duty.
+ * `duty` is its number, 7 for 5 and 6 too; `argument` names the parameter, or is empty. It must not
+ * return, unless the number is 0: then a status says that the call was refused.
+ */
+void net_base_broken(uint32_t duty, const char *name, const char *argument);"""
 
 # What GCC is told of slices: of a pointer's elements as many are read, or may be written, as the parameter of another
 # number says.
@@ -512,12 +513,10 @@ def c_part(library, crate):
     """The first comment of the header, and the declarations for C."""
     version = version_of("rust")
     lines = ["/* SPDX-License-Identifier: 0BSD */", "/** @file", f" * net-base {version}.", " *"]
+    start = re.search(r"^    #include \"net_base.h\"\n.*?^    \}$", PAGE.read_text(), flags=re.M | re.S)[0]
+    lines += [" * Quick start", " *", *[f" * {line}".rstrip() for line in start.splitlines()], " *"]
     lines += [" * What for, and which calls", " *"]
-    for line in index_of(library):
-        later = " " * (4 if line.startswith("  ") else 2)
-        lines += [f" * {row}"
-                  for row in textwrap.wrap(line.strip(), WIDTH - 3, initial_indent=later[2:], subsequent_indent=later)]
-    lines += [" *"]
+    lines += [f" * {row}" for line in index_of(library) for row in wrapped_text(line, WIDTH - 3)] + [" *"]
     for heading, text in root_sections(crate):
         lines += [f" * {heading}", " *"] * bool(heading)
         lines += [f" * {row}".rstrip() for row in wrapped_text(c_text(text.splitlines(), library.structs), WIDTH - 3)]
@@ -537,8 +536,7 @@ def c_part(library, crate):
             more = ["", *doc[doc.index("") + 1 :]] if item is head and "" in doc else []
             lines += [""] + c_item(item, library, more)
         lines += ["", "/** @} */"]
-    lines += ["", END, "", *slices(library), "", "#ifdef __cplusplus", "}", "#endif", "", "#ifdef NET_BASE_CHECK",
-              '#include "net_base_check.h"', "#endif"]
+    lines += ["", END, "", BROKEN, "", *slices(library), "", "#ifdef __cplusplus", "}", "#endif"]
     return "\n".join([*lines, "#endif"]) + "\n"
 
 
@@ -550,10 +548,14 @@ def head_of(section):
     return next((item for item in section if item.kind == "struct" and item.name == kind), None)
 
 
+def title_of(doc):
+    """The first words of a section."""
+    return re.split(r"[:.](?= |$)", " ".join(first_paragraph(doc)), maxsplit=1)[0]
+
+
 def group(doc, name, structs):
     """The comment of a section, as doxygen's group."""
-    title, *rest = re.split(r"[:.](?= |$)", " ".join(first_paragraph(doc)), maxsplit=1)
-    lines = c_comment([f"@defgroup net_base_{name} {title}\0", "", *doc, "", "@{"], structs)
+    lines = c_comment([f"@defgroup net_base_{name} {title_of(doc)}\0", "", *doc, "", "@{"], structs)
     return [line.replace("\0", "") for line in lines]
 
 
@@ -584,25 +586,14 @@ def abi(text):
     return "".join(f"{it} {said}\n" for it, said in (known | {number: digest}).items())
 
 
-def without_layout(text):
-    """The text of a program without what `rt fmt` changes: spaces, last commas, braces of a single import."""
-    text = re.sub(r"\{(\w+)\};", r"\1;", text)
-    return "".join(re.sub(r",(?=\s*[)}\]])", "", text).split())
-
-
 def put(files, only_compares):
-    """Writes files, or returns whether one of them is stale, and says so. Those of Rattle are laid out, where the kit
-    is here."""
+    """Writes files, or returns whether one of them is stale, and says so."""
     stale = False
     for path, text in files.items():
-        same = without_layout if path.suffix == ".rt" else str
-        if path.exists() and same(path.read_text()) == same(text):
+        if path.exists() and path.read_text() == text:
             continue
         if not only_compares:
-            path.parent.mkdir(exist_ok=True)
             path.write_text(text)
-            if path.suffix == ".rt" and shutil.which("rattle"):
-                subprocess.run(["rattle", "fmt", "--write", path], check=True)
         else:
             print(f"{path.relative_to(ROOT)}: stale, run python3 tools/ffi.py")
             stale = True
@@ -611,8 +602,6 @@ def put(files, only_compares):
 
 def main():
     from parts import exports  # which import this file
-    from parts import heads
-    from parts import checks
     from parts import layouts
     from parts import sequence
     from parts import shim
@@ -624,7 +613,6 @@ def main():
     parser.add_argument("--layouts", type=pathlib.Path, help="write the program of the structs' layouts to a file")
     options = parser.parse_args()
     programs = {options.tests: exports.program, options.sequence: sequence.sequence, options.layouts: layouts.program}
-    stale = not any(programs) and put(heads.written(), options.check)
     library = Library(EXPORTS)
     if any(programs):
         for path in filter(None, programs):
@@ -632,10 +620,8 @@ def main():
         return
     exports.program(library)  # which stops at a row that is wrong
     header = c_part(library, EXPORTS)
-    texts = {HEADER: header, ABI: abi(header), CONFIG: config(), checks.OUT: checks.text(library),
-             shim.OUT: shim.text(library), PAGE: page(EXPORTS, PAGE)}
-    stale |= put(texts, options.check)
-    sys.exit(stale)
+    texts = {HEADER: header, ABI: abi(header), CONFIG: config(), shim.OUT: shim.text(library), PAGE: page(EXPORTS, PAGE)}
+    sys.exit(put(texts, options.check))
 
 
 if __name__ == "__main__":

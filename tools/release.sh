@@ -26,11 +26,14 @@ for target; do
         rustc=$kit/rustc
     fi
     case $target in thumb* | riscv32*) profile=small ;; esac
-    (cd "$build/c" && RUSTC=$rustc CARGO_TARGET_DIR=$build/target cargo rustc --profile $profile --target "$target" \
-        --crate-type staticlib --offline --locked --quiet)
     mkdir "$build/$name"
-    (cd "$build" && cp "target/$target/$profile/libnet_base.a" c/net_base.h c/net_base_check.h c/net_base.hpp LICENSE \
-        "$name" && sed 's|/target/release||' c/net_base.pc > "$name/net_base.pc")
+    # One that tests duties, and one that doesn't.
+    for features in check ""; do
+        (cd "$build/c" && RUSTC=$rustc CARGO_TARGET_DIR=$build/target cargo rustc --profile $profile --target "$target" \
+            --crate-type staticlib --offline --locked --quiet --features "$features")
+        cp "$build/target/$target/$profile/libnet_base.a" "$build/$name/libnet_base${features:+_$features}.a"
+    done
+    (cd "$build" && cp c/net_base.h c/net_base.hpp LICENSE "$name" && sed 's|/target/release||' c/net_base.pc > "$name/net_base.pc")
     tar -C "$build" --sort=name --mtime="@$(git log -1 --format=%ct "$tag")" --owner=0 --group=0 --numeric-owner \
         --mode=u=rw,go=r,a+X -cf "$build/$name.tar" "$name"
     gzip -n9 < "$build/$name.tar" > "$assets/$name.tar.gz"

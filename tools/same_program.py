@@ -60,7 +60,7 @@ ALONE = re.compile('|'.join([
     r'.*::[A-Z]\w*: not proved', r'(?:\w+::)+laws::\w+: not compiled',
     *(f'{name.replace("/", "::")}::.*' for names in given.UNERASED.values()
       for name in names if name != given.SCHEDULE),
-    *(rf'{file.replace("/", "::")}::(?:\w+::)?{name}: not compiled' for file, names in given.UNCALLED.items()
+    *(rf'{file.replace("/", "::")}::(?:\w+::)?{name}(?:Debug::fmt)?: not compiled' for file, names in given.UNCALLED.items()
       for name in names)]))
 # What isn't understood, and was read: the digest of both texts as they were read. same_names.txt also says why.
 LEFT = {name: read for name, _, read in (row.split(' ~~ ') for row in tables('same_names.txt')['left'])}

@@ -38,8 +38,12 @@ static uint32_t initial;
 static unsigned loss, most_delay;
 static unsigned long sent_again, expired, probes;
 
+/* A number below `bound`: 32 bits of a xorshift generator. */
 static unsigned below(uint32_t bound) {
-    return (unsigned)net_base_rand_below(&random_state, bound);
+    random_state ^= random_state << 13;
+    random_state ^= random_state >> 7;
+    random_state ^= random_state << 17;
+    return (unsigned)((random_state >> 32) * bound >> 32);
 }
 
 static void must(bool holds, const char *what) {
@@ -105,12 +109,10 @@ static void send_segments(int64_t now) {
 }
 
 static void take_acknowledgement(const struct segment *segment, int64_t now) {
-    struct net_base_sent_numbers numbers;
     struct net_base_held_run blocks[BLOCKS];
-    must(net_base_sending_end_numbers(&from, &numbers), "numbers");
     struct net_base_announcement announced = {0,
-        position_of(segment->acknowledged, numbers.first_unacknowledged),
-        net_base_tcp_scaled(segment->window, SCALE)};
+        position_of(segment->acknowledged, from.sender.sent),
+        (uint64_t)segment->window << SCALE};
     for (size_t i = 0; i < segment->block_count; i++) {
         blocks[i].start = position_of(segment->blocks[i][0], announced.ack);
         blocks[i].end = position_of(segment->blocks[i][1], announced.ack);
@@ -162,7 +164,7 @@ static void run(uint64_t first, const uint8_t *data, size_t size, bool is_slow) 
     size_t written = 0, count = 0;
     memset(&to, 0xa5, sizeof to);
     memset(&from, 0xa5, sizeof from);
-    initial = net_base_rand_u32(&random_state);
+    initial = below(UINT32_MAX);
     there.count = back.count = 0;
     net_base_answer_limit_init(&limit);
     must(net_base_receiving_end_init(&to, first, MSS), "init");
@@ -186,7 +188,6 @@ static void run(uint64_t first, const uint8_t *data, size_t size, bool is_slow) 
                 net_base_receiving_end_read(&to, incoming, WINDOW, read + count, LONGEST - count);
         if (net_base_receiving_end_is_wanted(&to, WINDOW)) acknowledge(now);
     }
-    must(net_base_finite_receiver_is_complete(&to.receiver), "is_complete");
     must(count == size && memcmp(read, data, size) == 0, "other bytes arrived");
 }
 

@@ -13,7 +13,6 @@ static volatile unsigned status;
 static struct net_base_packet_slot slots[SLOTS];
 static struct net_base_ring ring;
 static struct byte_ring byte_ring;
-static struct net_base_assembler assembler;
 static struct net_base_packets packets;
 static struct net_base_finite_receiver receiver;
 static struct net_base_sending_end sender;
@@ -52,8 +51,10 @@ enum { EACH = 40 };
 static void nothing(void) {}
 
 static void one(void) {
-    net_base_ring_enqueue_one(&ring, CAPACITY);
-    net_base_ring_dequeue_one(&ring, CAPACITY);
+    status = (unsigned)net_base_ring_unallocated(&ring, CAPACITY, 0, 1).from;
+    status = net_base_ring_enqueue(&ring, CAPACITY, 1);
+    status = (unsigned)net_base_ring_allocated(&ring, CAPACITY, 0, 1).from;
+    status = net_base_ring_dequeue(&ring, CAPACITY, 1);
 }
 
 static void slices(void) {
@@ -64,11 +65,6 @@ static void slices(void) {
 static void byte(void) {
     byte_ring_put(&byte_ring, bytes[0]);
     byte_ring_take(&byte_ring, bytes);
-}
-
-static void ranges(void) {
-    status = net_base_assembler_add(&assembler, runs, RUNS, 10, 5);
-    status = net_base_assembler_add_then_remove_front(&assembler, runs, RUNS, 0, 10).status;
 }
 
 static void packet(void) {
@@ -110,10 +106,9 @@ int main(int count, char **words) {
         const char *name;
         void (*round)(void);
     } kinds[] = {
-        {"ring: one element in and out", one},
+        {"ring: where one element is, in and out", one},
         {"ring: 16 bytes in and out", slices},
         {"byte_ring.h: a byte in and out", byte},
-        {"assembler: a range too early, and the one before it", ranges},
         {"packets: one in and out", packet},
         {"receiver: a segment of 32 bytes and a read", segment},
         {"sending end: 32 bytes written, sent and acknowledged", send},

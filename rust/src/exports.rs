@@ -20,23 +20,18 @@ mod for_c {
 }
 pub mod heads;
 pub mod packets;
-pub mod parts_sum;
-pub mod rand;
 pub mod receiver;
 pub mod receiving_end;
 pub mod refusals;
 pub mod results;
 pub mod retransmission;
-pub mod ring;
 pub mod sending_end;
 pub mod sequence_number;
 
 // Names for the modules here.
 use crate::ends::{Acknowledged, Expired, Outgoing};
-use crate::storage::TooManyHolesError;
 use crate::stream::{FiniteError, KeptBytes, SequenceNumber};
-use crate::tcp::internet_sum::updated_checksum;
-use crate::tcp::{scale_for, scaled, AnswerLimit, Arrival, Expiry, Sack, TimeoutBounds};
+use crate::tcp::{AnswerLimit, Arrival, Expiry, Sack, TimeoutBounds};
 
 pub use for_c::finite_receiver_head::FiniteReceiverHead;
 pub use for_c::packet_slot::PacketSlot;

@@ -36,10 +36,13 @@ UNERASED = {
     "in the example `net_bench` the words are Rust's": ['net_bench_lib/arguments'],
 }
 
-# Functions that nothing of Rust calls, by rustc's word: in Rattle laws, proofs and tests do.
+# Functions, and structs, that nothing of Rust uses, by rustc's word: in Rattle laws, proofs and tests do.
 UNCALLED = {
     'net_ring/ring_buffer': ['from_parts', 'into_parts'],
     'net_packets/packet_buffer': ['last_mut', 'last_size'],
+    'net_ring/head': ['enqueue_span', 'dequeue_span'],
+    'net_packets/head': ['has_sound_slots', 'progress', 'Progress'],
+    'net_receiver/finite_receiver_head': ['count_new'],
     'net_receiver/receiver': ['from_parts'],
     'net_receiver/schedule': ['replay', 'replay_core'],
     'net_receiver/scoreboard': ['is_sound'],
@@ -68,9 +71,8 @@ HEADS = {'net_ring/head': 'RingHead', 'net_packets/head': 'PacketsHead', 'net_as
 FOR_C = {file: [f'{head}::is_sound'] for file, head in HEADS.items()} | {
     'net_receiver/finite_receiver_head': ['FiniteReceiverHead'],
 }
-FOR_C['net_ring/head'] += ['RingHead::enqueue_span', 'RingHead::dequeue_span']
-FOR_C['net_packets/head'] += ['FirstPacket', 'Progress', 'write_slots'] + [f'PacketsHead::{name}' for name in (
-    'has_sound_slots', 'progress', 'can_take', 'take_slot', 'can_shorten', 'shorten_slot', 'shorten_last_in', 'enqueue',
+FOR_C['net_packets/head'] += ['FirstPacket', 'write_slots'] + [f'PacketsHead::{name}' for name in (
+    'can_take', 'take_slot', 'can_shorten', 'shorten_slot', 'shorten_last_in', 'enqueue',
     'dequeue', 'peek', 'take_first', 'skip_gap', 'take_packet')]
 FOR_C['net_assembler/assembler/head'] += ['rise_after']
 FOR_C['net_receiver/receiver_head'] += ['ReceiverHead::reads_in_turn', 'ReceiverHead::next_fits']

@@ -1,6 +1,5 @@
 """What an export returns for a null pointer, by the words of c/net_base.h alone: the rule of its first comment, and
-what the comment of an export says of a refusal. Nothing here asks tools/ffi.py or tools/heads.txt, by which the shim
-refuses."""
+what the comment of an export says of a refusal. Nothing here asks tools/ffi.py, by which the shim refuses."""
 import pathlib
 import re
 

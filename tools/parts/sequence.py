@@ -3,7 +3,7 @@
 Each call gets sensible arguments mostly, and now and then nonsense. The program prints a digest of all that the calls
 returned and left in memory.
 
-An export has its arguments in memory of its subject, which is what the index of heads.txt has before its name, so that
+An export has its arguments in memory of its subject, which is its section, so that
 its calls work on one ring, one receiver and so on. One that only looks at a head gets in turn each of that type that is
 inside another subject's head, with that subject's slices. A new export is in the sequence by its declaration alone;
 `USUAL` and `NEAR` make more of its calls sensible.
@@ -11,7 +11,6 @@ inside another subject's head, with that subject's slices. A new export is in th
 import re
 
 import ffi
-from parts import heads
 
 # What a length or a capacity is mostly; elements of a slice have room for a few more.
 USUAL = {"storage": 40, "capacity": 40, "slot_count": 5, "slots": 5, "runs": 6}
@@ -354,7 +353,7 @@ class Call:
 def sequence(library):
     """The source of the program."""
     memory = Memory(library)
-    memory.subjects = {row[0].rstrip("_") for _, rows in heads.tasks_of(heads.TABLE.read_text()) for row in rows}
+    memory.subjects = {name for _, _, name in library.sections}
     calls = [Call(memory, index, item) for index, item in enumerate(library.exports())]
     sounds = {ffi.core_type(item.members[0].type): item for item in library.exports()
               if item.name.endswith("_is_sound") and not item.requires}

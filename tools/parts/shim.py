@@ -1,16 +1,12 @@
-"""Writes c/src/shim.rs: for each export a function with C's convention, which calls the erased one. It is a part of
-ffi.py.
-
-A pointer to one value is `Option<&T>`, whose `None` is C's null; a pointer and a length become a slice. Where either
-can't be, the call is refused.
-"""
+"""Writes c/src/shim.rs: for each export a line of the macro `export` in c/src/lib.rs, which makes of it a function with
+C's convention. It is a part of ffi.py."""
 import re
+import textwrap
 
 import ffi
 
 OUT = ffi.ROOT / "c/src/shim.rs"
 HEAD = """//! The exports with C's convention. Written by tools/ffi.py.
-#![allow(clippy::missing_safety_doc, clippy::too_many_arguments)]
 use crate::{slice, slice_mut};
 use proved::exports::*;
 """
@@ -26,31 +22,34 @@ def modules():
     return found
 
 
-def function(item, where):
+def soundness(item, library):
+    """The test of duties 5, 6 and 7: the call of `_is_sound` that the comment names, with what the export has of its
+    parameters; none if it lacks one."""
+    said = re.search(r"`(net_base_\w+_is_sound)` tests", " ".join(item.doc))
+    if not said or not item.requires:
+        return ""
+    given, words = {it.name: it.name for it in item.members}, []
+    if "storage" in given:
+        given.setdefault("capacity", "storage.len()")
+    for member in next(it for it in library.exports() if it.name == said[1]).members:
+        if member.name not in given:
+            return ""
+        words.append(given[member.name])
+    return f", sound {said[1]}({', '.join(words)})"
+
+
+def rows(item, library):
     """The lines of an export."""
-    parameters, lines, is_unsafe = [], [], False
-    refused = ffi.refusal(item)
-    give = f"return {where.get(refused[:-2], refused[:-2])}()" if refused.startswith("refused_") \
-        else f"return {refused}".rstrip()
-    for member in item.members:
-        name, kind = member.name, member.type
-        if inner := re.fullmatch(r"&(mut )?\[(\w+)\]", kind):
-            is_mut, is_unsafe = bool(inner[1]), True
-            parameters += [f"{name}: *{'mut' if is_mut else 'const'} {inner[2]}", f"{name}_length: usize"]
-            lines.append(f"    let Some({name}) = slice{'_mut' * is_mut}({name}, {name}_length) else {{ {give} }};")
-        elif kind.startswith("&"):
-            bare = ffi.core_type(kind)
-            parameters.append(f"{name}: Option<{kind[: -len(bare)]}{where.get(bare, bare)}>")
-            lines.append(f"    let Some({name}) = {name} else {{ {give} }};")
-        else:
-            parameters.append(f"{name}: {where.get(kind, kind)}")
-    result = f" -> {where.get(item.type, item.type)}" if item.type else ""
-    return ["", f'#[unsafe(export_name = "{ffi.link_name(item, ffi.interface())}")]',
-            f'pub {"unsafe " * is_unsafe}extern "C" fn {item.name}({", ".join(parameters)}){result} {{', *lines,
-            f"    {where[item.name]}({', '.join(member.name for member in item.members)})", "}"]
+    refused = re.sub(r"\w+::(?!MAX)", "", ffi.refusal(item))
+    given = ", ".join(f"{it.name}: {it.type}" for it in item.members)
+    result, other = f" -> {item.type}" * bool(item.type), f", else {refused}" * bool(refused)
+    text = f'export! {{ "{ffi.link_name(item, ffi.interface())}" = {item.name}, ({given}){result}' \
+           f'{other}{soundness(item, library)}; }}'
+    return textwrap.wrap(text, 120, subsequent_indent="    ", break_long_words=False, break_on_hyphens=False)
 
 
 def text(library):
     """The file."""
-    where = modules()
-    return HEAD + "\n".join(line for item in library.exports() for line in function(item, where)) + "\n"
+    used = sorted({module.rpartition("::")[0] for module in modules().values()})
+    uses = [f"use proved::exports::{module}::*;" for module in used]
+    return HEAD + "\n".join([*uses, "", *[row for it in library.exports() for row in rows(it, library)]]) + "\n"

@@ -1,23 +1,11 @@
 -- Results of methods, as the numbers that exports return for them.
---     done_or_many n, length_or_many n l      whether the runs have room, by a status and a length
 --     done_or_error n, IsStatus n      why a fragment or a size is refused, by a status
 --     status_of_finite e      the status of why a segment of a stream that ends is
-use Rattle.std.specs.Prelude.{ℕ, zero, suc, ◌≡◌, ◌⊎◌, nat_eq, Result, Ok, Err, if◌then◌else◌}
-use Rattle.net_assembler.specs.declared.assembler.error.TooManyHolesError.{TooManyHolesError}
+use Rattle.std.specs.Prelude.{ℕ, ◌≡◌, ◌⊎◌, nat_eq, Result, Ok, Err, if◌then◌else◌}
 use Rattle.net_base.specs.declared.storage.fragments.FragmentError.{FragmentError}
 use Rattle.net_base.specs.declared.storage.fragments.FragmentError.TheVariants.{TooLong, TooManyHoles, OtherSize}
 use Rattle.net_receiver.specs.declared.kept.FiniteError.{FiniteError}
 use Rattle.net_receiver.specs.declared.kept.FiniteError.TheVariants.{TooManyHoles as NoRoom, OtherEnd}
-
--- 0 is done; another status is that there is no room
-abbrev pub done_or_many : ℕ → Result (Unit {0}) TooManyHolesError
-done_or_many zero = Ok tt
-done_or_many (suc _) = Err (record {})
-
--- the same, with the length that is returned where it is done
-abbrev pub length_or_many : ℕ → ℕ → Result ℕ TooManyHolesError
-length_or_many zero n = Ok n
-length_or_many (suc _) n = Err (record {})
 
 -- 0 is done; another status says why not
 abbrev pub done_or_error : ℕ → Result (Unit {0}) FragmentError

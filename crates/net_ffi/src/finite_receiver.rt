@@ -23,27 +23,14 @@ pub(crate) fn has_number(receiver: &FiniteReceiverHead) -> bool
     has_next(&receiver.receiver) && receiver.receiver.next() < u64::MAX
 }
 
-/// Keeps the bytes of a segment that are in the free window and below the end, and writes to `counts` how many. The
-/// segment's first byte is at `position`. `is_last` says that the stream ends after the segment; the end is taken if it
-/// is at most the end of the free window.
-///
-/// Returns `NET_BASE_DONE`, also if no byte is in the free window: then `kept` is 0. Returns `NET_BASE_OTHER_END`,
-/// and nothing changes, if the segment says that the stream ends where it can't, as
-/// `net_base_finite_receiver_can_end` tells, and not in order. An end in order is never refused: that of a last
-/// segment which begins at or below the first missing position, and ends at or above it and within the free window,
-/// while something is missing. What was held beyond it, and an end that was known, go then. Else returns
-/// `NET_BASE_TOO_MANY_RUNS`, and nothing changes, not the end either, if the segment has bytes in the free window,
-/// the first missing position is not one of theirs, and with them there would be more runs than the slice has
-/// elements.
-///
-/// Bytes after which an end has no number are left out.
-///
-/// Returns `NET_BASE_REFUSED`, and nothing changes, if `place` isn't that of a ring of `storage.len()` bytes, if `next`
-/// doesn't fit 64 bits, or if `held.used` is above `runs.len()`.
+/// Keeps the bytes of a segment, the first at `position`, that are in the free window and below the end, and writes to
+/// `counts` how many. If it `is_last`, the stream ends after it. `NET_BASE_OTHER_END` if it can't end there, else
+/// `NET_BASE_TOO_MANY_RUNS` if it lacks the next missing byte and would make a run too many. It is refused if the head
+/// isn't one over such storage and runs: `NET_BASE_REFUSED`. In these three cases nothing changes.
 ///
 /// # Requires
 ///
-/// Head, storage and runs are sound, as `net_base_finite_receiver_is_sound` tests.
+/// Head and runs are sound, as `net_base_finite_receiver_is_sound` tests.
 #[unsafe(no_mangle)]
 pub extern "C" fn net_base_finite_receiver_segment(
     receiver: &mut FiniteReceiverHead,
@@ -93,11 +80,10 @@ pub extern "C" fn net_base_finite_receiver_segment(
 }
 
 /// Writes the end of the free window to `end`, for what is announced, where the storage has `capacity` bytes, and
-/// returns true: never below the number that `net_base_finite_receiver_acknowledged` writes, which is one above the
-/// free window's end where the end is counted and the storage is full.
+/// returns true. It is never below what `net_base_finite_receiver_acknowledged` writes.
 ///
-/// If more than `capacity` bytes are queued, or the free window's end or the number after `next` doesn't fit 64 bits,
-/// it is refused: false, and nothing changes.
+/// It is refused if more than `capacity` bytes are queued, or if that end or the number after `next` doesn't fit 64
+/// bits: false, and nothing changes.
 #[unsafe(no_mangle)]
 pub extern "C" fn net_base_finite_receiver_window_end(
     receiver: &FiniteReceiverHead,

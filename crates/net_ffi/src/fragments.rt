@@ -14,8 +14,8 @@ pub(crate) fn is_plausible(fragments: &FragmentsHead, capacity: usize, run_count
     fragments.present.used <= run_count && (fragments.has_total == 0 || fragments.total <= capacity)
 }
 
-/// Returns whether the packet's size is known and all its bytes have arrived, and if so writes the size to `size`: the
-/// packet's bytes are the first ones of the storage, which has `capacity` bytes.
+/// Returns whether the packet's size is known and all its bytes have arrived, and if so writes the size to `size`. Its
+/// bytes are the first ones of the storage, which has `capacity` bytes.
 ///
 /// It is refused if `present.used` is above `runs.len()` or a known size above `capacity`: false, and nothing changes.
 ///

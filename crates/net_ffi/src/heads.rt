@@ -1,9 +1,6 @@
-//! Exports that are methods of heads: each is a line of tools/heads.txt. Written by tools/ffi.py.
-pub mod assembler;
+//! Exports that are methods of heads: a test of what the method requires, then the call.
 pub mod finite_receiver;
-pub mod finite_sender;
 pub mod fragments;
 pub mod packets;
 pub mod parts_sum;
 pub mod ring;
-pub mod tcp;

@@ -11,8 +11,8 @@
 //! have no padding; a sum in parts has a `bool`.
 //!
 //! Fields of a head may be read: `length` is how many elements are queued, `used` how many runs are stored. `start`
-//! and `end` of a stored run are offsets from `first_start` of the head, so the first one starts at 0. A run that a
-//! call returns is counted from position 0 of the assembler, and a block has positions of the stream.
+//! and `end` of a stored run are offsets from `first_start` of the head, so the first one starts at 0. A block has
+//! positions of the stream.
 //!
 //! # Duties
 //!
@@ -31,16 +31,14 @@
 //! 4. There is stack enough for a call.
 //! 5. A storage, its runs and its slots have the same lengths in each call on a head.
 //! 6. A head, its runs and its slots are written by calls of its own kind alone, those of a finite
-//!    receiver by `net_base_finite_receiver_..`, not its `place` by `net_base_ring_..` or its `held` by
-//!    `net_base_assembler_..`. The caller may set a head to zeros.
+//!    receiver by `net_base_finite_receiver_..`, not its `place` by `net_base_ring_..`. The caller may set a head to zeros.
 //! 7. Where a comment says `Requires`, head and runs are sound, as a call whose name ends in `_is_sound` tests. What
-//!    calls of its own kind wrote, from a new head on, is sound, if each slot that `net_base_packets_take_slot` was
-//!    given was the first one.
+//!    calls of its own kind wrote, from a new head on, is sound.
 //!
 //! # Refusals
 //!
-//! All else that a call needs is tested, but that a taken slot is the first one. Nonsense in arguments, as a null
-//! pointer but to a slice of length 0, is refused before anything else. A refused call changes nothing. It returns
+//! All else that a call needs is tested. Nonsense in arguments, as a null pointer but to a slice of length 0, is refused
+//! before anything else. A refused call changes nothing. It returns
 //! `false` where it returns a `bool`, and one whose comment names no answer returns `true` where it is done; where it
 //! returns one of these alone or as the first field of a struct, the `NET_BASE_.._REFUSED` of a status,
 //! `NET_BASE_NONE` of a `size_t`, `UINT64_MAX` of a `uint64_t`; and 0 of another number, which is refused for null
@@ -54,13 +52,17 @@
 //!
 //! There is no export for these:
 //!
-//! - moments and lengths of time: `+`, `-`, `*`, `<` on `int64_t` and `uint64_t`. A moment plus or minus a length is
-//!   cast to `int64_t`. Where it may not fit, write `__builtin_add_overflow` and the like. A moment is later than an
-//!   earlier one by `(uint64_t)later - (uint64_t)earlier`
+//! - moments and lengths of time: `+`, `-`, `<` on `int64_t` and `uint64_t`, and `__builtin_add_overflow` where a sum may
+//!   not fit. A moment is later than an earlier one by `(uint64_t)later - (uint64_t)earlier`
 //! - sequence numbers: they are added and subtracted as `uint32_t`, and one is later if `(int32_t)(later - number) > 0`
-//! - the payload of each fragment but the last: `(mtu - header) & ~7`
-//! - a word of a pseudo-header in a sum: its high byte and its low byte, to `net_base_parts_sum_add`
-//! - whether two assemblers have the same positions: both numbers of the heads, and the runs in use, are equal
+//! - the bytes of a span: `contiguous` from `from` on, and the rest from 0 on. `if (!ring.length) net_base_ring_init(&ring)`
+//!   has all free elements contiguous
+//! - held run k, of `held.used`: it begins `held.first_start + runs[k].start` above the first missing position
+//! - the window of a header: `(uint64_t)window << scale`, and of a SYN without `scale`, which is at most 14; the smallest
+//!   one for a storage: `while (capacity >> scale > 65535 && scale < 14) scale++`
+//! - room to write in a sending end: the capacity less `sender.sender.place.length`
+//! - the payload of each fragment but the last: `(mtu - header) & ~7`; whether a packet has waited too long:
+//!   `fragments.expires_at < now`; whether a sum with its checksum is right: `net_base_parts_sum_checksum` is 0
 //!
 //! # Traps
 //!
@@ -75,13 +77,10 @@ pub mod finite_receiver;
 pub mod fragments;
 pub mod heads;
 pub mod packets;
-pub mod parts_sum;
-pub mod rand;
 pub mod receiver;
 pub mod receiving_end;
 pub mod refusals;
 pub mod results;
 pub mod retransmission;
-pub mod ring;
 pub mod sending_end;
 pub mod sequence_number;

@@ -8,11 +8,9 @@ ghost use Rattle.std.specs.declared.option.Option.TheVariants.{Some, None};
 ghost use Rattle.net_ring.specs.RingHead.{place};
 ghost use Rattle.net_packets.specs.Packets.{with_packet_if_room, without_first_and_gap};
 ghost use Rattle.net_packets.specs.PacketsHead.{IsSoundHead, placement_in, place_after_gap, with_packet_placed};
-ghost use Rattle.net_packets.specs.PacketsHead.{with_slot_taken};
 ghost use Rattle.net_packets.specs.PacketsHead.{HasSoundSlots, queue_of, slots_written, HasFirst, first_packet};
-ghost use Rattle.net_packets.specs.PacketsHead.{head_after_first, IsFirstAt, CanTake, after_slot, IsFirstSlot};
+ghost use Rattle.net_packets.specs.PacketsHead.{head_after_first, IsFirstAt};
 ghost use Rattle.net_packets.specs.declared.packet_slot.PacketSlot.{PacketSlot};
-ghost use Rattle.net_ffi.specs.Refusals.{no_number};
 ghost use Rattle.net_ffi.specs.PacketPlaces.{no_place, nonsense_place, no_first, nonsense_first};
 
 use crate::refusals::no_number;
@@ -71,12 +69,11 @@ pub fn refused_first_packet() -> FirstPacket
 }
 
 /// Appends a packet of `size` bytes, writes its slot and that of its gap, whose `is_gap` is 1, and returns where they
-/// and the packet's bytes are. If no byte is in use, which is so too where all packets have 0 bytes, the packet begins
-/// at the beginning of the storage of bytes.
+/// and the packet's bytes are: at the storage's beginning if no byte is in use.
 ///
-/// If there are no `size` contiguous free bytes, or no slots for the packet and its gap, `gap` is 0, the three others
-/// are `NET_BASE_NONE`, and nothing changes. A head whose numbers aren't those of rings of the slots and of `capacity`
-/// bytes is refused: then all four are `NET_BASE_NONE`.
+/// If there are no `size` contiguous free bytes, or no slots for packet and gap, `gap` is 0, the others are
+/// `NET_BASE_NONE`. A head that isn't that of the slots and of `capacity` bytes is refused: then all four are
+/// `NET_BASE_NONE`.
 #[unsafe(no_mangle)]
 pub extern "C" fn net_base_packets_enqueue(
     packets: &mut PacketsHead,
@@ -111,9 +108,8 @@ pub extern "C" fn net_base_packets_enqueue(
 /// Takes the first packet off, and the gap before it, and returns where it is. Its bytes stay until another packet is
 /// placed there.
 ///
-/// If no slot is in use, `gap` and `size` are 0, the two others are `NET_BASE_NONE`, and nothing changes. A head whose
-/// numbers aren't those of rings is refused, and so are first slots that can't be those of a packet: then `gap` is
-/// `NET_BASE_NONE` too. The slots of a sound queue are never refused.
+/// If there is none, `gap` and `size` are 0, the others `NET_BASE_NONE`. A head or a first slot that isn't one of calls
+/// of this kind is refused: then `gap` is `NET_BASE_NONE` too. In both cases nothing changes.
 #[unsafe(no_mangle)]
 pub extern "C" fn net_base_packets_dequeue(
     packets: &mut PacketsHead,
@@ -149,11 +145,7 @@ pub extern "C" fn net_base_packets_dequeue(
     }
 }
 
-/// Returns where the first packet is, which stays.
-///
-/// If no slot is in use, `gap` and `size` are 0, and the two others are `NET_BASE_NONE`. A head whose numbers aren't
-/// those of rings is refused, and so are first slots that can't be those of a packet: then `gap` is `NET_BASE_NONE`
-/// too. The slots of a sound queue are never refused.
+/// Returns where the first packet is, which stays; otherwise what `net_base_packets_dequeue` returns.
 #[unsafe(no_mangle)]
 pub extern "C" fn net_base_packets_peek(
     packets: &PacketsHead,
@@ -180,40 +172,4 @@ pub extern "C" fn net_base_packets_peek(
         Some(first) => first,
         None => refused_first_packet(),
     }
-}
-
-/// Removes the first slot in use, which the caller passes as `first`, with its bytes, and returns the index of the
-/// first of these bytes. `first` must be the slot at the index `slots.read_at`: that of the gap before the first
-/// packet, or that of the first packet if it has no gap. Only its size is tested.
-///
-/// A head whose numbers aren't those of rings is refused, and so is a slot that can't be the first one: if none is in
-/// use, if its size is above the number of bytes in use, if its bytes aren't contiguous, or if it is a gap's that has
-/// no bytes or doesn't end at the storage's end. Then `NET_BASE_NONE` is returned, and nothing changes.
-#[unsafe(no_mangle)]
-pub extern "C" fn net_base_packets_take_slot(
-    packets: &mut PacketsHead,
-    slot_count: usize,
-    capacity: usize,
-    first: &PacketSlot,
-) -> usize
-    ensures taken { IsSoundHead slot_count capacity packets.old → CanTake capacity packets.old
-        first.now → (result ≡ packets.old.bytes.read_at) × (packets.new ≡ with_slot_taken
-        slot_count capacity first.now.size packets.old) }
-    ensures refused { (IsSoundHead slot_count capacity packets.old × CanTake capacity packets.old
-        first.now → ⊥) → (result ≡ no_number) × (packets.new ≡ packets.old) }
-    ensures first { (slots : List PacketSlot) → length slots ≡ slot_count → HasSoundSlots capacity
-        packets.old slots → IsFirstSlot packets.old slots first.now → CanTake capacity packets.old
-        first.now }
-    ensures state { (slots : List PacketSlot) (xs : List ℕ) → length slots ≡ slot_count → length xs
-        ≡ capacity → HasSoundSlots capacity packets.old slots → IsFirstSlot packets.old slots
-        first.now → queue_of packets.new slots xs ≡ after_slot first.now (queue_of packets.old
-        slots xs) }
-    ensures sound { (slots : List PacketSlot) → length slots ≡ slot_count → HasSoundSlots capacity
-        packets.old slots → IsFirstSlot packets.old slots first.now → HasSoundSlots capacity
-        packets.new slots }
-{
-    if !packets.is_sound(slot_count, capacity) || !packets.can_take(slot_count, capacity, first) {
-        return no_number();
-    }
-    packets.take_slot(slot_count, capacity, first)
 }

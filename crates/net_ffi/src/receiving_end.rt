@@ -343,21 +343,10 @@ pub extern "C" fn net_base_receiving_end_open(
 }
 
 /// Returns what to do with a segment, in the window that was announced, whatever is free now. `capacity` is how many
-/// bytes the storage has. It is as RFC 9293, section 3.10.7.4, has it, but for what follows. Resets and SYNs are
-/// answered as RFC 5961 has it: a reset counts only at `next`, the first number that is missing.
+/// bytes the storage has. It is as RFC 9293, section 3.10.7.4, has it; resets and SYNs are answered as RFC 5961 has it.
+/// While the own window is shut, acknowledgements are taken all the same, so that two full ends hear of one another.
 ///
-/// No position is in a window that is shut. Of a segment with positions that begins at `next` then, as a probe does,
-/// the acknowledgement is taken all the same: otherwise two ends that both fill the other's window never hear of one
-/// another. So it is of a segment without positions whose number is below `next`, by `capacity` at most, and by one if
-/// that is 0. No honest peer's number is below that: it is not below what was acknowledged to the peer, which has no
-/// more than such a window on the way, or a probe. If all of the window is on the way, and some of it is missing, its
-/// number is the one after the window: that is taken too. By law `acknowledgements` no other number is needed.
-/// Otherwise two ends whose acknowledgements were lost, or came in another order, may refuse one another's for ever,
-/// and answer each.
-///
-/// Whether a segment may acknowledge what it does is tested afterwards, by `net_base_sending_end_acknowledged`.
-///
-/// If the number after `next` doesn't fit 64 bits, as in no sound head: `NET_BASE_IGNORE`.
+/// Afterwards `net_base_sending_end_acknowledged` tests what the segment acknowledges.
 #[unsafe(no_mangle)]
 pub extern "C" fn net_base_receiving_end_classify(
     end: &ReceivingEnd,
@@ -382,21 +371,14 @@ pub extern "C" fn net_base_receiving_end_classify(
     number_of(arrival)
 }
 
-/// Takes the bytes of a segment whose first byte is at `position`, and the end if it `is_last`, as
-/// `net_base_finite_receiver_segment` does, and writes to `counts` how many were kept. A segment out of order, one with
-/// the end, and one that isn't kept are answered at once: an acknowledgement is then due. Of the others each second one
-/// is. What of its bytes came before is reported by the next acknowledgement: what is below the first missing position,
-/// or else the first part that is held. One with neither bytes nor the end changes nothing, and its counts are 0.
-///
-/// Returns `NET_BASE_DONE`, or for a segment that isn't kept `NET_BASE_OTHER_END` or `NET_BASE_TOO_MANY_RUNS`, as
-/// `net_base_finite_receiver_segment` says: then of the receiver, the storage and `counts` nothing changes.
-///
-/// Returns `NET_BASE_REFUSED`, and nothing changes, if `receiver` isn't that of a storage of `storage.len()` bytes, if
-/// `next` doesn't fit 64 bits, or if more than 16 runs are used.
+/// Takes the bytes of a segment, the first at `position`, and the end if it `is_last`, writes to `counts` how many were
+/// kept, and answers as `net_base_finite_receiver_segment`. An acknowledgement is due for each second segment, and for
+/// one out of order, with the end, or not kept. It is refused if `end` isn't one over `storage.len()` bytes:
+/// `NET_BASE_REFUSED`, and nothing changes.
 ///
 /// # Requires
 ///
-/// The head is sound with the storage, as `net_base_receiving_end_is_sound` tests.
+/// The head is sound, as `net_base_receiving_end_is_sound` tests.
 #[unsafe(no_mangle)]
 pub extern "C" fn net_base_receiving_end_arrived(
     end: &mut ReceivingEnd,
@@ -466,11 +448,9 @@ pub extern "C" fn net_base_receiving_end_is_due(end: &ReceivingEnd) -> bool
 }
 
 /// Returns whether an acknowledgement is to be sent before one waits, where the storage has `capacity` bytes: something
-/// came, or an update of the window is worth a segment. No update is, once all bytes and the end have arrived: nothing
-/// follows that needs room, and a peer that has closed its connection would answer it by a reset.
+/// came, or an update of the window is worth a segment. Once all has arrived no update is.
 ///
-/// It is refused if `receiver` isn't that of a storage of `capacity` bytes, if `next` doesn't fit 64 bits, or if more
-/// than 16 runs are used: false.
+/// It is refused if `end` isn't one over `capacity` bytes: false.
 ///
 /// # Requires
 ///
@@ -486,17 +466,15 @@ pub extern "C" fn net_base_receiving_end_is_wanted(end: &ReceivingEnd, capacity:
     is_plausible(&end.receiver.receiver, capacity, RUNS) && end.head.is_wanted(end.room(capacity))
 }
 
-/// Writes what a segment with bytes of its own tells, takes notice that it does, and returns true: the first number
-/// that is missing to `next`, and to `window` the window, in units of the scale. `capacity` is how many bytes the
-/// storage has. The window's edge is moved only if that is worth a segment. An acknowledgement that is due stays so,
-/// since it lists runs.
+/// Writes what a segment with bytes of its own tells, takes notice that it does, and returns true: the first missing
+/// number to `next`, and to `window` the window, in units of the scale. An acknowledgement that is due stays so: it
+/// lists runs.
 ///
-/// It is refused if `receiver` isn't that of a storage of `capacity` bytes, if `next` doesn't fit 64 bits, or if more
-/// than 16 runs are used: false, and nothing changes.
+/// It is refused if `end` isn't one over `capacity` bytes: false, and nothing changes.
 ///
 /// # Requires
 ///
-/// The head is sound with the storage, as `net_base_receiving_end_is_sound` tests.
+/// The head is sound, as `net_base_receiving_end_is_sound` tests.
 #[unsafe(no_mangle)]
 pub extern "C" fn net_base_receiving_end_announce(
     end: &mut ReceivingEnd,
@@ -525,11 +503,9 @@ pub extern "C" fn net_base_receiving_end_announce(
 }
 
 /// Writes what a segment without bytes tells, takes notice that it does, and returns true. What came twice is told
-/// once, and not at all if it was held beyond an end in order, which let go of it. `capacity` is how many bytes the
-/// storage has.
+/// once. `capacity` is how many bytes the storage has.
 ///
-/// It is refused if `receiver` isn't that of a storage of `capacity` bytes, if `next` doesn't fit 64 bits, or if more
-/// than 16 runs are used: false, and nothing changes.
+/// It is refused if `end` isn't one over `capacity` bytes: false, and nothing changes.
 ///
 /// # Requires
 ///
@@ -568,8 +544,7 @@ pub extern "C" fn net_base_receiving_end_acknowledgement(
 /// Moves bytes from the head of the queue to the beginning of `into`, and returns how many: as many as are queued and
 /// as `into` has room for. The rest of `into` stays as it is.
 ///
-/// It is refused if `receiver.receiver.place` isn't that of a ring of `storage.len()` bytes, or if `next` doesn't fit
-/// 64 bits: `NET_BASE_NONE`, and nothing changes.
+/// It is refused if `end` isn't one over `storage.len()` bytes: `NET_BASE_NONE`, and nothing changes.
 #[unsafe(no_mangle)]
 pub extern "C" fn net_base_receiving_end_read(
     end: &mut ReceivingEnd,

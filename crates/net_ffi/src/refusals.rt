@@ -2,16 +2,11 @@
 ghost use Rattle.std.specs.Prelude.{◌≡◌};
 ghost use Rattle.net_ffi.specs.Refusals.{no_number, nowhere};
 
-use crate::results::FrontLength;
-use net_assembler::Run;
 use net_ring::Span;
 use net_ring::width::most;
 
 /// What a call answers that can be done, refused, or more: each kind of call one of some of these numbers.
 pub type Status = u32;
-
-/// Whether runs have room for what is added: `DONE`, `TOO_MANY_RUNS` or `REFUSED`.
-pub type RoomStatus = u32;
 
 /// What became of a fragment: `DONE`, `TOO_MANY_RUNS`, `TOO_LONG`, `OTHER_SIZE` or `REFUSED`.
 pub type FragmentStatus = u32;
@@ -135,28 +130,5 @@ pub fn refused_span() -> Span
         from: no_number(),
         count: 0,
         contiguous: 0,
-    }
-}
-
-/// The run of a refused call.
-#[inline(always)]
-pub fn refused_run() -> Run
-    ensures { result ≡ (no_number, no_number) }
-{
-    Run {
-        start: no_number(),
-        end: no_number(),
-    }
-}
-
-/// The front of a refused call.
-#[inline(always)]
-pub fn refused_front_length() -> FrontLength
-    ensures status { result.status ≡ NET_BASE_REFUSED }
-    ensures length { result.length ≡ 0 }
-{
-    FrontLength {
-        status: NET_BASE_REFUSED,
-        length: 0,
     }
 }

@@ -8,7 +8,7 @@
 //! begins with it. Each segment that is taken is acknowledged by `net_base_sending_end_acknowledged`. What is to be
 //! sent, `net_base_sending_end_next_segment` says, until it says that nothing is, and `net_base_sending_end_bytes`
 //! where it is. At the moment of `net_base_sending_end_expires_at` the timer is asked by
-//! `net_base_sending_end_expired`. How much more can be written, `net_base_finite_sender_room` says of `sender`.
+//! `net_base_sending_end_expired`.
 //!
 //! A flag of `head` holds if it isn't 0. A call that sets it writes 1, and each other call leaves what a program wrote.
 //! A number whose flag is 0 doesn't count, whatever it is. A timeout of 0 that counts passes at once, and then becomes
@@ -27,7 +27,7 @@ ghost use Rattle.net_receiver.specs.FiniteSender.{IsSoundFiniteSender, finite_ro
 ghost use Rattle.net_tcp.specs.LossRecovery.{is_active, is_wrong, taken_back};
 ghost use Rattle.net_tcp.specs.Retransmission.{expires_at, has_expired};
 ghost use Rattle.net_tcp.specs.Windows.{acknowledgement_number};
-ghost use Rattle.net_ends.specs.Ends.{new_end, after_event, Opened, Forgot, Enabled, Opening, Wrote, Shut, IsSegment};
+ghost use Rattle.net_ends.specs.Ends.{new_end, after_event, Opened, Enabled, Opening, Wrote, Shut, IsSegment};
 ghost use Rattle.net_ends.specs.Ends.{first, Resumed};
 ghost use Rattle.net_ffi.specs.Refusals.{no_number};
 ghost use Rattle.net_ffi.specs.Retransmission.{given_or, bounds_of};
@@ -469,29 +469,6 @@ pub extern "C" fn net_base_sending_end_open(
     true
 }
 
-/// Begins again without a peer: the timer stops, unless something is in flight. What was written stays.
-///
-/// It is refused if `end` isn't sound over `storage.len()` bytes: false, and nothing changes.
-#[unsafe(no_mangle)]
-pub extern "C" fn net_base_sending_end_forget(
-    end: &mut SendingEnd,
-    storage: &[u8],
-    now: i64,
-) -> bool
-    ensures done { IsTrue result ↔ IsSoundSending (length storage.now) end.old }
-    ensures state { IsTrue result → sending_of end.new storage.now
-        ≡ after_event (sending_of end.old storage.now) (Forgot now) }
-    ensures sound { IsTrue result → IsSoundSending (length storage.now) end.new }
-    ensures refused { IsFalse result → end.new ≡ end.old }
-{
-    if !is_sound(end, storage.len()) {
-        return false;
-    }
-    let (numbers, first) = (numbers_from(&end.sender), first_timeout(end));
-    end.head.forget(numbers, first, moment(now));
-    true
-}
-
 /// Returns whether a SYN is to be sent now, the first one or one after a timeout, and starts the timer for the next.
 /// Ask it only until something is acknowledged, at which it doesn't look.
 ///
@@ -531,8 +508,8 @@ pub extern "C" fn net_base_sending_end_set_nagle_enabled(end: &mut SendingEnd, e
     end.head.set_nagle_enabled(enabled);
 }
 
-/// Enqueues the first of these bytes, as many as there is room for, and returns how many: `net_base_finite_sender_room`
-/// of `sender`.
+/// Enqueues the first of these bytes, as many as there is room for, and returns how many: none of a stream that is
+/// closed.
 ///
 /// It is refused if `sender` isn't that of a sender over `storage.len()` bytes: `NET_BASE_NONE`, and nothing changes.
 #[unsafe(no_mangle)]
@@ -569,11 +546,7 @@ pub extern "C" fn net_base_sending_end_close(end: &mut SendingEnd)
 }
 
 /// Takes what a segment acknowledges and announces (`it`), and the blocks that it reports, as positions. It `is_empty`
-/// if it has no byte and no FIN. Whatever it says, the end stays sound.
-///
-/// A block counts that begins above the first number that isn't reported, has a number, and ends where something was
-/// sent and less than 2^32 above that one, if what is reported beyond that one is at most 16 runs then. Any other block
-/// says nothing.
+/// if it has no byte and no FIN. Blocks of what wasn't sent say nothing.
 ///
 /// It is refused if `end` isn't sound over `storage.len()` bytes, or if there are more than 4 blocks: `count` is 0,
 /// `reports` and `begins` are false, the status is `NET_BASE_REFUSED`, and nothing changes.
@@ -677,10 +650,8 @@ pub extern "C" fn net_base_sending_end_take_back(end: &mut SendingEnd, storage: 
 }
 
 /// Returns the segment that is to be sent now, and takes notice that it is: if the peer's window and the congestion
-/// window have room for one, or as a probe. What was never sent is held back if it is less than a segment, unless it is
-/// all that is left, or half of the greatest window that the peer announced (RFC 9293, 3.8.6.2.1), and Nagle's rule
-/// doesn't have it wait. Once the timer has ended, the next segment isn't held back. While anything that was written
-/// isn't acknowledged, the timer runs.
+/// window have room for one, or as a probe. Less than a whole segment may be held back (RFC 9293, 3.8.6.2.1, and
+/// Nagle's rule).
 ///
 /// It is refused if `end` isn't sound over `storage.len()` bytes: `position` and `end` are 0, `is_again` is false, the
 /// status is `NET_BASE_REFUSED`, and nothing changes.
@@ -782,26 +753,6 @@ pub extern "C" fn net_base_sending_end_expires_at(end: &SendingEnd, moment: &mut
         }
         None => false,
     }
-}
-
-/// Writes to `numbers` the first number that isn't acknowledged, near which those of an acknowledgement are, and the
-/// one after the last that was sent.
-///
-/// It is refused if the first doesn't fit 64 bits: false, and nothing changes.
-#[unsafe(no_mangle)]
-pub extern "C" fn net_base_sending_end_numbers(end: &SendingEnd, numbers: &mut SentNumbers) -> bool
-    ensures done { IsTrue result
-        ↔ (end.now.sender.sender.first_unacknowledged + end.now.sender.finished < 2 ^ 64) }
-    ensures value { IsTrue result → (storage : List ℕ) →
-        let e = sending_of end.now storage in
-        numbers.new ≡ record { first_unacknowledged = first e; sent = e.sender.sent } }
-    ensures refused { IsFalse result → numbers.new ≡ numbers.old }
-{
-    if !has_first(&end.sender) {
-        return false;
-    }
-    *numbers = numbers_from(&end.sender);
-    true
 }
 
 /// Returns the number of a segment without positions.

@@ -76,16 +76,3 @@ pub fn net_base_packets_peek(
         None => refused_first_packet(),
     }
 }
-
-#[inline(always)]
-pub fn net_base_packets_take_slot(
-    packets: &mut PacketsHead,
-    slot_count: usize,
-    capacity: usize,
-    first: &PacketSlot,
-) -> usize {
-    if !packets.is_sound(slot_count, capacity) || !packets.can_take(slot_count, capacity, first) {
-        return no_number();
-    }
-    packets.take_slot(slot_count, capacity, first)
-}

@@ -1,11 +1,7 @@
 // Written by tools/erase.py from crates/net_ffi/src/refusals.rt: a change here would be lost.
-use crate::exports::results::FrontLength;
-use crate::exports::Run;
 use crate::exports::Span;
 
 pub type Status = u32;
-
-pub type RoomStatus = u32;
 
 pub type FragmentStatus = u32;
 
@@ -61,14 +57,4 @@ pub fn no_number() -> usize {
 #[inline(always)]
 pub fn refused_span() -> Span {
     Span { from: no_number(), count: 0, contiguous: 0 }
-}
-
-#[inline(always)]
-pub fn refused_run() -> Run {
-    Run { start: no_number(), end: no_number() }
-}
-
-#[inline(always)]
-pub fn refused_front_length() -> FrontLength {
-    FrontLength { status: NET_BASE_REFUSED, length: 0 }
 }

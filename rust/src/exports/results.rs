@@ -1,35 +1,10 @@
 // Written by tools/erase.py from crates/net_ffi/src/results.rt: a change here would be lost.
 use crate::exports::refusals::{
-    RoomStatus, Status, NET_BASE_ACKNOWLEDGEMENT_ONLY, NET_BASE_ANSWER, NET_BASE_DONE,
-    NET_BASE_IGNORE, NET_BASE_OTHER_SIZE, NET_BASE_RESET, NET_BASE_TAKE, NET_BASE_TOO_LONG,
-    NET_BASE_TOO_MANY_RUNS,
+    Status, NET_BASE_ACKNOWLEDGEMENT_ONLY, NET_BASE_ANSWER, NET_BASE_DONE, NET_BASE_IGNORE,
+    NET_BASE_OTHER_SIZE, NET_BASE_RESET, NET_BASE_TAKE, NET_BASE_TOO_LONG, NET_BASE_TOO_MANY_RUNS,
 };
 use crate::exports::Arrival;
-use crate::exports::{Run, TooManyHolesError};
 use crate::storage::FragmentError;
-
-#[repr(C)]
-#[derive(Debug, Clone, Copy)]
-pub struct FrontLength {
-    pub status: RoomStatus,
-    pub length: usize,
-}
-
-#[inline(always)]
-pub(crate) fn status_of(done: Result<(), TooManyHolesError>) -> Status {
-    match done {
-        Ok(()) => NET_BASE_DONE,
-        Err(_) => NET_BASE_TOO_MANY_RUNS,
-    }
-}
-
-#[inline(always)]
-pub(crate) fn front_length(front: Result<usize, TooManyHolesError>) -> FrontLength {
-    match front {
-        Ok(length) => FrontLength { status: NET_BASE_DONE, length },
-        Err(_) => FrontLength { status: NET_BASE_TOO_MANY_RUNS, length: 0 },
-    }
-}
 
 #[inline(always)]
 pub(crate) fn status_of_fragment(done: Result<(), FragmentError>) -> Status {
@@ -49,13 +24,5 @@ pub(crate) fn number_of(arrival: Arrival) -> Status {
         Arrival::Answer => NET_BASE_ANSWER,
         Arrival::Ignore => NET_BASE_IGNORE,
         Arrival::Reset => NET_BASE_RESET,
-    }
-}
-
-#[inline(always)]
-pub(crate) fn run_of(found: Option<(usize, usize)>) -> Run {
-    match found {
-        Some((start, end)) => Run { start, end },
-        None => Run { start: 0, end: 0 },
     }
 }

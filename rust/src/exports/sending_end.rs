@@ -243,16 +243,6 @@ pub fn net_base_sending_end_open(
 }
 
 #[inline(always)]
-pub fn net_base_sending_end_forget(end: &mut SendingEnd, storage: &[u8], now: i64) -> bool {
-    if !is_sound(end, storage.len()) {
-        return false;
-    }
-    let (numbers, first) = (numbers_from(&end.sender), first_timeout(end));
-    end.head.forget(numbers, first, moment(now));
-    true
-}
-
-#[inline(always)]
 pub fn net_base_sending_end_is_opening_due(end: &mut SendingEnd, storage: &[u8], now: i64) -> bool {
     if !is_sound(end, storage.len()) {
         return false;
@@ -395,15 +385,6 @@ pub fn net_base_sending_end_expires_at(end: &SendingEnd, moment: &mut i64) -> bo
         }
         None => false,
     }
-}
-
-#[inline(always)]
-pub fn net_base_sending_end_numbers(end: &SendingEnd, numbers: &mut SentNumbers) -> bool {
-    if !has_first(&end.sender) {
-        return false;
-    }
-    *numbers = numbers_from(&end.sender);
-    true
 }
 
 #[inline(always)]

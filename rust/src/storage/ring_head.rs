@@ -72,7 +72,7 @@ impl RingHead {
     /// Clamps `size` elements from `offset` on to the `available` ones that begin `start` elements
     /// after the read index, and returns where they are.
     #[inline]
-    pub(crate) fn span(
+    fn span(
         self,
         capacity: usize,
         start: usize,

@@ -1,29 +1,32 @@
-//! Receivers of a stream of bytes, which ends or not. The end is the position after the last byte.
+//! A stream's receiver alone, for other rules of what is acknowledged, as QUIC has. The stream of bytes
+//! ends or not. The end is the position after the last byte.
 //! It has a number, as TCP's FIN has, and needs no room. It is known once a segment has said so; a
 //! stream whose segments never say so doesn't end.
 //!
 //! A head of zeros is new, of a stream that begins at position 0. The queue is the ring of
-//! `receiver.place`, at which `net_base_ring_read_allocated` and `net_base_ring_allocated` look;
-//! the rest of the storage is free. The first missing position is `receiver.first`, plus the bytes
-//! read, plus those queued. The held runs are those of the assembler `receiver.held`, whose
-//! position 0 is that position: `net_base_assembler_run_at` counts from there.
-// Written by tools/ffi.py.
+//! `receiver.place`, at which `net_base_ring_allocated` looks; the rest of the storage is free. The
+//! first missing position is `receiver.first`, plus the bytes read, plus those queued. Held run k,
+//! of `receiver.held.used`, is from that position plus `receiver.held.first_start` plus
+//! `runs[k].start` on, and its end likewise.
+//!
+//! An end in order is never refused: that of a last segment which begins at or below the first
+//! missing position and ends at or above it. What was held beyond it, and an end that was known, go
+//! then. An end beyond the free window isn't taken.
 ghost use Rattle.net_assembler.specs.RunLists.{IsCanonical};
-ghost use Rattle.net_ffi.specs.ReceiverParts.{HasRuns, IsPlausible};
+ghost use Rattle.net_ffi.specs.ReceiverParts.{HasRuns};
 ghost use Rattle.net_ffi.specs.Refusals.{no_number};
 ghost use Rattle.net_receiver.specs.Finite.{acknowledged, can_end_by, finite_after_read, fresh_finite};
-ghost use Rattle.net_receiver.specs.Finite.{has_read_all, is_complete, no_end};
+ghost use Rattle.net_receiver.specs.Finite.{has_read_all, no_end};
 ghost use Rattle.net_receiver.specs.FiniteHead.{HasSoundFinite, end_of, finite_of, next_of};
-ghost use Rattle.net_receiver.specs.Head.{HasSoundHeld, head_after_read, held_at, top_at};
+ghost use Rattle.net_receiver.specs.Head.{HasSoundHeld, head_after_read, top_at};
 ghost use Rattle.net_receiver.specs.NewHeads.{finite_receiver_head};
-ghost use Rattle.net_receiver.specs.ReceiverState.{count_between};
 ghost use Rattle.net_ring.specs.Ring.{queue};
 ghost use Rattle.net_ring.specs.RingHead.{IsSound as IsSoundPlace, ring_at};
 ghost use Rattle.std.specs.Prelude.{IsFalse, IsTrue, List, drop, if◌then◌else◌, length, min, take, ℕ, ◌++◌, ◌+◌};
 ghost use Rattle.std.specs.Prelude.{◌-◌, ◌<◌, ◌==◌, ◌^◌, ◌↔◌, ◌≡◌, ◌≤◌};
 
 use crate::finite_receiver::has_number;
-use crate::receiver::{has_next, has_runs, is_plausible};
+use crate::receiver::{has_next, has_runs};
 use crate::refusals::no_number;
 use net_assembler::Run;
 use net_receiver::FiniteReceiverHead;
@@ -38,10 +41,8 @@ pub extern "C" fn net_base_finite_receiver_init(
     first: u64,
 ) -> bool
     ensures done { IsTrue result ↔ (first < no_end) }
-    ensures sound { IsTrue result → (capacity : ℕ) (runs : List (ℕ × ℕ)) → HasSoundFinite
-        receiver.new capacity runs }
-    ensures state { IsTrue result → (storage : List ℕ) (runs : List (ℕ × ℕ)) → finite_of
-        receiver.new storage runs ≡ fresh_finite first (length storage) }
+    ensures sound { IsTrue result → (capacity : ℕ) (runs : List (ℕ × ℕ)) → HasSoundFinite receiver.new capacity runs }
+    ensures state { IsTrue result → (storage : List ℕ) (runs : List (ℕ × ℕ)) → finite_of receiver.new storage runs ≡ fresh_finite first (length storage) }
     ensures canonical { IsTrue result → IsCanonical receiver.new.receiver.held }
     ensures numbers { IsTrue result → receiver.new ≡ finite_receiver_head first }
     ensures unchanged { IsFalse result → (receiver.new ≡ receiver.old) }
@@ -81,34 +82,14 @@ pub extern "C" fn net_base_finite_receiver_can_end(
     runs: &[Run],
     position: u64,
 ) -> bool
-    requires sound { HasRuns (length runs.now) receiver.now.receiver → HasSoundHeld
-        receiver.now.receiver runs.now }
-    ensures value { HasRuns (length runs.now) receiver.now.receiver → result ≡ can_end_by (end_of
-        receiver.now) (top_at receiver.now.receiver runs.now) position }
+    requires sound { HasRuns (length runs.now) receiver.now.receiver → HasSoundHeld receiver.now.receiver runs.now }
+    ensures value { HasRuns (length runs.now) receiver.now.receiver → result ≡ can_end_by (end_of receiver.now) (top_at receiver.now.receiver runs.now) position }
     ensures refused { (HasRuns (length runs.now) receiver.now.receiver → ⊥) → IsFalse result }
 {
     if !has_runs(&receiver.receiver, runs.len()) {
         return false;
     }
     receiver.can_end(runs, position)
-}
-
-/// Returns whether all bytes and the end have arrived. Once it is so it stays so.
-///
-/// It is refused if the number after `next` doesn't fit 64 bits: false.
-#[unsafe(no_mangle)]
-pub extern "C" fn net_base_finite_receiver_is_complete(receiver: &FiniteReceiverHead) -> bool
-    ensures value { next_of receiver.now < no_end → result ≡ (next_of receiver.now == end_of
-        receiver.now) }
-    ensures state { next_of receiver.now < no_end → (storage : List ℕ) (runs : List (ℕ × ℕ)) →
-        HasSoundFinite receiver.now (length storage) runs → result ≡ is_complete (finite_of
-        receiver.now storage runs) }
-    ensures refused { (next_of receiver.now < no_end → ⊥) → IsFalse result }
-{
-    if !has_number(receiver) {
-        return false;
-    }
-    receiver.is_complete()
 }
 
 /// Writes to `number` the number that an acknowledgement carries: the first missing position, or,
@@ -121,11 +102,8 @@ pub extern "C" fn net_base_finite_receiver_acknowledged(
     number: &mut u64,
 ) -> bool
     ensures done { IsTrue result ↔ (next_of receiver.now < no_end) }
-    ensures state { IsTrue result → (storage : List ℕ) (runs : List (ℕ × ℕ)) → HasSoundFinite
-        receiver.now (length storage) runs → number.new ≡ acknowledged (finite_of receiver.now
-        storage runs) }
-    ensures value { IsTrue result → number.new ≡ (if next_of receiver.now == end_of receiver.now
-        then next_of receiver.now + 1 else next_of receiver.now) }
+    ensures state { IsTrue result → (storage : List ℕ) (runs : List (ℕ × ℕ)) → HasSoundFinite receiver.now (length storage) runs → number.new ≡ acknowledged (finite_of receiver.now storage runs) }
+    ensures value { IsTrue result → number.new ≡ (if next_of receiver.now == end_of receiver.now then next_of receiver.now + 1 else next_of receiver.now) }
     ensures unchanged { IsFalse result → (number.new ≡ number.old) }
 {
     if !has_number(receiver) {
@@ -140,8 +118,7 @@ pub extern "C" fn net_base_finite_receiver_acknowledged(
 /// It is refused if the number after `next` doesn't fit 64 bits: false.
 #[unsafe(no_mangle)]
 pub extern "C" fn net_base_finite_receiver_has_read_all(receiver: &FiniteReceiverHead) -> bool
-    ensures state { next_of receiver.now < no_end → (storage : List ℕ) (runs : List (ℕ × ℕ)) →
-        result ≡ has_read_all (finite_of receiver.now storage runs) }
+    ensures state { next_of receiver.now < no_end → (storage : List ℕ) (runs : List (ℕ × ℕ)) → result ≡ has_read_all (finite_of receiver.now storage runs) }
     ensures refused { (next_of receiver.now < no_end → ⊥) → IsFalse result }
 {
     if !has_number(receiver) {
@@ -161,26 +138,13 @@ pub extern "C" fn net_base_finite_receiver_read(
     storage: &[u8],
     into: &mut [u8],
 ) -> usize
-    ensures count { (IsSoundPlace (length storage.now) receiver.old.receiver.place) × (next_of
-        receiver.old < 2 ^ 64) → result ≡ min (length into.old) receiver.old.receiver.place.length }
-    ensures into { let queued = queue (ring_at storage.now receiver.old.receiver.place) in
-        (IsSoundPlace (length storage.now) receiver.old.receiver.place) × (next_of receiver.old < 2
-        ^ 64) → into.new ≡ take (length into.old) queued ++ drop (length queued) into.old }
-    ensures head { (IsSoundPlace (length storage.now) receiver.old.receiver.place) × (next_of
-        receiver.old < 2 ^ 64) → receiver.new.receiver ≡ head_after_read (length storage.now)
-        result receiver.old.receiver }
-    ensures end { (IsSoundPlace (length storage.now) receiver.old.receiver.place) × (next_of
-        receiver.old < 2 ^ 64) → receiver.new.after_end ≡ receiver.old.after_end }
-    ensures sound { (IsSoundPlace (length storage.now) receiver.old.receiver.place) × (next_of
-        receiver.old < 2 ^ 64) → (runs : List (ℕ × ℕ)) → HasSoundFinite receiver.old (length
-        storage.now) runs → HasSoundFinite receiver.new (length storage.now) runs }
-    ensures state { (IsSoundPlace (length storage.now) receiver.old.receiver.place) × (next_of
-        receiver.old < 2 ^ 64) → (runs : List (ℕ × ℕ)) → HasSoundFinite receiver.old (length
-        storage.now) runs → finite_of receiver.new storage.now runs ≡ finite_after_read (finite_of
-        receiver.old storage.now runs) (length into.old) }
-    ensures refused { ((IsSoundPlace (length storage.now) receiver.old.receiver.place) × (next_of
-        receiver.old < 2 ^ 64) → ⊥) → (result ≡ no_number) × (receiver.new ≡ receiver.old) ×
-        («into».new ≡ «into».old) }
+    ensures count { (IsSoundPlace (length storage.now) receiver.old.receiver.place) × (next_of receiver.old < 2 ^ 64) → result ≡ min (length into.old) receiver.old.receiver.place.length }
+    ensures into { let queued = queue (ring_at storage.now receiver.old.receiver.place) in (IsSoundPlace (length storage.now) receiver.old.receiver.place) × (next_of receiver.old < 2 ^ 64) → into.new ≡ take (length into.old) queued ++ drop (length queued) into.old }
+    ensures head { (IsSoundPlace (length storage.now) receiver.old.receiver.place) × (next_of receiver.old < 2 ^ 64) → receiver.new.receiver ≡ head_after_read (length storage.now) result receiver.old.receiver }
+    ensures end { (IsSoundPlace (length storage.now) receiver.old.receiver.place) × (next_of receiver.old < 2 ^ 64) → receiver.new.after_end ≡ receiver.old.after_end }
+    ensures sound { (IsSoundPlace (length storage.now) receiver.old.receiver.place) × (next_of receiver.old < 2 ^ 64) → (runs : List (ℕ × ℕ)) → HasSoundFinite receiver.old (length storage.now) runs → HasSoundFinite receiver.new (length storage.now) runs }
+    ensures state { (IsSoundPlace (length storage.now) receiver.old.receiver.place) × (next_of receiver.old < 2 ^ 64) → (runs : List (ℕ × ℕ)) → HasSoundFinite receiver.old (length storage.now) runs → finite_of receiver.new storage.now runs ≡ finite_after_read (finite_of receiver.old storage.now runs) (length into.old) }
+    ensures refused { ((IsSoundPlace (length storage.now) receiver.old.receiver.place) × (next_of receiver.old < 2 ^ 64) → ⊥) → (result ≡ no_number) × (receiver.new ≡ receiver.old) × («into».new ≡ «into».old) }
 {
     if !receiver.receiver.place.is_sound(storage.len()) || !has_next(&receiver.receiver) {
         return no_number();
@@ -200,16 +164,11 @@ pub extern "C" fn net_base_finite_receiver_remove(
     capacity: usize,
     count: usize,
 ) -> bool
-    ensures done { IsTrue result ↔ ((IsSoundPlace capacity receiver.old.receiver.place) × (count ≤
-        receiver.old.receiver.place.length) × (next_of receiver.old < 2 ^ 64)) }
-    ensures head { IsTrue result → receiver.new.receiver ≡ head_after_read capacity count
-        receiver.old.receiver }
+    ensures done { IsTrue result ↔ ((IsSoundPlace capacity receiver.old.receiver.place) × (count ≤ receiver.old.receiver.place.length) × (next_of receiver.old < 2 ^ 64)) }
+    ensures head { IsTrue result → receiver.new.receiver ≡ head_after_read capacity count receiver.old.receiver }
     ensures end { IsTrue result → receiver.new.after_end ≡ receiver.old.after_end }
-    ensures sound { IsTrue result → (runs : List (ℕ × ℕ)) → HasSoundFinite receiver.old capacity
-        runs → HasSoundFinite receiver.new capacity runs }
-    ensures state { IsTrue result → (storage : List ℕ) (runs : List (ℕ × ℕ)) → length storage ≡
-        capacity → HasSoundFinite receiver.old capacity runs → finite_of receiver.new storage runs
-        ≡ finite_after_read (finite_of receiver.old storage runs) count }
+    ensures sound { IsTrue result → (runs : List (ℕ × ℕ)) → HasSoundFinite receiver.old capacity runs → HasSoundFinite receiver.new capacity runs }
+    ensures state { IsTrue result → (storage : List ℕ) (runs : List (ℕ × ℕ)) → length storage ≡ capacity → HasSoundFinite receiver.old capacity runs → finite_of receiver.new storage runs ≡ finite_after_read (finite_of receiver.old storage runs) count }
     ensures unchanged { IsFalse result → (receiver.new ≡ receiver.old) }
 {
     if !receiver.receiver.place.is_sound(capacity)
@@ -220,39 +179,4 @@ pub extern "C" fn net_base_finite_receiver_remove(
     }
     receiver.remove(capacity, count);
     true
-}
-
-/// Returns how many bytes of a segment of `len` bytes at `position` would be new, where the storage
-/// has `capacity` bytes: those in the free window and below the end whose positions are not held.
-/// It is asked before the segment is kept, since the bytes whose positions are held are kept again,
-/// and counted. The result is 0 for a duplicate, which TCP may report, for a segment that is beyond
-/// the free window, and for one without bytes. It looks at each held run.
-///
-/// It is refused if `place` isn't that of a ring of `capacity` bytes, `next` doesn't fit 64 bits,
-/// or `held.used` is above `runs.len()`: `NET_BASE_NONE`.
-///
-/// # Requires
-///
-/// Head and runs are sound, as `net_base_finite_receiver_is_sound` tests.
-#[unsafe(no_mangle)]
-pub extern "C" fn net_base_finite_receiver_count_new(
-    receiver: &FiniteReceiverHead,
-    capacity: usize,
-    runs: &[Run],
-    position: u64,
-    len: usize,
-) -> usize
-    requires sound { IsPlausible capacity (length runs.now) receiver.now.receiver → HasSoundFinite
-        receiver.now capacity runs.now }
-    ensures value { IsPlausible capacity (length runs.now) receiver.now.receiver → result ≡
-        count_between (next_of receiver.now) (receiver.now.receiver.first +
-        receiver.now.receiver.count_read + capacity) (held_at receiver.now.receiver runs.now)
-        position (min len (min (end_of receiver.now) (no_end - 1) - position)) }
-    ensures refused { (IsPlausible capacity (length runs.now) receiver.now.receiver → ⊥) → result ≡
-        no_number }
-{
-    if !is_plausible(&receiver.receiver, capacity, runs.len()) {
-        return no_number();
-    }
-    receiver.count_new(capacity, runs, position, len)
 }

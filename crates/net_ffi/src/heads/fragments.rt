@@ -4,13 +4,12 @@
 //! A head of zeros is that of an empty buffer, whose packet is waited for up to moment 0. The
 //! longest packet has as many bytes as the storage. Fragments may overlap: at each position the
 //! byte is that of the last fragment there. `present` is an assembler.
-// Written by tools/ffi.py.
 ghost use Rattle.net_assembler.specs.Positions.{nothing};
 ghost use Rattle.net_assembler.specs.RunLists.{HasSoundRuns, set_of};
-ghost use Rattle.net_base.specs.Fragments.{Adds, Differs, HasSoundParts, IsExact, IsPlausible, Meets, TakesSize};
+ghost use Rattle.net_base.specs.Fragments.{Adds, Differs, HasSoundParts, IsExact, IsPlausible, TakesSize};
 ghost use Rattle.net_base.specs.Fragments.{fragments_of, total_of, zero_fragments};
 ghost use Rattle.net_ffi.specs.Results.{IsStatus, done_or_error};
-ghost use Rattle.std.specs.Prelude.{IsTrue, List, OnErr, OnOk, false, length, ℕ, ◌<ℤ◌, ◌↔◌, ◌≡◌, ◌≤◌};
+ghost use Rattle.std.specs.Prelude.{IsTrue, List, OnErr, OnOk, false, length, ℕ, ◌↔◌, ◌≡◌, ◌≤◌};
 ghost use Rattle.std.specs.declared.option.Option.TheVariants.{Some};
 
 use crate::fragments::is_plausible;
@@ -23,8 +22,7 @@ use net_base::storage::FragmentsHead;
 /// microseconds. It is sound for any memory.
 #[unsafe(no_mangle)]
 pub extern "C" fn net_base_fragments_init(fragments: &mut FragmentsHead, expires_at: i64)
-    ensures sound { (storage : List ℕ) (runs : List (ℕ × ℕ)) → HasSoundParts fragments.new storage
-        runs }
+    ensures sound { (storage : List ℕ) (runs : List (ℕ × ℕ)) → HasSoundParts fragments.new storage runs }
     ensures nothing { (runs : List (ℕ × ℕ)) → set_of fragments.new.present runs ≡ nothing }
     ensures value { fragments.new ≡ zero_fragments expires_at }
     ensures exact { IsExact fragments.new }
@@ -41,16 +39,14 @@ pub extern "C" fn net_base_fragments_is_sound(
     capacity: usize,
     runs: &[Run],
 ) -> bool
-    ensures { (storage : List ℕ) → length storage ≡ capacity → (IsTrue result ↔ HasSoundParts
-        fragments.now storage runs.now) }
+    ensures { (storage : List ℕ) → length storage ≡ capacity → (IsTrue result ↔ HasSoundParts fragments.now storage runs.now) }
 {
     fragments.is_sound(capacity, runs)
 }
 
-/// Sets the packet's size to `size` bytes, of a buffer of `capacity` bytes.
-///
-/// Returns `NET_BASE_TOO_LONG`, and changes nothing, if the buffer has fewer bytes, or else
-/// `NET_BASE_OTHER_SIZE` if another size is known, or a byte at `size` or above has arrived.
+/// Sets the packet's size to `size` bytes, of a buffer of `capacity` bytes. Returns
+/// `NET_BASE_TOO_LONG` if that has fewer, or else `NET_BASE_OTHER_SIZE` if another size is known,
+/// or a byte at `size` or above has arrived; then nothing changes.
 ///
 /// It is refused if `present.used` is above `runs.len()`: `NET_BASE_REFUSED`, and nothing changes.
 ///
@@ -64,23 +60,15 @@ pub extern "C" fn net_base_fragments_set_total_size(
     runs: &[Run],
     size: usize,
 ) -> SizeStatus
-    requires sound { fragments.old.present.used ≤ length runs.now → HasSoundRuns
-        fragments.old.present runs.now }
-    ensures ok { fragments.old.present.used ≤ length runs.now → OnOk (done_or_error result)
-        (fragments.new ≡ record fragments.old { has_total = 1; total = size }) }
-    ensures total { fragments.old.present.used ≤ length runs.now → OnOk (done_or_error result)
-        (total_of fragments.new ≡ Some size) }
-    ensures sound { fragments.old.present.used ≤ length runs.now → OnOk (done_or_error result)
-        ((storage : List ℕ) → length storage ≡ capacity → HasSoundParts fragments.old storage
-        runs.now → HasSoundParts fragments.new storage runs.now) }
-    ensures unchanged { fragments.old.present.used ≤ length runs.now → OnErr (done_or_error result)
-        (fragments.new ≡ fragments.old) }
-    ensures takes { fragments.old.present.used ≤ length runs.now → TakesSize capacity (set_of
-        fragments.old.present runs.now) (total_of fragments.old) size (done_or_error result) }
+    requires sound { fragments.old.present.used ≤ length runs.now → HasSoundRuns fragments.old.present runs.now }
+    ensures ok { fragments.old.present.used ≤ length runs.now → OnOk (done_or_error result) (fragments.new ≡ record fragments.old { has_total = 1; total = size }) }
+    ensures total { fragments.old.present.used ≤ length runs.now → OnOk (done_or_error result) (total_of fragments.new ≡ Some size) }
+    ensures sound { fragments.old.present.used ≤ length runs.now → OnOk (done_or_error result) ((storage : List ℕ) → length storage ≡ capacity → HasSoundParts fragments.old storage runs.now → HasSoundParts fragments.new storage runs.now) }
+    ensures unchanged { fragments.old.present.used ≤ length runs.now → OnErr (done_or_error result) (fragments.new ≡ fragments.old) }
+    ensures takes { fragments.old.present.used ≤ length runs.now → TakesSize capacity (set_of fragments.old.present runs.now) (total_of fragments.old) size (done_or_error result) }
     ensures exact { IsExact fragments.old → IsExact fragments.new }
     ensures status { fragments.old.present.used ≤ length runs.now → IsStatus result }
-    ensures refused { (fragments.old.present.used ≤ length runs.now → ⊥) → (result ≡
-        NET_BASE_REFUSED) × (fragments.new ≡ fragments.old) }
+    ensures refused { (fragments.old.present.used ≤ length runs.now → ⊥) → (result ≡ NET_BASE_REFUSED) × (fragments.new ≡ fragments.old) }
 {
     if fragments.present.used > runs.len() {
         return NET_BASE_REFUSED;
@@ -88,15 +76,10 @@ pub extern "C" fn net_base_fragments_set_total_size(
     status_of_fragment(fragments.set_total_size(capacity, runs, size))
 }
 
-/// Adds a fragment, whose first byte is that of the packet at `offset`. One without bytes has its
-/// end at `offset`, and adds nothing.
-///
-/// Returns `NET_BASE_TOO_LONG`, and changes nothing, if the fragment reaches past the buffer's end,
-/// or else `NET_BASE_OTHER_SIZE` if it reaches past a known size, or else `NET_BASE_TOO_MANY_RUNS`
-/// if there would be more runs than the slice has elements.
-///
-/// It is refused if `present.used` is above `runs.len()`, or a known size above `storage.len()`:
-/// `NET_BASE_REFUSED`, and nothing changes.
+/// Adds a fragment, whose first byte is that of the packet at `offset`. Returns `NET_BASE_TOO_LONG`
+/// if it reaches past the buffer's end, or else `NET_BASE_OTHER_SIZE` past a known size, or else
+/// `NET_BASE_TOO_MANY_RUNS`; then nothing changes. It is refused if `present.used` is above
+/// `runs.len()`, or a known size above `storage.len()`: `NET_BASE_REFUSED`, and nothing changes.
 ///
 /// # Requires
 ///
@@ -109,24 +92,14 @@ pub extern "C" fn net_base_fragments_add(
     offset: usize,
     data: &[u8],
 ) -> FragmentStatus
-    requires sound { IsPlausible (length storage.old) (length runs.old) fragments.old →
-        HasSoundParts fragments.old storage.old runs.old }
-    ensures sound { IsPlausible (length storage.old) (length runs.old) fragments.old →
-        HasSoundParts fragments.new storage.new runs.new }
-    ensures adds { IsPlausible (length storage.old) (length runs.old) fragments.old → Adds (length
-        runs.old) (fragments_of fragments.old storage.old runs.old) offset «data».now false
-        (done_or_error result) (fragments_of fragments.new storage.new runs.new) }
-    ensures unchanged { IsPlausible (length storage.old) (length runs.old) fragments.old → OnErr
-        (done_or_error result) ((fragments.new ≡ fragments.old) × (storage.new ≡ storage.old) ×
-        (runs.new ≡ runs.old)) }
-    ensures others { (fragments.new.has_total ≡ fragments.old.has_total) × (fragments.new.total ≡
-        fragments.old.total) × (fragments.new.expires_at ≡ fragments.old.expires_at) }
+    requires sound { IsPlausible (length storage.old) (length runs.old) fragments.old → HasSoundParts fragments.old storage.old runs.old }
+    ensures sound { IsPlausible (length storage.old) (length runs.old) fragments.old → HasSoundParts fragments.new storage.new runs.new }
+    ensures adds { IsPlausible (length storage.old) (length runs.old) fragments.old → Adds (length runs.old) (fragments_of fragments.old storage.old runs.old) offset «data».now false (done_or_error result) (fragments_of fragments.new storage.new runs.new) }
+    ensures unchanged { IsPlausible (length storage.old) (length runs.old) fragments.old → OnErr (done_or_error result) ((fragments.new ≡ fragments.old) × (storage.new ≡ storage.old) × (runs.new ≡ runs.old)) }
+    ensures others { (fragments.new.has_total ≡ fragments.old.has_total) × (fragments.new.total ≡ fragments.old.total) × (fragments.new.expires_at ≡ fragments.old.expires_at) }
     ensures exact { IsExact fragments.old → IsExact fragments.new }
-    ensures status { IsPlausible (length storage.old) (length runs.old) fragments.old → IsStatus
-        result }
-    ensures refused { (IsPlausible (length storage.old) (length runs.old) fragments.old → ⊥) →
-        (result ≡ NET_BASE_REFUSED) × (fragments.new ≡ fragments.old) × (storage.new ≡ storage.old)
-        × (runs.new ≡ runs.old) }
+    ensures status { IsPlausible (length storage.old) (length runs.old) fragments.old → IsStatus result }
+    ensures refused { (IsPlausible (length storage.old) (length runs.old) fragments.old → ⊥) → (result ≡ NET_BASE_REFUSED) × (fragments.new ≡ fragments.old) × (storage.new ≡ storage.old) × (runs.new ≡ runs.old) }
 {
     if !is_plausible(fragments, storage.len(), runs.len()) {
         return NET_BASE_REFUSED;
@@ -151,54 +124,12 @@ pub extern "C" fn net_base_fragments_differs(
     offset: usize,
     data: &[u8],
 ) -> bool
-    requires sound { IsPlausible (length storage.now) (length runs.now) fragments.now →
-        HasSoundParts fragments.now storage.now runs.now }
-    ensures value { IsPlausible (length storage.now) (length runs.now) fragments.now → (IsTrue
-        result ↔ Differs (fragments_of fragments.now storage.now runs.now) offset «data».now) }
-    ensures refused { (IsPlausible (length storage.now) (length runs.now) fragments.now → ⊥) →
-        IsTrue result }
+    requires sound { IsPlausible (length storage.now) (length runs.now) fragments.now → HasSoundParts fragments.now storage.now runs.now }
+    ensures value { IsPlausible (length storage.now) (length runs.now) fragments.now → (IsTrue result ↔ Differs (fragments_of fragments.now storage.now runs.now) offset «data».now) }
+    ensures refused { (IsPlausible (length storage.now) (length runs.now) fragments.now → ⊥) → IsTrue result }
 {
     if !is_plausible(fragments, storage.len(), runs.len()) {
         return true;
     }
     fragments.differs(storage, runs, offset, data)
-}
-
-/// Returns whether one of the `count` positions from `offset` on has arrived: whether a fragment
-/// there overlaps bytes that are present. They need not be within the buffer.
-///
-/// It is asked before `net_base_fragments_add`, by callers who refuse a packet whose fragments
-/// overlap (RFC 5722). A fragment that arrives twice overlaps too.
-///
-/// It is refused if `present.used` is above `runs.len()`: true, as of a packet that isn't to be
-/// trusted.
-///
-/// # Requires
-///
-/// Head and runs are sound, as `net_base_fragments_is_sound` tests.
-#[unsafe(no_mangle)]
-pub extern "C" fn net_base_fragments_overlaps(
-    fragments: &FragmentsHead,
-    runs: &[Run],
-    offset: usize,
-    count: usize,
-) -> bool
-    requires sound { fragments.now.present.used ≤ length runs.now → HasSoundRuns
-        fragments.now.present runs.now }
-    ensures value { fragments.now.present.used ≤ length runs.now → (IsTrue result ↔ Meets (set_of
-        fragments.now.present runs.now) offset count) }
-    ensures refused { (fragments.now.present.used ≤ length runs.now → ⊥) → IsTrue result }
-{
-    if fragments.present.used > runs.len() {
-        return true;
-    }
-    fragments.overlaps(runs, offset, count)
-}
-
-/// Returns whether `now` is after the last moment at which the packet is waited for.
-#[unsafe(no_mangle)]
-pub extern "C" fn net_base_fragments_is_expired(fragments: &FragmentsHead, now: i64) -> bool
-    ensures { IsTrue result ↔ (fragments.now.expires_at <ℤ now) }
-{
-    fragments.is_expired(now)
 }

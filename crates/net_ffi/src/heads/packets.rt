@@ -1,10 +1,9 @@
-//! Packet queues: where a packet has its slots and its bytes, in storages that the caller keeps.
+//! Packets in the order of their arrival: where each has its slots and its bytes.
 //!
 //! A head of zeros is new. A packet's bytes are contiguous. If it doesn't fit before the storage's
 //! end, it is placed at its beginning, and the bytes before the end are a gap. A packet uses one
 //! slot, and a gap before it one more. The slots, which calls write, are beside what the program
 //! has for each packet. What is refused changes nothing.
-// Written by tools/ffi.py.
 ghost use Rattle.net_packets.specs.Packets.{with_last_size};
 ghost use Rattle.net_packets.specs.PacketsHead.{CanShorten, HasSoundSlots, IsSoundHead, last_slot, last_slot_index};
 ghost use Rattle.net_packets.specs.PacketsHead.{packet_slot, packets_head, queue_of};
@@ -21,26 +20,9 @@ pub extern "C" fn net_base_packets_init(packets: &mut PacketsHead)
     *packets = PacketsHead::new();
 }
 
-/// Returns whether head and slots are those of a queue over `capacity` bytes: the numbers are those
-/// of a ring of the slots and of one of the bytes; the packets and gaps of the slots in use take
-/// the bytes in use; each packet is contiguous; and a gap has bytes, ends at the storage's end and
-/// has a packet after it. It looks at each slot in use.
-#[unsafe(no_mangle)]
-pub extern "C" fn net_base_packets_is_sound(
-    packets: &PacketsHead,
-    slots: &[PacketSlot],
-    capacity: usize,
-) -> bool
-    ensures { IsTrue result ↔ HasSoundSlots capacity packets.now slots.now }
-{
-    packets.has_sound_slots(slots, capacity)
-}
-
-/// Takes the last `count` bytes off the last packet, lowers the size in its slot, and returns true.
-/// It is for a caller that wrote fewer bytes than it placed.
-///
-/// Returns false, and changes nothing, if no slot is in use, if the last one is a gap's, or if its
-/// size is below `count` or above the number of bytes in use.
+/// Takes the last `count` bytes off the last packet, lowers the size in its slot, and returns true:
+/// for a caller that wrote fewer bytes than it placed. Returns false, and changes nothing, if there
+/// is no packet, or it has fewer bytes.
 ///
 /// It is refused if the numbers of `packets` aren't those of rings of `slots.len()` slots and of
 /// `capacity` bytes: false, and nothing changes.
@@ -51,22 +33,14 @@ pub extern "C" fn net_base_packets_shorten_last(
     capacity: usize,
     count: usize,
 ) -> bool
-    ensures done { IsSoundHead (length slots.old) capacity packets.old → (IsTrue result ↔
-        CanShorten packets.old (last_slot packets.old slots.old) count) }
-    ensures head { IsTrue result → (packets.new.slots ≡ packets.old.slots) × (packets.new.bytes ≡
-        place packets.old.bytes.read_at (packets.old.bytes.length - count)) }
-    ensures slots { IsTrue result → slots.new ≡ set slots.old (last_slot_index packets.old
-        slots.old) (packet_slot ((last_slot packets.old slots.old).size - count)) }
+    ensures done { IsSoundHead (length slots.old) capacity packets.old → (IsTrue result ↔ CanShorten packets.old (last_slot packets.old slots.old) count) }
+    ensures head { IsTrue result → (packets.new.slots ≡ packets.old.slots) × (packets.new.bytes ≡ place packets.old.bytes.read_at (packets.old.bytes.length - count)) }
+    ensures slots { IsTrue result → slots.new ≡ set slots.old (last_slot_index packets.old slots.old) (packet_slot ((last_slot packets.old slots.old).size - count)) }
     ensures unchanged { IsFalse result → (packets.new ≡ packets.old) × (slots.new ≡ slots.old) }
-    ensures sound { IsSoundHead (length slots.old) capacity packets.old → IsSoundHead (length
-        slots.old) capacity packets.new }
-    ensures sound_slots { IsSoundHead (length slots.old) capacity packets.old → HasSoundSlots
-        capacity packets.old slots.old → HasSoundSlots capacity packets.new slots.new }
-    ensures state { IsTrue result → (xs : List ℕ) → length xs ≡ capacity → HasSoundSlots capacity
-        packets.old slots.old → queue_of packets.new slots.new xs ≡ with_last_size ((last_slot
-        packets.old slots.old).size - count) (queue_of packets.old slots.old xs) }
-    ensures refused { (IsSoundHead (length slots.old) capacity packets.old → ⊥) → (IsFalse result)
-        × (packets.new ≡ packets.old) × (slots.new ≡ slots.old) }
+    ensures sound { IsSoundHead (length slots.old) capacity packets.old → IsSoundHead (length slots.old) capacity packets.new }
+    ensures sound_slots { IsSoundHead (length slots.old) capacity packets.old → HasSoundSlots capacity packets.old slots.old → HasSoundSlots capacity packets.new slots.new }
+    ensures state { IsTrue result → (xs : List ℕ) → length xs ≡ capacity → HasSoundSlots capacity packets.old slots.old → queue_of packets.new slots.new xs ≡ with_last_size ((last_slot packets.old slots.old).size - count) (queue_of packets.old slots.old xs) }
+    ensures refused { (IsSoundHead (length slots.old) capacity packets.old → ⊥) → (IsFalse result) × (packets.new ≡ packets.old) × (slots.new ≡ slots.old) }
 {
     if !packets.is_sound(slots.len(), capacity) {
         return false;

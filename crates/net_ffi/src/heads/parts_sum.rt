@@ -1,9 +1,8 @@
 //! The Internet checksum of a message in parts, such as a pseudo-header, a header and data.
 //!
 //! A head of zeros is new: no bytes were added.
-// Written by tools/ffi.py.
-ghost use Rattle.net_tcp.specs.InternetChecksum.{Sums, folded, internet_checksum, sum_with, word_sum};
-ghost use Rattle.std.specs.Prelude.{IsFalse, IsTrue, List, [], ℕ, ◌++◌, ◌-◌, ◌↔◌, ◌≡◌};
+ghost use Rattle.net_tcp.specs.InternetChecksum.{Sums, internet_checksum, sum_with};
+ghost use Rattle.std.specs.Prelude.{IsFalse, List, [], ℕ, ◌++◌, ◌-◌, ◌≡◌};
 
 use net_tcp::PartsSum;
 
@@ -34,15 +33,4 @@ pub extern "C" fn net_base_parts_sum_checksum(sum: &PartsSum) -> u16
     ensures bytes { (xs : List ℕ) → Sums sum.now xs → result ≡ internet_checksum xs }
 {
     sum.checksum()
-}
-
-/// Returns whether the bytes that were added, with a checksum among them at an even offset, are
-/// valid. No bytes are not.
-#[unsafe(no_mangle)]
-pub extern "C" fn net_base_parts_sum_is_valid(sum: &PartsSum) -> bool
-    ensures value { IsTrue result ↔ (sum.now.sum ≡ 65535) }
-    ensures bytes { (xs : List ℕ) → Sums sum.now xs → (IsTrue result ↔ (folded (word_sum xs) ≡
-        65535)) }
-{
-    sum.is_valid()
 }

@@ -140,24 +140,4 @@ impl FiniteReceiverHead {
     pub(crate) fn remove(&mut self, capacity: usize, count: usize) {
         self.receiver.remove(capacity, count);
     }
-
-    /// Returns how many bytes of a segment of `len` bytes at `position` would be new, where the
-    /// storage has `capacity` bytes: those in the free window and below the end whose positions are
-    /// not held. It is asked before the segment is kept, since the bytes whose positions are held
-    /// are kept again, and counted. The result is 0 for a duplicate, which TCP may report, for a
-    /// segment that is beyond the free window, and for one without bytes. It looks at each held run.
-    ///
-    /// # Requires
-    ///
-    /// Head, storage and runs are sound, as `is_sound` tests.
-    pub(crate) fn count_new(
-        &self,
-        capacity: usize,
-        runs: &[Run],
-        position: u64,
-        len: usize,
-    ) -> usize {
-        let count = count_below(self.after_end, position, len);
-        self.receiver.count_part(capacity, runs, position, count)
-    }
 }

@@ -23,47 +23,6 @@ impl PacketsHead {
         self.slots.is_sound(slot_count) && self.bytes.is_sound(capacity)
     }
 
-    /// Returns whether head and slots are those of a queue over `capacity` bytes: the numbers are
-    /// those of a ring of the slots and of one of the bytes; the packets and gaps of the slots in
-    /// use take the bytes in use; each packet is contiguous; and a gap has bytes, ends at the
-    /// storage's end and has a packet after it. It looks at each slot in use.
-    pub(crate) fn has_sound_slots(self, slots: &[PacketSlot], capacity: usize) -> bool {
-        if !self.is_sound(slots.len(), capacity) {
-            return false;
-        }
-        let mut done = Progress { offset: 0, gap: 0 };
-        for k in 0..self.slots.length {
-            let slot = &slots[self.slots.index(slots.len(), k)];
-            let Some(next) = self.progress(capacity, done, slot) else {
-                return false;
-            };
-            done = next;
-        }
-        done.gap == 0 && done.offset == self.bytes.length
-    }
-
-    /// Returns how far the test has come after a slot, if that can follow. A gap can't follow a gap, has bytes, and
-    /// ends at the storage's end; a packet ends there or before.
-    #[inline]
-    fn progress(self, capacity: usize, done: Progress, slot: &PacketSlot) -> Option<Progress> {
-        if slot.size > self.bytes.length - done.offset - done.gap {
-            return None;
-        }
-        debug_assert!(done.offset + done.gap <= self.bytes.length);
-        let from = self.bytes.index(capacity, done.offset + done.gap);
-        if slot.size > capacity - from {
-            return None;
-        }
-        if slot.is_gap == 0 {
-            debug_assert!(done.offset + done.gap + slot.size <= self.bytes.length);
-            return Some(Progress { offset: done.offset + done.gap + slot.size, gap: 0 });
-        }
-        if done.gap > 0 || slot.size == 0 || slot.size < capacity - from {
-            return None;
-        }
-        Some(Progress { offset: done.offset, gap: slot.size })
-    }
-
     /// Returns whether `first` can be the first slot in use: its bytes are used and contiguous, and
     /// a gap has some and ends at the storage's end.
     #[inline]
@@ -216,12 +175,4 @@ fn write_slots(slots: &mut [PacketSlot], place: PacketPlace, size: usize) {
         slots[place.gap_slot] = PacketSlot { size: place.gap, is_gap: 1 };
     }
     slots[place.slot] = PacketSlot { size, is_gap: 0 };
-}
-
-/// How far a test of the slots has come: packets and their gaps before it take `offset` bytes, and a
-/// gap of `gap` bytes follows them, if that isn't 0.
-#[derive(Debug, Clone, Copy)]
-struct Progress {
-    offset: usize,
-    gap: usize,
 }

@@ -7,24 +7,4 @@ impl RingHead {
     pub(crate) fn is_sound(self, capacity: usize) -> bool {
         (self.read_at == 0 || self.read_at < capacity) && self.length <= capacity
     }
-
-    /// Enqueues as many elements as there is room for, at most `size`, and returns where they are.
-    ///
-    /// An empty ring first moves its read index to the storage's beginning.
-    #[inline]
-    pub(crate) fn enqueue_span(&mut self, capacity: usize, size: usize) -> Span {
-        self.rewind_if_empty();
-        let span = self.unallocated(capacity, 0, size);
-        self.length += span.count;
-        debug_assert!(self.length <= capacity);
-        span
-    }
-
-    /// Dequeues as many elements as are queued, at most `size`, and returns where they are.
-    #[inline]
-    pub(crate) fn dequeue_span(&mut self, capacity: usize, size: usize) -> Span {
-        let span = self.allocated(capacity, 0, size);
-        self.dequeue(capacity, span.count);
-        span
-    }
 }

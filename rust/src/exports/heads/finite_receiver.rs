@@ -1,8 +1,6 @@
 // Written by tools/erase.py from crates/net_ffi/src/heads/finite_receiver.rt: a change here would be lost.
-// Written by tools/ffi.py.
-
 use crate::exports::finite_receiver::has_number;
-use crate::exports::receiver::{has_next, has_runs, is_plausible};
+use crate::exports::receiver::{has_next, has_runs};
 use crate::exports::refusals::no_number;
 use crate::exports::FiniteReceiverHead;
 use crate::exports::Run;
@@ -35,14 +33,6 @@ pub fn net_base_finite_receiver_can_end(
         return false;
     }
     receiver.can_end(runs, position)
-}
-
-#[inline(always)]
-pub fn net_base_finite_receiver_is_complete(receiver: &FiniteReceiverHead) -> bool {
-    if !has_number(receiver) {
-        return false;
-    }
-    receiver.is_complete()
 }
 
 #[inline(always)]
@@ -91,18 +81,4 @@ pub fn net_base_finite_receiver_remove(
     }
     receiver.remove(capacity, count);
     true
-}
-
-#[inline(always)]
-pub fn net_base_finite_receiver_count_new(
-    receiver: &FiniteReceiverHead,
-    capacity: usize,
-    runs: &[Run],
-    position: u64,
-    len: usize,
-) -> usize {
-    if !is_plausible(&receiver.receiver, capacity, runs.len()) {
-        return no_number();
-    }
-    receiver.count_new(capacity, runs, position, len)
 }

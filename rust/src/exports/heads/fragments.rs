@@ -1,6 +1,4 @@
 // Written by tools/erase.py from crates/net_ffi/src/heads/fragments.rt: a change here would be lost.
-// Written by tools/ffi.py.
-
 use crate::exports::fragments::is_plausible;
 use crate::exports::refusals::{FragmentStatus, SizeStatus, NET_BASE_REFUSED};
 use crate::exports::results::status_of_fragment;
@@ -60,22 +58,4 @@ pub fn net_base_fragments_differs(
         return true;
     }
     fragments.differs(storage, runs, offset, data)
-}
-
-#[inline(always)]
-pub fn net_base_fragments_overlaps(
-    fragments: &FragmentsHead,
-    runs: &[Run],
-    offset: usize,
-    count: usize,
-) -> bool {
-    if fragments.present.used > runs.len() {
-        return true;
-    }
-    fragments.overlaps(runs, offset, count)
-}
-
-#[inline(always)]
-pub fn net_base_fragments_is_expired(fragments: &FragmentsHead, now: i64) -> bool {
-    fragments.is_expired(now)
 }

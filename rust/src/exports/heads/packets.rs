@@ -1,20 +1,9 @@
 // Written by tools/erase.py from crates/net_ffi/src/heads/packets.rt: a change here would be lost.
-// Written by tools/ffi.py.
-
 use crate::exports::{PacketSlot, PacketsHead};
 
 #[inline(always)]
 pub fn net_base_packets_init(packets: &mut PacketsHead) {
     *packets = PacketsHead::new();
-}
-
-#[inline(always)]
-pub fn net_base_packets_is_sound(
-    packets: &PacketsHead,
-    slots: &[PacketSlot],
-    capacity: usize,
-) -> bool {
-    packets.has_sound_slots(slots, capacity)
 }
 
 #[inline(always)]

@@ -1,6 +1,4 @@
 // Written by tools/erase.py from crates/net_ffi/src/heads/parts_sum.rt: a change here would be lost.
-// Written by tools/ffi.py.
-
 use crate::exports::PartsSum;
 
 #[inline(always)]
@@ -16,9 +14,4 @@ pub fn net_base_parts_sum_add(sum: &mut PartsSum, part: &[u8]) {
 #[inline(always)]
 pub fn net_base_parts_sum_checksum(sum: &PartsSum) -> u16 {
     sum.checksum()
-}
-
-#[inline(always)]
-pub fn net_base_parts_sum_is_valid(sum: &PartsSum) -> bool {
-    sum.is_valid()
 }
