@@ -4,7 +4,7 @@
 # with Linux:
 #
 #     sh compare/peers/run.sh --sample [WORD [SEED]]   short cases, each with bounds
-#     sh compare/peers/run.sh --matrix [WORD]          each pair on each path, three seeds: a table
+#     sh compare/peers/run.sh --matrix [WORD]          each pair on each path, nine seeds in turn: a table, in half an hour
 #     sh compare/peers/run.sh --goodput [WORD]         MB/s to Linux, beside Linux with Reno and with CUBIC: a table
 #     sh compare/peers/run.sh --runs [WORD]            what receivers refuse with a queue that overflows: a table
 #

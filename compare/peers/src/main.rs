@@ -175,12 +175,27 @@ fn median(mut values: Vec<f64>) -> f64 {
     values[values.len() / 2]
 }
 
-/// The median time of some seeds, or infinity, and how many segments of the first end went again for nothing, and how
-/// many by a timeout.
-fn median_of(ends: [Kind; 2], path: Path, traffic: Traffic, seeds: u64, most: u64) -> (f64, u64, u64) {
-    let what = format!("{} to {}", ends[0].name(), ends[1].name());
-    let runs: Vec<_> = (1..=seeds).map(|seed| run(Case { ends, path, traffic, seed, most }, &what)).collect();
-    summed(&runs)
+/// Of each pair the median time of some seeds, or infinity, and how many segments of the first end went again for
+/// nothing, and how many by a timeout. The pairs take turns, some at once, so that whatever else the machine does meets
+/// each of them.
+fn in_turn<const N: usize>(
+    pairs: [[Kind; 2]; N],
+    what: &str,
+    (seeds, at_once): (u64, usize),
+    case: impl Fn([Kind; 2], u64) -> Case + Sync,
+) -> [(f64, u64, u64); N] {
+    let (mut runs, case) = ([(); N].map(|()| vec![]), &case);
+    for seed in 1..=seeds {
+        for (pairs, runs) in pairs.chunks(at_once).zip(runs.chunks_mut(at_once)) {
+            thread::scope(|scope| {
+                for (ends, runs) in pairs.iter().zip(runs) {
+                    let what = format!("{what}: {} to {}", ends[0].name(), ends[1].name());
+                    scope.spawn(move || runs.push(run(case(*ends, seed), &what)));
+                }
+            });
+        }
+    }
+    runs.map(|it| summed(&it))
 }
 
 /// The same of runs.
@@ -200,44 +215,57 @@ fn ratio(a: f64, b: f64) -> String {
 
 /// Each pair, beside Linux (Reno) in the place of the endpoint.
 fn matrix(word: &str) {
-    let (mib, most) = (send(1 << 20), 20);
+    let (mib, most, seeds) = (send(1 << 20), 20, 9);
     let (late, lost) = (path(0, 2_000, 0, 1_000), path(100, 0, 0, 1_000));
     let requests = |count, thinks| Traffic::Requests { count, thinks };
     let slow = Traffic::Both { bytes: 200_000, chunk: 2_000, rest: 5_000 };
     let (stop, stops) = stopped();
-    println!("Seconds, the median of three runs, and the ratio to Linux in the endpoint's place. Then, of all three,");
-    println!("segments sent again for nothing, and those of Linux. 1 MiB; a round trip of 1 ms.");
+    let pairs = [
+        [ENDPOINT; 2],
+        [ENDPOINT, LWIP],
+        [LWIP, ENDPOINT],
+        [ENDPOINT, NETSTACK],
+        [NETSTACK, ENDPOINT],
+        [ENDPOINT, RENO],
+        [RENO, ENDPOINT],
+        [RENO; 2],
+        [RENO, LWIP],
+        [LWIP, RENO],
+        [RENO, NETSTACK],
+        [NETSTACK, RENO],
+    ];
+    let in_its_place = |ends: [Kind; 2]| ends.map(|it| if it == ENDPOINT { RENO } else { it });
+    println!("Seconds, the median of {seeds} runs, in turn with the others of the row, and the ratio to Linux in the");
+    println!("endpoint's place. Then, of all {seeds}, segments sent again for nothing, and those of Linux. 1 MiB; a round");
+    println!("trip of 1 ms.");
     println!(
         "| Path | to itself | to lwIP | from lwIP | to netstack | from netstack | to Linux | from Linux |"
     );
     println!("|---|---:|---:|---:|---:|---:|---:|---:|");
-    for (what, path, traffic) in [
-        ("1 % lost", lost, mib),
-        ("3 % lost", path(300, 0, 0, 1_000), mib),
-        ("20 % delayed", late, mib),
-        ("20 % doubled", path(0, 0, 2_000, 1_000), mib),
-        ("half closed, 1 % lost", lost, Traffic::Closed { bytes: 1 << 20 }),
-        ("both send to slow readers", path(0, 0, 0, 1_000), slow),
-        ("100 answers at once, 10 % lost", path(1_000, 0, 0, 1_000), requests(100, 0)),
-        ("50 answers after 40 ms", path(0, 0, 0, 1_000), requests(50, 40)),
-        ("a stop of 3 s", stop, stops),
+    // The last three wait most of their time.
+    for (what, path, traffic, at_once) in [
+        ("1 % lost", lost, mib, 1),
+        ("3 % lost", path(300, 0, 0, 1_000), mib, 1),
+        ("20 % delayed", late, mib, 1),
+        ("20 % doubled", path(0, 0, 2_000, 1_000), mib, 1),
+        ("half closed, 1 % lost", lost, Traffic::Closed { bytes: 1 << 20 }, 1),
+        ("both send to slow readers", path(0, 0, 0, 1_000), slow, 1),
+        ("100 answers at once, 10 % lost", path(1_000, 0, 0, 1_000), requests(100, 0), 3),
+        ("50 answers after 40 ms", path(0, 0, 0, 1_000), requests(50, 40), 3),
+        ("a stop of 3 s", stop, stops, 3),
     ] {
         if !what.contains(word) {
             continue;
         }
-        let time = |ends| median_of(ends, path, traffic, 3, most);
-        let cell = |mine: (f64, u64, u64), linux: (f64, u64, u64)| {
+        let case = |ends, seed| Case { ends, path, traffic, seed, most };
+        let all = in_turn(pairs, what, (seeds, at_once), case);
+        let mut row = String::new();
+        for (ends, mine) in pairs.into_iter().zip(all).filter(|it| it.0.contains(&ENDPOINT)) {
+            let place = in_its_place(ends);
+            let linux = all[pairs.iter().position(|it| *it == place).expect("each has its pair")];
             let seconds = if mine.0.is_finite() { format!("{:.2}", mine.0) } else { format!("> {most}") };
-            format!(" | {seconds} ({}); {}/{}", ratio(mine.0, linux.0), mine.1, linux.1)
-        };
-        let linux = time([RENO; 2]);
-        let mut row = cell(time([ENDPOINT; 2]), linux);
-        for peer in [LWIP, NETSTACK] {
-            row += &cell(time([ENDPOINT, peer]), time([RENO, peer]));
-            row += &cell(time([peer, ENDPOINT]), time([peer, RENO]));
+            row += &format!(" | {seconds} ({}); {}/{}", ratio(mine.0, linux.0), mine.1, linux.1);
         }
-        row += &cell(time([ENDPOINT, RENO]), linux);
-        row += &cell(time([RENO, ENDPOINT]), linux);
         println!("| {what}{row} |");
     }
 }
@@ -260,14 +288,10 @@ fn goodput(word: &str) {
         if !what.contains(word) {
             continue;
         }
-        let mut runs = [vec![], vec![], vec![]];
-        for seed in 1..=seeds {
-            for (kind, runs) in [ENDPOINT, RENO, CUBIC].into_iter().zip(&mut runs) {
-                let case = Case { ends: [kind, RENO], path, traffic: send(bytes), seed, most: 60 };
-                runs.push(run(case, what));
-            }
-        }
-        let all = runs.map(|it| summed(&it));
+        let pairs = [ENDPOINT, RENO, CUBIC].map(|it| [it, RENO]);
+        let traffic = send(bytes);
+        let case = |ends, seed| Case { ends, path, traffic, seed, most: 60 };
+        let all = in_turn(pairs, what, (seeds, 1), case);
         let cell = |it: (f64, u64, u64)| {
             let segments = seeds * bytes / 1_460;
             format!("{:.1}; {}; {}", bytes as f64 / 1e6 / it.0, it.2, it.1 * 10_000 / segments)

@@ -152,5 +152,5 @@ expiry_of e now highest =
 abbrev pub after_segment : SentNumbers → ℕ → ℕ → Bool → Bool → LossRecovery → LossRecovery
 after_segment at from to asks probe r =
     if asks then begun at.first_unacknowledged (max at.sent to) (max at.sent to) (forgotten r)
-    else (if probe then after_probe at.sent from to r
+    else (if probe then after_probe at.first_unacknowledged at.sent from to r
     else after_sending at.first_unacknowledged at.sent from to r)

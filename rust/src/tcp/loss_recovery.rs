@@ -336,7 +336,8 @@ impl LossRecovery {
     /// What was sent once is lost as `Scoreboard::lost_below` says for as many segments as `duplicates` has. What was
     /// sent before a pass is lost, and what was sent again in it again, once more than `duplicates() - 1` segments are
     /// reported of what was sent after it. Once a probe is answered, all that was sent before it, and isn't reported,
-    /// is lost. If more than one position has arrived that was lost and wasn't sent again, it wasn't lost: nothing that
+    /// is lost; but if what it sends was sent again before, all that was sent before the pass, since the answer may be
+    /// that to the earlier copy. If more than one position has arrived that was lost and wasn't sent again, it wasn't lost: nothing that
     /// wasn't sent again is, and it is as if something came twice, as `duplicated` says. One position may be the byte
     /// that asks for a window. If the peer reports nothing, as `expect_reports` says, the first segment is lost after
     /// `duplicates` equal acknowledgements, and in a recovery where something new is acknowledged. An equal one of what
@@ -637,9 +638,10 @@ impl LossRecovery {
     /// assert_eq!(recovery.unsent(numbers, &scoreboard), 700);
     /// ```
     pub fn probed(&mut self, numbers: SentNumbers, positions: Range<u64>) {
+        let is_again = self.is_active(numbers) && positions.start < self.again.max(self.resume);
         self.probe = positions.start;
         self.has_probe = 1;
-        self.asked = numbers.sent;
+        self.asked = if is_again { self.sent } else { numbers.sent };
         self.copy(numbers, positions);
     }
 

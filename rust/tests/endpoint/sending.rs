@@ -188,6 +188,27 @@ fn losses_are_found_in_time() {
     assert_eq!(places(&talk.time_out().1), [(6_001, 1000)]);
 }
 
+/// What answers an earlier copy doesn't answer a probe: what was sent after that copy isn't lost.
+#[test]
+fn an_earlier_copy_is_no_answer() {
+    let mut talk = talk(20_000);
+    assert_eq!(talk.wait(0).len(), 10);
+    // After a round trip all but the first segment is reported: a copy, and four new segments.
+    talk.now += Duration::from_millis(100);
+    talk.say(&peer(0, 1).report(&[(1001, 10_001)]));
+    assert_eq!(
+        places(&talk.wait(0)),
+        [(1, 1000), (10_001, 1000), (11_001, 1000), (12_001, 1000), (13_001, 1000)]
+    );
+    // They are late. Two round trips after them a probe sends the first segment once more.
+    let (after, said) = talk.expire();
+    assert_eq!((after / 1000, places(&said)), (200, vec![(1, 1000)]));
+    // The answer to the copy, 6 us later: the four may be right behind it.
+    talk.now += Duration::from_micros(6);
+    talk.say(&peer(0, 10_001));
+    assert!(talk.wait(0).iter().all(|said| said.at() > 13_001));
+}
+
 /// A peer without blocks says by each third empty segment that one is lost, but not by one with its end.
 #[test]
 fn an_end_is_no_duplicate() {
