@@ -155,8 +155,8 @@ def wrong(proved, rust, found):
 
 
 def text(item):
-    """An item's steps, without places; what `debug_assert!` asks first is one."""
-    return re.sub(r' *//[^\n]*', '', ASKED.sub('= const debug;', item or '')).split('{', 1)[-1]
+    """An item's steps, without places and the numbers of constants; what `debug_assert!` asks first is one."""
+    return re.sub(r' *//[^\n]*|(?<=\balloc)\d+', '', ASKED.sub('= const debug;', item or '')).split('{', 1)[-1]
 
 
 def builds(root, kit, target, programs):

@@ -273,7 +273,11 @@ def texts(crate, kit, temporary):
 
 
 def lists(proved, sides):
-    """Without one of its entries a list lets less through."""
+    """Without one of its entries a list lets less through; `ALONE` has nothing that both sides have."""
+    for within, rust in sides:
+        program = proved[within.split('::')[0]]
+        both = [name for name in program.functions if same_program.place(program, rust, name) in rust.functions]
+        assert not any(same_program.ALONE.fullmatch(f'{name}: not compiled') for name in both), within
     of = lambda: {(name, how) for within, rust in sides
                   for how, found in same_program.compared(proved[within.split('::')[0]], rust, within).items()
                   for name, _ in found}
