@@ -7,9 +7,9 @@ use net_base_fuzz::{fuzz, Draw};
 #[macro_use]
 #[path = "../../examples/net_bench/rattle.rs"]
 mod rattle;
+#[allow(clippy::write_with_newline)] // a line feed is in a text, as in what is read
 #[path = "../../examples/net_bench/lines/mod.rs"]
 mod lines;
-#[rustfmt::skip]
 #[path = "../../examples/net_bench/schedule.rs"]
 mod schedule;
 
