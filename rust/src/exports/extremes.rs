@@ -74,16 +74,18 @@ fn rings() {
                 );
             }
             2 => {
-                let span = head.enqueue_span(capacity, size);
+                let span = head.unallocated(capacity, 0, size);
                 assert_eq!(span.count as u128, s.min(c - n));
+                head.enqueue(capacity, span.count);
             }
             3 => {
                 let span = head.enqueue_many(capacity, size);
                 assert_eq!(head.length as u128, n + span.count as u128);
             }
             4 => {
-                let span = head.dequeue_span(capacity, size);
+                let span = head.allocated(capacity, 0, size);
                 assert_eq!(span.count as u128, s.min(n));
+                head.dequeue(capacity, span.count);
             }
             _ => {
                 let span = head.dequeue_many(capacity, size);
