@@ -1,8 +1,8 @@
 //! The tasks of docs/GUIDE.md of the repository, whose page quotes them: `cargo run --example guide -- TASK`, where
-//! TASK is ring, packets, receiver, quic or fragments.
+//! TASK is ring, packets, receiver, quic, fragments or interrupt.
 use net_base::finite::{FiniteReceiver, RangeAck, SegmentBytes, SendBuffer};
 use net_base::receiver::Receiver;
-use net_base::storage::{FragmentBuffer, PacketBuffer, PacketMetadata, RingBuffer};
+use net_base::storage::{FragmentBuffer, PacketBuffer, PacketMetadata, RingBuffer, SplitRing};
 use net_base::time::{Duration, Instant};
 
 fn text(bytes: &[u8]) -> &str {
@@ -35,47 +35,50 @@ fn packets() {
 
 fn receiver() {
     let mut storage = [0u8; 16];
-    let mut receiver = Receiver::<2>::new(&mut storage[..]); // two ranges may wait
-    for (position, bytes) in [(4, "ef"), (8, "ij"), (12, "mn"), (0, "abcd"), (6, "gh")] {
-        match receiver.segment(position, bytes.as_bytes()) {
-            Ok(it) => println!("{position}: kept {}, {} can be read", it.kept, receiver.queued()),
-            Err(refused) => println!("{position}: {refused}"),
+    let mut receiver = Receiver::<2>::new(&mut storage[..]); // at most two ranges may wait
+    let mut recent = [0; 2]; // where the newest ranges begin
+    for (position, data) in [(0, "abcd"), (6, "gh"), (10, "kl"), (14, "op"), (4, "ef")] {
+        if let Err(refused) = receiver.segment(position, data.as_bytes()) {
+            println!("{data}: {refused}");
         }
+        // What an acknowledgement of TCP says.
+        let blocks: Vec<_> = receiver.newest_runs(position, &mut recent).collect();
+        println!("next {}, window {}, SACK {blocks:?}", receiver.next(), receiver.window());
     }
-    let (mut into, mut recent) = ([0; 16], [0; 2]);
+    let mut into = [0; 16];
     let count = receiver.read(&mut into);
-    println!("read {:?}", text(&into[..count]));
-    receiver.segment(12, b"mn").expect("one range may wait");
-    for (start, end) in receiver.newest_runs(12, &mut recent) {
-        println!("next {}, SACK block {start}-{end}", receiver.next());
-    }
+    println!("read {:?}, window {}", text(&into[..count]), receiver.window());
 }
 
 fn quic() {
     let (mut out, mut into) = ([0u8; 32], [0u8; 32]);
     let mut sending = SendBuffer::<8>::new_at(&mut out[..], 0);
     let mut receiving = FiniteReceiver::<8>::new_at(&mut into[..], 0);
+    let max_stream_data = 32; // what the receiving side announced
     assert_eq!(sending.write(b"the quick brown fox"), 19);
-    sending.close(); // the end has a number too, 19
-    let (max_stream_data, mut packet) = (32, 0);
+    sending.close();
+    let mut packet = 0;
     while !sending.is_done() {
         let mut acknowledged = vec![];
         while let Some(range) = sending.next(max_stream_data, 8) {
             let SegmentBytes { front, back, part } = sending.bytes(range.clone());
-            let data = [front, back].concat();
-            assert!(sending.mark(range.clone())); // it was written
+            let (offset, data, fin) = (range.start, [front, back].concat(), part.is_last());
+            assert!(sending.mark(range.clone())); // it is in flight
             packet += 1;
-            println!("packet {packet}: {range:?} {:?} fin {}", text(&data), part.is_last());
-            // Packet 2 is lost. Of each other one the receiver's ACK frame names the packet, and so the range.
-            if packet != 2 {
-                let data_end = range.start + data.len() as u64;
-                let is_beyond = receiving.end().is_some_and(|last| last < data_end);
-                if is_beyond || part.is_last() && !receiving.can_end(data_end) {
-                    return println!("FINAL_SIZE_ERROR");
-                }
-                receiving.keep(range.start, &data, part).expect("few holes");
-                acknowledged.push(range);
+            println!("packet {packet}: {range:?} {:?} fin {fin}", text(&data));
+            if packet == 2 {
+                continue; // it is lost
             }
+            // The receiving side.
+            let end = offset + data.len() as u64;
+            if end > max_stream_data {
+                return println!("FLOW_CONTROL_ERROR");
+            }
+            if receiving.end().is_some_and(|known| end > known) || fin && !receiving.can_end(end) {
+                return println!("FINAL_SIZE_ERROR");
+            }
+            receiving.keep(offset, &data, fin.into()).expect("eight ranges are enough here");
+            acknowledged.push(range); // an ACK frame names the packet
         }
         for range in acknowledged {
             assert_eq!(sending.acknowledge(range), RangeAck::Taken);
@@ -85,6 +88,21 @@ fn quic() {
     let mut all = [0; 32];
     let count = receiving.read(&mut all);
     println!("read {:?}, all of it: {}", text(&all[..count]), receiving.has_read_all());
+}
+
+fn interrupt() {
+    static RECEIVED: SplitRing<64> = SplitRing::new();
+
+    // The interrupt of a UART calls this. A byte for which there is no room is lost.
+    fn on_byte(byte: u8) -> bool {
+        RECEIVED.write(&[byte]) == 1
+    }
+
+    assert!(b"ping".iter().all(|&byte| on_byte(byte)));
+    // The main loop.
+    let mut into = [0; 16];
+    let count = RECEIVED.read(&mut into);
+    println!("received {:?}", text(&into[..count]));
 }
 
 fn fragments() {
@@ -109,6 +127,7 @@ fn main() {
         Some("receiver") => receiver(),
         Some("quic") => quic(),
         Some("fragments") => fragments(),
-        _ => println!("guide ring | packets | receiver | quic | fragments"),
+        Some("interrupt") => interrupt(),
+        _ => println!("guide ring | packets | receiver | quic | fragments | interrupt"),
     }
 }

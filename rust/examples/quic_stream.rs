@@ -88,29 +88,43 @@ impl Sender {
     }
 }
 
-/// The side that receives. It returns whether the frame's packet may be acknowledged, or that the peer broke the rules.
-fn receive(
-    stream: &mut FiniteReceiver<'static, 16>,
-    offset: u64,
-    data: &[u8],
-    fin: bool,
-) -> Result<bool, &'static str> {
-    let end = offset + data.len() as u64;
-    if stream.end().is_some_and(|last| last < end) || fin && !stream.can_end(end) {
-        return Err("FINAL_SIZE_ERROR");
+/// The side that receives: the stream, and the MAX_STREAM_DATA that it announced last.
+struct Receiver {
+    stream: FiniteReceiver<'static, 16>,
+    announced: u64,
+}
+
+impl Receiver {
+    /// Takes a STREAM frame, or returns the error with which the connection closes.
+    fn receive(&mut self, offset: u64, data: &[u8], fin: bool) -> Result<(), &'static str> {
+        let end = offset + data.len() as u64;
+        if end > self.announced {
+            return Err("FLOW_CONTROL_ERROR");
+        }
+        if self.stream.end().is_some_and(|known| end > known) || fin && !self.stream.can_end(end) {
+            return Err("FINAL_SIZE_ERROR");
+        }
+        // As many ranges may wait as frames of this peer fit in the window. One that sends smaller frames, with a hole
+        // after each, attacks (RFC 9000, section 21.7).
+        self.stream.keep(offset, data, fin.into()).map_err(|_| "INTERNAL_ERROR")?;
+        Ok(())
     }
-    if stream.window_end().is_some_and(|most| most < end) {
-        return Err("FLOW_CONTROL_ERROR");
+
+    /// Returns the MAX_STREAM_DATA to announce now. It never falls.
+    fn announce(&mut self) -> u64 {
+        self.announced = self.stream.window_end().expect("offsets are below 2^62");
+        self.announced
     }
-    // A frame that is refused, since too many ranges wait, isn't acknowledged, and so it is sent again.
-    Ok(stream.keep(offset, data, fin.into()).is_ok())
 }
 
 fn main() {
     let mut random = Rand::new(1);
     let file: Vec<u8> = (0..50_000).map(|_| random.rand_u32() as u8).collect();
     let mut path = Path { random, packets: VecDeque::new() };
-    let mut receiving = FiniteReceiver::<16>::new_at(vec![0; CAPACITY], 0);
+    let mut receiver = Receiver {
+        stream: FiniteReceiver::new_at(vec![0; CAPACITY], 0),
+        announced: CAPACITY as u64,
+    };
     let mut sender = Sender {
         stream: SendBuffer::new_at(vec![0; CAPACITY], 0),
         ranges: BTreeMap::new(),
@@ -125,22 +139,15 @@ fn main() {
             sender.stream.close();
         }
         sender.send(&mut path, now);
-        now = path.packets.front().map_or(now + TIMEOUT, |it| it.0);
-        match path.packets.pop_front().map(|it| it.1) {
+        now = path.packets.front().map_or(now + TIMEOUT, |next| next.0);
+        match path.packets.pop_front().map(|next| next.1) {
             Some(Packet::Stream { number, offset, data, fin }) => {
-                let is_kept =
-                    receive(&mut receiving, offset, &data, fin).expect("the peer keeps the rules");
+                receiver.receive(offset, &data, fin).expect("the peer keeps the rules");
                 let mut into = [0; CAPACITY];
-                let count = receiving.read(&mut into);
+                let count = receiver.stream.read(&mut into);
                 read.extend(&into[..count]);
-                let packets = if is_kept { vec![number] } else { vec![] };
-                path.send(
-                    now,
-                    &Packet::Ack {
-                        packets,
-                        max_stream_data: receiving.window_end().unwrap_or(u64::MAX),
-                    },
-                );
+                let (packets, max_stream_data) = (vec![number], receiver.announce());
+                path.send(now, &Packet::Ack { packets, max_stream_data });
             }
             Some(Packet::Ack { packets, max_stream_data }) => {
                 sender.max_stream_data = sender.max_stream_data.max(max_stream_data);
@@ -152,6 +159,6 @@ fn main() {
             sender.timed_out(now);
         }
     }
-    assert!(receiving.has_read_all() && read == file);
+    assert!(receiver.stream.has_read_all() && read == file);
     println!("{} bytes by {} packets, in {now} ticks", read.len(), sender.next_number);
 }

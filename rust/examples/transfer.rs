@@ -89,9 +89,9 @@ fn main() {
         if begins {
             window = (window / 2).max(2 * SIZE as u64);
         }
-        while let Some(it) = sending.next_segment(window, now) {
-            let SegmentBytes { front, back, part } = sending.bytes(it.range());
-            path.send(now, Datagram::Text(it.pos, [front, back].concat(), part));
+        while let Some(segment) = sending.next_segment(window, now) {
+            let SegmentBytes { front, back, part } = sending.bytes(segment.range());
+            path.send(now, Datagram::Text(segment.pos, [front, back].concat(), part));
         }
         // The next thing that happens: a datagram arrives, or the timer expires.
         let arrival = path.datagrams.front().map(|it| it.0);

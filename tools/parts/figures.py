@@ -11,9 +11,7 @@ import guards
 
 ROOT = Path(__file__).resolve().parent.parent.parent
 # What no file counts: what is asked for, and versions.
-FIXED = ["32 and 64 bits", "smoltcp 0.14.0", "until 1.0", "Until 1.0", "Rust 1.87 and Python 3.9",
-         "that is 1 |", "smoltcp's is 1", "[0BSD]", "N = 2 ranges", "16 bytes of room and N = 4",
-         "0.87 to 0.93, 0.79 to 0.85 and 0.75 to 0.82", "up to 1.36"]
+FIXED = ["32 and 64 bits", "smoltcp 0.14.0", "until 1.0", "Rust 1.87 and Python 3.9", "smoltcp's is 1", "[0BSD]"]
 WORDS = [*"none one two three four five six seven eight nine ten eleven twelve".split(), *map(str, range(13, 100))]
 NUMBER = rf"(\d(?:[\w.,-]*\w)?|(?i:{'|'.join(WORDS)}))"
 
@@ -49,10 +47,11 @@ def measured():
     groups = [ratio for name, ratio in rows.items() if name.startswith("group ")]
     yield "{} to {}; the worst row {}", times, [*span(groups), f"{max(rows.values()):.2f}"]
     ratios = [value(row[k + 1]) / value(row[k]) for row in cells(sizes) if len(row) == 6 for k in (2, 4)]
-    paths = {row[0]: [*map(value, row[1:3])] for row in cells(sizes) if ";" in row[1]}
-    ours = [here / there for name in ("net-base's `Receiver`, `keep`", "the same, `segment`")
-            for here, there in zip(paths[name], paths["smoltcp"])]
-    yield "{} to {}; through `Receiver` {} to {}", sizes, [*span(ratios), *span(ours)]
+    paths = {row[0]: [*map(value, row[1:])] for row in cells(sizes) if ";" in row[1]}
+    ours = [[here / there for here, there in zip(paths[name], paths["smoltcp"])]
+            for name in ("net-base's `Receiver`, `keep`", "the same, `segment`")]
+    yield "{} to {}; through `Receiver` {} to {}, and up to {} if built for speed", sizes, [
+        *span(ratios), *span([ratio for row in ours for ratio in row[:2]]), f"{max(row[2] for row in ours):.2f}"]
     linux = {row[0]: [*map(value, row[4:])] for row in cells(peers) if len(row) == 6}
     yield "{} clean; {} with 0.5 % lost; {} with 5 % late", peers, [
         f"{linux[name][0]:.2f}" for name in ("clean", "0.5 % lost", "5 % delayed")]
@@ -65,17 +64,17 @@ def counted():
     left, calls = "tools/parts/same_names.txt", "overlay/calls.rs"
     first = lambda form, path: (re.search(form, (ROOT / path).read_text(), re.M | re.S) or "00")[1]
     yield "Rust {} or later", cargo, [first(r'^rust-version = "(.*?)"', cargo)]
-    yield "version {}.", cargo, [first(r'^version = "(.*?)"', cargo)]
-    for text in ("has to refuse each | {}", "Each of {} [wrong bodies]"):
+    yield "Version {}: take", cargo, [first(r'^version = "(.*?)"', cargo)]
+    for text in ("has to refuse each | {}", "the prover refuses {} ["):
         yield text, "crates/must-fail.md", [str(count(r"^\| .* \| `.*` \| `", "crates/must-fail.md"))]
     kinds = count(r"^    \w+: \w+::\w+,$", models)
     yield "tests of Rust, also on ARMv7 | what the pages say | {}", f"rust/src, rust/tests, {models}", [
         tens(count(r"#\[test\]", "rust/src/**/*.rs", "rust/tests/**/*.rs") + kinds)]
     yield "random calls of each type, also on ARMv7 | a plain model of the type | {} runs", models, [
         f'{kinds * int(first(r"unwrap_or.([0-9]+)", models)):,}']
-    yield "by an emulator | a second compiler's build | {}", "c/targets/run.py", [f'{int(first(r"^CALLS.*? = ([0-9_]+)", "c/targets/run.py")):,}']
+    yield "here and by an emulator | a second compiler's build | {}", "c/targets/run.py", [f'{int(first(r"^CALLS.*? = ([0-9_]+)", "c/targets/run.py")):,}']
     seeds, kinds = first(r"SEEDS: u64 = (\d+)", calls), first(r"KINDS: [^=]*; (\d+)\]", calls)
-    for text in ("with its faults mended | {}", "{} sequences of [random calls]"):
+    for text in ("with its faults mended | {}", "{} sequences of [random calls]", "{} sequences of random calls"):
         yield text, calls, [f"{int(seeds) * int(kinds):,}"]
     for text in ("each function but [{}]", "{} functions, each with its reason"):
         yield text, left, [WORDS[first(r"^== left\n(.*)", left).count(" ~~ ") // 2]]
@@ -86,7 +85,7 @@ def counted():
         str(sum(len(re.findall(r"`\w+`", names)) for names in re.findall(
             r"^- `\w+`: (.*(?:\n  .*)*)", (ROOT / "docs/std-calls.md").read_text(), re.M)))]
     bytes_of = dict(re.findall(r"^\| `(\w+)` \| \d+ \| (\d+) \|$", (ROOT / "docs/C.md").read_text(), re.M))
-    yield "takes {} bytes on a Cortex-M4, both ends of a connection {}, and all the code of the C library {}", "docs/C.md", [
+    yield "takes {} bytes besides its storage, both ends of a connection {}, and all of the C library {}", "docs/C.md", [
         bytes_of["ring"], str(int(bytes_of["receiving_end"]) + int(bytes_of["sending_end"])),
         first(r"^\| `thumbv7em-none-eabi` \| ([\d,]+) \|", "docs/C.md")]
     yield "declares {}.", rattle, [WORDS[count(r'^\s*(?:unsafe )?extern(?: "\w+")? \{', rattle)]]
