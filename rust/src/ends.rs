@@ -1,13 +1,10 @@
-//! The two ends of a connection, each of them one machine: a sender with what it knows of losses, its timer and
-//! the peer's window; and a receiver with what it announced. (Not in smoltcp.)
+//! The two halves of a TCP connection: [`SendingEnd`] and [`ReceivingEnd`]. (Not in smoltcp.)
 //!
-//! Both are TCP's. A stream of QUIC, whose connection has the timer and finds the losses, has a
-//! [`SendBuffer`](crate::finite::SendBuffer).
+//! They know positions, times and bytes, but no headers, no states of a connection and no clock. How much may be in
+//! flight is the caller's choice. `docs/GUIDE.md` of the repository has the order of their calls. In QUIC the connection
+//! has the timer and finds the losses, so its streams have a [`SendBuffer`](crate::finite::SendBuffer).
 //!
-//! They know positions, moments and bytes: no headers, no states of a connection and no clock. How much may be
-//! in flight is the caller's choice.
-//!
-//! By hand: storage that is converted, and what is printed.
+//! Not proved, but tested: conversions of storage, and `Debug`.
 use core::fmt;
 use core::ops::{Deref, Range};
 

@@ -1,4 +1,7 @@
-//! Streams that end: a receiver that knows where its stream ends, and a sender that says so. (Not in smoltcp.)
+//! Streams that end, by TCP's FIN or QUIC's final size. (Not in smoltcp.)
+//!
+//! A [`FiniteReceiver`] receives one, and a [`FiniteSender`] keeps its bytes until they are acknowledged in order. A
+//! [`SendBuffer`] also knows which ranges are acknowledged and lost, as the sending side of QUIC needs.
 //!
 //! ```
 //! use net_base::finite::{FiniteReceiver, FiniteSender, Part};
@@ -34,7 +37,7 @@
 //! assert_eq!((receiver.read(&mut text), &text[..5], receiver.has_read_all()), (5, &b"hello"[..], true));
 //! ```
 //!
-//! By hand: storage that is converted, and what is printed.
+//! Not proved, but tested: conversions of storage, and `Debug`.
 use core::fmt;
 
 use crate::managed::ManagedSlice;

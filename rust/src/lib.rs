@@ -1,56 +1,70 @@
-//! Rings, packet queues, the assembler and times with smoltcp's names, and both ends of a TCP stream: machine-checked
-//! Rust without a heap, `unsafe` or dependencies.
-//!
-//! Of smoltcp there are `storage`, `time`, `rand`, and of `phy` capabilities, checksums and metadata. Names, signatures
-//! and behaviour are those of [smoltcp](https://github.com/smoltcp-rs/smoltcp) 0.14.0, except where an item says
-//! otherwise. Beyond smoltcp there are [`receiver::Receiver`], which joins segments that come in any order to a stream,
-//! [`finite::FiniteReceiver`], which knows where its stream ends, [`finite::FiniteSender`], which stores bytes until they
-//! are acknowledged, [`scoreboard::Scoreboard`], which says what to send again, [`sequence_number::SequenceNumber`],
-//! TCP's numbers that wrap, the small machines of [`tcp`], and [`storage::Assembler`]s of any number of runs. [`ends`]
-//! has all of these as the two ends of a connection. For a stream of QUIC there are [`finite::FiniteReceiver`] and
-//! [`finite::SendBuffer`].
-//! `docs/GUIDE.md` of the repository has each as code, and the order of their calls.
+//! The lowest layer of a network stack: byte rings, packet queues, reassembly of segments that arrive out of order,
+//! retransmission, timers and checksums. Each function is proved for every input. No call needs a heap.
 //!
 //! ```
 //! use net_base::receiver::Receiver;
 //!
-//! let mut storage = [0u8; 8];
-//! let mut receiver = Receiver::<1>::new(&mut storage[..]); // at most one run is held
-//! assert!(receiver.segment(2, b"cd").is_ok()); // too early: held
-//! assert!(receiver.segment(6, b"gh").is_err()); // a second run: refused, and nothing changes
-//! assert!(receiver.segment(4, b"ef").is_ok()); // it touches the run, which grows
-//! assert!(receiver.segment(0, b"ab").is_ok()); // the next bytes: never refused
-//! let mut into = [0; 8];
-//! assert_eq!((receiver.read(&mut into), &into[..6]), (6, &b"abcdef"[..]));
+//! let mut storage = [0u8; 16];
+//! let mut receiver = Receiver::<2>::new(&mut storage[..]); // at most two ranges may wait
+//! receiver.segment(4, b"ef")?; // it came early, and waits
+//! receiver.segment(8, b"ij")?; // a second range waits
+//! assert!(receiver.segment(12, b"mn").is_err()); // a third may not: it is refused, and nothing changes
+//! receiver.segment(0, b"abcd")?; // the gap is filled
+//! let mut text = [0; 16];
+//! let count = receiver.read(&mut text);
+//! assert_eq!(&text[..count], b"abcdef");
+//! # Ok::<(), net_base::storage::TooManyHolesError>(())
 //! ```
+//!
+//! # Where to begin
+//!
+//! | You want | Type |
+//! |---|---|
+//! | a queue of bytes, or of other elements | [`RingBuffer`](storage::RingBuffer) |
+//! | a queue of packets, each with a header | [`PacketBuffer`](storage::PacketBuffer) |
+//! | bytes from an interrupt | [`SplitRing`](storage::SplitRing) |
+//! | a stream out of segments | [`Receiver`](receiver::Receiver), or [`FiniteReceiver`](finite::FiniteReceiver) if it ends |
+//! | both sides of a QUIC stream | [`FiniteReceiver`](finite::FiniteReceiver), [`SendBuffer`](finite::SendBuffer) |
+//! | both ends of a TCP connection | [`ReceivingEnd`](ends::ReceivingEnd), [`SendingEnd`](ends::SendingEnd) |
+//! | the parts of these | [`tcp`], [`scoreboard`], [`sequence_number`], [`checksum`] |
+//! | packets out of IP fragments | [`FragmentBuffer`](storage::FragmentBuffer) |
+//!
+//! `docs/GUIDE.md` of the repository has a program for each, and the order of the calls of a TCP.
+//!
+//! [`storage`], [`time`], [`rand`] and [`phy`] have the names, signatures and behaviour of
+//! [smoltcp](https://github.com/smoltcp-rs/smoltcp) 0.14.0, except where an item says otherwise. Of [`phy`] there are
+//! capabilities, checksums, metadata and a loopback device.
 //!
 //! # What is proved
 //!
-//! All but what is by hand is written in Rattle, Rust in which functions have contracts: a prover shows for all
-//! arguments that a body meets its contract. Then the contracts are taken out. The first line of a proved source, which
-//! a "Source" link opens, names the file of the repository that has them. What a contract requires of a caller is
-//! tested: a call that breaks it panics, and says where. In Rattle such a test is shown never to fail if the contract
-//! is kept.
+//! The source is written in Rattle, Rust in which each function has a contract. A prover has checked for all arguments
+//! that its body meets the contract. Then the contracts were taken out. A "Source" link opens the text that is left,
+//! whose first line names the file that has them.
+//!
+//! Not proved, but tested: what is printed, conversions of storage, std's clocks, readers and writers, the order of a
+//! split ring's atomics, and the traits and devices of [`phy`].
+//!
+//! # Panics
+//!
+//! A call panics if you break what its contract requires of you, also in a release build. Its page says when. In Rattle
+//! the test is shown never to fail if the contract is kept. A sum that doesn't fit panics in every build, too, unless an
+//! item says otherwise.
 //!
 //! # Guarantees
 //!
-//! Some clauses are on a function's page, in Rust's words. `old(x)` is x before the call, `x` what it is afterwards,
-//! and numbers in them have no bound: sums don't wrap. `docs/CONTRACTS.md` of the repository explains what isn't a call
-//! here.
-//!
-//! # What isn't
-//!
-//! The compiler; what is printed; conversions of storage; std's clocks; the traits and devices of
-//! [`phy`]. README lists what is by hand, and why.
+//! A function's page has some clauses of its contract in Rust's words. `old(x)` is x before the call, and `x` what it is
+//! afterwards. Numbers in them have no bound, so sums don't wrap. `docs/CONTRACTS.md` of the repository explains what
+//! isn't a call here.
 //!
 //! # Features and targets
 //!
-//! `alloc`: storage may own a vector. `std`, which is on unless it is turned off: conversions from std's clocks, and
-//! `alloc`. `segmentation-offload`: a field of `PacketMeta`. `assembler-max-segment-count-..`: a number, which a
-//! program can name as `N` ([`config`]); where it names none, `N` is 4. smoltcp's that a program of these modules can't
-//! leave out are accepted. Targets have 32 or 64 bits.
+//! - `std`, on by default: conversions from and to std's clocks, readers and writers, and `alloc`
+//! - `alloc`: storage may own a vector
+//! - `segmentation-offload`: a field of `PacketMeta`
+//! - `assembler-max-segment-count-..`: a number that a program can name as `N` ([`config`]). Where a type names none, `N`
+//!   is 4.
 //!
-//! Overflow panics here in every build, unless an item says otherwise.
+//! smoltcp's other features that a program of these modules can't leave out are accepted. Targets have 32 or 64 bits.
 #![no_std]
 #![cfg_attr(docsrs, feature(doc_cfg))]
 #![forbid(unsafe_code)]

@@ -1,6 +1,6 @@
-//! The receiver of one stream of bytes. (Not in smoltcp's lowest layer.)
+//! One stream of bytes out of segments that arrive in any order: [`Receiver`]. (Not in smoltcp's lowest layer.)
 //!
-//! By hand: storage that is converted, and what is printed.
+//! Not proved, but tested: conversions of storage, and `Debug`.
 use core::{fmt, iter};
 
 use crate::managed::ManagedSlice;

@@ -1,6 +1,6 @@
-//! What a sender knows of the positions that the other end has.
+//! What a sender knows of the positions that its peer has, as by TCP's SACK blocks: [`Scoreboard`].
 //!
-//! By hand: what has no `N`, a default, what is compared, and what is printed.
+//! Not proved, but tested: constructors without `N`, `Default`, `PartialEq`, and `Debug`.
 use core::fmt;
 
 use crate::storage::Listed;

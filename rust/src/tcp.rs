@@ -1,6 +1,6 @@
-//! Small machines that a TCP needs beside its two queues and the [`checksum`](crate::checksum): what to do with an
-//! arriving segment, the windows of both sides, the time until a retransmission, its timer, and what is sent next. (Not
-//! in smoltcp's lowest layer.)
+//! The parts of a TCP connection, of which [`ends`](crate::ends) makes two halves: what to do with an arriving segment,
+//! the windows of both sides, the time until a retransmission, its timer, and loss recovery. (Not in smoltcp's lowest
+//! layer.)
 //!
 //! ```
 //! use net_base::tcp::{classify, AdvertisedWindow, Announcement, Arrival, Expiry, PeerWindow};

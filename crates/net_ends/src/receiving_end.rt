@@ -386,7 +386,8 @@ impl ReceivingHead {
     }
 }
 
-/// What receives a stream that ends, over storage that is lent or owned.
+/// The receiving half of a TCP connection: a `FiniteReceiver`, the window that it announced, and what to acknowledge. It is
+/// over storage that is lent or owned, and its calls are those of [`ReceivingEndOver`].
 ///
 /// ```
 /// use net_base::ends::ReceivingEnd;
@@ -398,7 +399,7 @@ impl ReceivingHead {
 /// ```
 pub type ReceivingEnd<'a, const N: usize> = ReceivingEndOver<ManagedSlice<'a, u8>, N>;
 
-/// A [`ReceivingEnd`] over any storage: a receiver, and what it announced.
+/// A [`ReceivingEnd`] over any storage. It has no clock: how long an acknowledgement waits is its caller's choice.
 ///
 /// ```
 /// use net_base::ends::ReceivingEnd;

@@ -34,11 +34,10 @@ use std::marker::Model;
 
 /// A [`FiniteReceiver`] over any storage.
 ///
-/// It is a `Receiver` that knows where the stream ends, once a segment has said so. The end is the
-/// position after the last byte. It has a number, as a byte has (that of TCP's FIN), and needs no room.
-/// Segments may arrive in any order, the last one too. `receiver` lends the receiver of the bytes, for
-/// all that isn't about the end: how many are queued, a look at them, the window, the held runs. The
-/// list of held runs doesn't show an end that came early, so its sender sends it again.
+/// The end is the position after the last byte. It has a number, as a byte has (that of TCP's FIN), and
+/// needs no room. Segments may arrive in any order, the last one too. `receiver` lends the receiver of
+/// the bytes, for all that isn't about the end: how many are queued, a look at them, the window, the
+/// held runs. The list of held runs doesn't show an end that came early, so its sender sends it again.
 ///
 /// ```
 /// use net_base::finite::{FiniteReceiverOver, Part};
@@ -56,8 +55,9 @@ pub struct FiniteReceiverOver<S: Storage<u8>, const N: usize> {
     after_end: u64,
 }
 
-/// A receiver of one stream of bytes that ends, over storage that is lent or owned. Its calls are those
-/// of [`FiniteReceiverOver`].
+/// A `Receiver` that knows where its stream ends, once a segment has said so, by TCP's FIN or QUIC's
+/// final size. It is over storage that is lent or owned, and its calls are those of
+/// [`FiniteReceiverOver`].
 ///
 /// ```
 /// use net_base::finite::{FiniteReceiver, Part};

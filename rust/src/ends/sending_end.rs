@@ -162,7 +162,8 @@ fn is_pure(segment: AckSegment) -> bool {
     }
 }
 
-/// What sends a stream that ends, over storage that is lent or owned.
+/// The sending half of a TCP connection: its bytes, the peer's window, the retransmission timer, and what is lost. It is over
+/// storage that is lent or owned, and its calls are those of [`SendingEndOver`].
 ///
 /// ```
 /// use net_base::ends::SendingEnd;
@@ -176,7 +177,8 @@ fn is_pure(segment: AckSegment) -> bool {
 /// ```
 pub type SendingEnd<'a, const N: usize> = SendingEndOver<ManagedSlice<'a, u8>, N>;
 
-/// A [`SendingEnd`] over any storage: a sender, and all else in its head.
+/// A [`SendingEnd`] over any storage. It has no clock and no congestion window: each call is told the time, and
+/// `next_segment` how much may be in flight.
 ///
 /// ```
 /// use net_base::ends::{AckSegment, Acknowledged, Expired, SendingEnd};

@@ -53,8 +53,8 @@ pub struct FragmentsOver<B: Storage<u8>, const N: usize> {
     runs: [Run; N],
 }
 
-/// A packet that arrives in fragments, in any order, as those of IPv4 do, over lent or owned bytes. Its
-/// calls are those of [`FragmentsOver`].
+/// Puts one packet together out of fragments that arrive in any order, as those of IPv4 do, over bytes
+/// that are lent or owned. Its calls are those of [`FragmentsOver`].
 ///
 /// ```
 /// use net_base::storage::{FragmentBuffer, FragmentError};

@@ -1,6 +1,9 @@
-//! Rings, packet queues, assemblers and buffers of fragments, over storage that is lent or owned.
+//! Byte rings, packet queues, assemblers and buffers of fragments, over storage that is lent or owned.
 //!
-//! By hand: what is printed, storage that is converted, arrays and boxes as storage, and traits that Rattle hasn't.
+//! A [`RingBuffer`] is a queue of elements, a [`PacketBuffer`] one of whole packets, and a [`SplitRing`] one of bytes
+//! that an interrupt fills. An [`Assembler`] is a set of ranges, and a [`FragmentBuffer`] puts a packet together.
+//!
+//! Not proved, but tested: `Debug`, conversions of storage, arrays and boxes as storage, and impls of std's traits.
 mod by_hand;
 #[cfg(feature = "std")]
 mod by_hand_io;

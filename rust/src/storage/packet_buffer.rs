@@ -31,9 +31,10 @@ pub struct PacketsOver<H, M: Storage<PacketMetadata<H>>, B: Storage<u8>> {
     headers: PhantomData<H>,
 }
 
-/// A queue of packets over lent or owned storage. Its calls are those of [`PacketsOver`].
+/// A queue of whole packets, each with a header, over storage that is lent or owned. Its calls are
+/// those of [`PacketsOver`].
 ///
-/// It serves sockets that send and receive whole packets, such as those of UDP and ICMP.
+/// It serves sockets of datagrams, such as those of UDP and ICMP. A packet that doesn't fit is refused.
 ///
 /// ```
 /// use net_base::storage::{Full, PacketBuffer, PacketMetadata};

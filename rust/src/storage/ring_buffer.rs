@@ -12,18 +12,18 @@ pub use iter::Iter;
 
 mod iter;
 
-/// A ring of elements over any storage; [`RingBuffer`] is the one over a [`ManagedSlice`].
+/// A [`RingBuffer`] over any storage.
 ///
-/// The queued elements, in order, are its queue; the rest of the storage is its spare part. Both wrap
-/// at the storage's end:
+/// The queued elements, in order, are its queue, and the rest of the storage is its spare part. Both
+/// wrap at the storage's end:
 ///
 /// ```text
 /// index      0 1 2 3 4 5 6 7
 /// storage    f g . . . c d e     read from index 5 on: the queue is c d e f g
 /// ```
 ///
-/// Only the calls whose element type is `Copy` copy elements. The others lend parts of the storage,
-/// as `&mut` wherever they can, so that a packet can be filled in or changed in place.
+/// Only the calls for elements that are `Copy` copy them. The others lend parts of the storage, as
+/// `&mut` wherever they can, so that a packet can be filled in or changed in place.
 #[derive(Clone)]
 pub struct RingOver<T, S: Storage<T>> {
     // Invariant: the head is sound for the storage.
@@ -32,10 +32,10 @@ pub struct RingOver<T, S: Storage<T>> {
     elements: PhantomData<T>,
 }
 
-/// A ring of elements over storage that is lent or owned. Its calls are those of [`RingOver`].
+/// A queue of elements, first in and first out, over storage that is lent or owned. Its calls are
+/// those of [`RingOver`].
 ///
-/// It serves as a queue, first in and first out, and as the buffer of a stream, which can be written
-/// ahead of what is queued.
+/// It also serves as the buffer of a stream, which can be written ahead of what is queued.
 ///
 /// ```
 /// use net_base::storage::RingBuffer;

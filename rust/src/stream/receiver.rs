@@ -19,14 +19,10 @@ use core::ops::Range;
 
 /// A [`Receiver`] over any storage.
 ///
-/// It stores the bytes in a ring until they are read. It serves as the receiving half of a TCP socket,
-/// or of any protocol that names bytes by their positions.
-///
-/// Positions are absolute and counted in bytes; the stream's first byte has the position `first`.
-/// `next` is the first missing one: the bytes after those read, up to `next`, are queued and can be
-/// read. The free window is the positions from `next` on for which there is room, TCP's receive
-/// window. Bytes beyond `next` wait in the ring at their places, in at most `N` runs, until the bytes
-/// before them have arrived:
+/// A position is the number of a byte in the stream, whose first byte has position `first`. `next` is
+/// the first missing position. The bytes below it that weren't read yet are queued: they can be read.
+/// The free window is the positions from `next` on for which there is room, TCP's receive window.
+/// Bytes beyond `next` are held at their places, in at most `N` runs, until those before them arrive:
 ///
 /// ```text
 /// position  first           next                       window_end
@@ -48,8 +44,10 @@ pub struct ReceiverOver<S: Storage<u8>, const N: usize> {
     runs: [Run; N],
 }
 
-/// A receiver of one stream of bytes, over storage that is lent or owned. Its calls are those of
-/// [`ReceiverOver`].
+/// Makes one stream of bytes out of segments that arrive in any order, over storage that is lent or
+/// owned. Its calls are those of [`ReceiverOver`].
+///
+/// It is the receiving half of a TCP socket, or of any protocol that numbers the bytes of a stream.
 ///
 /// ```
 /// use net_base::receiver::Receiver;
@@ -547,10 +545,10 @@ impl<S: Storage<u8>, const N: usize> ReceiverOver<S, N> {
         NewestRunIter::over(runs, count)
     }
 
-    /// Returns what of a segment of `len` bytes at `pos` was kept before: what is below `next`, or else the first part that is held. `None` if all of it is new. It is
-    /// asked before the segment is kept. TCP reports such a part once, as the first block of the next
-    /// acknowledgement (RFC 2883): it is below what is acknowledged, or within a held run. smoltcp has no such
-    /// call.
+    /// Returns what of a segment of `len` bytes at `pos` was kept before: what is below `next`, or else the
+    /// first part that is held. `None` if all of it is new. It is asked before the segment is kept. TCP
+    /// reports such a part once, as the first block of the next acknowledgement (RFC 2883): it is below
+    /// what is acknowledged, or within a held run. smoltcp has no such call.
     ///
     /// ```
     /// # use net_base::receiver::Receiver;

@@ -46,7 +46,8 @@ pub enum RangeAck {
     Refused,
 }
 
-/// What a stream that ends sends, over storage that is lent or owned. Its calls are those of [`SendBufferOver`].
+/// The sending side of a QUIC stream: its bytes, and which of them are acknowledged, in flight and lost. It is over storage
+/// that is lent or owned, and its calls are those of [`SendBufferOver`].
 ///
 /// ```
 /// use net_base::finite::SendBuffer;
@@ -58,7 +59,7 @@ pub enum RangeAck {
 /// ```
 pub type SendBuffer<'a, const N: usize> = SendBufferOver<ManagedSlice<'a, u8>, N>;
 
-/// A [`SendBuffer`] over any storage: what a stream of QUIC sends. (Not in smoltcp.)
+/// A [`SendBuffer`] over any storage. (Not in smoltcp.)
 ///
 /// It has the bytes and their end. Of the numbers that were sent it knows which are acknowledged, in flight and lost, as
 /// its caller says: `mark`, `acknowledge` and `lose` take ranges in any order. It finds no loss itself, and has no clock,
