@@ -21,7 +21,7 @@ import tempfile
 ROOT = pathlib.Path(__file__).resolve().parent.parent
 # The pages, and where the commands of each are run, unless they name that folder.
 PAGES = {"README.md": ".", "rust/README.md": "rust", "docs/GUIDE.md": ".", "docs/C.md": ".", "docs/CONTRACTS.md": ".",
-         "overlay/README.md": "."}
+         "docs/BENCH.md": ".", "overlay/README.md": "."}
 FIRST = r"cd|cargo|cc|sh|rt|rustup|python3|pkg-config|arm-none-eabi-gcc|echo|\.ci/run"
 WORDS = re.compile(rf"\(?(?:[A-Z_]+=\S+ )?(?:{FIRST})(?= |$)")
 
@@ -33,7 +33,6 @@ EMULATORS = "it wants compilers and emulators, and takes minutes"
 CHECKOUT = "it wants a checkout of smoltcp; overlay/test.py runs the script over its modules alone"
 TARGET = "it wants Rust's library, or a compiler, for another processor; c/targets.sh runs it, or builds for it"
 ELSEWHERE = {
-    ".ci/run": "it is the gate",
     "rt new crates/my_crate start_lib ..": PROVES,
     "(cd rust && cargo test --offline) && sh c/run.sh": GATE,
     "sh c/run.sh": GATE,
