@@ -53,8 +53,8 @@ fn main() {
     let mut path = Path { random, datagrams: VecDeque::new() };
     let mut sending = SendingEnd::<8>::new_at(vec![0; CAPACITY], 0, Duration::from_secs(1), BOUNDS);
     let mut receiving = ReceivingEnd::<8>::new_at(vec![0; CAPACITY], 0, SIZE as u16);
-    let it = Announcement { seq: 0, ack: 0, window: receiving.open(0, 0).into() };
-    sending.open(it, SIZE, Sack::Permitted, Instant::ZERO);
+    let peer = Announcement { seq: 0, ack: 0, window: receiving.open(0, 0).into() };
+    sending.open(peer, SIZE, Sack::Permitted, Instant::ZERO);
     // How many positions may be in flight.
     let mut window = 10 * SIZE as u64;
     let (mut rest, mut read, mut now) = (&file[..], Vec::<u8>::new(), Instant::ZERO);
@@ -74,11 +74,11 @@ fn main() {
                 read.extend(&into[..count]);
                 path.send(now, Datagram::Answer(receiving.acknowledgement()));
             }
-            Some((_at, Datagram::Answer(it))) => {
-                let (ack, room) = (it.next, u64::from(it.window));
+            Some((_at, Datagram::Answer(answer))) => {
+                let (ack, room) = (answer.next, u64::from(answer.window));
                 // The end of the room never falls, so that it tells which of two answers is older.
                 let told = Announcement { seq: ack + room, ack, window: room };
-                match sending.acknowledged(told, &it.blocks, AckSegment::Pure, now) {
+                match sending.acknowledged(told, &answer.blocks, AckSegment::Pure, now) {
                     Acknowledged::Taken { begins: true, .. } => begins = true,
                     Acknowledged::Taken { .. } => window += 20,
                     _ => {}

@@ -1,8 +1,8 @@
 //! The two halves of a TCP connection: [`SendingEnd`] and [`ReceivingEnd`]. (Not in smoltcp.)
 //!
 //! They know positions, times and bytes, but no headers, no states of a connection and no clock. How much may be in
-//! flight is the caller's choice. `docs/GUIDE.md` of the repository has the order of their calls. In QUIC the connection
-//! has the timer and finds the losses, so its streams have a [`SendBuffer`](crate::finite::SendBuffer).
+//! flight is the caller's choice. `docs/GUIDE.md` of the repository has the order of their calls. In QUIC the
+//! connection has the timer and finds the losses, so its streams have a [`SendBuffer`](crate::finite::SendBuffer).
 //!
 //! Not proved, but tested: conversions of storage, and `Debug`.
 use core::fmt;

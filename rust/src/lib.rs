@@ -23,7 +23,7 @@
 //! | a queue of bytes, or of other elements | [`RingBuffer`](storage::RingBuffer) |
 //! | a queue of packets, each with a header | [`PacketBuffer`](storage::PacketBuffer) |
 //! | bytes from an interrupt | [`SplitRing`](storage::SplitRing) |
-//! | a stream out of segments | [`Receiver`](receiver::Receiver), or [`FiniteReceiver`](finite::FiniteReceiver) if it ends |
+//! | a stream out of segments | [`Receiver`](receiver::Receiver), [`FiniteReceiver`](finite::FiniteReceiver) if it ends |
 //! | both sides of a QUIC stream | [`FiniteReceiver`](finite::FiniteReceiver), [`SendBuffer`](finite::SendBuffer) |
 //! | both ends of a TCP connection | [`ReceivingEnd`](ends::ReceivingEnd), [`SendingEnd`](ends::SendingEnd) |
 //! | the parts of these | [`tcp`], [`scoreboard`], [`sequence_number`], [`checksum`] |
@@ -47,22 +47,22 @@
 //! # Panics
 //!
 //! A call panics if you break what its contract requires of you, also in a release build. Its page says when. In Rattle
-//! the test is shown never to fail if the contract is kept. A sum that doesn't fit panics in every build, too, unless an
-//! item says otherwise.
+//! the test is shown never to fail if the contract is kept. A sum that doesn't fit panics in every build, too, unless
+//! an item says otherwise.
 //!
 //! # Guarantees
 //!
-//! A function's page has some clauses of its contract in Rust's words. `old(x)` is x before the call, and `x` what it is
-//! afterwards. Numbers in them have no bound, so sums don't wrap. `docs/CONTRACTS.md` of the repository explains what
-//! isn't a call here.
+//! A function's page has some clauses of its contract in Rust's words. `old(x)` is x before the call, and `x` what it
+//! is afterwards. Numbers in them have no bound, so sums don't wrap. `docs/CONTRACTS.md` of the repository explains
+//! what isn't a call here.
 //!
 //! # Features and targets
 //!
 //! - `std`, on by default: conversions from and to std's clocks, readers and writers, and `alloc`
 //! - `alloc`: storage may own a vector
 //! - `segmentation-offload`: a field of `PacketMeta`
-//! - `assembler-max-segment-count-..`: a number that a program can name as `N` ([`config`]). Where a type names none, `N`
-//!   is 4.
+//! - `assembler-max-segment-count-..`: a number that a program can name as `N` ([`config`]). Where a type names none,
+//!   `N` is 4.
 //!
 //! smoltcp's other features that a program of these modules can't leave out are accepted. Targets have 32 or 64 bits.
 #![no_std]

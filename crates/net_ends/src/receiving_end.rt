@@ -386,8 +386,8 @@ impl ReceivingHead {
     }
 }
 
-/// The receiving half of a TCP connection: a `FiniteReceiver`, the window that it announced, and what to acknowledge. It is
-/// over storage that is lent or owned, and its calls are those of [`ReceivingEndOver`].
+/// The receiving half of a TCP connection: a `FiniteReceiver`, the window that it announced, and what to acknowledge.
+/// It is over storage that is lent or owned, and its calls are those of [`ReceivingEndOver`].
 ///
 /// ```
 /// use net_base::ends::ReceivingEnd;
@@ -410,8 +410,8 @@ pub type ReceivingEnd<'a, const N: usize> = ReceivingEndOver<ManagedSlice<'a, u8
 /// assert_eq!(receiving.open(100, 0), 64);
 /// // The second segment comes first: it is answered at once, and reported.
 /// assert!(receiving.arrived(108, b"bytes ok", Part::Last).is_ok() && receiving.is_due());
-/// let it = receiving.acknowledgement();
-/// assert_eq!((it.next, it.window, it.blocks.as_slice()), (100, 64, &[108..116][..]));
+/// let ack = receiving.acknowledgement();
+/// assert_eq!((ack.next, ack.window, ack.blocks.as_slice()), (100, 64, &[108..116][..]));
 /// assert!(receiving.arrived(100, b"sixteen ", Part::More).is_ok());
 /// let mut bytes = [0; 64];
 /// assert_eq!(receiving.read(&mut bytes), 16);

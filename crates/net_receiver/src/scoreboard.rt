@@ -127,8 +127,8 @@ impl<const N: usize> Scoreboard<N> {
         self.head.reset_at(first);
     }
 
-    /// Reports the positions of `block`, as a SACK block of an acknowledgement does. Blocks may overlap. `sent` is the number after the last one that was ever sent, as
-    /// `FiniteSender::sent` returns it.
+    /// Reports the positions of `block`, as a SACK block of an acknowledgement does. Blocks may overlap. `sent` is the
+    /// number after the last one that was ever sent, as `FiniteSender::sent` returns it.
     ///
     /// ```
     /// # use net_base::scoreboard::{ReportError, Scoreboard};
@@ -257,9 +257,10 @@ impl<const N: usize> Scoreboard<N> {
             .missing_between(&self.runs, range.start, range.end)
     }
 
-    /// Returns the next range that wasn't reported: it begins at the first position from `pos` on that
-    /// wasn't, and ends at the next one that was, or at `limit`. `None` if there is none below `limit`. Of these bytes most may only be in flight. What is
-    /// lost is below `lost_below`, as `limit`: a caller sends it, and passes its end as the next `pos`.
+    /// Returns the next range that wasn't reported: it begins at the first position from `pos` on that wasn't, and ends
+    /// at the next one that was, or at `limit`. `None` if there is none below `limit`. Of these bytes most may only be
+    /// in flight. What is lost is below `lost_below`, as `limit`: a caller sends it, and passes its end as the next
+    /// `pos`.
     ///
     /// ```
     /// # use net_base::scoreboard::Scoreboard;

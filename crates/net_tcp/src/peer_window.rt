@@ -13,8 +13,8 @@ use net_receiver::SentNumbers;
 /// use net_base::tcp::{scaled, Announcement, PeerWindow};
 ///
 /// // A header has the acknowledgement number of position 200 and 50 in its window field, and the scale is 2^2.
-/// let it = Announcement { seq: 7, ack: 200, window: scaled(50, 2) };
-/// assert_eq!(PeerWindow::of(it).edge(), 400);
+/// let announcement = Announcement { seq: 7, ack: 200, window: scaled(50, 2) };
+/// assert_eq!(PeerWindow::of(announcement).edge(), 400);
 /// ```
 #[repr(C)]
 #[derive(Copy, Clone, Debug, PartialEq, Eq, Hash)]

@@ -39,8 +39,8 @@ use core::ops::Range;
 /// # let (second, bounds) = (Duration::from_secs(1), TimeoutBounds::default());
 /// # let mut sending = SendingEnd::<4>::new_at(&mut storage[..], 100, second, bounds);
 /// sending.open(Announcement { seq: 1, ack: 100, window: 1000 }, 8, Sack::Permitted, Instant::ZERO);
-/// let it = Announcement { seq: 1, ack: 101, window: 1000 };
-/// match sending.acknowledged(it, &[], AckSegment::Pure, Instant::ZERO) {
+/// let announcement = Announcement { seq: 1, ack: 101, window: 1000 };
+/// match sending.acknowledged(announcement, &[], AckSegment::Pure, Instant::ZERO) {
 ///     Acknowledged::Refused => println!("101 was never sent: answer the segment, and take nothing"),
 ///     other => panic!("{other:?}"),
 /// }
@@ -75,8 +75,8 @@ pub enum Acknowledged {
 /// # let mut sending = SendingEnd::<4>::new_at(&mut storage[..], 100, second, bounds);
 /// # sending.open(Announcement { seq: 1, ack: 100, window: 1000 }, 8, Sack::Permitted, Instant::ZERO);
 /// // The peer has bytes of its own to send, and acknowledges with them: that is no repeated acknowledgement.
-/// let it = Announcement { seq: 1, ack: 100, window: 1000 };
-/// let taken = sending.acknowledged(it, &[], AckSegment::WithData, Instant::ZERO);
+/// let announcement = Announcement { seq: 1, ack: 100, window: 1000 };
+/// let taken = sending.acknowledged(announcement, &[], AckSegment::WithData, Instant::ZERO);
 /// assert_eq!(taken, Acknowledged::Taken { new: 0, reports: false, begins: false });
 /// ```
 #[derive(Copy, Clone, Debug, PartialEq, Eq, Hash)]
@@ -132,8 +132,8 @@ pub enum Expired {
 /// # let mut sending = SendingEnd::<4>::new_at(&mut storage[..], 100, second, bounds);
 /// # sending.open(Announcement { seq: 1, ack: 100, window: 1000 }, 8, Sack::Permitted, Instant::ZERO);
 /// let _taken = sending.write(b"abc");
-/// let it = sending.next_segment(1200, Instant::ZERO);
-/// assert_eq!(it.map(|it| (it.pos, it.end, it.is_again)), Some((100, 103, false)));
+/// let segment = sending.next_segment(1200, Instant::ZERO);
+/// assert_eq!(segment.map(|it| (it.pos, it.end, it.is_again)), Some((100, 103, false)));
 /// ```
 #[derive(Copy, Clone, Debug, PartialEq, Eq)]
 #[non_exhaustive]
@@ -162,8 +162,8 @@ fn is_pure(segment: AckSegment) -> bool {
     }
 }
 
-/// The sending half of a TCP connection: its bytes, the peer's window, the retransmission timer, and what is lost. It is over
-/// storage that is lent or owned, and its calls are those of [`SendingEndOver`].
+/// The sending half of a TCP connection: its bytes, the peer's window, the retransmission timer, and what is lost. It
+/// is over storage that is lent or owned, and its calls are those of [`SendingEndOver`].
 ///
 /// ```
 /// use net_base::ends::SendingEnd;
@@ -194,23 +194,23 @@ pub type SendingEnd<'a, const N: usize> = SendingEndOver<ManagedSlice<'a, u8>, N
 /// sending.open(Announcement { seq: 1, ack: 100, window: 1000 }, 8, Sack::Permitted, now);
 /// assert_eq!(sending.write(b"sixteen bytes ok"), 16);
 /// let mut segments = Vec::new();
-/// while let Some(it) = sending.next_segment(1200, now) {
-///     let bytes = sending.bytes(it.range());
-///     segments.push((it.pos, [bytes.front, bytes.back].concat()));
+/// while let Some(segment) = sending.next_segment(1200, now) {
+///     let bytes = sending.bytes(segment.range());
+///     segments.push((segment.pos, [bytes.front, bytes.back].concat()));
 /// }
 /// assert_eq!(segments, [(100, b"sixteen ".to_vec()), (108, b"bytes ok".to_vec())]);
 /// // An acknowledgement of the first one.
 /// now += Duration::from_millis(100);
-/// let it = Announcement { seq: 1, ack: 108, window: 1000 };
-/// let taken = sending.acknowledged(it, &[], AckSegment::Pure, now);
+/// let announcement = Announcement { seq: 1, ack: 108, window: 1000 };
+/// let taken = sending.acknowledged(announcement, &[], AckSegment::Pure, now);
 /// assert_eq!(taken, Acknowledged::Taken { new: 8, reports: false, begins: false });
 /// // None of the second one: when the timer ends, a probe asks for one, and in the end all is lost.
 /// while sending.expired(now) != Expired::Lost {
 ///     let _segment_to_send = sending.next_segment(1200, now);
 ///     now = sending.expires_at().expect("something is in flight");
 /// }
-/// let it = sending.next_segment(8, now).expect("what was lost");
-/// assert_eq!((it.range(), it.is_again), (108..116, true));
+/// let segment = sending.next_segment(8, now).expect("what was lost");
+/// assert_eq!((segment.range(), segment.is_again), (108..116, true));
 /// ```
 #[derive(Clone)]
 pub struct SendingEndOver<S: Storage<u8>, const N: usize> {
@@ -301,8 +301,8 @@ impl<S: Storage<u8>, const N: usize> SendingEndOver<S, N> {
     /// let _taken = sending.write(b"abc");
     /// sending.close();
     /// // The end has a number, too.
-    /// let it = sending.next_segment(1200, Instant::ZERO).expect("three bytes and the end");
-    /// assert_eq!((it.pos, it.end), (100, 104));
+    /// let segment = sending.next_segment(1200, Instant::ZERO).expect("three bytes and the end");
+    /// assert_eq!((segment.pos, segment.end), (100, 104));
     /// ```
     pub fn close(&mut self) {
         self.sender.close();
@@ -322,8 +322,8 @@ impl<S: Storage<u8>, const N: usize> SendingEndOver<S, N> {
     /// # sending.open(Announcement { seq: 1, ack: 100, window: 1000 }, 8, Sack::Permitted, Instant::ZERO);
     /// let _taken = sending.write(b"abc");
     /// sending.close();
-    /// let it = sending.next_segment(1200, Instant::ZERO).expect("three bytes and the end");
-    /// let bytes = sending.bytes(it.range());
+    /// let segment = sending.next_segment(1200, Instant::ZERO).expect("three bytes and the end");
+    /// let bytes = sending.bytes(segment.range());
     /// assert_eq!((bytes.front, bytes.back, bytes.part), (&b"abc"[..], &b""[..], Part::Last));
     /// ```
     #[must_use]
@@ -346,8 +346,8 @@ impl<S: Storage<u8>, const N: usize> SendingEndOver<S, N> {
     /// let now = Instant::ZERO;
     /// let _segment_to_send = sending.next_segment(1200, now);
     /// assert!(!sending.is_done());
-    /// let it = Announcement { seq: 1, ack: 104, window: 1000 };
-    /// let _taken = sending.acknowledged(it, &[], AckSegment::Pure, now);
+    /// let announcement = Announcement { seq: 1, ack: 104, window: 1000 };
+    /// let _taken = sending.acknowledged(announcement, &[], AckSegment::Pure, now);
     /// assert!(sending.is_done());
     /// ```
     #[must_use]
@@ -375,8 +375,8 @@ impl<S: Storage<u8>, const N: usize> SendingEndOver<S, N> {
     /// # let mut storage = [0u8; 64];
     /// # let (second, bounds) = (Duration::from_secs(1), TimeoutBounds::default());
     /// # let mut sending = SendingEnd::<4>::new_at(&mut storage[..], 100, second, bounds);
-    /// let it = Announcement { seq: 1, ack: 100, window: 1000 };
-    /// sending.open(it, 536, Sack::Permitted, Instant::ZERO);
+    /// let announcement = Announcement { seq: 1, ack: 100, window: 1000 };
+    /// sending.open(announcement, 536, Sack::Permitted, Instant::ZERO);
     /// assert_eq!(sending.segment_size(), 536);
     /// ```
     pub fn open(&mut self, it: Announcement, segment_size: usize, sack: Sack, now: Instant) {
@@ -409,8 +409,8 @@ impl<S: Storage<u8>, const N: usize> SendingEndOver<S, N> {
         self.head.is_opening_due(self.bounds, now)
     }
 
-    /// Takes what a segment acknowledges and announces, the blocks that it reports, and whether it has anything besides.
-    /// Whatever it says, the end stays sound.
+    /// Takes what a segment acknowledges and announces, the blocks that it reports, and whether it has anything
+    /// besides. Whatever it says, the end stays sound.
     ///
     /// A block counts that begins above the first number that isn't reported, has a number, and ends where something
     /// was sent and less than 2^32 above that one, if what is reported beyond that one is at most `N` runs then. Any
@@ -427,11 +427,11 @@ impl<S: Storage<u8>, const N: usize> SendingEndOver<S, N> {
     /// let (now, _taken) = (Instant::ZERO, sending.write(&[7; 32]));
     /// while let Some(_segment_to_send) = sending.next_segment(1200, now) {}
     /// // The first of four segments is missing, and the other three have come: a recovery begins.
-    /// let it = Announcement { seq: 1, ack: 100, window: 1000 };
-    /// let taken = sending.acknowledged(it, &[108..132], AckSegment::Pure, now);
+    /// let announcement = Announcement { seq: 1, ack: 100, window: 1000 };
+    /// let taken = sending.acknowledged(announcement, &[108..132], AckSegment::Pure, now);
     /// assert_eq!(taken, Acknowledged::Taken { new: 0, reports: true, begins: true });
-    /// let it = sending.next_segment(1200, now).expect("what was lost");
-    /// assert_eq!((it.pos, it.end, it.is_again), (100, 108, true));
+    /// let segment = sending.next_segment(1200, now).expect("what was lost");
+    /// assert_eq!((segment.pos, segment.end, segment.is_again), (100, 108, true));
     /// ```
     pub fn acknowledged(
         &mut self,
@@ -499,8 +499,8 @@ impl<S: Storage<u8>, const N: usize> SendingEndOver<S, N> {
     /// let _segment_to_send = sending.next_segment(1200, Instant::ZERO);
     /// let now = sending.expires_at().expect("something is in flight");
     /// assert_eq!((sending.expired(now), sending.timeouts()), (Expired::Lost, 1));
-    /// let it = sending.next_segment(1200, now).expect("what was lost");
-    /// assert!(it.is_again);
+    /// let segment = sending.next_segment(1200, now).expect("what was lost");
+    /// assert!(segment.is_again);
     /// ```
     pub fn expired(&mut self, now: Instant) -> Expired {
         match self.head.timer.expire(self.bounds, now) {
@@ -533,8 +533,8 @@ impl<S: Storage<u8>, const N: usize> SendingEndOver<S, N> {
     /// let _taken = sending.write(&[7; 20]);
     /// // 16 positions may be in flight: two segments of 8.
     /// let mut sent = vec![];
-    /// while let Some(it) = sending.next_segment(16, Instant::ZERO) {
-    ///     sent.push((it.pos, it.end));
+    /// while let Some(segment) = sending.next_segment(16, Instant::ZERO) {
+    ///     sent.push((segment.pos, segment.end));
     /// }
     /// assert_eq!(sent, [(100, 108), (108, 116)]);
     /// ```
@@ -599,12 +599,12 @@ impl<S: Storage<u8>, const N: usize> SendingEndOver<S, N> {
     /// let (now, _taken) = (Instant::ZERO, sending.write(&[7; 64]));
     /// while let Some(_segment_to_send) = sending.next_segment(1200, now) {}
     /// // Three segments beyond the first were reported: halve the congestion window, and send it again.
-    /// let it = Announcement { seq: 1, ack: 100, window: 1000 };
-    /// let _taken = sending.acknowledged(it, &[108..132], AckSegment::Pure, now);
+    /// let announcement = Announcement { seq: 1, ack: 100, window: 1000 };
+    /// let _taken = sending.acknowledged(announcement, &[108..132], AckSegment::Pure, now);
     /// let _segment_to_send = sending.next_segment(1200, now).expect("what was lost");
     /// // It came twice: the first one was late, and not lost.
-    /// let it = Announcement { seq: 1, ack: 132, window: 1000 };
-    /// let _taken = sending.acknowledged(it, &[100..108], AckSegment::Pure, now);
+    /// let announcement = Announcement { seq: 1, ack: 132, window: 1000 };
+    /// let _taken = sending.acknowledged(announcement, &[100..108], AckSegment::Pure, now);
     /// assert!(sending.take_back()); // so undo that
     /// ```
     #[must_use]
@@ -625,8 +625,8 @@ impl<S: Storage<u8>, const N: usize> SendingEndOver<S, N> {
     /// # sending.open(Announcement { seq: 1, ack: 100, window: 1000 }, 8, Sack::Permitted, Instant::ZERO);
     /// let (now, _taken) = (Instant::ZERO, sending.write(&[7; 32]));
     /// while let Some(_segment_to_send) = sending.next_segment(1200, now) {}
-    /// let it = Announcement { seq: 1, ack: 100, window: 1000 };
-    /// let _taken = sending.acknowledged(it, &[108..132], AckSegment::Pure, now);
+    /// let announcement = Announcement { seq: 1, ack: 100, window: 1000 };
+    /// let _taken = sending.acknowledged(announcement, &[108..132], AckSegment::Pure, now);
     /// assert!(sending.is_recovering()); // until all is acknowledged that was sent by now
     /// ```
     #[must_use]

@@ -155,8 +155,8 @@ impl<S: Storage<u8>> FiniteSenderOver<S> {
     /// # let mut storage = [0u8; 8];
     /// # let mut sender = FiniteSender::new_at(&mut storage[..], 100);
     /// let mut peer = PeerWindow::new();
-    /// let it = Announcement { seq: 1, ack: 100, window: 9 };
-    /// assert!(peer.update(sender.sent_numbers(), it) && peer.edge() == 109);
+    /// let announcement = Announcement { seq: 1, ack: 100, window: 9 };
+    /// assert!(peer.update(sender.sent_numbers(), announcement) && peer.edge() == 109);
     /// ```
     #[must_use]
     pub fn sent_numbers(&self) -> SentNumbers {

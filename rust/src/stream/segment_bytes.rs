@@ -15,8 +15,8 @@ use core::ops::Range;
 /// let mut buffer = SendBuffer::<4>::new_at(&mut storage[..], 0);
 /// assert_eq!(buffer.write(b"abcdef"), 6);
 /// buffer.close();
-/// let it = buffer.bytes(2..7);
-/// assert_eq!(([it.front, it.back].concat(), it.part), (b"cdef".to_vec(), Part::Last));
+/// let lent = buffer.bytes(2..7);
+/// assert_eq!(([lent.front, lent.back].concat(), lent.part), (b"cdef".to_vec(), Part::Last));
 /// ```
 #[derive(Copy, Clone, Debug, PartialEq, Eq)]
 pub struct SegmentBytes<'a> {

@@ -1,5 +1,6 @@
 // Written by tools/erase.py from crates/net_receiver/src/send_buffer.rt: a change here would be lost.
-//! What a stream that ends sends, and sends again, where each range that was sent is answered for by itself, as in QUIC.
+//! What a stream that ends sends, and sends again, where each range that was sent is answered for by itself, as in
+//! QUIC.
 //!
 //! ```text
 //!   acknowledged  |  acknowledged, in flight or lost  |  written, never sent  |  room to write
@@ -46,8 +47,8 @@ pub enum RangeAck {
     Refused,
 }
 
-/// The sending side of a QUIC stream: its bytes, and which of them are acknowledged, in flight and lost. It is over storage
-/// that is lent or owned, and its calls are those of [`SendBufferOver`].
+/// The sending side of a QUIC stream: its bytes, and which of them are acknowledged, in flight and lost. It is over
+/// storage that is lent or owned, and its calls are those of [`SendBufferOver`].
 ///
 /// ```
 /// use net_base::finite::SendBuffer;
@@ -61,16 +62,16 @@ pub type SendBuffer<'a, const N: usize> = SendBufferOver<ManagedSlice<'a, u8>, N
 
 /// A [`SendBuffer`] over any storage. (Not in smoltcp.)
 ///
-/// It has the bytes and their end. Of the numbers that were sent it knows which are acknowledged, in flight and lost, as
-/// its caller says: `mark`, `acknowledge` and `lose` take ranges in any order. It finds no loss itself, and has no clock,
-/// no window and no size of a packet: these are its connection's. `next` returns what is lost, and then what was never
-/// sent.
+/// It has the bytes and their end. Of the numbers that were sent it knows which are acknowledged, in flight and lost,
+/// as its caller says: `mark`, `acknowledge` and `lose` take ranges in any order. It finds no loss itself, and has no
+/// clock, no window and no size of a packet: these are its connection's. `next` returns what is lost, and then what was
+/// never sent.
 ///
 /// No number is forgotten, whatever `N` is. At most `N` runs are stored of what is acknowledged beyond the first number
 /// that isn't, and of what is lost. Where there would be more, more is sent again than need be, and never less. So if
-/// each range that was marked is at last acknowledged or lost, all that was written is acknowledged in the end. A quarter
-/// of the packets in flight is enough for `N`: of 128 packets in flight with one in ten lost, 32 repeat nothing, 16 make
-/// 2 % more packets, and 8 twice as many.
+/// each range that was marked is at last acknowledged or lost, all that was written is acknowledged in the end. A
+/// quarter of the packets in flight is enough for `N`: of 128 packets in flight with one in ten lost, 32 repeat
+/// nothing, 16 make 2 % more packets, and 8 twice as many.
 ///
 /// Positions are absolute, and the end has the number after the last byte's, as a `FiniteSender` counts them. No call
 /// takes memory.
@@ -85,8 +86,8 @@ pub type SendBuffer<'a, const N: usize> = SendBufferOver<ManagedSlice<'a, u8>, N
 /// stream.close();
 /// let mut frames = Vec::new();
 /// while let Some(range) = stream.next(19, 8) {
-///     let it = stream.bytes(range.clone());
-///     frames.push((range.start, [it.front, it.back].concat(), it.part));
+///     let lent = stream.bytes(range.clone());
+///     frames.push((range.start, [lent.front, lent.back].concat(), lent.part));
 ///     assert!(stream.mark(range));
 /// }
 /// assert_eq!(frames[0], (0, b"nineteen".to_vec(), Part::More));
@@ -188,8 +189,8 @@ impl<S: Storage<u8>, const N: usize> SendBufferOver<S, N> {
         self.sender.is_closed()
     }
 
-    /// Returns the first number that isn't acknowledged, and the one after the last that was sent. A range that starts below
-    /// the latter is sent again.
+    /// Returns the first number that isn't acknowledged, and the one after the last that was sent. A range that starts
+    /// below the latter is sent again.
     ///
     /// ```
     /// # use net_base::finite::{RangeAck, SendBuffer};
@@ -241,8 +242,8 @@ impl<S: Storage<u8>, const N: usize> SendBufferOver<S, N> {
         self.sender.close();
     }
 
-    /// Lends the bytes of a range, in two parts, and returns whether the stream ends after them. If the range begins at a
-    /// number that is acknowledged, it lends none.
+    /// Lends the bytes of a range, in two parts, and returns whether the stream ends after them. If the range begins at
+    /// a number that is acknowledged, it lends none.
     ///
     /// ```
     /// # use net_base::finite::{Part, SendBuffer};
@@ -302,13 +303,13 @@ impl<S: Storage<u8>, const N: usize> SendBufferOver<S, N> {
         pos
     }
 
-    /// Returns the range to send next: the first that is open, so what is lost, else what was never sent. All its bytes are
-    /// below `limit`, such as QUIC's MAX_STREAM_DATA, and there are at most `size` (at most one, if that is 0). `None`
-    /// exactly if there is none.
+    /// Returns the range to send next: the first that is open, so what is lost, else what was never sent. All its bytes
+    /// are below `limit`, such as QUIC's MAX_STREAM_DATA, and there are at most `size` (at most one, if that is 0).
+    /// `None` exactly if there is none.
     ///
-    /// The end of a closed stream is no data: it comes with the last bytes, or alone if these were sent before, and needs
-    /// no room and no number below the limit. No range has both what is lost and what was never sent. As long as what it
-    /// returns is marked, and nothing is lost, it returns `None` in the end.
+    /// The end of a closed stream is no data: it comes with the last bytes, or alone if these were sent before, and
+    /// needs no room and no number below the limit. No range has both what is lost and what was never sent. As long as
+    /// what it returns is marked, and nothing is lost, it returns `None` in the end.
     ///
     /// ```
     /// # use net_base::finite::SendBuffer;
@@ -347,11 +348,12 @@ impl<S: Storage<u8>, const N: usize> SendBufferOver<S, N> {
         hole_end(&self.settled, from, known)
     }
 
-    /// Takes notice that a range is sent now, and returns true: it is in flight, and not lost any more. Returns false, and
-    /// changes nothing, if it ends above `numbers_end`: then it was never written.
+    /// Takes notice that a range is sent now, and returns true: it is in flight, and not lost any more. Returns false,
+    /// and changes nothing, if it ends above `numbers_end`: then it was never written.
     ///
-    /// It is what `next` returned, or a part of that from its start on, or any other, as a probe. A range beyond the first
-    /// that is open isn't noted if that would make more than `N` runs: what of it was open stays so, and is sent again.
+    /// It is what `next` returned, or a part of that from its start on, or any other, as a probe. A range beyond the
+    /// first that is open isn't noted if that would make more than `N` runs: what of it was open stays so, and is sent
+    /// again.
     ///
     /// ```
     /// # use net_base::finite::SendBuffer;
@@ -375,12 +377,12 @@ impl<S: Storage<u8>, const N: usize> SendBufferOver<S, N> {
         true
     }
 
-    /// Takes notice that a range is acknowledged, as each packet's acknowledgement says of its frames: whether it was in
-    /// flight or lost, none of it is sent again. Room for its bytes is free once all before them are acknowledged.
+    /// Takes notice that a range is acknowledged, as each packet's acknowledgement says of its frames: whether it was
+    /// in flight or lost, none of it is sent again. Room for its bytes is free once all before them are acknowledged.
     ///
-    /// A range that begins beyond the first number that isn't acknowledged isn't remembered if that would make more than
-    /// `N` runs, or if it ends 2^32 or more above that number: then it is lost, and the answer is `SentAgain`. One that
-    /// ends above what was sent is refused, and nothing changes.
+    /// A range that begins beyond the first number that isn't acknowledged isn't remembered if that would make more
+    /// than `N` runs, or if it ends 2^32 or more above that number: then it is lost, and the answer is `SentAgain`. One
+    /// that ends above what was sent is refused, and nothing changes.
     ///
     /// ```
     /// # use net_base::finite::{RangeAck, SendBuffer};
@@ -413,9 +415,9 @@ impl<S: Storage<u8>, const N: usize> SendBufferOver<S, N> {
         RangeAck::Taken
     }
 
-    /// Takes notice that a range is lost, as a scheme of packets finds it (RFC 9002, section 6), and returns true: what of it
-    /// isn't acknowledged is sent again. Any number of ranges may be lost at a time, in any order. Returns false, and
-    /// changes nothing, if the range ends above what was sent.
+    /// Takes notice that a range is lost, as a scheme of packets finds it (RFC 9002, section 6), and returns true: what
+    /// of it isn't acknowledged is sent again. Any number of ranges may be lost at a time, in any order. Returns false,
+    /// and changes nothing, if the range ends above what was sent.
     ///
     /// If `N` ranges are lost already, and this is one more, what is in flight between it and a neighbour is lost too.
     ///
@@ -456,8 +458,8 @@ impl<S: Storage<u8>, const N: usize> SendBufferOver<S, N> {
     }
 }
 
-/// Returns where a range of at most `size` bytes ends, or `to` if that isn't above. Data ends at `end`: the end's number
-/// comes with the last bytes, and takes no room.
+/// Returns where a range of at most `size` bytes ends, or `to` if that isn't above. Data ends at `end`: the end's
+/// number comes with the last bytes, and takes no room.
 fn with_room(from: u64, to: u64, size: usize, end: u64) -> u64 {
     let most = from.saturating_add(size.max(1) as u64);
     if most == end {

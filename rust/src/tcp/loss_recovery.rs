@@ -74,8 +74,8 @@ pub struct Answer {
 ///
 /// Of a peer that reports nothing, the third equal acknowledgement loses the first segment, and in a recovery each one
 /// of something new the next (RFC 5681, RFC 6582). An equal one tells that a segment has arrived, so one less is in
-/// flight. Of a peer that reports, an equal one tells nothing: the path may have doubled it (RFC 6675, section 2). If it
-/// never reports, probes and the timeout repair what is lost.
+/// flight. Of a peer that reports, an equal one tells nothing: the path may have doubled it (RFC 6675, section 2). If
+/// it never reports, probes and the timeout repair what is lost.
 ///
 /// ```
 /// use net_base::scoreboard::Scoreboard;
@@ -275,8 +275,8 @@ impl LossRecovery {
         is_wrong
     }
 
-    /// Takes notice whether the peer reports what arrives, as the SYNs say. A new recovery expects that it does. Nothing
-    /// else changes it: what a peer reports without that is taken, too.
+    /// Takes notice whether the peer reports what arrives, as the SYNs say. A new recovery expects that it does.
+    /// Nothing else changes it: what a peer reports without that is taken, too.
     ///
     /// ```
     /// # use net_base::scoreboard::Scoreboard;
@@ -337,11 +337,12 @@ impl LossRecovery {
     /// sent before a pass is lost, and what was sent again in it again, once more than `duplicates() - 1` segments are
     /// reported of what was sent after it. Once a probe is answered, all that was sent before it, and isn't reported,
     /// is lost; but if what it sends was sent again before, all that was sent before the pass, since the answer may be
-    /// that to the earlier copy. If more than one position has arrived that was lost and wasn't sent again, it wasn't lost: nothing that
-    /// wasn't sent again is, and it is as if something came twice, as `duplicated` says. One position may be the byte
-    /// that asks for a window. If the peer reports nothing, as `expect_reports` says, the first segment is lost after
-    /// `duplicates` equal acknowledgements, and in a recovery where something new is acknowledged. An equal one of what
-    /// a recovery lasted for answers a copy then: it counts as a report of what came twice.
+    /// that to the earlier copy. If more than one position has arrived that was lost and wasn't sent again, it wasn't
+    /// lost: nothing that wasn't sent again is, and it is as if something came twice, as `duplicated` says. One
+    /// position may be the byte that asks for a window. If the peer reports nothing, as `expect_reports` says, the
+    /// first segment is lost after `duplicates` equal acknowledgements, and in a recovery where something new is
+    /// acknowledged. An equal one of what a recovery lasted for answers a copy then: it counts as a report of what came
+    /// twice.
     ///
     /// Returns whether this call begins a recovery: then halve the congestion window, until `take_back` says that this
     /// was wrong.
@@ -744,7 +745,8 @@ impl LossRecovery {
     }
 
     /// Returns which range to send next, at most a segment. In a recovery that is what is lost and wasn't sent again;
-    /// else what was never sent. Outside of one it is what was never sent. It is below `limit`, as `PeerWindow::send_limit` returns it. A `segment_size` of 0 counts as 1.
+    /// else what was never sent. Outside of one it is what was never sent. It is below `limit`, as
+    /// `PeerWindow::send_limit` returns it. A `segment_size` of 0 counts as 1.
     ///
     /// `None` if there is nothing to send, or if with a whole segment more than `window` positions, the
     /// congestion window, would be in flight. The first unacknowledged number is sent whatever is in flight.
