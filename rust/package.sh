@@ -32,7 +32,7 @@ wanted=$(grep -c '^```compile_fail' src/refused.txt)
 [ "$refused" = "$wanted" ] ||
     { echo "package: of $wanted texts that must not compile $refused are refused" >&2; exit 1; }
 cargo build --offline --quiet --examples
-for example in stream quic_stream transfer reassembly bridge interrupt split_ring; do
+for example in receiver stream quic_stream transfer reassembly bridge interrupt split_ring; do
     "$CARGO_TARGET_DIR/debug/examples/$example" > "$out/said" ||
         { echo "package: the example $example failed" >&2; exit 1; }
 done
