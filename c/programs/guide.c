@@ -17,6 +17,7 @@ int main(void) {
             &receiver, storage, 64, runs, 4, 0, first, 3, false, &counts))
         return 1;
     size_t count = net_base_finite_receiver_read(&receiver, storage, 64, out, 64);
+    if (count == NET_BASE_NONE) return 1; /* refused */
     printf("read %.*s\n", (int)count, (const char *)out);
     return 0;
 }

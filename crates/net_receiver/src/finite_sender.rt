@@ -28,7 +28,7 @@ use std::marker::Model;
 /// TCP's FIN): it is sent, reported and acknowledged as a byte is, and takes no room. A number is kept
 /// for it, so that it can always be closed. A stream that doesn't end has a sender that is never closed.
 ///
-/// No call takes memory. smoltcp's TCP socket has its transmit buffer inside.
+/// No call allocates. smoltcp's TCP socket has its transmit buffer inside.
 ///
 /// ```
 /// use net_base::finite::FiniteSenderOver;

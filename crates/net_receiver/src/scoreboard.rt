@@ -19,7 +19,7 @@ use std::ops::Range;
 /// blocks report them: a scoreboard.
 ///
 /// Positions are absolute. At most `N` runs are stored beyond the first position that wasn't reported;
-/// what is below that needs none. No call takes memory. `next_hole` gives what isn't reported, range by
+/// what is below that needs none. No call allocates. `next_hole` gives what isn't reported, range by
 /// range. Most of it may only be in flight: what is below `lost_below` is lost. When it is sent again is
 /// the caller's choice. smoltcp has no such type: its TCP socket sends again from the first
 /// unacknowledged position on.

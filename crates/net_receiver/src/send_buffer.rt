@@ -82,14 +82,14 @@ pub type SendBuffer<'a, const N: usize> = SendBufferOver<ManagedSlice<'a, u8>, N
 /// clock, no window and no size of a packet: these are its connection's. `next` returns what is lost, and then what was
 /// never sent.
 ///
-/// No number is forgotten, whatever `N` is. At most `N` runs are stored of what is acknowledged beyond the first number
-/// that isn't, and of what is lost. Where there would be more, more is sent again than need be, and never less. So if
-/// each range that was marked is at last acknowledged or lost, all that was written is acknowledged in the end. A
-/// quarter of the packets in flight is enough for `N`: of 128 packets in flight with one in ten lost, 32 repeat
+/// No number is forgotten, however small `N` is. At most `N` runs are stored of what is acknowledged beyond the first
+/// number that isn't, and of what is lost. Where there would be more, some numbers are sent twice, but none is left
+/// out. So if each range that was marked is at last acknowledged or lost, all that was written is acknowledged in the
+/// end. A quarter of the packets in flight is enough for `N`. With 128 packets in flight and one in ten lost, 32 repeat
 /// nothing, 16 make 2 % more packets, and 8 twice as many.
 ///
 /// Positions are absolute, and the end has the number after the last byte's, as a `FiniteSender` counts them. No call
-/// takes memory.
+/// allocates.
 ///
 /// ```
 /// use net_base::finite::{Part, RangeAck, SendBuffer};
@@ -380,9 +380,9 @@ impl<S: Storage<u8>, const N: usize> SendBufferOver<S, N> {
         pos
     }
 
-    /// Returns the range to send next: the first that is open, so what is lost, else what was never sent. All its bytes
-    /// are below `limit`, such as QUIC's MAX_STREAM_DATA, and there are at most `size` (at most one, if that is 0).
-    /// `None` exactly if there is none.
+    /// Returns the range to send next: what is lost, else what was never sent. All its bytes are below `limit`, such as
+    /// QUIC's MAX_STREAM_DATA, and there are at most `size` (at most one, if that is 0). `None` exactly if there is
+    /// none.
     ///
     /// The end of a closed stream is no data: it comes with the last bytes, or alone if these were sent before, and
     /// needs no room and no number below the limit. No range has both what is lost and what was never sent. As long as
@@ -445,8 +445,8 @@ impl<S: Storage<u8>, const N: usize> SendBufferOver<S, N> {
         hole_end(&self.settled, from, known)
     }
 
-    /// Takes notice that a range is sent now, and returns true: it is in flight, and not lost any more. Returns false,
-    /// and changes nothing, if it ends above `numbers_end`: then it was never written.
+    /// Marks a range as sent: it is in flight, and not lost any more. Returns true, or false if the range ends above
+    /// `numbers_end`: then it was never written, and nothing changes.
     ///
     /// It is what `next` returned, or a part of that from its start on, or any other, as a probe. A range beyond the
     /// first that is open isn't noted if that would make more than `N` runs: what of it was open stays so, and is sent
@@ -488,8 +488,8 @@ impl<S: Storage<u8>, const N: usize> SendBufferOver<S, N> {
         true
     }
 
-    /// Takes notice that a range is acknowledged, as each packet's acknowledgement says of its frames: whether it was
-    /// in flight or lost, none of it is sent again. Room for its bytes is free once all before them are acknowledged.
+    /// Marks a range as acknowledged, when the packet that had it is. Whether it was in flight or lost, none of it is
+    /// sent again. Room for its bytes is free once all before them are acknowledged.
     ///
     /// A range that begins beyond the first number that isn't acknowledged isn't remembered if that would make more
     /// than `N` runs, or if it ends 2^32 or more above that number: then it is lost, and the answer is `SentAgain`. One
@@ -543,9 +543,9 @@ impl<S: Storage<u8>, const N: usize> SendBufferOver<S, N> {
         RangeAck::Taken
     }
 
-    /// Takes notice that a range is lost, as a scheme of packets finds it (RFC 9002, section 6), and returns true: what
-    /// of it isn't acknowledged is sent again. Any number of ranges may be lost at a time, in any order. Returns false,
-    /// and changes nothing, if the range ends above what was sent.
+    /// Marks a range as lost, when loss detection says so of its packet (RFC 9002, section 6): what of it isn't
+    /// acknowledged is sent again. Any number of ranges may be lost at a time, in any order. Returns true, or false if
+    /// the range ends above what was sent: then nothing changes.
     ///
     /// If `N` ranges are lost already, and this is one more, what is in flight between it and a neighbour is lost too.
     ///

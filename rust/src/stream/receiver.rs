@@ -32,7 +32,7 @@ use core::ops::Range;
 ///
 /// The stream's byte number i, counted from 0, has the index i modulo the capacity in the storage.
 ///
-/// No call takes memory. smoltcp's TCP socket joins ring and assembler in its own `process`; this is
+/// No call allocates. smoltcp's TCP socket joins ring and assembler in its own `process`; this is
 /// the part of it that stores what was received.
 #[derive(Clone)]
 pub struct ReceiverOver<S: Storage<u8>, const N: usize> {
