@@ -67,9 +67,9 @@
  *
  * Duties
  *
- * Nothing checks these. A call that breaks one of the first four can touch any memory. The others
- * are about answers, and the proofs assume them: a call that breaks one touches no other memory
- * than it was passed, but may answer anything, or trap.
+ * Only a build with the feature `check` tests some of these. A call that breaks one of the first
+ * four can touch any memory. The others are about answers, and the proofs assume them: a call that
+ * breaks one touches no other memory than it was passed, but may answer anything, or trap.
  *
  * 1. A pointer that isn't null is aligned, and valid: that of a slice, such as `data`, for as many
  *    elements as the parameter after it says, here `data_length`, of at most `PTRDIFF_MAX` bytes
@@ -237,7 +237,9 @@ enum NET_BASE_32_BITS net_base_arrival_status {
 /** What became of an acknowledgement: `DONE`, `OLD`, `ANSWER` or `REFUSED`. */
 enum NET_BASE_32_BITS net_base_acknowledged_status {
     NET_BASE_ACKNOWLEDGED_DONE = 0, /**< It was taken. */
-    /** It says nothing, but the bytes of its segment may be new. Nothing changes. */
+    /** An old one: it says nothing but what came twice, if its first block does, and nothing else
+     * changes. Then `net_base_sending_end_take_back` may be true. The bytes of its segment may be
+     * new. */
     NET_BASE_ACKNOWLEDGED_OLD = 15,
     /** No peer sends it. Answer its segment, and take nothing of that (RFC 5961, section 5).
      * Nothing changes. */

@@ -109,7 +109,7 @@ fn timeouts() {
     }
 }
 
-/// The papers' table.
+/// Words and ports that follow from a seed.
 #[test]
 fn random_words() {
     let mut rand = Rand::new(0);

@@ -1,22 +1,26 @@
 -- Laws of sets of positions and of an assembler's calls, and how many binary digits a number has.
-use Rattle.std.proofs.Common.{◌≡◌, ℕ, zero, suc, ◌/◌, ◌<◌, ◌≤◌, ◌^◌, Bool, length}
+use Rattle.std.proofs.Common.{◌||◌, ◌≡◌, ℕ, zero, suc, ◌+◌, ◌/◌, ◌<◌, ◌≤◌, ◌^◌, Bool, List, [], ◌∷◌, length}
 use Rattle.std.proofs.Common.{refl, sym, ap, ◌∙◌, arith}
 use Rattle.std.specs.Prelude.{Result, Ok, Err, IsTrue, IsErr, OnOk, OnErr, ◌↔◌}
+use Rattle.std.specs.List.Sorted.{IsPermutation}
 use Rattle.std.specs.Int.Digits.{digits_of}
+use Rattle.std.proofs.Math.Bool.{or_assoc, or-false}
 use Rattle.std.proofs.Math.Nat.{pow-suc}
 use Rattle.std.proofs.Math.Pow.{pow_mono}
 use Rattle.std.proofs.lemmas.Nat.{pow_pos}
 use Rattle.std.proofs.lemmas.Int.Digits.{length-digits_of_step, length-digits_of-le}
+use Rattle.std.proofs.lemmas.List.Sorted.{list_any-IsPermutation}
 use Rattle.net_assembler.specs.declared.assembler.error.TooManyHolesError.{TooManyHolesError}
 use Rattle.net_assembler.specs.Positions.{Positions, contains, with_range, first_missing, front, runs}
-use Rattle.net_assembler.specs.Positions.{IsFirstMissing}
+use Rattle.net_assembler.specs.Positions.{lies_in, IsFirstMissing}
 use Rattle.net_assembler.specs.Turns.{TurnsWithin, binary_digits}
 use Rattle.net_assembler.specs.Assembler.{MakesTooManyRuns}
-use Rattle.net_assembler.specs.AssemblerLaws.{Compares}
+use Rattle.net_assembler.specs.AssemblerLaws.{Compares, with_ranges, lies_in_some}
 use Rattle.net_assembler.proofs.Sets.{sets, has, same_positions, contains-set_of_list, contains-nothing}
 use Rattle.net_assembler.proofs.Sets.{contains-with_range, contains-shift_down, contains-shift_up}
 use Rattle.net_assembler.proofs.Sets.{first_missing-misses, first_missing-has, first_missing-le}
 use Rattle.net_assembler.proofs.Sets.{maximal_runs-shift_up, runs-shift_up, too_many}
+use Rattle.net_assembler.proofs.Runs.{one_run_more}
 use Rattle.net_assembler.proofs.Joins.{runs-nothing, set_of_no_runs}
 
 pub first_missing_is_least : (s : Positions) (p : ℕ) → IsFirstMissing s p (first_missing s p)
@@ -88,11 +92,35 @@ no_turn looks moves t = record {
   no_move_lost = omega arith;
 }
 
+-- ranges that are added one after another, in any order
+pub contains-with_ranges : (s : Positions) (ranges : List (ℕ × ℕ)) (p : ℕ) →
+    contains (with_ranges s ranges) p ≡ (contains s p || lies_in_some p ranges)
+contains-with_ranges s [] p = sym (or-false (contains s p))
+contains-with_ranges s (range ∷ ranges) p =
+    contains-with_ranges (with_range s range.0 range.1) ranges p
+    ∙ ap (λ b. b || lies_in_some p ranges) (contains-with_range s range.0 range.1 p)
+    ∙ or_assoc (contains s p) (lies_in p (range.0, range.0 + range.1)) (lies_in_some p ranges)
+
+pub same_ranges : (s : Positions) (ranges others : List (ℕ × ℕ)) →
+    ((p : ℕ) → lies_in_some p ranges ≡ lies_in_some p others) →
+    with_ranges s ranges ≡ with_ranges s others
+same_ranges s ranges others is =
+    same_positions _ _
+    (λ p. contains-with_ranges s ranges p ∙ ap (λ b. contains s p || b) (is p) ∙ sym (contains-with_ranges s others p))
+
+pub reordered_ranges : (s : Positions) (ranges others : List (ℕ × ℕ)) → IsPermutation ranges others →
+    with_ranges s ranges ≡ with_ranges s others
+reordered_ranges s ranges others moved =
+    same_ranges s ranges others
+    (λ p. list_any-IsPermutation (λ range. lies_in p (range.0, range.0 + range.1)) ranges others moved)
+
 -- what closes the goals of laws
 pub ruleset members = (contains-nothing, contains-with_range, contains-shift_down)
 
 pub ruleset of_calls = (equal_assemblers, range_again, adding_again)
 
-pub ruleset of_zeros = (runs-nothing, set_of_no_runs)
+pub ruleset of_runs = (runs-nothing, one_run_more, set_of_no_runs)
 
-pub ruleset laws = (members, first_missing_is_least, front_is_least_missing, of_zeros, of_calls, enough_binary_digits)
+pub ruleset laws = (members, first_missing_is_least, front_is_least_missing, of_runs, of_calls, enough_binary_digits)
+
+pub ruleset orders = (contains-with_ranges, same_ranges, reordered_ranges)

@@ -2,8 +2,10 @@
 --     Adds, RemovesFront, AddsThenRemovesFront, Compares      what a call's contract says of it
 --     CallsNext rest results last      what calls of `next`, one after another, return and leave
 --     results_of_next rest n       what n of them return
+--     with_ranges s ranges, lies_in_some p ranges      a set with ranges (offset, size), and whether p is in one
 use Rattle.std.specs.Prelude.{◌||◌, ◌≡◌, ◌↔◌, ℕ, zero, suc, ◌+◌, ◌<◌, ◌≤◌, Bool, List, [], ◌∷◌, Option, Some}
 use Rattle.std.specs.Prelude.{None, Result, IsTrue, IsFalse, IsErr, OnOk, OnErr, MatchResult}
+use Rattle.std.specs.List.{list_any}
 use Rattle.std.specs.Iterator.{YieldsFirst}
 use Rattle.net_assembler.specs.declared.assembler.error.TooManyHolesError.{TooManyHolesError}
 use Rattle.net_assembler.specs.Positions.{Positions, contains, nothing, with_range, runs, front, shift_down, lies_in}
@@ -51,6 +53,15 @@ abbrev pub results_of_next : List (ℕ × ℕ) → ℕ → List (Option (ℕ × 
 results_of_next rest zero = []
 results_of_next [] (suc n) = None ∷ results_of_next [] n
 results_of_next (run ∷ rest) (suc n) = Some run ∷ results_of_next rest n
+
+-- s with the ranges, one after another
+abbrev pub with_ranges : Positions → List (ℕ × ℕ) → Positions
+with_ranges s [] = s
+with_ranges s (range ∷ ranges) = with_ranges (with_range s range.0 range.1) ranges
+
+-- whether p is a position of one of the ranges
+abbrev pub lies_in_some : ℕ → List (ℕ × ℕ) → Bool
+lies_in_some p ranges = list_any (λ range. lies_in p (range.0, range.0 + range.1)) ranges
 
 -- the empty set has no member
 abbrev pub MembersOfNothing : Type 0

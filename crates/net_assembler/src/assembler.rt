@@ -255,6 +255,8 @@ impl<const N: usize> Assembler<N> {
         ensures ok { OnOk result (self.new ≡ with_range self.old offset size) }
         ensures unchanged { OnErr result (self.new ≡ self.old) }
         ensures refused { IsErr result ↔ MakesTooManyRuns N self.old offset size }
+        ensures accepted { runs self.old < N → IsOk result }
+        ensures more { runs self.new ≤ runs self.old + 1 }
         ensures bound { runs self.new ≤ N }
         ensures turns { turns.new.0 + turns.new.1 ≤ turns.old.0 + turns.old.1 + 4 * N }
         ensures looks { turns.new.0 ≤ turns.old.0 + 2 * binary_digits N }

@@ -26,16 +26,18 @@
 --     refusal_of e, answer_of at s      a buffer's refusal and answer, as those of its table
 --     Accepts      what a slot's call of `accept` returns, and leaves
 --     ExpiresFirst expires xs at      where the first of those is that expire earliest
+--     is_in_writes p writes, newest_element writes p x      what the writes have at a position
+--     Reassembles writes buffer present      a buffer and a set of positions are what the writes make
 use Rattle.std.specs.Prelude.{◌≡◌, ◌≢◌, ◌+◌, ◌-◌, ◌<◌, ◌≤◌, ℕ, ℤ, List, Option, length, slice_index_or, unwrap_or}
 use Rattle.std.specs.Prelude.{◌⊎◌, IsTrue, IsFalse, Bool, if◌then◌else◌, refl, ◌&&◌, false, [], ◌∷◌, nat_eq}
 use Rattle.std.specs.Prelude.{nat_lt, nat_le, ◌↔◌, ◌<ℤ◌, ◌≤ℤ◌, is_none, Result, Ok, Err, OnOk, IsErr}
 use Rattle.std.specs.Coded.{Coded, code_by, coded×, coded_ℕ, coded_ℤ, coded_list, coded_option}
 use Rattle.std.specs.declared.option.Option.TheVariants.{Some, None}
 use Rattle.net_ring.specs.Overwrite.{overwrite}
-use Rattle.net_assembler.specs.Positions.{Positions, contains, nothing, with_range}
+use Rattle.net_assembler.specs.Positions.{Positions, contains, nothing, with_range, lies_in}
 use Rattle.net_assembler.specs.RunLists.{set_of, HasSoundRuns, IsCanonical, zero_head}
 use Rattle.net_base.specs.declared.storage.fragments.head.FragmentsHead.{FragmentsHead}
-use Rattle.std.specs.List.{position}
+use Rattle.std.specs.List.{position, list_any}
 use Rattle.net_assembler.specs.Assembler.{MakesTooManyRuns}
 use Rattle.net_base.specs.declared.storage.fragments.FragmentError.{FragmentError}
 use Rattle.net_base.specs.declared.storage.fragments.table.AcceptError.{AcceptError}
@@ -231,3 +233,29 @@ pub record Accepts (most_runs : ℕ) (b : FragmentsState) (offset : ℕ) (data' 
   pub other_bytes : (r ≡ Err accept.OtherBytes) ↔ Differs b offset data'
   pub adds : (Differs b offset data' → ⊥) →
       (s : Result (Unit {0}) FragmentError) × (r ≡ answer_of at s) × Adds most_runs b offset data' last s u
+
+-- ---- a buffer over which lists are written at offsets, and the set of the positions that were written
+module _ {X : Type 0} where
+  -- whether a write, an offset and a list, has an element at the position p
+  abbrev pub is_in_write : ℕ → ℕ × List X → Bool
+  is_in_write p write = lies_in p (write.0, write.0 + length write.1)
+
+  -- whether one of the writes has an element there
+  abbrev pub is_in_writes : ℕ → List (ℕ × List X) → Bool
+  is_in_writes p writes = list_any (is_in_write p) writes
+
+  -- the element of the newest write that has one at p, the newest being the first; x if no write
+  -- has one
+  abbrev pub newest_element : List (ℕ × List X) → ℕ → X → X
+  newest_element [] p x = x
+  newest_element (write ∷ writes) p x =
+      if is_in_write p write then slice_index_or write.1 (p - write.0) x else newest_element writes p x
+
+  -- the set has the positions of the writes, these are positions of the buffer, and there it has
+  -- the newest write's element
+  pub record Reassembles (writes : List (ℕ × List X)) (buffer : List X) (present : Positions) :
+      Type 0 where
+    pub positions : (p : ℕ) → contains present p ≡ is_in_writes p writes
+    pub within : (p : ℕ) → IsTrue (is_in_writes p writes) → p < length buffer
+    pub elements : (p : ℕ) (x : X) → IsTrue (is_in_writes p writes) →
+        slice_index_or buffer p x ≡ newest_element writes p x

@@ -5,8 +5,9 @@ pub use Rattle.net_ring.specs.ManagedLends
 pub use Rattle.net_ring.specs.Ring
 pub use Rattle.net_ring.specs.RingLends
 pub use Rattle.net_ring.specs.RingCalls
-pub use Rattle.net_packets.specs.Log
+pub use Rattle.net_ring.specs.Log
 pub use Rattle.net_ring.specs.RingHead
+pub use Rattle.net_ring.specs.RingHistory
 pub use Rattle.net_packets.specs.Packets
 pub use Rattle.net_packets.specs.PacketsHead
 pub use Rattle.net_packets.specs.PacketLends

@@ -2,9 +2,10 @@
 //! of order.
 //!
 //! Each of the three is a crate of its own, `net_ring`, `net_packets` and `net_assembler`; this
-//! module re-exports them.
+//! module re-exports them, and has the one law that is about two of them.
 
 pub mod fragments;
+pub mod laws;
 
 pub use fragments::{FragmentBuffer, FragmentError, FragmentsHead, FragmentsOver};
 pub use net_assembler::{

@@ -16,9 +16,9 @@
 //!
 //! # Duties
 //!
-//! Nothing checks these. A call that breaks one of the first four can touch any memory. The others are about answers,
-//! and the proofs assume them: a call that breaks one touches no other memory than it was passed, but may answer
-//! anything, or trap.
+//! Only a build with the feature `check` tests some of these. A call that breaks one of the first four can touch any
+//! memory. The others are about answers, and the proofs assume them: a call that breaks one touches no other memory
+//! than it was passed, but may answer anything, or trap.
 //!
 //! 1. A pointer that isn't null is aligned, and valid: that of a slice, such as `data`, for as many elements as the
 //!    parameter after it says, here `data_length`, of at most `PTRDIFF_MAX` bytes together; any other for one value. If

@@ -87,7 +87,8 @@ pub const NET_BASE_OVERDUE: Status = 13;
 /// All that was sent is lost: let one segment be in flight.
 pub const NET_BASE_LOST: Status = 14;
 
-/// It says nothing, but the bytes of its segment may be new. Nothing changes.
+/// An old one: it says nothing but what came twice, if its first block does, and nothing else changes. Then
+/// `net_base_sending_end_take_back` may be true. The bytes of its segment may be new.
 pub const NET_BASE_OLD: Status = 15;
 
 /// Nothing is to be sent now.

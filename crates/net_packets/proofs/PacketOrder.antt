@@ -31,7 +31,7 @@ use Rattle.net_packets.proofs.PacketSteps.{mk, last_append, last_ends, push_well
 use Rattle.std.proofs.lemmas.Bool.{eqb-true, eq-eqb, le-leb, lt-leb, cond-true, cond-false}
 use Rattle.std.proofs.lemmas.Option.{none-some}
 use Rattle.std.proofs.Math.Seq.{set-append_seam}
-use Rattle.net_packets.specs.Log.{Log, empty_log}
+use Rattle.net_ring.specs.Log.{Log, empty_log}
 
 pub some_of : (o : Option ℕ) → o ≢ None → (n : ℕ) × (o ≡ Some n)
 some_of None h = absurd (h refl)

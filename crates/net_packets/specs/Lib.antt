@@ -2,7 +2,6 @@ pub mod Packets
 pub mod PacketsHead
 pub mod PacketLends
 pub mod PacketCalls
-pub mod Log
 pub mod PacketHistory
 pub use Packets.*
 pub use PacketsHead.*

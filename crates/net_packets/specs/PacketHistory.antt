@@ -13,7 +13,7 @@ use Rattle.std.specs.Prelude.{Bool, if◌then◌else◌, ◌≡◌, ◌≢◌, �
 use Rattle.std.specs.Prelude.{suc, ◌<◌}
 use Rattle.std.specs.declared.option.Option.TheVariants.{None}
 use Rattle.net_ring.specs.Ring.{queue}
-use Rattle.net_packets.specs.Log.{Log, empty_log, log_accepted, log_left, log_dropped}
+use Rattle.net_ring.specs.Log.{Log, empty_log, log_accepted, log_left, log_dropped}
 use Rattle.net_packets.specs.Packets.{Packet, PacketsState, no_packets, byte_ring, placement, with_packet_if_room}
 use Rattle.net_packets.specs.Packets.{only_last, last_bytes, with_last_bytes, with_last_size, with_packet_of}
 use Rattle.net_packets.specs.Packets.{first_size, without_gap, with_first_bytes, IsFirst, without_first}

@@ -4,8 +4,8 @@ use Rattle.net_receiver.proofs.Words.{◌≡◌, ℕ, zero, suc, ◌+◌, ◌-�
 use Rattle.net_receiver.proofs.Words.{All, Some, slice_get, slice_range, refl, sym, ap, subst, ◌∙◌, arith}
 use Rattle.net_receiver.proofs.Words.{length-append, length-drop, ⊎_elim, take-add, nat_le, leb-true, min, nat_lt}
 use Rattle.net_receiver.proofs.Words.{unwrap_or, take_all, Result, Ok, Err, length-take, ◌⊎◌, inl, inr, true, false}
-use Rattle.net_receiver.proofs.Words.{is_some, le-leb, le_trans, cases_lt, and_parts, false≢true}
-use Rattle.net_receiver.proofs.Words.{or_left, and_from, or_right, false_from_ne_true, slice_get_within}
+use Rattle.net_receiver.proofs.Words.{cond, Option, None, is_some, le-leb, le_trans, cases_lt, and_parts, false≢true}
+use Rattle.net_receiver.proofs.Words.{or_left, cond-true, and_from, or_right, false_from_ne_true, slice_get_within}
 use Rattle.net_receiver.proofs.Words.{none-some, All-nil, All-head, All-tail, All-weaker}
 use Rattle.net_receiver.proofs.Words.{CommandValue, Segment, Read, Show, ReplyValue, unread, queued, missing, step}
 use Rattle.net_receiver.proofs.Words.{Piece, piece, piece_within, byte_at, Setting, KeptState, fresh_kept, HasRoom}
@@ -14,22 +14,23 @@ use Rattle.net_receiver.proofs.Words.{receiver_after_command, receiver_after_com
 use Rattle.net_receiver.proofs.Words.{is_held, verdict, state_after, numbers, segment_result, receiver_reply, Refines}
 use Rattle.net_receiver.proofs.Words.{HeldBytes, domain, held_with_piece, first_lacking, held_bytes_at}
 use Rattle.net_receiver.proofs.Words.{receiver_after_read, IsSound, Follows, EndsBy, MatchesLonger, MatchesWhatIsThere}
-use Rattle.net_receiver.proofs.Words.{SegmentReply, receiver_with_piece}
-use Rattle.net_receiver.proofs.Words.{receiver_replies, IsAccepted, HasByteAt, Brings, ReceiverState}
+use Rattle.net_receiver.proofs.Words.{piece_byte_at, SegmentReply, receiver_with_piece, receiver_up_to}
+use Rattle.net_receiver.proofs.Words.{receiver_replies, IsAccepted, HasByteAt, Brings, ReceiverState, option_or}
 use Rattle.net_receiver.proofs.Words.{common_steps, drop-drop, TooManyHolesError, Kept}
 use Rattle.net_receiver.proofs.Words.{KeptBytes}
-use Rattle.std.proofs.Common.{ltb-true, IsOk, IfOk, OnErr}
+use Rattle.std.proofs.Common.{ltb-true, IsOk, IfOk, OnErr, lt-ltb}
 use Rattle.std.proofs.lemmas.List.Elements.{All-push}
 use Rattle.net_receiver.specs.{queue, state_from, Receives, QueueIsOf, FirstStays, NextGrows, LimitGrows}
 use Rattle.net_receiver.specs.{SegmentReadsNothing, StaysInSetting, KeepsOrRefuses, JoinsQueue, HeldIsOfStream}
 use Rattle.net_receiver.specs.{QueueIsOfStream, CapacityStays, ReceivesFrom, MatchesStream, AllMatch, ReadReceives}
 use Rattle.net_receiver.specs.{FreshReceivesFrom, AgreeingReceives, ReceivesFromLonger, SegmentReceives, window_part}
-use Rattle.net_receiver.specs.{InOrderReaches, HasByteStays, AcceptedBrings}
+use Rattle.net_receiver.specs.{InOrderReaches, IsHeld, HeldChangesNothing, SecondCopy, HasByteStays, AcceptedBrings}
 use Rattle.net_receiver.specs.{MatchesInWindow, AllMatchInWindow, WindowMatches, OldMatches, AllMatchThere}
 use Rattle.net_receiver.specs.{HasAllReaches, Completes, ReadLeavesNext, ReadLeavesBytes, ReadsAdd, ReadsGiveTogether}
 use Rattle.net_receiver.proofs.Sets.{clip_at, get-with_bytes_at, next_joined, lacks, lacking, updated_has, piece_from}
-use Rattle.net_receiver.proofs.Sets.{piece_at, piece_some, cond_some, slice_get-drop, slice_get-take}
-use Rattle.net_receiver.proofs.Sets.{updated, left_has, left_above}
+use Rattle.net_receiver.proofs.Sets.{piece_at, piece_some, cond_some, slice_get-drop, slice_get-take, first_unique}
+use Rattle.net_receiver.proofs.Sets.{clip_byte}
+use Rattle.net_receiver.proofs.Sets.{same_both, same_bytes, get_from, updated, left_has, left_above}
 use Rattle.net_receiver.proofs.Schedules.{missing_is, part_cases, window_piece, segment_cases, same_next, queue_length}
 use Rattle.net_receiver.proofs.Schedules.{schedule, setting_kept, settings_kept, queue_agrees, agrees_at, some_of}
 use Rattle.net_receiver.proofs.Schedules.{stream, follows_verdict, any_verdict, read_prefix}
@@ -493,7 +494,7 @@ in_order_reaches N v pos xs h =
     by e n m k (Ok t) ok kept queued joins h = omega (arith, kept, queued, joins, h)
     by e n m k (Err x) ok kept queued joins h = absurd (false≢true ok)
 
--- ---- Segments that together cover a range.
+-- ---- Segments that come again, and segments that together cover a range.
 -- what is held is above the first missing position
 abbrev IsAbove : ReceiverState → Type 0
 IsAbove v = (p : ℕ) → fin.contains_key v.held p ≡ true → next_position v < p
@@ -520,6 +521,77 @@ module _ (v : ReceiverState) (part : Piece) where
 
 missing_of : (v : ReceiverState) → IsAbove v → fin.contains_key v.held (next_position v) ≡ false
 missing_of v above = false_from_ne_true _ (λ h. (let l = above (next_position v) h in omega arith))
+
+-- ---- segments that come again
+kept_held : (v : ReceiverState) (part : Piece) → IsAbove v →
+    ((q b : ℕ) → piece_byte_at part q ≡ Some b → fin.get v.held q ≡ Some b) → receiver_with_piece v part ≡ v
+kept_held v part above same =
+    (λ i. receiver_up_to v (next_position v) (updated_same i) (lacking_same i))
+    ∙ (λ i. record { first = v.first; capacity = v.capacity; read = v.read; queue = queue_same i; held = held_same i })
+  where
+    or_same : (o m : Option ℕ) → ((b : ℕ) → o ≡ Some b → m ≡ Some b) → option_or o m ≡ m
+    or_same None m h = refl
+    or_same (Some b) m h = sym (h b refl)
+
+    updated_same : held_with_piece v part ≡ v.held
+    updated_same = same_bytes _ _ (λ q. get-with_bytes_at v.held part.start part.bytes q
+        ∙ or_same (piece_byte_at part q) (fin.get v.held q) (same q))
+
+    lacking_same : lacks v part ≡ next_position v
+    lacking_same =
+        first_unique (fin.contains_key (held_with_piece v part)) (next_position v) _ _ (lacking v part)
+        (record {
+          from = omega arith;
+          before = λ q a b. absurd (omega arith);
+          here =
+              ap (λ m. fin.contains_key m (next_position v)) updated_same ∙ missing_of v above;
+        })
+
+    queue_same : v.queue ++ held_bytes_at v.held (next_position v) (next_position v - next_position v) ≡ v.queue
+    queue_same =
+        (let none : next_position v - next_position v ≡ 0 = omega arith in
+        ap (λ k. v.queue ++ held_bytes_at v.held (next_position v) k) none ∙ append-nil v.queue)
+
+    kept : (q : ℕ) (o : Option ℕ) → (is_some o ≡ true → next_position v < q) →
+        cond (nat_le (next_position v) q) o None ≡ o
+    kept q None above = same_both (nat_le (next_position v) q) None
+    kept q (Some b) above = (let l = above refl in cond-true _ _ _ (le-leb (next_position v) q (omega arith)))
+
+    held_same : fin.retain_keys v.held (λ p. nat_le (next_position v) p) ≡ v.held
+    held_same = same_bytes _ _ (λ q. get_from v.held (next_position v) q ∙ kept q (fin.get v.held q) (above q))
+
+held_changes_nothing_above : (most : ℕ) (v : ReceiverState) (pos : ℕ) (xs : List ℕ) → IsAbove v → IsHeld v pos xs →
+    receiver_after_command most v (Segment pos xs) ≡ v
+held_changes_nothing_above most v pos xs above held =
+    let limit = v.first + v.read + v.capacity in
+    let part = piece_within (next_position v) limit (piece pos xs) in
+    any_verdict (λ y. state_after v y ≡ v) (next_position v) most (domain v.held) part (λ _. refl) refl
+    (kept_held v part above (λ q b is. (let at = clip_at (next_position v) limit (piece pos xs) q b is in
+    held q b at.0 at.1 at.2)))
+
+pub held_changes_nothing : HeldChangesNothing
+held_changes_nothing most v pos xs sound held = held_changes_nothing_above most v pos xs sound.above held
+
+pub second_copy : SecondCopy
+second_copy most v pos xs sound =
+    let e : Piece = piece pos xs in
+    let limit = v.first + v.read + v.capacity in
+    let part = piece_within (next_position v) limit e in
+    any_verdict
+    (λ y. verdict most v e ≡ y → receiver_after_command most (state_after v y) (Segment pos xs) ≡ state_after v y)
+    (next_position v) most (domain v.held) part
+    (λ _ is. ap (state_after v) is)
+    (λ is. ap (state_after v) is)
+    (λ is. held_changes_nothing_above most (receiver_with_piece v part) pos xs (above_joined v part) (λ p b from to at.
+    let there = next_joined v part in
+    let grown = (lacking v part).from in
+    get_from (updated v part) (lacks v part) p
+    ∙ cond-true _ _ _ (le-leb (lacks v part) p (omega arith))
+    ∙ get-with_bytes_at v.held part.start part.bytes p
+    ∙ ap (λ o. option_or o (fin.get v.held p))
+    (clip_byte (next_position v) limit e p
+    ∙ cond-true _ _ _ (and_from _ _ (le-leb _ p (omega arith)) (lt-ltb p limit to)) ∙ at)))
+    refl
 
 -- ---- segments that cover a range
 pub has_byte_stays : HasByteStays
@@ -631,6 +703,8 @@ pub ruleset receives_law = (
 )
 
 pub ruleset matches_stream_law = (matches_what_is_there, matches_longer, window_matches, old_matches)
+
+pub ruleset retransmission_law = (second_copy, held_changes_nothing)
 
 pub ruleset numbers_law = (first_stays, next_position_grows, limit_grows, segment_reads_nothing, capacity_stays)
 

@@ -8,7 +8,7 @@ use Rattle.net_receiver.specs.{numbers_end, has_end_at, accepts}
 use Rattle.net_receiver.specs.{SenderCommand, Writes, Closes, Marks, Acknowledges, written_of}
 use Rattle.net_receiver.specs.{sender_after_command, sender_after_commands, bytes_written, IsLent, IsSoundSent}
 use Rattle.net_receiver.specs.{FreshSentIsSound, SoundSentStays, ClosedStays, LentIsOfStream, LendsAt}
-use Rattle.net_receiver.specs.{IsSoundFiniteSender}
+use Rattle.net_receiver.specs.{IsSoundFiniteSender, QueueFromGreatest, greatest_within}
 use Rattle.net_receiver.proofs.Words.{◌≡◌, ℕ, ◌+◌, ◌-◌, ◌<◌, ◌≤◌, List, [], length, take, drop, ◌++◌, ◌∙◌}
 use Rattle.net_receiver.proofs.Words.{arith, sym, ap, min, max, length-append, length-drop, Bool, true, false, cond}
 use Rattle.net_receiver.proofs.Words.{◌∷◌, nat_eq, nat_le, refl, subst, append_assoc, append-nil, All, ⊎_elim}
@@ -19,7 +19,7 @@ use Rattle.net_receiver.proofs.Words.{FiniteSenderState, first_number, finite_ro
 use Rattle.net_receiver.proofs.Words.{open_room, acknowledged_below, MatchesFinite, next_position, fresh_finite}
 use Rattle.net_receiver.proofs.Words.{acknowledged, fresh_finite_sender, FiniteCommand, Arrives, Reads, CommandMatches}
 use Rattle.net_receiver.proofs.Words.{finite_after_commands, from_bool, queue, ring_at, length-queue, FiniteSenderHead}
-use Rattle.net_receiver.proofs.Words.{All-head, All-tail, All-weaker}
+use Rattle.net_receiver.proofs.Words.{All-head, All-tail, All-weaker, map}
 use Rattle.net_receiver.specs.SenderState.{SenderState}
 use Rattle.std.specs.Prelude.{IsTrue, IsFalse}
 use Rattle.net_ring.specs.RingHead.{IsSound, place}
@@ -115,6 +115,55 @@ sound_sent_stays s (Acknowledges n) sound =
       low = omega arith;
       high = omega (arith, sound.high);
     }) sound
+
+-- ---- several acknowledgements, and what they leave
+abbrev Follow : FiniteSenderState → List ℕ → FiniteSenderState → Type 0
+Follow s ns t = (first_number t ≡ greatest_within s.sent (first_number s) ns)
+    × (t.sent ≡ s.sent) × (numbers_end t ≡ numbers_end s)
+    × (s.sender.first_unacknowledged ≤ t.sender.first_unacknowledged)
+    × (t.sender.queue ≡ drop (t.sender.first_unacknowledged - s.sender.first_unacknowledged) s.sender.queue)
+
+nothing_dropped : (v : SenderState) → v.queue ≡ drop (v.first_unacknowledged - v.first_unacknowledged) v.queue
+nothing_dropped v = ap (λ k. drop k v.queue) (let e : 0 ≡ v.first_unacknowledged - v.first_unacknowledged =
+    omega arith in e)
+
+one_follows : (s : FiniteSenderState) (n : ℕ) → Follow s (n ∷ []) (sender_after_command s (Acknowledges n))
+one_follows s n =
+    cond_both (accepts s n) (acknowledged_below s n) s (Follow s (n ∷ []))
+    (λ on.
+    let both = and_parts (nat_le (first_number s) n) (nat_le n s.sent) on in
+    let low = leb-true (first_number s) n both.0 in
+    let high = leb-true n s.sent both.1 in
+    let v = s.sender in (
+      grind (arith, nat_tests),
+      refl,
+      omega (arith, length-drop (min n (end_of v) - v.first_unacknowledged) v.queue),
+      omega arith,
+      refl,
+    ))
+    (λ off. (grind (arith, nat_tests), refl, refl, omega arith, nothing_dropped s.sender))
+
+all_follow : (s : FiniteSenderState) (ns : List ℕ) → Follow s ns (sender_after_commands s (map Acknowledges ns))
+all_follow s [] = (refl, refl, refl, omega arith, nothing_dropped s.sender)
+all_follow s (n ∷ ns) =
+    let u = sender_after_command s (Acknowledges n) in
+    let t = sender_after_commands u (map Acknowledges ns) in
+    let here = one_follows s n in
+    let rest = all_follow u ns in
+    let a = s.sender.first_unacknowledged in
+    let b = u.sender.first_unacknowledged in
+    let c = t.sender.first_unacknowledged in
+    let place : (b - a) + (c - b) ≡ c - a = omega (arith, here.3, rest.3) in (
+      rest.0 ∙ (λ i. greatest_within (here.1 i) (here.0 i) ns),
+      rest.1 ∙ here.1,
+      rest.2 ∙ here.2,
+      omega (arith, here.3, rest.3),
+      rest.4 ∙ ap (drop (c - b)) here.4 ∙ drop-drop (c - b) (b - a) s.sender.queue
+          ∙ ap (λ k. drop k s.sender.queue) place,
+    )
+
+pub queue_from_greatest : QueueFromGreatest
+queue_from_greatest s ns = (let h = all_follow s ns in (h.0, h.1, h.2, h.4))
 
 -- ---- one command
 module _ (s : FiniteSenderState) where

@@ -10,6 +10,7 @@ use Rattle.net_receiver.specs.{byte_at, queue}
 use Rattle.net_receiver.specs.{replies, replies_from}
 use Rattle.net_receiver.specs.{ExecutesFor}
 use Rattle.net_receiver.specs.{SoundRepresents, ListsHeldRuns, FreshRefines, TellsFresh}
+use Rattle.net_receiver.specs.{FreshIsSound, SoundStays}
 use Rattle.net_receiver.proofs.Words.{◌≡◌, ℕ, ◌+◌, ◌-◌, ◌≤◌, ◌<◌, false, nat_le, None, is_some, List, [], map}
 use Rattle.net_receiver.proofs.Words.{◌++◌, length, take, All, refl, sym, ap, subst, ◌∙◌, arith, ⊎_elim, le_refl, ◌⊎◌}
 use Rattle.net_receiver.proofs.Words.{inl, inr, suc, Bool, true, cond, ◌∷◌, drop, get_or, Option, Some, Result, Ok}
@@ -19,7 +20,7 @@ use Rattle.net_receiver.proofs.Words.{take-add, filter, le_trans, range_with_len
 use Rattle.net_receiver.proofs.Words.{cond-false, and_right, and_parts, cond-true, cond_both, or_left, or_right}
 use Rattle.net_receiver.proofs.Words.{false_from_ne_true, ltb-true, ltb-false, Positions, contains, nothing}
 use Rattle.net_receiver.proofs.Words.{maximal_runs, lies_in, IsMaximalRun, positions, with_range, contains-nothing}
-use Rattle.net_receiver.proofs.Words.{has, contains-positions, contains-with_range, positions_rise}
+use Rattle.net_receiver.proofs.Words.{same_positions, has, contains-positions, contains-with_range, positions_rise}
 use Rattle.net_receiver.proofs.Words.{rising_unique, CommandValue, ReplyValue, byte, queued, missing, is_held}
 use Rattle.net_receiver.proofs.Words.{state_from, SegmentReply, step, held_bytes, Setting}
 use Rattle.net_receiver.proofs.Words.{KeptState, fresh_kept, bytes_read, IsAccepted, HasRoom, fresh_receiver, setting}
@@ -30,6 +31,7 @@ use Rattle.net_receiver.proofs.Words.{piece, end, piece_byte_at, is_covered, pie
 use Rattle.net_receiver.proofs.Words.{receiver_with_piece, ReceiverState, AllPairs, count_by, ⊤, All-take}
 use Rattle.net_receiver.proofs.Words.{sum_by-cons, TooManyHolesError, Kept, KeptBytes}
 use Rattle.net_receiver.proofs.Words.{take_min, length-replicate, take-take, option_or, slice_get_within, nat_tests}
+use Rattle.net_receiver.proofs.Words.{runs-nothing}
 use Rattle.net_receiver.proofs.Schedules.{queued_covered, missing_is, none_of, schedule, settings_kept}
 use Rattle.net_receiver.proofs.Schedules.{after_all_append, replies_append, stream, recover, follows_prefix}
 use Rattle.net_receiver.proofs.Schedules.{has-filter, filter_rises, verdict_by}
@@ -77,6 +79,21 @@ held_none n spare s e = same_bytes _ _ (λ q.
     get-held_bytes s n spare q
     ∙ cond-false _ _ _ (and_right (nat_le n q) _ (ap (λ t. contains t (q - n)) e ∙ contains-nothing (q - n)))
     ∙ sym (fin.get-empty nat_cmp q))
+
+not_held : (p : ℕ) → fin.contains_key (fin.empty {X = ℕ} {R = nat_cmp}) p ≡ false
+not_held p = ap is_some (fin.get-empty nat_cmp p)
+
+pub fresh_sound : (most f capacity : ℕ) → runs nothing ≤ most → IsSound most (fresh_receiver f capacity)
+fresh_sound most f capacity few = record {
+  few =
+      subst (λ t. runs t ≤ most)
+      (sym (same_positions (domain fin.empty) nothing (λ q. contains-domain fin.empty q ∙ not_held q
+      ∙ sym (contains-nothing q))))
+      few;
+  above = λ p h. absurd (both_ways _ (not_held p) h);
+  below = λ p h. absurd (both_ways _ (not_held p) h);
+  fits = omega arith;
+}
 
 pub fresh_refines : FreshRefines
 unfolding byte_at
@@ -551,11 +568,13 @@ segment_sound most v pos xs sound =
     (λ _ _ _. sound)
     (λ some which. sound_joined most v sound part (omega arith) (few_joined most v sound part which))
 
-pub sound_stays : (most : ℕ) (v : ReceiverState) (c : CommandValue) → IsSound most v →
-    IsSound most (receiver_after_command most v c)
+pub sound_stays : SoundStays
 sound_stays most v (Segment pos xs) sound = segment_sound most v pos xs sound
 sound_stays most v (Read count) sound = sound_read most v count sound
 sound_stays most v Show sound = sound
+
+pub fresh_is_sound : FreshIsSound
+fresh_is_sound most first capacity = fresh_sound most first capacity (let none = runs-nothing in omega arith)
 
 -- ---- The lemmas of each law.
 pub ruleset headline_law = (calls_reply, calls_go_on, keep_replies)

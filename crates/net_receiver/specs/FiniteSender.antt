@@ -16,6 +16,7 @@
 --     IsLent s pos limit xs last      what a sender lends from pos on, of numbers below limit
 --     LendsAt c h pos limit at total size last      where a head says that it is, in a storage of c bytes
 --     IsSoundSent s      what is true of every sender
+--     greatest_within limit n ns      the greatest of n and of those numbers that are at most the limit
 -- The others are laws.
 -- What a receiver reads of what a sender sends, whatever the path between them does.
 --     IsLentIn s ws pos xs last      a sender lent this segment at some moment of the commands ws
@@ -24,7 +25,7 @@
 --     AnyPathCarries      what is read is a prefix of what is written, and all of it once the receiver says so; and
 --         what the receiver lacks can be sent again
 use Rattle.std.specs.Prelude.{◌≡◌, ℕ, ◌+◌, ◌-◌, ◌<◌, ◌≤◌, ◌&&◌, min, max, Bool, if◌then◌else◌, List, []}
-use Rattle.std.specs.Prelude.{nat_eq, nat_le, ◌∷◌, ◌++◌, length, take, drop, IsTrue, ◌↔◌, IsFalse, All}
+use Rattle.std.specs.Prelude.{nat_eq, nat_le, ◌∷◌, ◌++◌, length, take, drop, IsTrue, ◌↔◌, IsFalse, All, map}
 use Rattle.net_receiver.specs.SenderState.{SenderState, sender_state, end_of, room_of, with_written}
 use Rattle.net_receiver.specs.SenderState.{sender_from, sender_of, IsSoundHead, contiguous_end, Sends}
 use Rattle.net_receiver.specs.declared.finite_sender_head.FiniteSenderHead.{FiniteSenderHead}
@@ -203,6 +204,20 @@ LentIsOfStream = (s : FiniteSenderState) (cs : List SenderCommand) (f : ℕ) (w 
     IsSoundSent s → Sends f w s.sender → s.sender.first_unacknowledged ≤ pos →
     xs ≡ take (length xs) (drop (pos - s.sender.first_unacknowledged) s.sender.queue) →
     MatchesFinite f (w ++ bytes_written s cs) pos xs (has_end_at s (pos + length xs))
+
+-- the greatest of n and of the numbers, but for those above the limit
+abbrev pub greatest_within : ℕ → ℕ → List ℕ → ℕ
+greatest_within limit n [] = n
+greatest_within limit n (m ∷ ms) = greatest_within limit (if nat_le m limit then max n m else n) ms
+
+-- after acknowledgements, in any order, all below the greatest of those that were sent is acknowledged, and no more; and
+-- the queue is all bytes from there on
+abbrev pub QueueFromGreatest : Type 0
+QueueFromGreatest = (s : FiniteSenderState) (ns : List ℕ) →
+    let t = sender_after_commands s (map Acknowledges ns) in
+    (first_number t ≡ greatest_within s.sent (first_number s) ns)
+    × (t.sent ≡ s.sent) × (numbers_end t ≡ numbers_end s)
+    × (t.sender.queue ≡ drop (t.sender.first_unacknowledged - s.sender.first_unacknowledged) s.sender.queue)
 
 -- ---- What a receiver reads of what a sender sends, whatever the path between them does.
 -- after the commands `before`, with those `after` still to come, the sender shows these bytes of its queue, and says

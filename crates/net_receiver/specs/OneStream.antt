@@ -10,12 +10,13 @@
 -- match are not unfolded by a caller's proofs, which find them by the clauses of the calls and by the laws that make
 -- them.
 -- Retransmitted segments, segments that together cover a range, and what reads leave.
+--     IsHeld v pos xs      all bytes of a segment in the free window are held already
 --     HasByteAt v p      the position p is below the first missing one, or is held
 --     Brings cs p      a segment of cs contains the position p
 -- The others are laws.
 use Rattle.std.specs.Prelude.{◌≡◌, ℕ, ◌+◌, ◌-◌, ◌≤◌, List, [], ◌∷◌, ◌++◌, length, take, drop, slice_get, Some, All}
 use Rattle.std.specs.Prelude.{◌⊎◌, ◌<◌, min, IsTrue, ◌↔◌}
-use Rattle.net_receiver.specs.Schedule.{piece, Setting, KeptState, PieceAgrees, Agrees, IsAccepted}
+use Rattle.net_receiver.specs.Schedule.{piece, Setting, KeptState, PieceAgrees, Agrees, piece_byte_at, IsAccepted}
 use Rattle.net_receiver.specs.Schedule.{piece_within}
 use Rattle.net_receiver.specs.ReceiverState.{CommandValue, Segment, Read, Show, ReceiverState, fresh_receiver}
 use Rattle.net_receiver.specs.ReceiverState.{next_position, receiver_after_command, limit_of, Refines, IsSound}
@@ -187,6 +188,23 @@ SegmentReadsNothing = (most_runs : ℕ) (v : ReceiverState) (pos : ℕ) (xs : Li
 abbrev pub CapacityStays : Type 0
 CapacityStays = (most_runs : ℕ) (v : ReceiverState) (c : CommandValue) →
     (receiver_after_command most_runs v c).capacity ≡ v.capacity
+
+-- ---- retransmitted segments
+-- each byte of a segment within the free window is held already
+abbrev pub IsHeld : ReceiverState → ℕ → List ℕ → Type 0
+IsHeld v pos xs = (p b : ℕ) → next_position v ≤ p → p < limit_of v →
+    piece_byte_at (piece pos xs) p ≡ Some b → fin.get v.held p ≡ Some b
+
+-- such a segment changes nothing
+abbrev pub HeldChangesNothing : Type 0
+HeldChangesNothing = (most_runs : ℕ) (v : ReceiverState) (pos : ℕ) (xs : List ℕ) →
+    IsSound most_runs v → IsHeld v pos xs → receiver_after_command most_runs v (Segment pos xs) ≡ v
+
+-- the second copy of a segment changes nothing, whatever happened to the first one
+abbrev pub SecondCopy : Type 0
+SecondCopy = (most_runs : ℕ) (v : ReceiverState) (pos : ℕ) (xs : List ℕ) → IsSound most_runs v →
+    let u = receiver_after_command most_runs v (Segment pos xs) in
+    receiver_after_command most_runs u (Segment pos xs) ≡ u
 
 -- ---- segments that cover a range
 -- a position is below the first missing one, so that it was read or is queued, or is held

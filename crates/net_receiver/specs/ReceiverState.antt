@@ -233,6 +233,16 @@ IsSameState v u =
     (v.first ≡ u.first) × (v.read ≡ u.read) × (v.queue ≡ u.queue)
     × (maximal_runs (domain v.held) ≡ maximal_runs (domain u.held))
 
+-- ---- What is true of every receiver is true of a fresh one, and stays true after each command.
+-- a fresh receiver, for any number of runs
+abbrev pub FreshIsSound : Type 0
+FreshIsSound = (most_runs first capacity : ℕ) → IsSound most_runs (fresh_receiver first capacity)
+
+-- each command
+abbrev pub SoundStays : Type 0
+SoundStays = (most_runs : ℕ) (v : ReceiverState) (c : CommandValue) →
+    IsSound most_runs v → IsSound most_runs (receiver_after_command most_runs v c)
+
 -- ---- How a ring and a set of offsets represent what a receiver stores.
 -- the bytes of the spare part at the offsets of a set, by their positions
 abbrev pub held_bytes : Positions → ℕ → List ℕ → HeldBytes

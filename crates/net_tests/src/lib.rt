@@ -2,7 +2,7 @@
 //! its public calls.
 //!
 //! They are in a crate of their own, so that crates that use these libraries don't wait for them, and link nothing that
-//! only tests need. Rows with values drawn by a computer are of the erased text, in `rust/tests`.
+//! only tests need. Calls that are drawn are of the erased text, in `rust/tests`.
 #![tactic(auto)]
 
 #[cfg(test)]

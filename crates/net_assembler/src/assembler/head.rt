@@ -100,6 +100,7 @@ impl AssemblerHead {
 
     /// Removes every position, so that the head is that of `new`. It need not be sound before.
     pub(crate) fn clear(&mut self)
+        ensures no_start { self.new.first_start ≡ 0 }
         ensures sound { (runs : List (ℕ × ℕ)) → HasSoundRuns self.new runs }
         ensures empty { (runs : List (ℕ × ℕ)) → set_of self.new runs ≡ nothing }
     {

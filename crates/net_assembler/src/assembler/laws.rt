@@ -5,13 +5,15 @@
 //! body that meets the contracts.
 #![tactic(auto, using(crate::proofs::Calls::laws))]
 
-ghost use Rattle.std.specs.Prelude.{◌≡◌, ◌↔◌, ℕ, ◌+◌, ◌<◌, ◌≤◌, ◌^◌, Bool, List, length, drop};
+ghost use Rattle.std.specs.Prelude.{◌≡◌, ◌↔◌, ◌||◌, ℕ, ◌+◌, ◌<◌, ◌≤◌, ◌^◌, Bool, List, length, drop};
 ghost use Rattle.std.specs.Prelude.{Option, Result, Ok, IsTrue, IsOk, IsErr, OnOk, OnErr};
+ghost use Rattle.std.specs.List.Sorted.{IsPermutation};
 ghost use Rattle.net_assembler.specs.declared.assembler.error.TooManyHolesError.{TooManyHolesError};
 ghost use Rattle.net_assembler.specs.Assembler.{MakesTooManyRuns};
 ghost use Rattle.net_assembler.specs.AssemblerLaws.{Adds, AddsThenRemovesFront, CallsNext, Compares};
 ghost use Rattle.net_assembler.specs.AssemblerLaws.{MaximalRunsOfEverySet, MembersOfNothing};
-ghost use Rattle.net_assembler.specs.AssemblerLaws.{MembersWithRange, RemovesFront, results_of_next};
+ghost use Rattle.net_assembler.specs.AssemblerLaws.{MembersWithRange, RemovesFront, lies_in_some, results_of_next};
+ghost use Rattle.net_assembler.specs.AssemblerLaws.{with_ranges};
 ghost use Rattle.net_assembler.specs.Positions.{AreMaximalRuns, IsFirstMissing, Positions, contains, first_missing};
 ghost use Rattle.net_assembler.specs.Positions.{front, maximal_runs, nothing, runs, shift_down, with_range};
 ghost use Rattle.net_assembler.specs.RunLists.{HasSoundRuns, IsCanonical, set_of, zero_head};
@@ -66,9 +68,26 @@ pub fn adding_again()
         (again ≡ Ok tt) × (twice ≡ once) }
 {}
 
-/// States that the empty set has no run.
+/// States that the empty set has no run, and a range makes at most one run more. So a range is
+/// accepted if there are fewer than `N` runs.
 pub fn number_of_runs()
-    ensures { runs nothing ≡ 0 }
+    ensures of_nothing { runs nothing ≡ 0 }
+    ensures with_range { (s : Positions) (offset size : ℕ) →
+        runs (with_range s offset size) ≤ runs s + 1 }
+{}
+
+/// States that ranges that are added one after another leave the union, whatever their order: a
+/// position is present exactly if it was before or is in one of the ranges, and ranges in another
+/// order, or any that have the same positions, leave the same set.
+#[tactic(auto, using(crate::proofs::Calls::orders))]
+pub fn ranges_in_any_order()
+    ensures members { (s : Positions) (ranges : List (ℕ × ℕ)) (p : ℕ) →
+        contains (with_ranges s ranges) p ≡ (contains s p || lies_in_some p ranges) }
+    ensures same { (s : Positions) (ranges others : List (ℕ × ℕ)) →
+        ((p : ℕ) → lies_in_some p ranges ≡ lies_in_some p others) →
+        with_ranges s ranges ≡ with_ranges s others }
+    ensures reordered { (s : Positions) (ranges others : List (ℕ × ℕ)) →
+        IsPermutation ranges others → with_ranges s ranges ≡ with_ranges s others }
 {}
 
 /// States that two ranges that are accepted in both orders leave equal assemblers.
