@@ -8,6 +8,9 @@ for folder in . benches exports fuzz ../c ../compare; do
     (cd "$folder" && cargo fmt --check)
 done
 (cd ../tools/growth && cargo fmt --check -- --config-path ../../rust)
+for file in ../compare/quinn/*.rs; do
+    rustfmt --edition 2021 --config-path ../compare < "$file" | cmp - "$file"
+done
 for features in "" "--no-default-features" "--no-default-features --features alloc" "--all-features"; do
     # shellcheck disable=SC2086
     cargo clippy --offline --quiet --all-targets $features -- -D warnings

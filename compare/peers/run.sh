@@ -15,22 +15,13 @@ set -eu
 here=$(cd "$(dirname "$0")" && pwd)
 name=peers
 . "$here/../../rust/examples/endpoint/namespace.sh"
+. "$here/../debian.sh"
 
 case "${1-}" in
     --sample | --matrix | --goodput | --runs) call=${1#--} ;;
     *) echo "usage: sh run.sh --sample|--matrix|--goodput|--runs [WORD [SEED]]" >&2; exit 1 ;;
 esac
 shift
-
-# Makes sure that a file of Debian's packages is here.
-want() {
-    file=$1; shift
-    if [ ! -e "$file" ] && [ "$(id -u)" = 0 ] && command -v apt-get > /dev/null; then
-        apt="guarded apt-get -qq -o DPkg::Lock::Timeout=120"
-        { $apt update && $apt install -y --no-install-recommends "$@"; } > "$out/apt" 2>&1 || :
-    fi
-    [ -e "$file" ] || not_run "no $file: apt-get install -y $*"
-}
 
 # Unpacks the sources of lwIP's package, from where the machine has its packages: lists of this run alone ask there for
 # sources too.

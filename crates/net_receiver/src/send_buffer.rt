@@ -56,7 +56,9 @@ use std::ops::Range;
 pub enum RangeAck {
     /// It is remembered: none of it is sent again.
     Taken,
-    /// There would be more than `N` runs, so it isn't remembered: it is lost, and sent again.
+    /// There would be more than `N` runs, so it isn't remembered: it is lost, and sent again. `next` returns it, as what
+    /// `lose` was told, so a stream that waited for nothing but acknowledgements has something to send. It is acknowledged
+    /// once more then: bytes that wait are counted by [`SendBufferOver::numbers`], and not by the lengths of ranges.
     SentAgain,
     /// It ends above what was sent. Nothing changes.
     Refused,
@@ -309,8 +311,8 @@ impl<S: Storage<u8>, const N: usize> SendBufferOver<S, N> {
         self.sender.close();
     }
 
-    /// Lends the bytes of a range, in two parts, and returns whether the stream ends after them. If the range begins at
-    /// a number that is acknowledged, it lends none.
+    /// Lends the bytes of a range, in two parts, and returns whether the stream ends after them. If the range begins below
+    /// `numbers().first_unacknowledged`, it lends none. Bytes that are acknowledged beyond that are lent too.
     ///
     /// ```
     /// # use net_base::finite::{Part, SendBuffer};

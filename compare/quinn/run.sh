@@ -1,0 +1,231 @@
+#!/bin/sh
+# Builds quinn-proto 0.9.2, as Debian 12 has it, twice: as it is, and with net-base's receiver and send buffer in the
+# place of its `Assembler` and `SendBuffer` (assembler.rs and send_buffer.rs beside this):
+#
+#     sh compare/quinn/run.sh --sample   quinn's tests, and transfers over a path that loses, which must be equal
+#     sh compare/quinn/run.sh --runs     the transfers with other numbers of runs: a table
+#     sh compare/quinn/run.sh --speed    the two types of both by themselves: a table of times
+#
+# quinn's sources and what they depend on are Debian's, and it installs them if it can. All that it builds is in a
+# folder that goes when it ends. Status 1 if something fails, and 2 if the machine has no such packages. TERM ends all
+# of it.
+set -eu
+here=$(cd "$(dirname "$0")" && pwd)
+name=quinn
+. "$here/../../rust/examples/endpoint/namespace.sh"
+. "$here/../debian.sh"
+
+case "${1-}" in
+    --sample | --runs | --speed) call=${1#--} ;;
+    *) echo "usage: sh run.sh --sample|--runs|--speed" >&2; exit 1 ;;
+esac
+
+registry=/usr/share/cargo/registry
+for crate in quinn-proto-0.9.2 assert_matches-1.5.0 hex-literal-0.3.4 lazy_static-1.4.0 tracing-subscriber-0.3.16; do
+    want "$registry/$crate" librust-quinn-proto-dev librust-assert-matches-dev librust-hex-literal-dev \
+        librust-lazy-static-dev librust-tracing-subscriber-dev
+done
+want /usr/bin/openssl openssl
+
+# Changes a file by a command of sed, or ends all if the file lacks what that looks for.
+change() {
+    sed "$2" "$1" > "$out/changed"
+    ! cmp -s "$1" "$out/changed" || { echo "quinn: $1 isn't as expected: sed '$2' changes nothing" >&2; exit 1; }
+    cp "$out/changed" "$1"
+}
+
+# Makes the key and the certificate of a server with these names, as lib.rs of rcgen includes them.
+certify() {
+    printf '%s\n' '[req]' 'distinguished_name = subject' 'prompt = no' 'x509_extensions = all' '[subject]' \
+        'CN = test' '[all]' "subjectAltName = $2" > "$out/names"
+    guarded openssl req -x509 -newkey ec -pkeyopt ec_paramgen_curve:P-256 -nodes -config "$out/names" \
+        -keyout "$out/key" -outform DER -out "$out/rcgen/$1.der" 2> /dev/null
+    guarded openssl pkcs8 -topk8 -nocrypt -in "$out/key" -outform DER -out "$out/rcgen/$1.key"
+}
+
+# Makes a package of quinn's sources, with the transfers among its tests.
+copy() {
+    cp -r "$registry/quinn-proto-0.9.2" "$out/$1"
+    cp "$here/lossy.rs" "$out/$1/src/tests"
+    echo 'mod lossy;' >> "$out/$1/src/tests/mod.rs"
+    change "$out/$1/Cargo.toml" "s/^name = \"quinn-proto\"/name = \"$1\"/"
+    printf '\n[dev-dependencies.rcgen]\npath = "../rcgen"\n' >> "$out/$1/Cargo.toml"
+}
+
+# Puts a type over net-base in the place of quinn's, with quinn's tests of it. These look at fields, which are calls
+# here.
+replace() {
+    file=$out/ported/src/connection/$1.rs
+    { cat "$here/$1.rs"; sed -n '/^#\[cfg(test)\]/,$p' "$out/original/src/connection/$1.rs"; } > "$file"
+}
+
+# Puts before a test a copy of it, whose expectations a command of sed changes: here the bytes of frames and of writes
+# that touch are lent at once.
+join() {
+    { sed "/fn $2()/,\$d" "$1"; sed -n "/fn $2()/,/^ \{0,4\}}\$/p" "$1" | sed "s/fn $2/&_joined/; $3"
+        echo '#[test]'; sed -n "/fn $2()/,\$p" "$1"; } > "$out/changed"
+    cp "$out/changed" "$1"
+}
+
+# Makes the package over net-base. quinn acknowledges no byte twice, and counts a range's bytes when it does. With few
+# runs net-base has it send more than what is lost. So bytes are counted when they needn't be stored any more, and a
+# stream of which something is to be sent again is pending.
+port() {
+    copy ported
+    printf '\n[dependencies.net-base]\npath = "%s"\n' "$here/../../rust" >> "$out/ported/Cargo.toml"
+    change "$out/ported/src/connection/streams/state.rs" 's/self\.unacked_data -= frame\..*/\
+        let was_pending = stream.is_pending();\
+        self.unacked_data -= stream.pending.ack(frame.offsets.clone());\
+        if !was_pending \&\& stream.is_pending() {\
+            push_pending(\&mut self.pending, id, stream.priority);\
+        }/'
+    replace assembler
+    change "$file" 's/x\.data\.peek()/x.data().first()/'
+    change "$file" 's/x\.data\.len()/x.data().len()/'
+    join "$file" assemble_ordered '/&y/s/789/78910/; /&y.*"10"/d'
+    join "$file" assemble_overlapping '/&y/s/"123"/"1234"/; /&y.*"4"/d'
+    join "$file" chunks_dedup '/new(0/s/abcd/abcdefghi/; s/Some(Chunk::new(4.*/None/'
+    replace send_buffer
+    change "$file" 's/buf\.acks\./buf.acks()./'
+    change "$file" 's/buf\.unacked_segments\./buf.unacked_segments()./'
+    join "$file" multiple_segments 's/assert_eq!(\(buf.get([^)]*)\), \(SEG.\))/assert!(\1.starts_with(\2))/'
+    join "$out/ported/src/tests/mod.rs" key_update_reordered \
+        '/buf2/d; s/assert_matches!(.*buf1.*/assert_eq!(buf1.bytes, [MSG1, MSG2].concat());/'
+}
+
+# Makes a package of what times the types of both.
+pair() {
+    mkdir -p "$out/speed/src/quinn" "$out/speed/src/ported"
+    printf '[package]\nname = "speed"\nedition = "2021"\n[dependencies]\nbytes = "1"\nnet-base.path = "%s"\n' \
+        "$here/../../rust" > "$out/speed/Cargo.toml"
+    cp "$here/speed.rs" "$out/speed/src/main.rs"
+    cp "$out/original/src/range_set/btree_range_set.rs" "$out/speed/src/range_set.rs"
+    for file in assembler.rs send_buffer.rs; do
+        cp "$out/original/src/connection/$file" "$out/speed/src/quinn"
+        cp "$here/$file" "$out/speed/src/ported"
+    done
+}
+
+# Makes a workspace of all, and of what it wants that Debian hasn't.
+prepare() {
+    mkdir -p "$out/.cargo" "$out/rcgen"
+    printf '[source.crates-io]\nreplace-with = "debian"\n[source.debian]\ndirectory = "%s"\n' "$registry" \
+        > "$out/.cargo/config.toml"
+    printf '[workspace]\nresolver = "2"\nmembers = ["original", "ported", "speed"]\n' > "$out/Cargo.toml"
+    printf '[package]\nname = "rcgen"\nversion = "0.10.0"\nedition = "2021"\n[lib]\npath = "lib.rs"\n' \
+        > "$out/rcgen/Cargo.toml"
+    cp "$here/rcgen.rs" "$out/rcgen/lib.rs"
+    certify one DNS:localhost
+    certify many "DNS:localhost$(seq -f ,DNS:foo_%g 0 999 | tr -d '\n')"
+    copy original
+    port
+    pair
+}
+
+# Builds the tests of both. Sets $original and $ported, the programs.
+build() {
+    guarded cargo test --offline --no-run --lib --package original --package ported > built 2>&1 || fail built
+    original=$(sed -n 's/.*Executable.*(\(.*\/original-.*\))/\1/p' built)
+    ported=$(sed -n 's/.*Executable.*(\(.*\/ported-.*\))/\1/p' built)
+}
+
+fail() {
+    tail -n 40 "$1" >&2
+    exit 1
+}
+
+# Writes which of quinn's tests pass into a file. Each has a process, since one that fails may abort.
+run_tests() {
+    for test in $("$1" --list | sed -n 's/: test$//p' | grep -v ::lossy::); do
+        if guarded timeout 60 "$1" --exact "$test" > test 2>&1; then how=passed; else how=failed; fi
+        echo "$how ${test##*::}"
+    done > "$2"
+}
+
+# Writes what the transfers took into a file.
+run_transfers() {
+    guarded "$1" ::lossy:: --nocapture > transfers 2>&1 || fail transfers
+    sed -n 's/.*lossy|//p' transfers | sort > "$2"
+}
+
+# These want each frame and each write by itself, which QUIC doesn't preserve (RFC 9000, section 2.2).
+separate="assemble_ordered assemble_overlapping chunks_dedup key_update_reordered multiple_segments"
+
+# Prints how many of a file's tests pass.
+passed() {
+    echo "$(grep -c ^passed "tests.$1") of $(grep -c '' "tests.$1")"
+}
+
+sample() {
+    build
+    guarded cargo build --offline --package speed > built 2>&1 || fail built
+    run_tests "$original" tests.original
+    run_tests "$ported" tests.all
+    grep -v _joined tests.all > tests.ported
+    grep _joined tests.all > tests.joined
+    echo "| quinn's tests | quinn as it is | over net-base |"
+    echo '|---|---:|---:|'
+    echo "| pass | $(passed original) | $(passed ported) |"
+    echo "| pass, of five that want each frame or write by itself, with joined bytes | | $(passed joined) |"
+    run_transfers "$original" transfers.original
+    run_transfers "$ported" transfers.ported
+    echo
+    echo '| Transfer, with three seeds | ms | Packets | Lost | Over net-base |'
+    echo '|---|---:|---:|---:|---:|'
+    paste -d '|' transfers.original transfers.ported | awk -F '|' '
+        function row() {
+            same = ms packets lost == their_ms their_packets their_lost ? "equal" : ms ", " packets ", " lost
+            if (name) printf "| %s | %s | %s | %s | %s |\n", name, their_ms, their_packets, their_lost, same
+            ms = packets = lost = their_ms = their_packets = their_lost = ""
+        }
+        $1 != name { row(); name = $1; and = "" }
+        {
+            their_ms = their_ms and $3; their_packets = their_packets and $4; their_lost = their_lost and $5
+            ms = ms and $8; packets = packets and $9; lost = lost and $10; and = "; "
+        }
+        END { row() }'
+    failed=$(sed -n 's/^failed //p' tests.ported | sort)
+    [ "$failed" = "$(printf '%s\n' $separate)" ] || { echo "quinn: not those five fail, but" $failed >&2; exit 1; }
+    ! grep -h ^failed tests.original tests.joined >&2 || exit 1
+    cmp -s transfers.original transfers.ported || { echo 'quinn: a transfer differs' >&2; exit 1; }
+    echo
+    print_runs
+    run_with 1
+}
+
+# Prints a row of what the transfers take with so many runs, beside what quinn's took. Ends all if it is too much.
+run_with() {
+    for file in assembler send_buffer; do
+        change "ported/src/connection/$file.rs" "s/^const RUNS: usize = .*/const RUNS: usize = $1;/"
+    done
+    build
+    run_transfers "$ported" transfers.ported
+    paste -d '|' transfers.original transfers.ported | awk -F '|' -v count="$1" '
+        { equal += $3 == $8 && $4 == $9; their_ms += $3; ms += $8; their_packets += $4; packets += $9 }
+        END {
+            printf "| %d | %d of %d | %.3f | %.3f |\n", count, equal, NR, packets / their_packets, ms / their_ms
+            exit packets > 1.2 * their_packets || ms > 1.2 * their_ms
+        }' || { echo 'quinn: more than 1.2 of the packets or of the time' >&2; exit 1; }
+}
+
+runs() {
+    build
+    run_transfers "$original" transfers.original
+    print_runs
+    for count in 1 4 16 64 256; do run_with "$count"; done
+}
+
+print_runs() {
+    echo '| N | Equal transfers | Packets | Time |'
+    echo '|---:|---:|---:|---:|'
+}
+
+speed() {
+    guarded cargo build --offline --release --package speed > built 2>&1 || fail built
+    guarded "$CARGO_TARGET_DIR/release/speed"
+}
+
+export CARGO_TARGET_DIR="$out/target" CARGO_PROFILE_DEV_DEBUG=0
+cd "$out"
+prepare
+$call
