@@ -227,7 +227,7 @@ WRONG = [(quoted, "```rust\nfn no_such_call() {}\n```\n"), (exampled, "/// ```ru
          (linked, "[a](no/page.md)"), (linked, "[a](GUIDE.md#no-such-heading)"), (cited, "clause `no_such_clause`"),
          (cited, "clause `headline` of `has_room`"), (named, "`no_such_name`"), (named, "`tools/no_such_file.py`"),
          (said, "> No comment says so.\n"), (counted, "[999 functions](std-calls.md)"), (clear, "a " * 31 + ".\n"),
-         (clear, "A block.\n")]
+         (clear, "A guard.\n")]
 
 
 LAWS = """# Laws

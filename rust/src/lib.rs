@@ -1,5 +1,6 @@
-//! The lowest layer of a network stack: byte rings, packet queues, reassembly of segments that arrive out of order,
-//! retransmission, timers and checksums. Each function is proved for every input. No call needs a heap.
+//! The data structures inside a network stack: byte rings, packet queues, reassembly of segments that arrive out of
+//! order, retransmission, timers and checksums. All is proved for every input, but for [a few parts](#what-is-proved).
+//! No call needs a heap.
 //!
 //! ```
 //! use net_base::receiver::Receiver;
@@ -40,6 +41,8 @@
 //! The source is written in Rattle, Rust in which each function has a contract. A prover has checked for all arguments
 //! that its body meets the contract. Then the contracts were taken out. A "Source" link opens the text that is left,
 //! whose first line names the file that has them.
+//!
+//! A *law* that a page names is a theorem about many calls, which `docs/laws.md` of the repository explains.
 //!
 //! Not proved, but tested: what is printed, conversions of storage, std's clocks, readers and writers, the order of a
 //! split ring's atomics, and the traits and devices of [`phy`].

@@ -11,7 +11,8 @@ import guards
 
 ROOT = Path(__file__).resolve().parent.parent.parent
 # What no file counts: what is asked for, and versions.
-FIXED = ["32 or 64 bits", "here N = 2", "down to 0.75", "smoltcp 0.14.0", "until 1.0", "Rust 1.87 and Python 3.9", "smoltcp's is 1", "[0BSD]"]
+FIXED = ["32 or 64 bits", "smoltcp 0.14.0", "until 1.0", "Rust 1.87 and Python 3.9", "smoltcp's is 1", "[0BSD]",
+         "what rustc 1.85 makes", "down to 0.75", "with 5 % delayed", "With 10 % lost", "with 20 % delayed"]
 WORDS = [*"none one two three four five six seven eight nine ten eleven twelve".split(), *map(str, range(13, 100))]
 NUMBER = rf"(\d(?:[\w.,-]*\w)?|(?i:{'|'.join(WORDS)}))"
 
@@ -45,7 +46,7 @@ def measured():
     times, sizes, peers = (f"compare/results/{name}.md" for name in ("times", "sizes", "peers"))
     rows = {row[0]: value(row[1]) for row in cells(times)}
     groups = [ratio for name, ratio in rows.items() if name.startswith("group ")]
-    yield "{} to {} by kind of call; the slowest call {}", times, [*span(groups), f"{max(rows.values()):.2f}"]
+    yield "groups of calls {} to {}; single calls up to {}", times, [*span(groups), f"{max(rows.values()):.2f}"]
     ratios = [value(row[k + 1]) / value(row[k]) for row in cells(sizes) if len(row) == 6 for k in (2, 4)]
     paths = {row[0]: [*map(value, row[1:])] for row in cells(sizes) if ";" in row[1]}
     ours = [[here / there for here, there in zip(paths[name], paths["smoltcp"])]
@@ -55,6 +56,8 @@ def measured():
     linux = {row[0]: [*map(value, row[4:])] for row in cells(peers) if len(row) == 6}
     yield "{} without loss; {} with 0.5 % lost; {} with 5 % late", peers, [
         f"{linux[name][0]:.2f}" for name in ("clean", "0.5 % lost", "5 % delayed")]
+    yield "transfer took {} times as long", peers, [
+        next(row[7] for row in cells(peers) if len(row) == 8 and row[0] == "20 % delayed").split(";")[0]]
     for name, ratios in linux.items():
         yield f"| {name} | {{}} | {{}} |", peers, [f"{ratio:.2f}" for ratio in ratios]
 
@@ -64,8 +67,8 @@ def counted():
     left, calls = "tools/parts/same_names.txt", "overlay/calls.rs"
     first = lambda form, path: (re.search(form, (ROOT / path).read_text(), re.M | re.S) or "00")[1]
     yield "Rust {} or later", cargo, [first(r'^rust-version = "(.*?)"', cargo)]
-    yield "Version {}: take", cargo, [first(r'^version = "(.*?)"', cargo)]
-    for text in ("has to refuse each | {}", "the prover refuses {} [wrong"):
+    yield "version {}, and write in Cargo.toml", cargo, [first(r'^version = "(.*?)"', cargo)]
+    for text in ("has to refuse each | {}", "and {} [wrong functions]"):
         yield text, "crates/must-fail.md", [str(count(r"^\| .* \| `.*` \| `", "crates/must-fail.md"))]
     kinds = count(r"^    \w+: \w+::\w+,$", models)
     yield "tests of Rust, also on ARMv7 | what the pages say | {}", f"rust/src, rust/tests, {models}", [
@@ -74,7 +77,7 @@ def counted():
         f'{kinds * int(first(r"unwrap_or.([0-9]+)", models)):,}']
     yield "here and by an emulator | a second compiler's build | {}", "c/targets/run.py", [f'{int(first(r"^CALLS.*? = ([0-9_]+)", "c/targets/run.py")):,}']
     seeds, kinds = first(r"SEEDS: u64 = (\d+)", calls), first(r"KINDS: [^=]*; (\d+)\]", calls)
-    for text in ("with its faults mended | {}", "{} sequences of [random calls]", "{} sequences of random calls"):
+    for text in ("with its faults mended | {}", "{} sequences of [random calls]", "{} random sequences of calls"):
         yield text, calls, [f"{int(seeds) * int(kinds):,}"]
     for text in ("each function but [{}]", "{} functions, each with its reason"):
         yield text, left, [WORDS[first(r"^== left\n(.*)", left).count(" ~~ ") // 2]]
@@ -85,7 +88,7 @@ def counted():
         str(sum(len(re.findall(r"`\w+`", names)) for names in re.findall(
             r"^- `\w+`: (.*(?:\n  .*)*)", (ROOT / "docs/std-calls.md").read_text(), re.M)))]
     bytes_of = dict(re.findall(r"^\| `(\w+)` \| \d+ \| (\d+) \|$", (ROOT / "docs/C.md").read_text(), re.M))
-    yield "takes {} bytes besides its storage, both ends of a connection {}, and all code of the C library {}", "docs/C.md", [
+    yield "takes {} bytes besides its storage, both ends of a connection {} bytes, and all code of the C library {}", "docs/C.md", [
         bytes_of["ring"], str(int(bytes_of["receiving_end"]) + int(bytes_of["sending_end"])),
         first(r"^\| `thumbv7em-none-eabi` \| ([\d,]+) \|", "docs/C.md")]
     yield "declares {}.", rattle, [WORDS[count(r'^\s*(?:unsafe )?extern(?: "\w+")? \{', rattle)]]

@@ -88,7 +88,7 @@ pub type SendBuffer<'a, const N: usize> = SendBufferOver<ManagedSlice<'a, u8>, N
 /// number that isn't, and of what is lost. Where there would be more, some numbers are sent twice, but none is left
 /// out. So if each range that was marked is at last acknowledged or lost, all that was written is acknowledged in the
 /// end. A quarter of the packets in flight is enough for `N`. With 128 packets in flight and one in ten lost, 32 repeat
-/// nothing, 16 make 2 % more packets, and 8 twice as many.
+/// nothing, 16 make a few percent more packets, and 8 about twice as many.
 ///
 /// Positions are absolute, and the end has the number after the last byte's, as a `FiniteSender` counts them. No call
 /// allocates.
@@ -450,9 +450,9 @@ impl<S: Storage<u8>, const N: usize> SendBufferOver<S, N> {
     /// Marks a range as sent: it is in flight, and not lost any more. Returns true, or false if the range ends above
     /// `numbers_end`: then it was never written, and nothing changes.
     ///
-    /// It is what `next` returned, or a part of that from its start on, or any other, as a probe. A range beyond the
-    /// first that is open isn't noted if that would make more than `N` runs: what of it was open stays so, and is sent
-    /// again.
+    /// Pass what `next` returned, or a part of that from its start on, or what was sent before, as a probe. All below
+    /// the range's end counts as sent then, and what of it was never marked counts as lost. A range beyond the first
+    /// that is open isn't noted if that would make more than `N` runs: what of it was open stays so, and is sent again.
     ///
     /// ```
     /// # use net_base::finite::SendBuffer;
