@@ -9,8 +9,6 @@ mod ends;
 mod heard;
 mod path;
 
-pub use ends::{
-    begin, read_first, send_all, send_late, take_acknowledgement, take_last, take_segment,
-};
+pub use ends::{begin, read_first, send_late, take_acknowledgement, take_last, take_segment};
 pub use heard::{answer_of_answer, have_come, hear, promised_end};
 pub use path::{Event, Transfer, carry, happen};
