@@ -30,8 +30,11 @@ int main(void) {
     static uint8_t storage[16], bytes[4];
     static uint64_t words[9];
     volatile size_t most = SIZE_MAX;
+    const uint8_t *volatile none = NULL;
     static struct net_base_run runs[4];
-    struct net_base_ring ring = {0, 0};
+    static struct net_base_packet_slot slots[4];
+    struct net_base_packets packets = {0};
+    struct net_base_ring ring = {0, 0}, empty = {0, 0};
     struct net_base_fragments fragments = {0};
     struct net_base_kept_counts counts;
     struct net_base_finite_receiver receiver = {0};
@@ -47,11 +50,21 @@ int main(void) {
     TOLD(net_base_finite_receiver_segment(&receiver, storage, 16, runs, 4, 0, bytes, 4, false, &counts), 7,
         "finite_receiver_segment ");
     TOLD(net_base_finite_receiver_segment(NULL, storage, 16, runs, 4, 0, bytes, 4, false, &counts), 0,
-        "finite_receiver_segment ");
+        "finite_receiver_segment receiver");
+    TOLD(net_base_ring_enqueue_slice(&ring, storage, 16, none, 4), 0, "ring_enqueue_slice data");
+    TOLD(net_base_ring_enqueue(NULL, 16, 4), 0, "ring_enqueue place");
+    TOLD(net_base_ring_enqueue(&ring, 16, 17), 9, "");
+    TOLD(net_base_packets_dequeue(&packets, slots, 4, 16).size, 9, "");
+    ring.length = 17;
+    TOLD(net_base_ring_dequeue_slice(&ring, storage, 16, bytes, 4), 0, "ring_dequeue_slice ");
+    TOLD(net_base_ring_allocated(&ring, 16, 0, 4).count, 0, "ring_allocated ");
+    packets.bytes.length = 17;
+    TOLD(net_base_packets_dequeue(&packets, slots, 4, 16).size, 0, "packets_dequeue ");
+    ring.length = 0;
     fragments.present.used = 5;
     TOLD(net_base_fragments_set_total_size(&fragments, 16, runs, 4, 8), 7, "fragments_set_total_size ");
     TOLD(net_base_ring_enqueue_slice(&ring, storage, 16, bytes, 4), 9, "");
-    TOLD(net_base_ring_enqueue_slice(&ring, (void *)1, 0, NULL, 0), 9, "");
+    TOLD(net_base_ring_enqueue_slice(&empty, (void *)1, 0, NULL, 0), 9, "");
     if (!failed) printf("duties: as it should\n");
     return failed;
 }

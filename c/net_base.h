@@ -100,7 +100,8 @@
  * results of calls that are done.
  *
  * A `bool` answers a question, or that a call was done. A status says what became of a call that
- * can end in more ways: what is done is 0, as in other libraries of C.
+ * can end in more ways: what is done is 0, as in other libraries of C. Only what to do with a
+ * segment that arrives has no answer of that kind.
  *
  * What C writes itself
  *
@@ -144,15 +145,74 @@
 /** The patch number: until 1.0 names and structs may change with each minor one. */
 #define NET_BASE_VERSION_PATCH 0
 
-#ifndef __GNUC__
-#error "net_base.h gives functions their names by asm labels: compile it by GCC, Clang or one that is made of them"
-#endif
 /** The number of this interface. It is in the name that each function is linked by, so that no
  * library of another version links or loads.
  */
 #define NET_BASE_INTERFACE 6
 /** @cond */
-#ifdef NET_BASE_PLAIN_NAMES
+#ifdef NET_BASE_PLAIN_NAMES /* without the number, as in a library of another maker */
+#define NET_BASE_LINK(name)
+#elif !defined __GNUC__
+#define net_base_ring_init net_base_6_ring_init
+#define net_base_ring_unallocated net_base_6_ring_unallocated
+#define net_base_ring_allocated net_base_6_ring_allocated
+#define net_base_ring_enqueue net_base_6_ring_enqueue
+#define net_base_ring_dequeue net_base_6_ring_dequeue
+#define net_base_ring_enqueue_slice net_base_6_ring_enqueue_slice
+#define net_base_ring_dequeue_slice net_base_6_ring_dequeue_slice
+#define net_base_packets_init net_base_6_packets_init
+#define net_base_packets_shorten_last net_base_6_packets_shorten_last
+#define net_base_packets_enqueue net_base_6_packets_enqueue
+#define net_base_packets_dequeue net_base_6_packets_dequeue
+#define net_base_packets_peek net_base_6_packets_peek
+#define net_base_fragments_init net_base_6_fragments_init
+#define net_base_fragments_is_sound net_base_6_fragments_is_sound
+#define net_base_fragments_set_total_size net_base_6_fragments_set_total_size
+#define net_base_fragments_add net_base_6_fragments_add
+#define net_base_fragments_differs net_base_6_fragments_differs
+#define net_base_fragments_complete net_base_6_fragments_complete
+#define net_base_parts_sum_init net_base_6_parts_sum_init
+#define net_base_parts_sum_add net_base_6_parts_sum_add
+#define net_base_parts_sum_checksum net_base_6_parts_sum_checksum
+#define net_base_finite_receiver_init net_base_6_finite_receiver_init
+#define net_base_finite_receiver_is_sound net_base_6_finite_receiver_is_sound
+#define net_base_finite_receiver_can_end net_base_6_finite_receiver_can_end
+#define net_base_finite_receiver_acknowledged net_base_6_finite_receiver_acknowledged
+#define net_base_finite_receiver_has_read_all net_base_6_finite_receiver_has_read_all
+#define net_base_finite_receiver_read net_base_6_finite_receiver_read
+#define net_base_finite_receiver_remove net_base_6_finite_receiver_remove
+#define net_base_finite_receiver_segment net_base_6_finite_receiver_segment
+#define net_base_finite_receiver_window_end net_base_6_finite_receiver_window_end
+#define net_base_receiving_end_init net_base_6_receiving_end_init
+#define net_base_receiving_end_is_sound net_base_6_receiving_end_is_sound
+#define net_base_receiving_end_open net_base_6_receiving_end_open
+#define net_base_receiving_end_classify net_base_6_receiving_end_classify
+#define net_base_receiving_end_arrived net_base_6_receiving_end_arrived
+#define net_base_receiving_end_answer net_base_6_receiving_end_answer
+#define net_base_receiving_end_is_due net_base_6_receiving_end_is_due
+#define net_base_receiving_end_is_wanted net_base_6_receiving_end_is_wanted
+#define net_base_receiving_end_announce net_base_6_receiving_end_announce
+#define net_base_receiving_end_acknowledgement net_base_6_receiving_end_acknowledgement
+#define net_base_receiving_end_read net_base_6_receiving_end_read
+#define net_base_sending_end_init net_base_6_sending_end_init
+#define net_base_sending_end_is_sound net_base_6_sending_end_is_sound
+#define net_base_sending_end_open net_base_6_sending_end_open
+#define net_base_sending_end_is_opening_due net_base_6_sending_end_is_opening_due
+#define net_base_sending_end_set_nagle_enabled net_base_6_sending_end_set_nagle_enabled
+#define net_base_sending_end_write net_base_6_sending_end_write
+#define net_base_sending_end_close net_base_6_sending_end_close
+#define net_base_sending_end_acknowledged net_base_6_sending_end_acknowledged
+#define net_base_sending_end_expired net_base_6_sending_end_expired
+#define net_base_sending_end_take_back net_base_6_sending_end_take_back
+#define net_base_sending_end_next_segment net_base_6_sending_end_next_segment
+#define net_base_sending_end_bytes net_base_6_sending_end_bytes
+#define net_base_sending_end_is_done net_base_6_sending_end_is_done
+#define net_base_sending_end_expires_at net_base_6_sending_end_expires_at
+#define net_base_sending_end_acknowledgement_number net_base_6_sending_end_acknowledgement_number
+#define net_base_sending_end_is_recovering net_base_6_sending_end_is_recovering
+#define net_base_answer_limit_init net_base_6_answer_limit_init
+#define net_base_answer_limit_allows net_base_6_answer_limit_allows
+#define net_base_sequence_number_position net_base_6_sequence_number_position
 #define NET_BASE_LINK(name)
 #else
 #define NET_BASE_TEXT(text) #text
@@ -161,20 +221,45 @@
 #endif
 /** @endcond */
 
-/** What is returned isn't to be thrown away. */
+/** What is returned isn't to be thrown away, unless `(void)` is written before the call. GCC before
+ * version 11 takes no `(void)`, but `if (call) {}`. */
 #if defined __cplusplus && __cplusplus >= 201703L || defined __STDC_VERSION__ && __STDC_VERSION__ >= 202311L
 #define NET_BASE_MUST_USE [[nodiscard]]
-#else
+#elif defined __GNUC__ && __GNUC__ >= 11 && !defined __clang__ && !defined __cplusplus
+#define NET_BASE_MUST_USE [[nodiscard]]
+#elif defined __GNUC__
 #define NET_BASE_MUST_USE __attribute__((warn_unused_result))
+#else
+#define NET_BASE_MUST_USE
 #endif
-/** An enum is as wide on each processor, also where a compiler makes it short. */
+/** @cond */
+/* Each enum has 32 bits, also where a compiler makes it as short as its numbers. */
+#ifdef __GNUC__
 #define NET_BASE_32_BITS __attribute__((mode(SI)))
-/** What a call may write overlaps nothing else that it is passed. */
+#define NET_BASE_WIDEST(name)
+#else
+#define NET_BASE_32_BITS
+#define NET_BASE_WIDEST(name) NET_BASE_##name##_WIDEST = INT32_MAX
+#endif
+/* What a call may write overlaps nothing else that it is passed. */
+#ifdef __GNUC__
 #define NET_BASE_RESTRICT __restrict
+#elif defined __cplusplus
+#define NET_BASE_RESTRICT
+#else
+#define NET_BASE_RESTRICT restrict
+#endif
+/** @endcond */
 
 #ifdef __cplusplus
 extern "C" {
 #endif
+/** @cond */
+#if defined __GNUC__ && !defined __clang__
+#pragma GCC diagnostic push
+#pragma GCC diagnostic ignored "-Wpedantic"
+#endif
+/** @endcond */
 
 /* Written by tools/ffi.py, up to the line END. */
 
@@ -195,6 +280,7 @@ enum NET_BASE_32_BITS net_base_fragment_status {
      * arrived, or the fragment reaches past a known size. Nothing changes. */
     NET_BASE_FRAGMENT_OTHER_SIZE = 4,
     NET_BASE_FRAGMENT_REFUSED = 2, /**< What was passed is nonsense. Nothing changes. */
+    NET_BASE_WIDEST(FRAGMENT)
 };
 
 /** What became of the size of a packet: `DONE`, `TOO_LONG`, `OTHER_SIZE` or `REFUSED`. */
@@ -206,6 +292,7 @@ enum NET_BASE_32_BITS net_base_size_status {
      * arrived, or the fragment reaches past a known size. Nothing changes. */
     NET_BASE_SIZE_OTHER_SIZE = 4,
     NET_BASE_SIZE_REFUSED = 2, /**< What was passed is nonsense. Nothing changes. */
+    NET_BASE_WIDEST(SIZE)
 };
 
 /** What became of a segment: `DONE`, `TOO_MANY_RUNS`, `OTHER_END` or `REFUSED`. */
@@ -215,6 +302,7 @@ enum NET_BASE_32_BITS net_base_segment_status {
     NET_BASE_SEGMENT_TOO_MANY_RUNS = 1,
     NET_BASE_SEGMENT_OTHER_END = 5, /**< The stream can't end there. Nothing of it is kept. */
     NET_BASE_SEGMENT_REFUSED = 2, /**< What was passed is nonsense. Nothing changes. */
+    NET_BASE_WIDEST(SEGMENT)
 };
 
 /** What to do with a segment that arrives: `TAKE`, `ACKNOWLEDGEMENT_ONLY`, `ANSWER`, `IGNORE`,
@@ -232,6 +320,7 @@ enum NET_BASE_32_BITS net_base_arrival_status {
     NET_BASE_ARRIVAL_IGNORE = 9, /**< Take nothing of a segment, and send nothing. */
     NET_BASE_ARRIVAL_RESET = 10, /**< The peer has reset the connection. */
     NET_BASE_ARRIVAL_REFUSED = 2, /**< What was passed is nonsense. Nothing changes. */
+    NET_BASE_WIDEST(ARRIVAL)
 };
 
 /** What became of an acknowledgement: `DONE`, `OLD`, `ANSWER` or `REFUSED`. */
@@ -245,6 +334,7 @@ enum NET_BASE_32_BITS net_base_acknowledged_status {
      * Nothing changes. */
     NET_BASE_ACKNOWLEDGED_ANSWER = 8,
     NET_BASE_ACKNOWLEDGED_REFUSED = 2, /**< What was passed is nonsense. Nothing changes. */
+    NET_BASE_WIDEST(ACKNOWLEDGED)
 };
 
 /** What the timer's end means: `DONE`, `OVERDUE`, `PROBE`, `LOST` or `REFUSED`. */
@@ -260,6 +350,7 @@ enum NET_BASE_32_BITS net_base_expired_status {
     NET_BASE_EXPIRED_PROBE = 11,
     NET_BASE_EXPIRED_LOST = 14, /**< All that was sent is lost: let one segment be in flight. */
     NET_BASE_EXPIRED_REFUSED = 2, /**< What was passed is nonsense. Nothing changes. */
+    NET_BASE_WIDEST(EXPIRED)
 };
 
 /** Whether a segment is to be sent: `DONE`, `NOTHING` or `REFUSED`. */
@@ -267,6 +358,7 @@ enum NET_BASE_32_BITS net_base_outgoing_status {
     NET_BASE_OUTGOING_DONE = 0, /**< One is. */
     NET_BASE_OUTGOING_NOTHING = 16, /**< Nothing is to be sent now. */
     NET_BASE_OUTGOING_REFUSED = 2, /**< What was passed is nonsense. Nothing changes. */
+    NET_BASE_WIDEST(OUTGOING)
 };
 
 /** In place of a length, an index or a count: what was passed is nonsense, or there is none. */
@@ -640,8 +732,9 @@ NET_BASE_MUST_USE bool net_base_finite_receiver_is_sound(
 /** Returns whether the stream can end at `position`: it is the end that is known, or none is, and
  * it isn't below the first missing position or a held run's end. 2^64 - 1 is no end.
  *
- * It is refused if `next` doesn't fit 64 bits, or `held.used` is above `runs_length`: false.
- * Requires: head and runs are sound, as `net_base_finite_receiver_is_sound` tests. */
+ * It is refused if the first missing position doesn't fit 64 bits, or `held.used` is above
+ * `runs_length`: false. Requires: head and runs are sound, as `net_base_finite_receiver_is_sound`
+ * tests. */
 NET_BASE_MUST_USE bool net_base_finite_receiver_can_end(
     const struct net_base_finite_receiver *receiver, const struct net_base_run *runs,
     size_t runs_length, uint64_t position) NET_BASE_LINK(finite_receiver_can_end);
@@ -649,14 +742,15 @@ NET_BASE_MUST_USE bool net_base_finite_receiver_can_end(
 /** Writes to `number` the number that an acknowledgement carries: the first missing position, or,
  * once all bytes and the end have arrived, the end plus 1, since the end has a number.
  *
- * It is refused if the number after `next` doesn't fit 64 bits: false, and nothing changes. */
+ * It is refused if the number after the first missing position doesn't fit 64 bits: false, and
+ * nothing changes. */
 NET_BASE_MUST_USE bool net_base_finite_receiver_acknowledged(
     const struct net_base_finite_receiver *NET_BASE_RESTRICT receiver,
     uint64_t *NET_BASE_RESTRICT number) NET_BASE_LINK(finite_receiver_acknowledged);
 
 /** Returns whether all bytes were read, up to the end. Once it is so it stays so.
  *
- * It is refused if the number after `next` doesn't fit 64 bits: false. */
+ * It is refused if the number after the first missing position doesn't fit 64 bits: false. */
 NET_BASE_MUST_USE bool net_base_finite_receiver_has_read_all(
     const struct net_base_finite_receiver *receiver) NET_BASE_LINK(finite_receiver_has_read_all);
 
@@ -664,7 +758,7 @@ NET_BASE_MUST_USE bool net_base_finite_receiver_has_read_all(
  * as are queued and as `into` has room for. The rest of `into` stays as it is.
  *
  * It is refused if `receiver.receiver.place` isn't that of a ring of `storage_length` elements, or
- * if `next` doesn't fit 64 bits: `NET_BASE_NONE`, and nothing changes. */
+ * if the first missing position doesn't fit 64 bits: `NET_BASE_NONE`, and nothing changes. */
 NET_BASE_MUST_USE size_t net_base_finite_receiver_read(
     struct net_base_finite_receiver *NET_BASE_RESTRICT receiver,
     const uint8_t *NET_BASE_RESTRICT storage, size_t storage_length,
@@ -674,8 +768,8 @@ NET_BASE_MUST_USE size_t net_base_finite_receiver_read(
  * copies none. `capacity` is how many bytes the storage has.
  *
  * It is refused if `receiver.receiver.place` isn't that of a ring of `capacity` elements, or if
- * fewer than `count` elements are queued, or if `next` doesn't fit 64 bits: false, and nothing
- * changes. */
+ * fewer than `count` elements are queued, or if the first missing position doesn't fit 64 bits:
+ * false, and nothing changes. */
 NET_BASE_MUST_USE bool net_base_finite_receiver_remove(
     struct net_base_finite_receiver *receiver, size_t capacity, size_t count)
     NET_BASE_LINK(finite_receiver_remove);
@@ -696,8 +790,8 @@ NET_BASE_MUST_USE enum net_base_segment_status net_base_finite_receiver_segment(
  * `capacity` bytes, and returns true. It is never below what
  * `net_base_finite_receiver_acknowledged` writes.
  *
- * It is refused if more than `capacity` bytes are queued, or if that end or the number after
- * `next` doesn't fit 64 bits: false, and nothing changes. */
+ * It is refused if more than `capacity` bytes are queued, or if that end or the number after the
+ * first missing position doesn't fit 64 bits: false, and nothing changes. */
 NET_BASE_MUST_USE bool net_base_finite_receiver_window_end(
     const struct net_base_finite_receiver *NET_BASE_RESTRICT receiver, size_t capacity,
     uint64_t *NET_BASE_RESTRICT end) NET_BASE_LINK(finite_receiver_window_end);
@@ -1025,7 +1119,9 @@ struct net_base_sending_end {
 struct net_base_announcement {
     uint64_t seq; /**< The position of the segment's first byte, in the peer's stream. */
     uint64_t ack; /**< The position that it acknowledges. */
-    uint64_t window; /**< How many bytes may be sent from there on, as `scaled` returns it. */
+    /** How many bytes may be sent from there on: the field of a header, shifted left by the scale.
+     */
+    uint64_t window;
 };
 
 /** What an acknowledgement said. */
@@ -1207,11 +1303,12 @@ struct net_base_answer_limit {
 void net_base_answer_limit_init(
     struct net_base_answer_limit *limit) NET_BASE_LINK(answer_limit_init);
 
-/** Returns whether to answer a segment of which nothing is taken, `NET_BASE_ANSWER` of
- * `net_base_receiving_end_classify` or of `net_base_sending_end_acknowledged`, and takes notice
- * that it is answered. A segment without positions, which may be an answer itself, and a SYN are
- * answered at most twice a second, so that two ends don't answer each other's answers without end
- * (RFC 5961, section 7). If the clock is set back, the limit stays until the moment that it was. */
+/** Returns whether to answer a segment of which nothing is taken, `NET_BASE_ARRIVAL_ANSWER` of
+ * `net_base_receiving_end_classify` or `NET_BASE_ACKNOWLEDGED_ANSWER` of
+ * `net_base_sending_end_acknowledged`, and takes notice that it is answered. A segment without
+ * positions, which may be an answer itself, and a SYN are answered at most twice a second, so that
+ * two ends don't answer each other's answers without end (RFC 5961, section 7). If the clock is
+ * set back, the limit stays until the moment that it was. */
 NET_BASE_MUST_USE bool net_base_answer_limit_allows(
     struct net_base_answer_limit *NET_BASE_RESTRICT limit,
     const struct net_base_segment *NET_BASE_RESTRICT segment, int64_t now)
@@ -1243,9 +1340,15 @@ NET_BASE_MUST_USE bool net_base_sequence_number_position(
 
 /* END */
 
+/** @cond */
+#if defined __GNUC__ && !defined __clang__
+#pragma GCC diagnostic pop
+#endif
+/** @endcond */
+
 /** A function that you write if the library was built with `--features check`: a call broke a duty.
  * `duty` is its number, 7 for 5 and 6 too; `argument` names the parameter, or is empty. It must not
- * return, unless the number is 0: then a status says that the call was refused.
+ * return, unless the number is 0: then the call was refused, for a null pointer if that is named.
  */
 void net_base_broken(uint32_t duty, const char *name, const char *argument);
 
@@ -1253,7 +1356,7 @@ void net_base_broken(uint32_t duty, const char *name, const char *argument);
 #if defined __has_attribute
 #if __has_attribute(access)
 #define NET_BASE_READS(pointer, length) __attribute__((access(read_only, pointer, length)))
-#define NET_BASE_WRITES(pointer, length) __attribute__((access(read_write, pointer, length)))
+#define NET_BASE_WRITES(pointer, length) __attribute__((access(write_only, pointer, length)))
 #define NET_BASE_SLICES(name, told) extern __typeof__(net_base_##name) net_base_##name told;
 #pragma GCC diagnostic push
 #pragma GCC diagnostic ignored "-Wredundant-decls"

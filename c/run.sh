@@ -2,8 +2,8 @@
 # Builds the library by cargo, and runs the programs of this folder over it: sh c/run.sh [--record]
 #
 # It compares the library's symbols with the header, and the structs' layouts; tries the headers in four languages by
-# each compiler that is here, and by doxygen; a program of another version, which must not link or load; pkg-config and
-# CMake; and runs bare (no C library), hosted, edges, duties (over a library that tests them), those of programs, each export at the values of
+# each compiler that is here, and by doxygen; a program of another version, which must not link or load; pkg-config,
+# CMake, Meson and the lines of docs/C.md for rustc alone; and runs bare (no C library), hosted, edges, duties (over a library that tests them), those of programs, each export at the values of
 # tools/exports.txt and with each pointer null, and a sequence of 1,000,000 calls, whose digest is in c/sequence.txt. CC
 # and CXX name the compilers of C and C++. It wants cargo, Python and nothing else. --record writes the digest.
 set -eu
@@ -81,9 +81,55 @@ for each in "${CXX:-c++}" g++ clang++; do
     command -v "$each" > /dev/null || continue
     "$each" -std=c++17 $warnings -Wold-style-cast -x c++ -fsyntax-only "$here/net_base.hpp"
     "$each" -std=c++20 $warnings -Wold-style-cast -x c++ -fsyntax-only "$here/net_base.hpp"
+    echo '#include "byte_ring.h"' | "$each" -std=c++17 $warnings -x c++ -I "$here/programs" -fsyntax-only -
 done
+at="what the header allows"
+# Storage and runs without values, a head of zeros, and a result that `(void)` drops; but not one that nothing drops.
+cat > "$out/allowed.c" <<'EOF'
+#include "net_base.h"
+size_t allowed(const uint8_t *data, size_t size, uint8_t *into) {
+    struct net_base_fragments fragments = {0};
+    struct net_base_finite_receiver receiver = {0};
+    struct net_base_ring ring = {0, 0};
+    struct net_base_run runs[4], others[4];
+    struct net_base_kept_counts counts;
+    uint8_t storage[64], bytes[64], queue[64];
+    (void)net_base_ring_enqueue_slice(&ring, queue, 64, data, size);
+    if (net_base_fragments_add(&fragments, storage, 64, runs, 4, 0, data, size)
+        || net_base_finite_receiver_segment(&receiver, bytes, 64, others, 4, 0, data, size, false, &counts))
+        return 0;
+    DROPPED net_base_ring_dequeue_slice(&ring, queue, 64, into, size);
+    return counts.kept;
+}
+size_t allowed(const uint8_t *, size_t, uint8_t *);
+EOF
+for each in "$compiler" gcc clang arm-none-eabi-gcc; do
+    command -v "$each" > /dev/null || continue
+    for more in "-std=c11 -O0" "-std=c11 -O2" "-std=c2x -Os"; do
+        "$each" $more $warnings "-DDROPPED=(void)" -I "$here" -c "$out/allowed.c" -o "$out/allowed.o"
+        ! "$each" $more $warnings -DDROPPED= -I "$here" -c "$out/allowed.c" -o "$out/allowed.o" 2> "$out/said" ||
+            fail "$each doesn't tell of a result that is dropped"
+        grep -qE "unused-(result|value)" "$out/said"
+    done
+done
+sed 's/= 256/= 200/' "$here/programs/byte_ring.h" > "$out/byte_ring.h"
+! "$compiler" -x c -fsyntax-only "$out/byte_ring.h" 2> "$out/said" || fail "byte_ring.h takes any size"
+grep -q "a power of two" "$out/said"
+at="the header by another compiler"
+# One without GNU's extensions, whose enums are as short as their numbers: tcc, and one that says that it isn't GNU's.
+echo '#undef __GNUC__' > "$out/other.h"
+more="-std=c11 -fshort-enums"
+for name in stdio stddef stdint stdbool string; do more="$more -include $name.h"; done
+for each in "$compiler $more -include $out/other.h" tcc; do
+    command -v "${each%% *}" > /dev/null || { lacks tcc "the header by it isn't"; continue; }
+    $each -I "$here" "$here/programs/guide.c" "$library" -o "$out/program"
+    [ "$("$out/program")" = "read abcdef" ] || fail "$each: guide.c"
+    $each -I "$here" "$out/layouts.c" -o "$out/program"
+    "$out/program" | cmp - "$out/layouts.rs"
+done
+at="a warning of the header"
 if command -v doxygen > /dev/null; then
-    printf 'INPUT = "%s"\nQUIET = YES\nGENERATE_LATEX = NO\nHAVE_DOT = NO\nOUTPUT_DIRECTORY = "%s"\n' \
+    printf 'INPUT = "%s"\nPREDEFINED = __GNUC__=12\nQUIET = YES\nGENERATE_LATEX = NO\nHAVE_DOT = NO\nOUTPUT_DIRECTORY = "%s"\n' \
         "$here/net_base.h" "$out/doxygen" | doxygen - > "$out/said" 2>&1
     ! grep . "$out/said" || fail "doxygen warns"
 else
@@ -190,9 +236,44 @@ if command -v cmake > /dev/null; then
             { [ $each = found ] || cmake --install "$out/user/built"; }; } > "$out/said" 2>&1 ||
             { cat "$out/said"; exit 1; }
     done
+    # What it is told. A compiler for another processor isn't enough, a library that is there is, without cargo; and one
+    # that tests duties wants the program's function.
+    cmake -S "$out/user" -B "$out/user/cross" -DCMAKE_SYSTEM_NAME=Generic -DCMAKE_SYSTEM_PROCESSOR=cortex-m4 \
+        -DCMAKE_TRY_COMPILE_TARGET_TYPE=STATIC_LIBRARY > "$out/said" 2>&1 && fail "CMake takes no target"
+    grep -q "for another processor, cortex-m4" "$out/said"
+    cmake -S "$out/user" -B "$out/user/there" "-DNET_BASE_LIBRARY=$library" "-DCMAKE_INSTALL_PREFIX=$out/there" \
+        > "$out/said" && cmake --build "$out/user/there" --target install >> "$out/said" && "$out/user/there/my" &&
+        cmp "$library" "$out/there/lib/libnet_base.a" && ! ls "$out/user/there/net-base/c/cargo" 2> "$out/errors" ||
+        { cat "$out/said"; fail "NET_BASE_LIBRARY"; }
+    cmake -S "$out/user" -B "$out/user/check" -DNET_BASE_CHECK=ON > "$out/said" &&
+        ! cmake --build "$out/user/check" >> "$out/said" 2>&1 && grep -q "net_base_broken" "$out/said" ||
+        { cat "$out/said"; fail "NET_BASE_CHECK"; }
 else
     lacks CMake "CMakeLists.txt isn't"
 fi
+
+at="Meson"
+if command -v meson > /dev/null && command -v ninja > /dev/null; then
+    mkdir -p "$out/mesons/subprojects"
+    cp "$out/plain.c" "$out/mesons/my.c"
+    ln -s "$here/.." "$out/mesons/subprojects/net-base"
+    { echo "project('my', 'c')" && sed -n "s/^    \(net_base = dependency\|executable(\)/\1/p" "$here/../docs/C.md"; } \
+        > "$out/mesons/meson.build"
+    { meson setup "$out/mesons/built" "$out/mesons" && ninja -C "$out/mesons/built"; } > "$out/said" 2>&1 ||
+        { cat "$out/said"; exit 1; }
+    "$out/mesons/built/my"
+else
+    lacks "Meson or ninja" "meson.build isn't"
+fi
+
+at="rustc alone"
+mkdir -p "$out/rustc/c" "$out/rustc/rust"
+cp -R "$here/src" "$out/rustc/c"
+cp -R "$here/../rust/src" "$out/rustc/rust"
+sed -n 's/^    \(rustc .*\)/\1/p' "$here/../docs/C.md" > "$out/rustc/lines"
+(cd "$out/rustc" && sh -e lines)
+"$compiler" -I "$here" "$here/programs/guide.c" "$out/rustc/c/target/libnet_base.a" -o "$out/program"
+[ "$("$out/program")" = "read abcdef" ]
 
 at="edges.c"
 # Also over a library with debug assertions, which tell of a pointer to nothing that is used.

@@ -40,7 +40,7 @@ EXAMPLES = ["net_examples", "net_tests"]
 SOURCES = [*(f"{folder}/**/*" for folder in "crates overlay compare rust c tools .ci .github".split()), "*", "docs/*"]
 ELSEWHERE = set("""
     MODULE axioms nat __builtin_add_overflow int32_t spsc defmt Format Debug2Format HOLE
-    c.storage-1.given time_t VecInner Cursor ANTT iface send_with yml
+    c.storage-1.given time_t VecInner Cursor ANTT iface send_with yml __aeabi_memclr8
 """.split())
 LONGEST = 30
 NAME = re.compile(r"[A-Za-z_][A-Za-z0-9_]*")

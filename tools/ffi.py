@@ -48,6 +48,8 @@ LENGTHS = dict(re.findall(r"const (\w+): usize = (\d+);",
                           "".join(path.read_text() for path in EXPORTS.glob("src/*.rt"))))
 # The type of the numbers of all statuses, an alias of `u32`, and what says in C that a result isn't to be thrown away.
 STATUS, MUST_USE = "Status", "NET_BASE_MUST_USE"
+# What makes an enum 32 bits wide where a compiler has no attribute for it.
+WIDEST = "NET_BASE_WIDEST"
 # The statuses that a call can answer, by the type of its result: an alias of `u32` whose comment names them in its
 # first paragraph, and then says what one of them means there, if that isn't what it means elsewhere. Each is an enum.
 COMMENTS = {name: re.sub("^/// ?", "", doc, flags=re.M) for doc, name in re.findall(
@@ -400,7 +402,7 @@ def c_item(item, library, more=()):
         lines.append(f"{c_type(item.name).replace('enum', 'enum NET_BASE_32_BITS')} {{")
         for it in item.members:
             lines += documented(f"{enumerator(item.name, it.name)} = {it.text},", it.doc, structs)
-        return [*lines, "};"]
+        return [*lines, f"    {WIDEST}({re.sub('Status$', '', item.name).upper()})", "};"]
     parameters = [part for member in item.members for part in c_members(member)]
     result = c_type(item.type) if item.type else "void"
     must = f"{MUST_USE} " * must_use(item, structs)
@@ -440,49 +442,85 @@ def index_of(library):
             yield f"- `net_base_{name}_`: {title_of(doc)}: {', '.join(names)}."
 
 
-# What isn't to be thrown away: C++17 and C23 say it in their own way, where `(void)` allows it; GCC's word allows
-# nothing.
-MUST = f"""/** What is returned isn't to be thrown away. */
+# What isn't to be thrown away: C++17 and C23 say it in their own way, which `(void)` before a call overrides; GCC takes
+# that also of earlier C, and otherwise has a word that nothing overrides. An enum is as wide on each processor: other
+# compilers than GCC and Clang give one the bits that its greatest number needs.
+MUST = f"""/** What is returned isn't to be thrown away, unless `(void)` is written before the call. GCC before
+ * version 11 takes no `(void)`, but `if (call) {{}}`. */
 #if defined __cplusplus && __cplusplus >= 201703L || defined __STDC_VERSION__ && __STDC_VERSION__ >= 202311L
 #define {MUST_USE} [[nodiscard]]
-#else
+#elif defined __GNUC__ && __GNUC__ >= 11 && !defined __clang__ && !defined __cplusplus
+#define {MUST_USE} [[nodiscard]]
+#elif defined __GNUC__
 #define {MUST_USE} __attribute__((warn_unused_result))
+#else
+#define {MUST_USE}
 #endif
-/** An enum is as wide on each processor, also where a compiler makes it short. */
+/** @cond */
+/* Each enum has 32 bits, also where a compiler makes it as short as its numbers. */
+#ifdef __GNUC__
 #define NET_BASE_32_BITS __attribute__((mode(SI)))
-/** What a call may write overlaps nothing else that it is passed. */
-#define NET_BASE_RESTRICT __restrict"""
+#define {WIDEST}(name)
+#else
+#define NET_BASE_32_BITS
+#define {WIDEST}(name) NET_BASE_##name##_WIDEST = INT32_MAX
+#endif
+/* What a call may write overlaps nothing else that it is passed. */
+#ifdef __GNUC__
+#define NET_BASE_RESTRICT __restrict
+#elif defined __cplusplus
+#define NET_BASE_RESTRICT
+#else
+#define NET_BASE_RESTRICT restrict
+#endif
+/** @endcond */"""
+
+# GCC would tell of `[[nodiscard]]` in C before C23.
+EARLY = """/** @cond */
+#if defined __GNUC__ && !defined __clang__
+#pragma GCC diagnostic push
+#pragma GCC diagnostic ignored "-Wpedantic"
+#endif
+/** @endcond */"""
+LATE = """/** @cond */
+#if defined __GNUC__ && !defined __clang__
+#pragma GCC diagnostic pop
+#endif
+/** @endcond */"""
 
 # What a library that tests duties calls.
 BROKEN = """/** A function that you write if the library was built with `--features check`: a call broke a duty.
  * `duty` is its number, 7 for 5 and 6 too; `argument` names the parameter, or is empty. It must not
- * return, unless the number is 0: then a status says that the call was refused.
+ * return, unless the number is 0: then the call was refused, for a null pointer if that is named.
  */
 void net_base_broken(uint32_t duty, const char *name, const char *argument);"""
 
 # What GCC is told of slices: of a pointer's elements as many are read, or may be written, as the parameter of another
-# number says.
+# number says. The second are `write_only` also where a call reads them: `read_write` asks for values, which the storage
+# and the runs of a new head don't have.
 ACCESS = """/** @cond */
 #if defined __has_attribute
 #if __has_attribute(access)
 #define NET_BASE_READS(pointer, length) __attribute__((access(read_only, pointer, length)))
-#define NET_BASE_WRITES(pointer, length) __attribute__((access(read_write, pointer, length)))
+#define NET_BASE_WRITES(pointer, length) __attribute__((access(write_only, pointer, length)))
 #define NET_BASE_SLICES(name, told) extern __typeof__(net_base_##name) net_base_##name told;
 #pragma GCC diagnostic push
 #pragma GCC diagnostic ignored "-Wredundant-decls\""""
 
 
-def link_names(number):
-    """What the header says of the number in the names that functions are linked by."""
-    return f"""#ifndef __GNUC__
-#error "net_base.h gives functions their names by asm labels: compile it by GCC, Clang or one that is made of them"
-#endif
-/** The number of this interface. It is in the name that each function is linked by, so that no
+def link_names(library, number):
+    """What the header says of the number in the names that functions are linked by: by labels, or where a compiler has
+    none by macros."""
+    macros = "\n".join(f"#define {item.name} {link_name(item, number)}" for item in library.exports())
+    return f"""/** The number of this interface. It is in the name that each function is linked by, so that no
  * library of another version links or loads.
  */
 #define NET_BASE_INTERFACE {number}
 /** @cond */
-#ifdef NET_BASE_PLAIN_NAMES
+#ifdef NET_BASE_PLAIN_NAMES /* without the number, as in a library of another maker */
+#define NET_BASE_LINK(name)
+#elif !defined __GNUC__
+{macros}
 #define NET_BASE_LINK(name)
 #else
 #define NET_BASE_TEXT(text) #text
@@ -528,7 +566,7 @@ def c_part(library, crate):
     for name, number in numbers:
         lines += [f"/** The {name.lower()} number: until 1.0 names and structs may change with each minor one. */",
                   f"#define NET_BASE_VERSION_{name} {number}"]
-    lines += ["", link_names(interface()), "", MUST, "", "#ifdef __cplusplus", 'extern "C" {', "#endif", "", BEGIN]
+    lines += ["", link_names(library, interface()), "", MUST, "", "#ifdef __cplusplus", 'extern "C" {', "#endif", EARLY, "", BEGIN]
     for doc, section, name in library.sections:
         head = head_of(section)
         lines += ["", *group(first_paragraph(doc) if head else doc, name, library.structs)]
@@ -536,7 +574,7 @@ def c_part(library, crate):
             more = ["", *doc[doc.index("") + 1 :]] if item is head and "" in doc else []
             lines += [""] + c_item(item, library, more)
         lines += ["", "/** @} */"]
-    lines += ["", END, "", BROKEN, "", *slices(library), "", "#ifdef __cplusplus", "}", "#endif"]
+    lines += ["", END, "", LATE, "", BROKEN, "", *slices(library), "", "#ifdef __cplusplus", "}", "#endif"]
     return "\n".join([*lines, "#endif"]) + "\n"
 
 

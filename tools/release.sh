@@ -11,7 +11,8 @@ mkdir -p "$2"
 kit=$(cd "$2" && pwd)
 shift 2
 [ $# -gt 0 ] || set -- x86_64-unknown-linux-gnu aarch64-unknown-linux-gnu armv7-unknown-linux-gnueabihf \
-    thumbv7em-none-eabi riscv32imac-unknown-none-elf thumbv6m-none-eabi thumbv8m.main-none-eabi
+    thumbv6m-none-eabi thumbv7em-none-eabi thumbv7em-none-eabihf thumbv8m.main-none-eabi \
+    riscv32imc-unknown-none-elf riscv32imac-unknown-none-elf
 cd "$(dirname "$0")/.."
 assets=$PWD/c/assets
 # Symbols depend on its path.

@@ -3,16 +3,28 @@
  */
 #ifndef BYTE_RING_H
 #define BYTE_RING_H
-#include <stdatomic.h>
 #include <stdbool.h>
 #include <stddef.h>
 #include <stdint.h>
+#ifdef __cplusplus
+#include <atomic>
+using std::memory_order_acquire;
+using std::memory_order_relaxed;
+using std::memory_order_release;
+typedef std::atomic<size_t> byte_ring_count;
+#define BYTE_RING_ASSERT static_assert
+#else
+#include <stdatomic.h>
+typedef _Atomic size_t byte_ring_count;
+#define BYTE_RING_ASSERT _Static_assert
+#endif
 
 enum { BYTE_RING_SIZE = 256 }; /* a power of two */
+BYTE_RING_ASSERT(BYTE_RING_SIZE > 0 && (BYTE_RING_SIZE & (BYTE_RING_SIZE - 1)) == 0, "a power of two: counts wrap");
 
 /* A ring of zeros is empty. Both counts run free: what is in it is their difference. */
 struct byte_ring {
-    _Atomic size_t in, out;
+    byte_ring_count in, out;
     uint8_t bytes[BYTE_RING_SIZE];
 };
 

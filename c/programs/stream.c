@@ -52,6 +52,12 @@ static void must(bool holds, const char *what) {
     exit(1);
 }
 
+/* A count of bytes that isn't a refusal. */
+static size_t counted(size_t count) {
+    must(count != NET_BASE_NONE, "a count");
+    return count;
+}
+
 /* Some are lost, and some arrive twice. */
 static void put(struct link *link, const struct segment *segment, int64_t now) {
     unsigned copies = below(100) < loss ? 0 : below(20) == 0 ? 2 : 1;
@@ -91,12 +97,14 @@ static uint64_t position_of(uint32_t number, uint64_t near) {
 static void send_segments(int64_t now) {
     struct net_base_outgoing_segment next;
     struct net_base_ended_timer ended = net_base_sending_end_expired(&from, outgoing, ROOM, now);
+    must(ended.status != NET_BASE_EXPIRED_REFUSED, "expired");
     expired += ended.status == NET_BASE_EXPIRED_LOST;
     probes += ended.status == NET_BASE_EXPIRED_OVERDUE || ended.status == NET_BASE_EXPIRED_PROBE;
     while (next = net_base_sending_end_next_segment(&from, outgoing, ROOM, UINT64_MAX, now),
         next.status == NET_BASE_OUTGOING_DONE) {
         struct net_base_segment_parts parts =
             net_base_sending_end_bytes(&from, ROOM, next.position, next.end);
+        must(parts.from != NET_BASE_NONE, "bytes");
         struct segment segment = {.number = initial + (uint32_t)next.position,
             .is_last = parts.is_last,
             .size = parts.count + parts.rest_count};
@@ -177,15 +185,15 @@ static void run(uint64_t first, const uint8_t *data, size_t size, bool is_slow) 
          now += 1000) {
         struct segment segment;
         must(now < INT64_C(40000000000), "it doesn't end");
-        written +=
-            net_base_sending_end_write(&from, outgoing, ROOM, data + written, size - written);
+        written += counted(
+            net_base_sending_end_write(&from, outgoing, ROOM, data + written, size - written));
         if (written == size) net_base_sending_end_close(&from);
         send_segments(now);
         while (take(&there, now, &segment)) take_segment(&segment, now);
         while (take(&back, now, &segment)) take_acknowledgement(&segment, now);
         if (!is_slow || below(20) == 0)
-            count +=
-                net_base_receiving_end_read(&to, incoming, WINDOW, read + count, LONGEST - count);
+            count += counted(
+                net_base_receiving_end_read(&to, incoming, WINDOW, read + count, LONGEST - count));
         if (net_base_receiving_end_is_wanted(&to, WINDOW)) acknowledge(now);
     }
     must(count == size && memcmp(read, data, size) == 0, "other bytes arrived");

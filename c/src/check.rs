@@ -3,12 +3,15 @@
 //! length that differs but leaves head and runs sound.
 use core::any::Any;
 use core::ffi::c_char;
-use proved::exports::refusals::NET_BASE_REFUSED;
-use proved::exports::sending_end::{EndedTimer, OutgoingSegment, TakenAcknowledgement};
+use proved::exports::refusals::{no_number, NET_BASE_REFUSED};
+use proved::exports::sending_end::{
+    EndedTimer, OutgoingSegment, SegmentParts, TakenAcknowledgement,
+};
+use proved::exports::{FirstPacket, PacketPlace, Span};
 
 unsafe extern "C" {
     /// What the program does about a broken duty, of which the number, the function and the argument are passed: it
-    /// doesn't return. With number 0 a call's status says that it was refused: then it may.
+    /// doesn't return. With number 0 the call is refused, for the argument if that is null: then it may.
     fn net_base_broken(duty: u32, name: *const c_char, argument: *const c_char);
 }
 
@@ -52,13 +55,26 @@ pub(crate) fn sound(name: &'static str, is_sound: bool) {
     }
 }
 
-/// Tells of a status that says that the call was refused.
+/// Tells of a call that is refused for an argument, which is null.
+pub(crate) fn refused(name: &'static str, argument: &'static str) {
+    broken(0, name, argument);
+}
+
+/// Tells of a result by which a call says that it was refused: a status, or the greatest number in place of a count, an
+/// index or a position. `false` may be an answer too.
 pub(crate) fn answer(name: &'static str, result: &dyn Any) {
+    let number = (result.downcast_ref::<usize>().copied())
+        .or_else(|| Some(result.downcast_ref::<Span>()?.from))
+        .or_else(|| Some(result.downcast_ref::<PacketPlace>()?.gap))
+        .or_else(|| Some(result.downcast_ref::<FirstPacket>()?.gap))
+        .or_else(|| Some(result.downcast_ref::<SegmentParts>()?.from));
+    let position = result.downcast_ref::<u64>().copied();
     let status = (result.downcast_ref::<u32>().copied())
         .or_else(|| Some(result.downcast_ref::<TakenAcknowledgement>()?.status))
         .or_else(|| Some(result.downcast_ref::<EndedTimer>()?.status))
         .or_else(|| Some(result.downcast_ref::<OutgoingSegment>()?.status));
-    if status == Some(NET_BASE_REFUSED) {
+    if status == Some(NET_BASE_REFUSED) || number == Some(no_number()) || position == Some(u64::MAX)
+    {
         broken(0, name, "\0");
     }
 }

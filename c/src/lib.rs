@@ -17,7 +17,7 @@ mod check;
 /// Defines an export: `NAME = FUNCTION(PARAMETERS) -> RESULT, else REFUSED;`, with C's convention. A reference becomes a
 /// pointer, a slice a pointer and a length. If one of them is null, but for a slice of length 0, the call returns
 /// REFUSED; otherwise what FUNCTION returns. After `sound` is what must hold of a call that keeps duties 5, 6 and 7, and
-/// is tested by the feature `check`, as duties 1 and 2 are.
+/// is tested by the feature `check`, as duties 1 and 2 are. It also tells of calls that are refused.
 macro_rules! export {
     ($link:literal = $call:path, ($($given:tt)*) $(-> $result:ty)? $(, else $refused:expr)? $(, sound $sound:expr)?;) => {
         export! { @ $link, $call, [$($given)*,] [] [] [] [$(-> $result)?] ($($refused)?) [$($sound)?] }
@@ -51,13 +51,18 @@ macro_rules! export {
                     &[$((concat!(stringify!($it), "\0"), $at.addr(), $at.is_aligned(), $count, $size, $is_mut)),*]);
                 let result = 'done: {
                     // SAFETY: the caller's duty.
-                    $(let Some($it) = (unsafe { $got }) else { break 'done $refused };)*
+                    $(let Some($it) = (unsafe { $got }) else {
+                        #[cfg(feature = "check")]
+                        crate::check::refused(concat!($link, "\0"), concat!(stringify!($it), "\0"));
+                        break 'done $refused
+                    };)*
                     $(#[cfg(feature = "check")]
                     crate::check::sound(concat!($link, "\0"), $sound);)?
-                    $call($($pass)*)
+                    let result = $call($($pass)*);
+                    #[cfg(feature = "check")]
+                    crate::check::answer(concat!($link, "\0"), &result);
+                    result
                 };
-                #[cfg(feature = "check")]
-                crate::check::answer(concat!($link, "\0"), &result);
                 result
             }
         };

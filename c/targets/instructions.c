@@ -1,6 +1,7 @@
 /* Prints how many instructions a round of each main call takes, by the emulator's count (`-icount shift=0`): without those of the
  * loop around it. Under Linux nothing counts: `instructions KIND ROUNDS` makes rounds of a kind, 0 being an empty one. */
 #include "net_base.h"
+#include "count.h"
 #include "programs/byte_ring.h"
 #include <stdio.h>
 #include <stdlib.h>
@@ -19,34 +20,6 @@ static struct net_base_sending_end sender;
 /* What the peer announces. */
 static struct net_base_announcement announced = {0, 0, CAPACITY};
 static struct net_base_fragments fragments;
-
-#ifdef __riscv
-static unsigned now(void) {
-    unsigned count;
-    __asm__ volatile(".option push\n.option arch, +zicsr\ncsrr %0, minstret\n.option pop" : "=r"(count));
-    return count;
-}
-enum { EACH = 1 };
-#elif defined __linux__
-static unsigned now(void) {
-    return 0;
-}
-enum { EACH = 1 };
-#else
-/* SysTick counts down at 25 MHz, and an instruction takes a nanosecond. */
-static unsigned now(void) {
-    volatile unsigned *systick = (volatile unsigned *)0xe000e010;
-    if (systick[0] == 0) {
-        systick[1] = 0xffffff;
-        systick[2] = 0;
-        systick[0] = 5;
-        while (systick[2] == 0) {
-        }
-    }
-    return 0xffffff - systick[2];
-}
-enum { EACH = 40 };
-#endif
 
 static void nothing(void) {}
 
@@ -96,9 +69,9 @@ static void fragment(void) {
 }
 
 static unsigned taken(void (*round)(void)) {
-    unsigned begin = now();
+    unsigned begin = counter();
     for (volatile int i = 0; i < ROUNDS; i++) round();
-    return (now() - begin) * EACH / ROUNDS;
+    return since(begin) / ROUNDS;
 }
 
 int main(int count, char **words) {
@@ -120,7 +93,7 @@ int main(int count, char **words) {
         for (volatile int i = atoi(words[2]); i > 0; i--) (kind == 0 ? nothing : kinds[kind - 1].round)();
         return 0;
     }
-    now();
+    counter();
     unsigned loop = taken(nothing);
     for (unsigned i = 0; i < sizeof kinds / sizeof kinds[0]; i++)
         printf("instructions: %u %s\n", taken(kinds[i].round) - loop, kinds[i].name);

@@ -134,6 +134,7 @@ WAYS = [
     cortex_m(CORTEX_M4, "mps2-an386", ["-march=armv7e-m"], LARGE),
     cortex_m(CORTEX_M4, "mps2-an386", ["-march=armv7e-m", *TRAPPED], LARGE, "+strict-align"),
     riscv(RISCV_32, 32, ["-march=rv32imac", "-mabi=ilp32"]),
+    riscv("riscv32imc-unknown-none-elf", 32, ["-march=rv32imc", "-mabi=ilp32"]),
     linux(BARE_X86, "x86_64-linux-gnu-gcc", "qemu-x86_64-static"),
     linux("i686-unknown-linux-gnu", "i686-linux-gnu-gcc", "qemu-i386-static"),
     linux("aarch64-unknown-linux-gnu", "aarch64-linux-gnu-gcc", "qemu-aarch64-static"),
@@ -148,6 +149,17 @@ WAYS = [
     cortex_m("thumbv8m.main-none-eabi", "mps2-an505", ["-march=armv8-m.main"], SECURE),
     cortex_m("thumbv8m.main-none-eabihf", "mps2-an505", ["-march=armv8-m.main+fp", "-mfloat-abi=hard"], SECURE),
 ]
+# The rows of docs/C.md for parts of the library on a Cortex-M4, by the order in which c/sizes.sh prints their code, and
+# the rounds of instructions.c that they have.
+PAGE = ROOT / "docs/C.md"
+PARTS = {"`net_base_ring_`": "ring: 16 bytes in and out", "`net_base_packets_`": "packets: one in and out",
+         "`net_base_fragments_`, `net_base_parts_sum_`": "fragments: two of 16 bytes, the size, the packet",
+         "`net_base_finite_receiver_`": "receiver: a segment of 32 bytes and a read",
+         "`net_base_receiving_end_`, `net_base_sending_end_`": "sending end: 32 bytes written, sent and acknowledged"}
+BYTE_RING = """#include "programs/byte_ring.h"
+bool put(struct byte_ring *ring, uint8_t byte) { return byte_ring_put(ring, byte); }
+bool take(struct byte_ring *ring, uint8_t *byte) { return byte_ring_take(ring, byte); }
+"""
 # The sequence's calls, whose digest depends on how many bits a `size_t` has.
 CALLS, DIGESTS = 1_000_000, C / "sequence.txt"
 TARGETS = list(dict.fromkeys(way.target for way in WAYS))
@@ -200,6 +212,12 @@ def compilers(targets, kit):
     return found
 
 
+def code_size(way, path):
+    """Bytes of code and constants of an object file."""
+    said = shell([way.tool("size"), "-A", path])[1]
+    return sum(int(size) for size in re.findall(r"^\.(?:text|rodata)\S*\s+(\d+)", said, flags=re.M))
+
+
 class Library:
     """The library that cargo builds for a way's target."""
 
@@ -221,8 +239,7 @@ class Library:
 
     def code_size(self):
         """Bytes of code and constants."""
-        said = shell([self.way.tool("size"), "-A", self.object])[1]
-        return sum(int(size) for size in re.findall(r"^\.(?:text|rodata)\S*\s+(\d+)", said, flags=re.M))
+        return code_size(self.way, self.object)
 
     def wanted(self):
         """The functions that it wants from elsewhere."""
@@ -375,6 +392,8 @@ def tests(programs, generated, options):
         done.append("CMake")
     if lines_of_page(programs):
         done.append("the lines of docs/C.md")
+    if not way.features and compared(programs, generated):
+        done.append("the numbers of docs/C.md")
     said = last(programs.run("sequence", [generated / "sequence.c"], [str(options.calls)]))
     digest = re.search(r"digest ([0-9a-f]{16})$", said)
     if not digest:
@@ -397,6 +416,64 @@ def stacks(programs, generated):
     own = f"net_base_{ffi.interface()}_"
     return sorted(((size, name.removeprefix(own)) for name, size in bounds.items() if name.startswith(own)),
                   reverse=True)[:2]
+
+
+def longest(programs):
+    """Instructions of the longest of each call of a connection, and of one on average, by the emulator's count."""
+    said = programs.run("longest", [HERE / "longest.c"], (), (), ["-icount", "shift=0"])
+    return {name: [int(it) for it in counts]
+            for name, *counts in re.findall(r"^longest: (\w+) (\d+) (\d+)$", said, flags=re.M)}
+
+
+def figures(programs, generated):
+    """The numbers that docs/C.md has for a target, or may have: of each row, by one of its cells, those of columns by
+    their heads."""
+    stack = "; ".join(f"{size} {name}" for size, name in stacks(programs, generated))
+    found = {f"`{programs.way.target}`": {"Code, bytes": f"{programs.library.code_size():,}", "Stack, bytes": stack}}
+    if programs.way.target == CORTEX_M4:
+        rounds = instructions(programs)
+        codes = re.findall(r"^code of .*: (\d+)$", shell(["sh", C / "sizes.sh", programs.library.path])[1], flags=re.M)
+        for (key, name), code in zip(PARTS.items(), codes, strict=True):
+            found[key] = {"Code": f"{int(code):,}", "Instructions": f"{rounds[name]:,}"}
+        source = programs.folder / "byte_ring_size.c"
+        source.write_text(BYTE_RING)
+        found["copy `byte_ring.h`"] = {"Code": str(code_size(programs.way, programs.compiled(source, ["-Os"]))),
+                                       "Instructions": str(rounds["byte_ring.h: a byte in and out"])}
+        for name, (most, average) in longest(programs).items():
+            found[f"`{name}`"] = {"Most": f"{most:,}", "On average": f"{average:,}"}
+    return found
+
+
+def with_figures(text, found):
+    """A page with these numbers, in the rows that it has, and how many rows these are."""
+    lines, count, head = text.split("\n"), 0, []
+    for k, line in enumerate(lines):
+        row = line.strip("| ").split(" | ") if line.startswith("| ") else []
+        head = (head or row) if line.startswith("|") else []
+        for key in set(row) & set(found):
+            if wrong := set(found[key]) - set(head):
+                sys.exit(f"targets: docs/C.md: the table with {key} has no column {' or '.join(wrong)}")
+            lines[k] = f"| {' | '.join(found[key].get(name, cell) for name, cell in zip(head, row))} |"
+            count += 1
+    return "\n".join(lines), count
+
+
+def compared(programs, generated):
+    """Compares the numbers of docs/C.md with a target's. Returns whether it has some, of these compilers."""
+    text = PAGE.read_text()
+    rust, other, gcc = re.search(r"are of Rust (\S+) \(x86-64: (\S+)\) and GCC (\d+\.\d+)", text).groups()
+    version = f"rustc {other if programs.way.target.startswith('x86_64') else rust}."
+    if f"`{programs.way.target}`" not in text or not shell([programs.rustc, "--version"])[1].startswith(version) or \
+            not shell([programs.way.compiler[0], "-dumpfullversion"])[1].startswith(f"{gcc}."):
+        return False
+    found = figures(programs, generated)
+    wanted, count = with_figures(text, found)
+    if count != len(found):
+        raise Failed(f"docs/C.md has {count} of these rows: {', '.join(found)}")
+    if wrong := [f"{said}, and not {line}" for line, said in zip(text.split("\n"), wanted.split("\n")) if line != said]:
+        raise Failed(f"docs/C.md has other numbers: sh c/targets.sh --table --record {programs.way.target}: " +
+                     "; ".join(wrong))
+    return True
 
 
 def instructions(programs):
@@ -432,16 +509,16 @@ def each(ways, act):
 
 
 def table_of(programs, generated):
-    """A target's row, what its library wants, and its column of instructions."""
-    stack = "; ".join(f"{size} {name}" for size, name in stacks(programs, generated))
-    row = f"| `{programs.way.target}` | {programs.library.code_size():,} | {stack} |"
-    return row, " ".join(sorted(programs.library.wanted())), instructions(programs)
+    """A target's numbers, what its library wants, and its column of instructions."""
+    found = figures(programs, generated)
+    return found, " ".join(sorted(programs.library.wanted())), instructions(programs)
 
 
 def print_table(tables):
     """What each library has and wants, and the stack that it takes. Then a row for each main call."""
     print("| Target | Code, bytes | Stack, bytes |\n|---|---:|---:|")
-    print("\n".join(dict.fromkeys(row for row, _, _ in tables.values())), end="\n\n")
+    rows = {f"`{way.target}`": found for way, (found, _, _) in tables.items()}
+    print("\n".join(f"| {key} | {' | '.join(found[key].values())} |" for key, found in rows.items()), end="\n\n")
     print("\n".join(dict.fromkeys(f"{way.target} wants {wanted}" for way, (_, wanted, _) in tables.items())))
     counts = {way.target: count for way, (_, _, count) in tables.items() if count}
     if counts:
@@ -461,7 +538,8 @@ def main():
     parser.add_argument("--table", action="store_true")
     parser.add_argument("--packages", action="store_true")
     parser.add_argument("--install", action="store_true", help="install what is missing, where that can be done")
-    parser.add_argument("--record", action="store_true", help="write the digest")
+    parser.add_argument("--numbers", action="store_true")
+    parser.add_argument("--record", action="store_true", help="write the digest, or the numbers of docs/C.md")
     parser.add_argument("--calls", type=int, default=CALLS)
     parser.add_argument("--kit", type=pathlib.Path)
     parser.add_argument("targets", nargs="*")
@@ -469,8 +547,9 @@ def main():
     names = options.targets or (QUICK if options.quick else TARGETS)
     if unknown := set(names) - set(TARGETS):
         sys.exit(f"targets: no target {' '.join(sorted(unknown))}: there are {' '.join(TARGETS)}")
-    ways = [way for way in WAYS if way.target in names and not (options.table and way.features)]
-    ways += [] if options.table else [way for way in INTERRUPTED if way.target in names]
+    builds = options.table or options.numbers
+    ways = [way for way in WAYS if way.target in names and not (builds and way.features)]
+    ways += [] if builds else [way for way in INTERRUPTED if way.target in names]
     gone = {program for way in ways for program in way.lacking()}
     if gone and options.install and os.getuid() == 0 and shutil.which("apt-get"):
         words = ["apt-get", "-qq", "-o", "DPkg::Lock::Timeout=600"]
@@ -504,6 +583,8 @@ def main():
             programs = Programs(way, rustc[way.target], folder / str(index))
             if options.table:
                 return table_of(programs, generated)
+            if options.numbers:
+                return "the numbers of docs/C.md" if compared(programs, generated) else "docs/C.md has no numbers of it"
             if way is PC or way in ways[:index]:  # it is there once more for the interrupt
                 return interrupted(programs)
             return tests(programs, generated, options)
@@ -518,6 +599,9 @@ def main():
                 print(f"{way.name()}: {result}", flush=True)
     if options.table:
         print_table(tables)
+    if options.table and options.record:
+        found = {key: values for numbers, _, _ in tables.values() for key, values in numbers.items()}
+        PAGE.write_text(with_figures(PAGE.read_text(), found)[0])
     sys.exit(status or (0 if is_whole else 2))
 
 

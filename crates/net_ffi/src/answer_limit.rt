@@ -24,11 +24,11 @@ pub extern "C" fn net_base_answer_limit_init(limit: &mut AnswerLimit)
     *limit = AnswerLimit { until: i64::MIN };
 }
 
-/// Returns whether to answer a segment of which nothing is taken, `NET_BASE_ANSWER` of
-/// `net_base_receiving_end_classify` or of `net_base_sending_end_acknowledged`, and takes notice that it is answered. A
-/// segment without positions, which may be an answer itself, and a SYN are answered at most twice a second, so that two
-/// ends don't answer each other's answers without end (RFC 5961, section 7). If the clock is set back, the limit stays
-/// until the moment that it was.
+/// Returns whether to answer a segment of which nothing is taken, `NET_BASE_ARRIVAL_ANSWER` of
+/// `net_base_receiving_end_classify` or `NET_BASE_ACKNOWLEDGED_ANSWER` of `net_base_sending_end_acknowledged`, and takes
+/// notice that it is answered. A segment without positions, which may be an answer itself, and a SYN are answered at
+/// most twice a second, so that two ends don't answer each other's answers without end (RFC 5961, section 7). If the
+/// clock is set back, the limit stays until the moment that it was.
 #[unsafe(no_mangle)]
 pub extern "C" fn net_base_answer_limit_allows(
     limit: &mut AnswerLimit,

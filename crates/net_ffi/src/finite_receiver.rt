@@ -82,8 +82,8 @@ pub extern "C" fn net_base_finite_receiver_segment(
 /// Writes the end of the free window to `end`, for what is announced, where the storage has `capacity` bytes, and
 /// returns true. It is never below what `net_base_finite_receiver_acknowledged` writes.
 ///
-/// It is refused if more than `capacity` bytes are queued, or if that end or the number after `next` doesn't fit 64
-/// bits: false, and nothing changes.
+/// It is refused if more than `capacity` bytes are queued, or if that end or the number after the first missing
+/// position doesn't fit 64 bits: false, and nothing changes.
 #[unsafe(no_mangle)]
 pub extern "C" fn net_base_finite_receiver_window_end(
     receiver: &FiniteReceiverHead,

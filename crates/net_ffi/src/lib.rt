@@ -46,7 +46,7 @@
 //! always means a refusal; the others can also be results of calls that are done.
 //!
 //! A `bool` answers a question, or that a call was done. A status says what became of a call that can end in more ways:
-//! what is done is 0, as in other libraries of C.
+//! what is done is 0, as in other libraries of C. Only what to do with a segment that arrives has no answer of that kind.
 //!
 //! # What C writes itself
 //!

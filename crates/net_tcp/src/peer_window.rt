@@ -23,7 +23,7 @@ pub struct Announcement {
     pub seq: u64,
     /// The position that it acknowledges.
     pub ack: u64,
-    /// How many bytes may be sent from there on, as `scaled` returns it.
+    /// How many bytes may be sent from there on: the field of a header, shifted left by the scale.
     pub window: u64,
 }
 

@@ -71,7 +71,8 @@ pub extern "C" fn net_base_finite_receiver_is_sound(
 /// Returns whether the stream can end at `position`: it is the end that is known, or none is, and
 /// it isn't below the first missing position or a held run's end. 2^64 - 1 is no end.
 ///
-/// It is refused if `next` doesn't fit 64 bits, or `held.used` is above `runs.len()`: false.
+/// It is refused if the first missing position doesn't fit 64 bits, or `held.used` is above
+/// `runs.len()`: false.
 ///
 /// # Requires
 ///
@@ -95,7 +96,8 @@ pub extern "C" fn net_base_finite_receiver_can_end(
 /// Writes to `number` the number that an acknowledgement carries: the first missing position, or,
 /// once all bytes and the end have arrived, the end plus 1, since the end has a number.
 ///
-/// It is refused if the number after `next` doesn't fit 64 bits: false, and nothing changes.
+/// It is refused if the number after the first missing position doesn't fit 64 bits: false, and
+/// nothing changes.
 #[unsafe(no_mangle)]
 pub extern "C" fn net_base_finite_receiver_acknowledged(
     receiver: &FiniteReceiverHead,
@@ -115,7 +117,7 @@ pub extern "C" fn net_base_finite_receiver_acknowledged(
 
 /// Returns whether all bytes were read, up to the end. Once it is so it stays so.
 ///
-/// It is refused if the number after `next` doesn't fit 64 bits: false.
+/// It is refused if the number after the first missing position doesn't fit 64 bits: false.
 #[unsafe(no_mangle)]
 pub extern "C" fn net_base_finite_receiver_has_read_all(receiver: &FiniteReceiverHead) -> bool
     ensures state { next_of receiver.now < no_end → (storage : List ℕ) (runs : List (ℕ × ℕ)) → result ≡ has_read_all (finite_of receiver.now storage runs) }
@@ -131,7 +133,7 @@ pub extern "C" fn net_base_finite_receiver_has_read_all(receiver: &FiniteReceive
 /// as are queued and as `into` has room for. The rest of `into` stays as it is.
 ///
 /// It is refused if `receiver.receiver.place` isn't that of a ring of `storage.len()` elements, or
-/// if `next` doesn't fit 64 bits: `NET_BASE_NONE`, and nothing changes.
+/// if the first missing position doesn't fit 64 bits: `NET_BASE_NONE`, and nothing changes.
 #[unsafe(no_mangle)]
 pub extern "C" fn net_base_finite_receiver_read(
     receiver: &mut FiniteReceiverHead,
@@ -156,8 +158,8 @@ pub extern "C" fn net_base_finite_receiver_read(
 /// copies none. `capacity` is how many bytes the storage has.
 ///
 /// It is refused if `receiver.receiver.place` isn't that of a ring of `capacity` elements, or if
-/// fewer than `count` elements are queued, or if `next` doesn't fit 64 bits: false, and nothing
-/// changes.
+/// fewer than `count` elements are queued, or if the first missing position doesn't fit 64 bits:
+/// false, and nothing changes.
 #[unsafe(no_mangle)]
 pub extern "C" fn net_base_finite_receiver_remove(
     receiver: &mut FiniteReceiverHead,
