@@ -35,7 +35,8 @@ OVER, OVER_OF_RUNS = 30, 45
 # case.
 TYPES = {
     "assembler": "Assembler", "scoreboard": "Scoreboard", "recovery": "LossRecovery", "receiver": "ReceiverOver",
-    "finite_receiver": "FiniteReceiverOver", "finite_sender": "FiniteSenderOver", "fragments": "FragmentsOver",
+    "finite_receiver": "FiniteReceiverOver", "stream_receiver": "StreamReceiverOver",
+    "finite_sender": "FiniteSenderOver", "fragments": "FragmentsOver",
     "table": "fragment_table", "send_buffer": "SendBufferOver", "sending_end": "SendingEndOver",
     "receiving_end": "ReceivingEndOver",
 }
@@ -44,15 +45,16 @@ WITHOUT_RUNS = {"SplitReader", "SplitRing", "SplitWriter", "FragmentSlot"}
 # The names of calls without a class, by reason.
 LEFT_OUT = {
     "it makes a value, takes one apart, or begins anew: a program does that":
-        "new new_at empty empty_at over over_at into_storage clear reset_at forget",
+        "new new_at empty empty_at over over_at into_storage into_storages clear reset_at forget",
     "it reads numbers of the head, or of what it is given": """
         acknowledged acknowledgement_number answer capacity duplicates end expires_at first_number first_unreported fits
         flight_size has_read_all held_count is_active is_blind is_closed is_closed_and_acknowledged is_complete is_done
-        is_due is_empty is_expired is_recovering len nagle_enabled next numbers numbers_end peek_front queued receiver
+        is_due is_empty is_expired is_recovering len most_runs nagle_enabled next numbers numbers_end peek_front queued receiver
         round_trip run_count segment_size sent sent_numbers timeouts total_size window window_end""",
     "only a program makes it, and it takes queued bytes": "as_slices peek peek_slice read_with",
     "only a program makes it, and it gives bytes, or ends the stream": "close set_nagle_enabled write",
     "only a program makes it: it compares two values": "same_state",
+    "only a program makes it: it copies the storage from before": "grow grow_runs",
     "it passes once and searches at each run, so it grows 47 times with 32 times as many runs": "lose",
 }
 HERE = Path(__file__).resolve().parent

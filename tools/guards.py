@@ -23,13 +23,14 @@ from parts import erase_list as given
 TOP = '''//! Checked calls of the functions with guards.
 #![tactic(auto)]
 
-use net_assembler::{Assembler, Turns};
+use net_assembler::{Assembler, Run, Turns};
 use net_base::phy::DeviceCapabilities;
 use net_base::time::{Duration, Instant};
 use net_base::storage::FragmentsOver;
 use net_base::storage::fragments::table::FragmentSlot;
 use net_ends::{ReceivingEndOver, SendingEndOver};
 use net_receiver::{FiniteReceiverOver, FiniteSenderOver, ReceiverOver, Scoreboard, SendBufferOver};
+use net_receiver::StreamReceiverOver;
 use net_ring::laws::is_usize;
 use net_ring::{RingOver, SplitCounts, Storage};
 use net_tcp::{AdvertisedWindow, TimeoutBounds};
@@ -124,13 +125,16 @@ def checked(title, header, signature, tests):
     returned, since the type of a result fits the memory."""
     outer, owner, arguments = HEADER.fullmatch(header).groups('') if header else ('', '', '')
     name, inner, parameters = SIGNATURE.search(signature).groups('')
-    parameters, path = parts(parameters), f'{owner}::{arguments}' if arguments else owner
+    parameters = [part.removeprefix('mut ') for part in parts(parameters)]
+    path = f'{owner}::{arguments}' if arguments else owner
     passed, called = [part.split(':')[0] for part in parameters], f'{path}::{name}'.removeprefix('::')
     if passed and passed[0].endswith('self'):
         parameters[0] = f'this: {passed[0][:-4]}{owner}{arguments}'
         passed, called = passed[1:], f'this.{name}'
+    bounds = dict(re.findall(r'(\w+): (\w+)', signature.partition('where')[2]))
+    bounded = [part + (f': {bounds[part]}' if part in bounds else '') for part in parts(outer) + parts(inner)]
     generics = ', '.join(part if part.startswith('const ') else part + (' + ' if ':' in part else ': ') + 'Drop'
-                         for part in parts(outer) + parts(inner))
+                         for part in bounded)
     tests = [re.sub(r'\bself\b', 'this', re.sub(r'\bSelf\b', path, test)) for test in tests]
     lengths = [part.split(':')[0] for part in parameters if part.endswith(': usize')]
     call = f'{called}({", ".join(passed)})'

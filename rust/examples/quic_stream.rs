@@ -1,17 +1,19 @@
 //! A stream of QUIC over packets that are lost, doubled and late: ranges acknowledged by packets, a final size, and flow
-//! control of a window that is smaller than the stream.
+//! control of a window that is smaller than the stream. Both sides begin with little memory, and take more as they need it.
 //!
 //! Frames here are Rust values. A QUIC of your own has packets, keys and a congestion window besides.
 use std::collections::{BTreeMap, VecDeque};
 use std::ops::Range;
 
-use net_base::finite::{FiniteReceiver, RangeAck, SegmentBytes, SendBuffer};
+use net_base::finite::{RangeAck, SegmentBytes, SendBuffer, StreamReceiver};
 use net_base::rand::Rand;
+use net_base::storage::Run;
 
 /// The most bytes of a STREAM frame.
 const SIZE: usize = 500;
-/// How many bytes may wait on either side.
+/// How many bytes may wait on either side, and how many at first.
 const CAPACITY: usize = 8_000;
+const BEGIN: usize = 1_000;
 /// How many packets may be in flight.
 const WINDOW: usize = 16;
 /// How many packets may overtake one before it counts as lost: RFC 9002 has 3, and this path has packets come as they like.
@@ -90,7 +92,7 @@ impl Sender {
 
 /// The side that receives: the stream, and the MAX_STREAM_DATA that it announced last.
 struct Receiver {
-    stream: FiniteReceiver<'static, 16>,
+    stream: StreamReceiver<'static>,
     announced: u64,
 }
 
@@ -104,9 +106,13 @@ impl Receiver {
         if self.stream.end().is_some_and(|known| end > known) || fin && !self.stream.can_end(end) {
             return Err("FINAL_SIZE_ERROR");
         }
-        // As many ranges may wait as frames of this peer fit in the window. One that sends smaller frames, with a hole
-        // after each, attacks (RFC 9000, section 21.7).
-        self.stream.keep(offset, data, fin.into()).map_err(|_| "INTERNAL_ERROR")?;
+        if self.stream.keep(offset, data, fin.into()).is_err() {
+            // Too many ranges wait. With room for one more, this one may wait too. A limit belongs here: a peer that
+            // sends tiny frames, with a hole after each, attacks (RFC 9000, section 21.7).
+            let runs = vec![Run::EMPTY; 2 * self.stream.most_runs() + 1];
+            self.stream.grow_runs(runs.into());
+            self.stream.keep(offset, data, fin.into()).map_err(|_| "INTERNAL_ERROR")?;
+        }
         Ok(())
     }
 
@@ -118,18 +124,16 @@ impl Receiver {
 }
 
 fn main() {
-    let mut random = Rand::new(1);
+    let mut random = Rand::new(2);
     let file: Vec<u8> = (0..50_000).map(|_| random.rand_u32() as u8).collect();
     let mut path = Path { random, packets: VecDeque::new() };
-    let mut receiver = Receiver {
-        stream: FiniteReceiver::new_at(vec![0; CAPACITY], 0),
-        announced: CAPACITY as u64,
-    };
+    let mut receiver =
+        Receiver { stream: StreamReceiver::new(vec![0; BEGIN], vec![]), announced: BEGIN as u64 };
     let mut sender = Sender {
-        stream: SendBuffer::new_at(vec![0; CAPACITY], 0),
+        stream: SendBuffer::new(vec![0; BEGIN]),
         ranges: BTreeMap::new(),
         next_number: 0,
-        max_stream_data: CAPACITY as u64,
+        max_stream_data: BEGIN as u64,
         heard: 0,
     };
     let (mut rest, mut read, mut now) = (&file[..], Vec::<u8>::new(), 0);
@@ -137,6 +141,8 @@ fn main() {
         rest = &rest[sender.stream.write(rest)..];
         if rest.is_empty() {
             sender.stream.close();
+        } else if sender.stream.capacity() < CAPACITY {
+            sender.stream.grow(vec![0; 2 * sender.stream.capacity()].into());
         }
         sender.send(&mut path, now);
         now = path.packets.front().map_or(now + TIMEOUT, |next| next.0);
@@ -146,6 +152,11 @@ fn main() {
                 let mut into = [0; CAPACITY];
                 let count = receiver.stream.read(&mut into);
                 read.extend(&into[..count]);
+                // The peer fills the window, so it gets a larger one.
+                let stream = &mut receiver.stream;
+                if stream.capacity() < CAPACITY.min(read.len()) {
+                    stream.grow(vec![0; 2 * stream.capacity()].into());
+                }
                 let (packets, max_stream_data) = (vec![number], receiver.announce());
                 path.send(now, &Packet::Ack { packets, max_stream_data });
             }
@@ -161,4 +172,9 @@ fn main() {
     }
     assert!(receiver.stream.has_read_all() && read == file);
     println!("{} bytes by {} packets, in {now} ticks", read.len(), sender.next_number);
+    println!(
+        "{} bytes of window, {} ranges",
+        receiver.stream.capacity(),
+        receiver.stream.most_runs()
+    );
 }

@@ -7,7 +7,7 @@ pub mod finite_receiver;
 pub mod fragments;
 mod for_c {
     mod assembler_head;
-    pub(super) mod finite_receiver_head;
+    mod finite_receiver_head;
     mod finite_sender_head;
     mod fragments_head;
     pub(super) mod packet_slot;
@@ -33,7 +33,6 @@ use crate::ends::{Acknowledged, Expired, Outgoing};
 use crate::stream::{FiniteError, KeptBytes, SequenceNumber};
 use crate::tcp::{AnswerLimit, Arrival, Expiry, Sack, TimeoutBounds};
 
-pub use for_c::finite_receiver_head::FiniteReceiverHead;
 pub use for_c::packet_slot::PacketSlot;
 pub use for_c::packets_head::FirstPacket;
 
@@ -45,6 +44,7 @@ pub use crate::storage::assembler::{AssemblerHead, Run};
 pub use crate::storage::fragments::FragmentsHead;
 pub use crate::storage::packets_head::{PacketPlace, PacketsHead};
 pub use crate::storage::ring_head::{RingHead, Span};
+pub use crate::stream::finite_receiver_head::FiniteReceiverHead;
 pub use crate::stream::finite_sender_head::FiniteSenderHead;
 pub use crate::stream::held_runs::HeldRun;
 pub use crate::stream::receiver_head::ReceiverHead;

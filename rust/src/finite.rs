@@ -41,11 +41,11 @@
 use core::fmt;
 
 use crate::managed::ManagedSlice;
-use crate::storage::{Listed, Storage, TooManyHolesError};
+use crate::storage::{Listed, Run, Storage, TooManyHolesError};
 
 pub use crate::stream::{
     FiniteError, FiniteReceiver, FiniteReceiverOver, FiniteSender, FiniteSenderOver, LentBytes,
-    Part, RangeAck, SegmentBytes, SendBuffer, SendBufferOver,
+    Part, RangeAck, SegmentBytes, SendBuffer, SendBufferOver, StreamReceiver, StreamReceiverOver,
 };
 
 impl From<TooManyHolesError> for FiniteError {
@@ -85,6 +85,48 @@ impl<'a, const N: usize> FiniteReceiver<'a, N> {
     #[track_caller]
     pub fn new_at<S: Into<ManagedSlice<'a, u8>>>(storage: S, first: u64) -> Self {
         FiniteReceiver::over_at(storage.into(), first)
+    }
+}
+
+impl<'a> StreamReceiver<'a> {
+    /// Returns a receiver of a stream that begins at position 0, as a stream of QUIC does; nothing has arrived.
+    ///
+    /// ```
+    /// # use net_base::finite::StreamReceiver;
+    /// # use net_base::storage::Run;
+    /// let (mut storage, mut runs) = ([0; 16], [Run::EMPTY; 2]);
+    /// assert_eq!(StreamReceiver::new(&mut storage, &mut runs).window(), 16);
+    /// ```
+    #[must_use]
+    pub fn new<S, R>(storage: S, runs: R) -> Self
+    where
+        S: Into<ManagedSlice<'a, u8>>,
+        R: Into<ManagedSlice<'a, Run>>,
+    {
+        StreamReceiver::new_at(storage, runs, 0)
+    }
+
+    /// Returns a receiver of a stream that begins at position `first`; nothing has arrived.
+    ///
+    /// ```
+    /// # use net_base::finite::{Part, StreamReceiver};
+    /// # use net_base::storage::Run;
+    /// let (mut storage, mut runs) = ([0; 16], [Run::EMPTY; 2]);
+    /// let mut receiver = StreamReceiver::new_at(&mut storage, &mut runs, 1);
+    /// assert!(receiver.keep(1, b"abc", Part::Last).is_ok() && receiver.end() == Some(4));
+    /// ```
+    ///
+    /// # Panics
+    ///
+    /// Panics if `first` is `u64::MAX`: no number is left for the end.
+    #[must_use]
+    #[track_caller]
+    pub fn new_at<S, R>(storage: S, runs: R, first: u64) -> Self
+    where
+        S: Into<ManagedSlice<'a, u8>>,
+        R: Into<ManagedSlice<'a, Run>>,
+    {
+        StreamReceiver::over_at(storage.into(), runs.into(), first)
     }
 }
 
@@ -161,6 +203,18 @@ impl<S: Storage<u8>, const N: usize> fmt::Debug for FiniteReceiverOver<S, N> {
             .field("len", &self.receiver().queued())
             .field("window", &self.receiver().window())
             .field("held", &Listed(|| self.receiver().held()))
+            .field("end", &self.end())
+            .finish()
+    }
+}
+
+impl<S: Storage<u8>, R: Storage<Run>> fmt::Debug for StreamReceiverOver<S, R> {
+    fn fmt(&self, f: &mut fmt::Formatter) -> fmt::Result {
+        f.debug_struct("StreamReceiver")
+            .field("next", &self.next())
+            .field("len", &self.queued())
+            .field("window", &self.window())
+            .field("held", &Listed(|| self.held()))
             .field("end", &self.end())
             .finish()
     }

@@ -83,7 +83,7 @@ impl Model {
 
 fn against_sets<const N: usize>(seed: u64) -> (u32, u32) {
     let rand = &mut Rand::new(seed);
-    let capacity = [0, 1, 5, 17, 90][rand.below(5) as usize];
+    let mut capacity = [0, 1, 5, 17, 90][rand.below(5) as usize];
     let first = [0, 100, u64::from(u32::MAX) - 20, u64::MAX - 60][rand.below(4) as usize];
     let mut buffer = SendBuffer::<N>::new_at(vec![0; capacity as usize], first);
     let (acknowledged, settled) = (BTreeSet::new(), BTreeSet::new());
@@ -162,6 +162,12 @@ fn against_sets<const N: usize>(seed: u64) -> (u32, u32) {
             10 if rand.below(8) == 0 => {
                 buffer.lose_all();
                 model.settled = (first..low).collect();
+            }
+            10 if rand.below(8) == 0 => {
+                let larger = capacity + u64::from(rand.below(9));
+                let before = buffer.grow(vec![9; larger as usize].into());
+                assert_eq!((before.len() as u64, buffer.capacity() as u64), (capacity, larger));
+                capacity = larger;
             }
             _ => {
                 assert_eq!(buffer.lose(any.clone()), any.end <= model.sent);

@@ -69,7 +69,8 @@ HEADS = {'net_ring/head': 'RingHead', 'net_packets/head': 'PacketsHead', 'net_as
          'net_receiver/finite_sender_head': 'FiniteSenderHead', 'net_receiver/sender_head': 'SenderHead',
          'net_receiver/scoreboard_head': 'ScoreboardHead', 'net_ends/tcp_buffer': 'BufferHead'}
 FOR_C = {file: [f'{head}::is_sound'] for file, head in HEADS.items()} | {
-    'net_receiver/finite_receiver_head': ['FiniteReceiverHead'],
+    'net_receiver/finite_receiver_head': [f'FiniteReceiverHead::{name}' for name in (
+        'is_sound', 'acknowledged', 'window_end', 'count_new')],
 }
 FOR_C['net_packets/head'] += ['FirstPacket', 'write_slots'] + [f'PacketsHead::{name}' for name in (
     'can_take', 'take_slot', 'can_shorten', 'shorten_slot', 'shorten_last_in', 'enqueue',
@@ -104,7 +105,7 @@ ATTRIBUTES = [
     ('#[derive(Debug)]\npub struct RingOver<', '#[derive(Clone)]\npub struct RingOver<', {RING: 1}),
     ('#[derive(Debug, Drop)]\npub struct PacketsOver<', '#[derive(Clone)]\npub struct PacketsOver<', {PACKETS: 1}),
     ('\npub struct ', '\n#[derive(Clone)]\npub struct ',
-     {RECEIVER: 1, FINITE: 1, 'net_receiver/finite_sender': 1, FRAGMENTS: 1}),
+     {RECEIVER: 1, FINITE: 1, 'net_receiver/finite_sender': 1, 'net_receiver/stream_receiver': 1, FRAGMENTS: 1}),
     ('#[derive(Drop)]\npub struct ', '#[derive(Clone)]\npub struct ',
      {ASSEMBLER: 2, 'net_receiver/held_runs': 1, 'net_receiver/send_buffer': 1, f'{FRAGMENTS}/table': 1,
       'net_ends/receiving_end': 1, 'net_ends/sending_end': 1}),

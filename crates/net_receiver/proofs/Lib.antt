@@ -18,3 +18,4 @@ pub mod BoardSearches
 pub mod HeldSearches
 pub mod Duplicates
 pub mod PartsOf
+pub mod Growth

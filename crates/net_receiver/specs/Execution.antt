@@ -11,6 +11,7 @@
 --     Converges v u same, TellsStates v u same      when `same_state` finds two receivers the same
 --     FreshRefines, EverySchedule, TellsNext, TellsHeld, TellsFresh      laws on what a receiver represents
 --     SoundRepresents, PartsRepresent      every receiver represents some state
+--     GrownRepresents      one with more room represents the same state
 -- The laws of listed runs, and of calls of `replay`, one after another.
 --     ListsRuns held sack      sack lists the first three runs of held positions
 --     Replays N v calls u      what calls of `replay`, one after another, store
@@ -166,6 +167,11 @@ SoundRepresents = (most_runs : ℕ) (v : ReceiverState) → IsSound most_runs v 
 abbrev pub PartsRepresent : Type 0
 PartsRepresent = (h : ReceiverHead) (xs : List ℕ) (rs : List (ℕ × ℕ)) →
     HasSoundParts h (length xs) rs → RepresentsSome (receiver_of h xs rs)
+
+-- a receiver that was moved to a larger storage represents the state that it represented before
+abbrev pub GrownRepresents : Type 0
+GrownRepresents = (v : ReceiverState) (s : KeptState) (capacity : ℕ) → v.capacity ≤ capacity → Refines v s →
+    Refines (record v { capacity = capacity }) s
 
 -- ---- listed runs
 -- the runs of a list, some of whose entries are missing

@@ -6,6 +6,7 @@
 --     closed_sender s      the sender once it was closed
 --     has_end_at s pos      a segment that ends at pos ends the stream
 --     accepts s n, acknowledged_below s n      an acknowledgement of all numbers below n
+--     moved_finite_sender s c      the sender once its queue was moved to the beginning of a storage of c bytes
 --     sent_after m pos n      the number after the last one that was sent, once n numbers from pos on were sent
 --     finite_sender_of h xs      what is stored
 --     head_after_sending h pos n      the head once n numbers from pos on were sent
@@ -27,7 +28,7 @@
 use Rattle.std.specs.Prelude.{◌≡◌, ℕ, ◌+◌, ◌-◌, ◌<◌, ◌≤◌, ◌&&◌, min, max, Bool, if◌then◌else◌, List, []}
 use Rattle.std.specs.Prelude.{nat_eq, nat_le, ◌∷◌, ◌++◌, length, take, drop, IsTrue, ◌↔◌, IsFalse, All, map}
 use Rattle.net_receiver.specs.SenderState.{SenderState, sender_state, end_of, room_of, with_written}
-use Rattle.net_receiver.specs.SenderState.{sender_from, sender_of, IsSoundHead, contiguous_end, Sends}
+use Rattle.net_receiver.specs.SenderState.{moved_sender, sender_from, sender_of, IsSoundHead, contiguous_end, Sends}
 use Rattle.net_receiver.specs.declared.finite_sender_head.FiniteSenderHead.{FiniteSenderHead}
 use Rattle.net_receiver.specs.Finite.{no_end, MatchesFinite, fresh_finite, acknowledged, is_complete}
 use Rattle.net_receiver.specs.Finite.{has_read_all, FiniteCommand, Arrives, Reads}
@@ -92,6 +93,11 @@ acknowledged_below s n = record {
   finished = n - end_of s.sender;
   sent = s.sent;
 }
+
+-- the queue was moved to the beginning of a storage of c bytes
+abbrev pub moved_finite_sender : FiniteSenderState → ℕ → FiniteSenderState
+moved_finite_sender s c =
+    record { sender = moved_sender s.sender c; closed = s.closed; finished = s.finished; sent = s.sent }
 
 -- n numbers from pos on were sent, after those below m
 abbrev pub sent_after : ℕ → ℕ → ℕ → ℕ

@@ -6,6 +6,7 @@
 --     contiguous_end v p      the end of the bytes that are contiguous in the storage with the one at p
 --     with_written v xs      the sender once these bytes were written
 --     sender_from v n      the sender once all below position n was acknowledged
+--     moved_sender v c      the sender once its queue was moved to the beginning of a storage of c bytes
 --     Sends f w v      w was written to a sender, its first byte at position f
 -- A sender in parts: a head of numbers, and the storage of its ring.
 --     sender_of h xs      what is stored
@@ -55,6 +56,10 @@ with_written v xs = record v { queue = v.queue ++ xs; wraps_at = next_wrap v }
 abbrev pub sender_from : SenderState → ℕ → SenderState
 sender_from v n = sender_state v.capacity n (drop (n - v.first_unacknowledged) v.queue)
     (if nat_lt n v.wraps_at then v.wraps_at else v.wraps_at + v.capacity)
+
+-- the queue was moved to the beginning of a storage of c bytes
+abbrev pub moved_sender : SenderState → ℕ → SenderState
+moved_sender v c = sender_state c v.first_unacknowledged v.queue (v.first_unacknowledged + c)
 
 -- the queue is the rest of w, from its position on
 pub record Sends (f : ℕ) (w : List ℕ) (v : SenderState) : Type 0 where

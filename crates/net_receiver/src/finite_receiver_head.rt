@@ -8,7 +8,7 @@ ghost use Rattle.net_ring.specs.RingHead.{IsSound as IsSoundPlace, ring_at};
 ghost use Rattle.net_receiver.specs.Finite.{no_end, fresh_finite, can_end_by, finite_after, finite_result};
 ghost use Rattle.net_receiver.specs.Finite.{finite_after_read, is_complete, acknowledged, has_read_all};
 ghost use Rattle.net_receiver.specs.ReceiverState.{count_between, limit_of};
-ghost use Rattle.net_receiver.specs.Head.{head_after_read, held_at, top_at, HasSoundHeld};
+ghost use Rattle.net_receiver.specs.Head.{head_after_read, held_at, top_at, HasSoundHeld, receiver_of};
 ghost use Rattle.net_receiver.specs.FiniteHead.{finite_at, finite_of, HasSoundFinite, next_of, end_of, end_with};
 ghost use Rattle.net_receiver.specs.FiniteHead.{finite_storage_after, usual_storage_after};
 ghost use Rattle.net_receiver.specs.Finite.{queue_alone, usual_after, usual_result};
@@ -286,6 +286,43 @@ impl FiniteReceiverHead {
         ensures { result ≡ can_end_by (end_of self.now) (top_at self.now.receiver runs.now) pos }
     {
         can_end(&self.receiver, self.after_end, runs, pos)
+    }
+
+    /// Copies the bytes of a storage to a larger one, for which the head then is, with the same runs.
+    ///
+    /// # Requires
+    ///
+    /// The queue is in the storage, and the other one is no smaller.
+    pub(crate) fn grow(&mut self, storage: &[u8], larger: &mut [u8])
+        requires place { IsSoundPlace (length storage.now) self.old.receiver.place }
+        requires larger { length storage.now ≤ length larger.old }
+        ensures sound { (runs : List (ℕ × ℕ)) → HasSoundFinite self.old (length storage.now) runs →
+            HasSoundFinite self.new (length larger.new) runs }
+        ensures state { (runs : List (ℕ × ℕ)) → HasSoundFinite self.old (length storage.now) runs →
+            finite_of self.new larger.new runs ≡ record (finite_of self.old storage.now runs) {
+              receiver = record (receiver_of self.old.receiver storage.now runs) {
+                capacity = length larger.new;
+              };
+            } }
+    {
+        self.receiver.grow(storage, larger);
+    }
+
+    /// Copies the held runs to the beginning of others, with which the head then is sound as it was with these.
+    ///
+    /// # Requires
+    ///
+    /// Head and runs are sound, as `is_sound` tests, with a storage of some length, and the others are no fewer.
+    pub(crate) fn move_runs(&self, runs: &[Run], more: &mut [Run])
+        requires held { HasSoundHeld self.now.receiver runs.now }
+        requires more { length runs.now ≤ length more.old }
+        ensures sound { (capacity : ℕ) → HasSoundFinite self.now capacity runs.now →
+            HasSoundFinite self.now capacity more.new }
+        ensures state { (storage : List ℕ) →
+            finite_of self.now storage more.new ≡ finite_of self.now storage runs.now }
+    {
+        let used = self.receiver.held.used;
+        more[..used].copy_from_slice(&runs[..used]);
     }
 
     /// Keeps the bytes of a segment that are in the free window and below the end, and takes the end, as

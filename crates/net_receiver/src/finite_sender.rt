@@ -8,6 +8,7 @@ ghost use Rattle.std.specs.Borrow.{sem};
 ghost use Rattle.net_receiver.specs.{end_of, Sends, no_end, MatchesFinite, IsLent, IsSoundSent, finite_sender_of};
 ghost use Rattle.net_receiver.specs.{IsSoundFiniteSender, fresh_finite_sender, first_number, numbers_end, finite_room};
 ghost use Rattle.net_receiver.specs.{with_bytes, closed_sender, acknowledged_below, is_last, sent_after};
+ghost use Rattle.net_receiver.specs.FiniteSender.{moved_finite_sender};
 
 use crate::finite_sender_head::FiniteSenderHead;
 use crate::laws;
@@ -15,6 +16,7 @@ use crate::part::{LentBytes, Part};
 use crate::sent_numbers::SentNumbers;
 use net_ring::{ManagedSlice, Storage};
 use std::marker::Model;
+use std::mem::replace;
 
 /// A [`FiniteSender`] over any storage.
 ///
@@ -173,6 +175,37 @@ impl<S: Storage<u8>> FiniteSenderOver<S> {
     {
         prove!(first < u64::MAX, "no number is left for an end");
         self.head = FiniteSenderHead::new(first);
+    }
+
+    /// Moves the queue to the beginning of a larger storage, and returns the one from before, whose bytes can be any. All
+    /// numbers stay, and `window` grows by as many bytes as the storage does, as far as positions go.
+    ///
+    /// ```
+    /// # use net_base::finite::FiniteSender;
+    /// let mut sender = FiniteSender::new_at(vec![0; 4], 100);
+    /// assert_eq!(sender.write(b"abcdef"), 4);
+    /// sender.grow(vec![0; 16].into());
+    /// assert_eq!((sender.write(b"ef"), sender.first_number(), sender.numbers_end()), (2, 100, 106));
+    /// assert_eq!(sender.send_at(100, 106).bytes, b"abcdef");
+    /// ```
+    ///
+    /// # Requires
+    ///
+    /// `larger` has at least as many bytes as the storage.
+    #[track_caller]
+    pub fn grow(&mut self, mut larger: S) -> S
+        requires { self.old.sender.capacity ≤ length (S.elements larger) }
+        ensures state { self.new ≡ moved_finite_sender self.old (length (S.elements larger)) }
+        ensures old { length (S.elements result) ≡ self.old.sender.capacity }
+        ensures sends { (f : ℕ) (w : List ℕ) → Sends f w self.old.sender →
+            Sends f w self.new.sender }
+    {
+        prove!(larger.count() >= self.capacity(), "a smaller storage");
+        let count = larger.count();
+        let bytes = larger.part_mut(0, count);
+        let capacity = self.storage.count();
+        self.head.grow(self.storage.part(0, capacity), bytes);
+        replace(&mut self.storage, larger)
     }
 
     /// Returns the first number that isn't acknowledged: TCP's SND.UNA. It is the first unacknowledged

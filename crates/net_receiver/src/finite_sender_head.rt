@@ -11,7 +11,7 @@ ghost use Rattle.net_receiver.specs.Finite.{no_end};
 ghost use Rattle.net_receiver.specs.NewHeads.{finite_sender_head};
 ghost use Rattle.net_receiver.specs.FiniteSender.{finite_sender_of, IsSoundFiniteSender, fresh_finite_sender};
 ghost use Rattle.net_receiver.specs.FiniteSender.{finite_room, with_bytes, closed_sender, acknowledged_below};
-ghost use Rattle.net_receiver.specs.FiniteSender.{head_after_sending, LendsAt};
+ghost use Rattle.net_receiver.specs.FiniteSender.{head_after_sending, LendsAt, moved_finite_sender};
 
 use crate::sender_head::SenderHead;
 use net_ring::Span;
@@ -74,6 +74,21 @@ impl FiniteSenderHead {
         }
         self.sender.first_unacknowledged + self.finished <= self.sent
             && self.sent <= end + self.closed
+    }
+
+    /// Copies the queue to the beginning of a larger storage, for which the head then is.
+    ///
+    /// # Requires
+    ///
+    /// The head is sound for the storage, and the other one is no smaller.
+    pub(crate) fn grow(&mut self, storage: &[u8], larger: &mut [u8])
+        requires sound { IsSoundFiniteSender (length storage.now) self.old }
+        requires larger { length storage.now ≤ length larger.old }
+        ensures sound { IsSoundFiniteSender (length larger.new) self.new }
+        ensures state { finite_sender_of self.new larger.new
+            ≡ moved_finite_sender (finite_sender_of self.old storage.now) (length larger.new) }
+    {
+        self.sender.grow(storage, larger);
     }
 
     /// Returns the first number that isn't acknowledged.

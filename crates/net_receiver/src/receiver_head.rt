@@ -3,7 +3,7 @@
 
 ghost use Rattle.std.specs.Prelude.{◌≡◌, ◌↔◌, ℕ, ◌+◌, ◌-◌, ◌<◌, ◌≤◌, ◌^◌, ◌%◌, List, length, All};
 ghost use Rattle.std.specs.Prelude.{IsTrue, IfOk, OnErr, Some, None, min, ◌++◌, take, drop};
-ghost use Rattle.std.specs.Prelude.{◌∷◌};
+ghost use Rattle.std.specs.Prelude.{◌∷◌, ◌⊎◌};
 ghost use Rattle.net_assembler.specs.Positions.{contains, maximal_runs, runs as run_count};
 ghost use Rattle.net_assembler.specs.RunLists.{HasSoundRuns, IsCanonical, set_of};
 ghost use Rattle.net_receiver.specs.Schedule.{piece};
@@ -98,6 +98,50 @@ impl ReceiverHead {
         ensures canonical { IsCanonical self.new.held }
     {
         self.held = AssemblerHead::new();
+    }
+
+    /// Copies the bytes of a storage to a larger one, for which the head then is, with the same runs. A byte has another
+    /// index there: the stream's byte number i is at i modulo the capacity.
+    ///
+    /// # Requires
+    ///
+    /// The queue is in the storage, and the other one is no smaller.
+    pub(crate) fn grow(&mut self, storage: &[u8], larger: &mut [u8])
+        requires place { IsSoundPlace (length storage.now) self.old.place }
+        requires larger { length storage.now ≤ length larger.old }
+        ensures sound { (runs : List (ℕ × ℕ)) → HasSoundParts self.old (length storage.now) runs →
+            HasSoundParts self.new (length larger.new) runs }
+        ensures state { (runs : List (ℕ × ℕ)) → HasSoundParts self.old (length storage.now) runs →
+            receiver_of self.new larger.new runs
+            ≡ record (receiver_of self.old storage.now runs) { capacity = length larger.new } }
+        ensures numbers { (self.new.first ≡ self.old.first)
+            × (self.new.count_read ≡ self.old.count_read)
+            × (self.new.place.length ≡ self.old.place.length) }
+        ensures held { self.new.held ≡ self.old.held }
+    {
+        let from = self.place.read_at;
+        let to = RingHead {
+            read_at: self.first_index(larger.len()),
+            length: 0,
+        };
+        // The storage from its first queued byte on, and then the bytes before that.
+        to.write_unallocated(larger, 0, &storage[from..]);
+        to.write_unallocated(larger, storage.len() - from, &storage[..from]);
+        self.place.read_at = to.read_at;
+    }
+
+    /// Returns the index of the first byte that wasn't read, in a storage of `capacity` bytes.
+    fn first_index(&self, capacity: usize) -> usize
+        ensures some { 0 < capacity → result ≡ self.now.count_read % capacity }
+        ensures none { capacity ≡ 0 → result ≡ 0 }
+        ensures within { (result ≡ 0) ⊎ (result < capacity) }
+    {
+        if capacity == 0 {
+            return 0;
+        }
+        let index = self.count_read % capacity as u64;
+        prove!(index < capacity as u64, "in any `usize`");
+        index as usize
     }
 
     /// Returns whether this head, a storage of `capacity` bytes and runs are sound: `place` is that

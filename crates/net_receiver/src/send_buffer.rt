@@ -19,7 +19,7 @@ ghost use Rattle.std.specs.Prelude.{◌≡◌, ◌↔◌, ◌-◌, ◌+◌, ◌<
 ghost use Rattle.std.specs.Prelude.{IfSome, IfNone, min, max, length, not, nat_le};
 ghost use Rattle.net_assembler.specs.Positions.{contains, front, with_range, nothing, maximal_runs};
 ghost use Rattle.net_receiver.specs.FiniteSender.{sender_after_command, Writes, Closes, Marks, Acknowledges};
-ghost use Rattle.net_receiver.specs.FiniteSender.{finite_room, first_number, numbers_end};
+ghost use Rattle.net_receiver.specs.FiniteSender.{finite_room, first_number, numbers_end, moved_finite_sender};
 ghost use Rattle.net_receiver.specs.SenderState.{end_of};
 ghost use Rattle.net_receiver.specs.Finite.{no_end, is_last};
 ghost use Rattle.net_receiver.specs.Scoreboards.{beyond, HasNoRoom, IsReport};
@@ -205,6 +205,47 @@ impl<S: Storage<u8>, const N: usize> SendBufferOver<S, N> {
         self.sender.reset_at(first);
         self.acknowledged.reset_at(first);
         self.settled.reset_at(first);
+    }
+
+    /// Moves the bytes to a larger storage, and returns the one from before, as `FiniteSenderOver::grow` does. What is
+    /// acknowledged, in flight and lost stays so.
+    ///
+    /// ```
+    /// # use net_base::finite::SendBuffer;
+    /// let mut buffer = SendBuffer::<4>::new_at(vec![0; 4], 0);
+    /// assert!(buffer.write(b"abcdef") == 4 && buffer.mark(0..4));
+    /// buffer.grow(vec![0; 16].into());
+    /// assert_eq!((buffer.write(b"ef"), buffer.next(u64::MAX, 100)), (2, Some(4..6)));
+    /// ```
+    ///
+    /// # Requires
+    ///
+    /// `larger` has at least as many bytes as the storage.
+    #[track_caller]
+    pub fn grow(&mut self, larger: S) -> S
+        requires { self.old.sender.sender.capacity ≤ length (S.elements larger) }
+        ensures state { self.new ≡ record self.old {
+          sender = moved_finite_sender self.old.sender (length (S.elements larger));
+        } }
+        ensures old { length (S.elements result) ≡ self.old.sender.sender.capacity }
+        ensures told { Told IsOther self.old self.new }
+    {
+        prove!(larger.count() >= self.capacity(), "a smaller storage");
+        self.sender.grow(larger)
+    }
+
+    /// Returns how many bytes have room: the storage's length.
+    ///
+    /// ```
+    /// # use net_base::finite::SendBuffer;
+    /// # let mut storage = [0u8; 64];
+    /// assert_eq!(SendBuffer::<4>::new_at(&mut storage[..], 0).capacity(), 64);
+    /// ```
+    #[must_use]
+    pub fn capacity(&self) -> usize
+        ensures { result ≡ self.now.sender.sender.capacity }
+    {
+        self.sender.capacity()
     }
 
     /// Returns how many bytes `write` would take.

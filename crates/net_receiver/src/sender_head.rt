@@ -6,7 +6,7 @@ ghost use Rattle.std.specs.Prelude.{min, IsTrue, IsFalse};
 ghost use Rattle.net_ring.specs.Ring.{queue, rewind_if_empty, with_enqueued, write_at, with_elements_wrapping};
 ghost use Rattle.net_ring.specs.RingHead.{ring_at, queued_index, dequeued_place};
 ghost use Rattle.net_receiver.specs.SenderState.{sender_state, room_of, contiguous_end, Sends, with_written};
-ghost use Rattle.net_receiver.specs.SenderState.{sender_from, sender_of, IsSoundHead};
+ghost use Rattle.net_receiver.specs.SenderState.{sender_from, sender_of, IsSoundHead, moved_sender};
 ghost use Rattle.net_receiver.specs.NewHeads.{sender_head};
 
 use net_ring::{RingHead, Span};
@@ -44,6 +44,23 @@ impl SenderHead {
                 length: 0,
             },
         }
+    }
+
+    /// Copies the queue to the beginning of a larger storage, for which the head then is.
+    ///
+    /// # Requires
+    ///
+    /// The head is sound for the storage, and the other one is no smaller.
+    pub(crate) fn grow(&mut self, storage: &[u8], larger: &mut [u8])
+        requires sound { IsSoundHead (length storage.now) self.old }
+        requires larger { length storage.now ≤ length larger.old }
+        ensures sound { IsSoundHead (length larger.new) self.new }
+        ensures place { self.new.place.length ≡ self.old.place.length }
+        ensures state { sender_of self.new larger.new
+            ≡ moved_sender (sender_of self.old storage.now) (length larger.new) }
+    {
+        self.place.read_allocated(storage, 0, larger);
+        self.place.read_at = 0;
     }
 
     /// Returns whether this head is sound for a storage of `capacity` bytes: `place` is that of a

@@ -21,6 +21,7 @@ use crate::managed::{ManagedSlice, Storage};
 use crate::resettable::Resettable;
 pub use iter::Iter;
 use std::marker::{Model, PhantomData};
+use std::mem::replace;
 
 mod iter;
 pub mod laws;
@@ -924,6 +925,42 @@ impl<T, S: Storage<T>> RingOver<T, S> {
 }
 
 /// The queue, shown. smoltcp doesn't have these calls; std's `VecDeque` does.
+impl<T, S: Storage<T>> RingOver<T, S> {
+    /// Moves the queue to the beginning of a larger storage, whose other elements stay as they are, and returns the
+    /// storage from before. smoltcp has no such call.
+    ///
+    /// ```
+    /// # use net_base::storage::RingBuffer;
+    /// let mut ring = RingBuffer::new(vec![0u8; 4]);
+    /// assert_eq!(ring.enqueue_slice(b"abcdef"), 4);
+    /// ring.grow(vec![0; 16].into());
+    /// assert_eq!((ring.enqueue_slice(b"ef"), ring.get_allocated(0, 9)), (2, &b"abcdef"[..]));
+    /// ```
+    ///
+    /// # Requires
+    ///
+    /// `larger` has at least `capacity` elements.
+    #[track_caller]
+    pub fn grow(&mut self, mut larger: S) -> S
+    where
+        T: Copy,
+        requires { length self.old.storage ≤ length (S.elements larger) }
+        ensures ring { self.new
+            ≡ ring (queue self.old ++ drop self.old.count (S.elements larger)) 0 self.old.count }
+        // Guarantee.
+        ensures queue { queue self.new ≡ queue self.old }
+        ensures old { S.elements result ≡ self.old.storage }
+    {
+        prove!(larger.count() >= self.capacity(), "a smaller storage");
+        let count = larger.count();
+        let elements = larger.part_mut(0, count);
+        let capacity = self.storage.count();
+        self.head
+            .move_queue(self.storage.part(0, capacity), elements);
+        replace(&mut self.storage, larger)
+    }
+}
+
 impl<T, S: Storage<T>> RingOver<T, S> {
     /// Shows the queue, in order, in two parts: the elements up to the storage's end, and those from
     /// its beginning on. The second part is empty unless the queue wraps.

@@ -9,7 +9,7 @@ use super::{
     Assembler, FragmentBuffer, FragmentError, FragmentsOver, HoleIter, Iter, PacketBuffer,
 };
 use super::{
-    PacketMetadata, PacketsOver, RingBuffer, RingOver, RunIter, Storage, TooManyHolesError,
+    PacketMetadata, PacketsOver, RingBuffer, RingOver, Run, RunIter, Storage, TooManyHolesError,
 };
 use crate::managed::ManagedSlice;
 use crate::time::Instant;
@@ -96,6 +96,18 @@ impl<'a, H> PacketBuffer<'a, H> {
     {
         PacketsOver::over(slots.into(), bytes.into())
     }
+}
+
+impl Run {
+    /// A run that isn't in use, of which storage of runs is made.
+    ///
+    /// ```
+    /// use net_base::storage::Run;
+    ///
+    /// let runs = [Run::EMPTY; 64];
+    /// assert_eq!((runs[0].start, runs[0].end), (0, 0));
+    /// ```
+    pub const EMPTY: Run = Run { start: 0, end: 0 };
 }
 
 /// An empty slot.

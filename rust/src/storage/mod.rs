@@ -23,7 +23,7 @@ pub(crate) mod split_counts;
 
 use core::sync::atomic;
 
-pub use assembler::{Assembler, HoleIter, IterData, RunIter, TooManyHolesError};
+pub use assembler::{Assembler, HoleIter, IterData, Run, RunIter, TooManyHolesError};
 pub use by_hand_split_ring::{SplitReader, SplitRing, SplitWriter};
 pub use error::{Empty, Full};
 pub use fragments::table as fragment_table;
@@ -37,7 +37,7 @@ pub use ring_head::Span;
 pub use split_counts::{SplitCounts, SplitSpan};
 
 // Names for other modules.
-pub(crate) use assembler::{AssemblerHead, Run};
+pub(crate) use assembler::AssemblerHead;
 pub(crate) use by_hand::Listed;
 pub(crate) use managed::ManagedSlice;
 pub(crate) use ring_head::RingHead;

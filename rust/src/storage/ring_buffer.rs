@@ -8,6 +8,7 @@ use crate::storage::ring_head::RingHead;
 #[cfg(feature = "alloc")]
 use alloc::vec::Vec;
 use core::marker::PhantomData;
+use core::mem::replace;
 pub use iter::Iter;
 
 mod iter;
@@ -671,6 +672,39 @@ impl<T, S: Storage<T>> RingOver<T, S> {
 }
 
 /// The queue, shown. smoltcp doesn't have these calls; std's `VecDeque` does.
+impl<T, S: Storage<T>> RingOver<T, S> {
+    /// Moves the queue to the beginning of a larger storage, whose other elements stay as they are, and returns the
+    /// storage from before. smoltcp has no such call.
+    ///
+    /// ```
+    /// # use net_base::storage::RingBuffer;
+    /// let mut ring = RingBuffer::new(vec![0u8; 4]);
+    /// assert_eq!(ring.enqueue_slice(b"abcdef"), 4);
+    /// ring.grow(vec![0; 16].into());
+    /// assert_eq!((ring.enqueue_slice(b"ef"), ring.get_allocated(0, 9)), (2, &b"abcdef"[..]));
+    /// ```
+    ///
+    /// # Panics
+    ///
+    /// Panics unless `larger` has at least `capacity` elements.
+    ///
+    /// # [Guarantees](crate#guarantees)
+    ///
+    /// - `self.queue == old(self).queue`
+    #[track_caller]
+    pub fn grow(&mut self, mut larger: S) -> S
+    where
+        T: Copy,
+    {
+        assert!(larger.count() >= self.capacity(), "a smaller storage");
+        let count = larger.count();
+        let elements = larger.part_mut(0, count);
+        let capacity = self.storage.count();
+        self.head.move_queue(self.storage.part(0, capacity), elements);
+        replace(&mut self.storage, larger)
+    }
+}
+
 impl<T, S: Storage<T>> RingOver<T, S> {
     /// Shows the queue, in order, in two parts: the elements up to the storage's end, and those from
     /// its beginning on. The second part is empty unless the queue wraps.

@@ -276,6 +276,19 @@ impl RingHead {
     }
 }
 
+/// What moves a queue.
+impl RingHead {
+    /// Copies the queue to the beginning of a larger storage, for which the head then is.
+    ///
+    /// # Requires
+    ///
+    /// The head is sound for the storage, and the other one is no smaller.
+    pub(crate) fn move_queue<T: Copy>(&mut self, storage: &[T], larger: &mut [T]) {
+        self.read_allocated(storage, 0, larger);
+        self.read_at = 0;
+    }
+}
+
 /// Copies the first elements of `data` over those of a span, as many as it has.
 #[inline]
 fn write_span<T: Copy>(storage: &mut [T], span: Span, data: &[T]) {

@@ -126,6 +126,27 @@ impl<S: Storage<u8>, const N: usize> FiniteReceiverOver<S, N> {
         self.after_end = 0;
     }
 
+    /// Moves what is stored to a larger storage, and returns the one from before, as `ReceiverOver::grow` does. The end
+    /// stays as it is.
+    ///
+    /// ```
+    /// # use net_base::finite::{FiniteReceiver, Part};
+    /// let mut receiver = FiniteReceiver::<4>::new_at(vec![0; 4], 0);
+    /// assert!(receiver.keep(0, b"ab", Part::More).is_ok());
+    /// receiver.grow(vec![0; 16].into());
+    /// assert_eq!(receiver.keep(2, b"cdefgh", Part::Last).map(|it| it.kept), Ok(6));
+    /// assert_eq!((receiver.receiver().queued(), receiver.end()), (8, Some(8)));
+    /// ```
+    ///
+    /// # Panics
+    ///
+    /// Panics unless `larger` has at least as many bytes as the storage.
+    #[track_caller]
+    pub fn grow(&mut self, larger: S) -> S {
+        assert!(larger.count() >= self.receiver().capacity(), "a smaller storage");
+        self.receiver.grow(larger)
+    }
+
     /// Returns whether the stream can end at a position: it is the end that is known, or none is, and it
     /// isn't below the first missing position or a held run's end. No stream ends at `u64::MAX`, which
     /// has no number after it.

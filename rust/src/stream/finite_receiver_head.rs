@@ -8,6 +8,24 @@ use crate::stream::receiver_head::ReceiverHead;
 /// The end's position while that isn't known: no stream ends there.
 pub(crate) const NO_END: u64 = u64::MAX;
 
+/// What a receiver of a stream that ends has besides its storage and its held runs: numbers.
+///
+/// The end is the position after the stream's last byte. It has a number, as a byte has (a TCP
+/// segment with FIN has one sequence number more than bytes), and needs no room. It is known once a
+/// segment has said so, in whatever order the segments arrive; then no byte at or above it is kept.
+///
+/// Head, storage and runs are *sound* if they are those of such a receiver:
+/// `HasSoundFinite` in contracts, where `finite_of` is what is stored. A head of zeros is new, of a stream
+/// that begins at position 0. smoltcp has no such type.
+#[repr(C)]
+#[derive(Debug, Clone, Copy)]
+pub struct FiniteReceiverHead {
+    /// The receiver of the bytes.
+    pub receiver: ReceiverHead,
+    /// The number after the end's, which is acknowledged once all has arrived, or 0 while the end isn't known.
+    pub after_end: u64,
+}
+
 // These are functions of a head's fields: of `after_end`, the number after the end's, and of the receiver. A
 // `FiniteReceiverOver`, which has them apart, calls them too.
 
@@ -56,7 +74,7 @@ pub(crate) fn known_end(after_end: u64) -> Option<u64> {
 }
 
 /// Returns whether the stream can end at `pos`, as `FiniteReceiverHead::can_end` does.
-pub(crate) fn can_end(receiver: &ReceiverHead, after_end: u64, runs: &[Run], pos: u64) -> bool {
+fn can_end(receiver: &ReceiverHead, after_end: u64, runs: &[Run], pos: u64) -> bool {
     match known_end(after_end) {
         Some(end) => pos == end,
         None => pos < NO_END && receiver.has_all_below(runs, pos),
@@ -148,4 +166,109 @@ pub(crate) fn keep_ending(
         keep_queue_alone(receiver, after_end);
     }
     keep_usual(receiver, after_end, storage, runs, pos, bytes, is_last)
+}
+
+impl FiniteReceiverHead {
+    /// Returns the head of a receiver of a stream that begins at position `first`; nothing has
+    /// arrived. It is sound with every storage and all runs.
+    ///
+    /// # Requires
+    ///
+    /// `first` is below `u64::MAX`: an end there would have no number after it.
+    pub(crate) const fn new(first: u64) -> Self {
+        FiniteReceiverHead { receiver: ReceiverHead::new(first), after_end: 0 }
+    }
+
+    /// Returns whether the stream can end at `pos`: it is the end that is known, or none is, and it
+    /// isn't below the first missing position or a held run's end. 2^64 - 1 is no end.
+    ///
+    /// # Requires
+    ///
+    /// Head and runs are sound, with a storage of some length.
+    pub(crate) fn can_end(&self, runs: &[Run], pos: u64) -> bool {
+        can_end(&self.receiver, self.after_end, runs, pos)
+    }
+
+    /// Copies the bytes of a storage to a larger one, for which the head then is, with the same runs.
+    ///
+    /// # Requires
+    ///
+    /// The queue is in the storage, and the other one is no smaller.
+    pub(crate) fn grow(&mut self, storage: &[u8], larger: &mut [u8]) {
+        self.receiver.grow(storage, larger);
+    }
+
+    /// Copies the held runs to the beginning of others, with which the head then is sound as it was with these.
+    ///
+    /// # Requires
+    ///
+    /// Head and runs are sound, with a storage of some length, and the others are no fewer.
+    pub(crate) fn move_runs(&self, runs: &[Run], more: &mut [Run]) {
+        let used = self.receiver.held.used;
+        more[..used].copy_from_slice(&runs[..used]);
+    }
+
+    /// Keeps the bytes of a segment that are in the free window and below the end, and takes the end, as
+    /// `FiniteReceiverOver::keep` does. If it is refused, head, storage and runs stay as they were.
+    ///
+    /// # Requires
+    ///
+    /// Head, storage and runs are sound.
+    #[inline]
+    pub(crate) fn keep(
+        &mut self,
+        storage: &mut [u8],
+        runs: &mut [Run],
+        pos: u64,
+        bytes: &[u8],
+        is_last: bool,
+    ) -> Result<KeptBytes, FiniteError> {
+        keep_ending(&mut self.receiver, &mut self.after_end, storage, runs, pos, bytes, is_last)
+    }
+
+    /// Returns whether all bytes and the end have arrived. Once it is so it stays so.
+    ///
+    /// # Requires
+    ///
+    /// The first missing position and the one after it fit 64 bits, as they do where head, storage
+    /// and runs are sound.
+    #[inline]
+    pub(crate) fn is_complete(&self) -> bool {
+        self.receiver.next() == end_or_max(self.after_end)
+    }
+
+    /// Returns whether all bytes were read, up to the end. Once it is so it stays so.
+    ///
+    /// # Requires
+    ///
+    /// The first missing position and the one after it fit 64 bits, as they do where head, storage
+    /// and runs are sound.
+    #[inline]
+    pub(crate) fn has_read_all(&self) -> bool {
+        self.receiver.first + self.receiver.count_read == end_or_max(self.after_end)
+    }
+
+    /// Moves bytes from the head of the queue to the beginning of `into`, and returns how many: as
+    /// many as are queued and as `into` has room for. The rest of `into` stays as it is.
+    ///
+    /// # Requires
+    ///
+    /// The queue is in the storage, and the first missing position fits 64 bits, as they do where
+    /// head, storage and runs are sound.
+    #[inline]
+    pub(crate) fn read(&mut self, storage: &[u8], into: &mut [u8]) -> usize {
+        self.receiver.read(storage, into)
+    }
+
+    /// Removes the first `count` bytes of the queue, as `read` does, and copies none. `capacity` is
+    /// how many bytes the storage has.
+    ///
+    /// # Requires
+    ///
+    /// The queue is in the storage, it has `count` bytes, and the first missing position fits 64
+    /// bits, as they do where head, storage and runs are sound.
+    #[inline]
+    pub(crate) fn remove(&mut self, capacity: usize, count: usize) {
+        self.receiver.remove(capacity, count);
+    }
 }

@@ -5,6 +5,7 @@ use crate::storage::{ManagedSlice, Storage};
 use crate::stream::finite_sender_head::FiniteSenderHead;
 use crate::stream::part::{LentBytes, Part};
 use crate::stream::sent_numbers::SentNumbers;
+use core::mem::replace;
 
 /// A [`FiniteSender`] over any storage.
 ///
@@ -100,6 +101,31 @@ impl<S: Storage<u8>> FiniteSenderOver<S> {
     pub fn reset_at(&mut self, first: u64) {
         assert!(first < u64::MAX, "no number is left for an end");
         self.head = FiniteSenderHead::new(first);
+    }
+
+    /// Moves the queue to the beginning of a larger storage, and returns the one from before, whose bytes can be any. All
+    /// numbers stay, and `window` grows by as many bytes as the storage does, as far as positions go.
+    ///
+    /// ```
+    /// # use net_base::finite::FiniteSender;
+    /// let mut sender = FiniteSender::new_at(vec![0; 4], 100);
+    /// assert_eq!(sender.write(b"abcdef"), 4);
+    /// sender.grow(vec![0; 16].into());
+    /// assert_eq!((sender.write(b"ef"), sender.first_number(), sender.numbers_end()), (2, 100, 106));
+    /// assert_eq!(sender.send_at(100, 106).bytes, b"abcdef");
+    /// ```
+    ///
+    /// # Panics
+    ///
+    /// Panics unless `larger` has at least as many bytes as the storage.
+    #[track_caller]
+    pub fn grow(&mut self, mut larger: S) -> S {
+        assert!(larger.count() >= self.capacity(), "a smaller storage");
+        let count = larger.count();
+        let bytes = larger.part_mut(0, count);
+        let capacity = self.storage.count();
+        self.head.grow(self.storage.part(0, capacity), bytes);
+        replace(&mut self.storage, larger)
     }
 
     /// Returns the first number that isn't acknowledged: TCP's SND.UNA. It is the first unacknowledged

@@ -32,6 +32,15 @@ impl FiniteSenderHead {
         FiniteSenderHead { sender: SenderHead::new(first), closed: 0, finished: 0, sent: first }
     }
 
+    /// Copies the queue to the beginning of a larger storage, for which the head then is.
+    ///
+    /// # Requires
+    ///
+    /// The head is sound for the storage, and the other one is no smaller.
+    pub(crate) fn grow(&mut self, storage: &[u8], larger: &mut [u8]) {
+        self.sender.grow(storage, larger);
+    }
+
     /// Returns the first number that isn't acknowledged.
     ///
     /// # Requires

@@ -2,9 +2,9 @@
 //! The receiver.
 
 // Why: Runs are an array in the type, and not storage as bytes are. With 999 of them a `Receiver` has 16 KB, with 4
-// 136 bytes. Runs that are lent would cost 7 instructions more of 120 of a segment in order. But some 40 places
-// would lend them, some 65 clauses that name `N` would name a count, and one run at least would be a precondition.
-// Many runs can be `static` or boxed.
+// 136 bytes. Runs in storage cost no instruction of a segment in order, and 3 of two that come late: `StreamReceiver`
+// has them so. But here some 40 places would lend them, and some 65 clauses that name `N` would name a number of the
+// model. Many runs can be `static` or boxed.
 //
 // A segment is taken by two calls. `segment` lists the first three held runs, as a selective acknowledgement needs
 // them. `keep` lists none, for callers that list others, by `newest_runs`, or none.
@@ -15,6 +15,7 @@ use crate::stream::finite_receiver_head::keep_ending;
 use crate::stream::held_runs::{HeldRun, HeldRuns, NewestRunIter};
 use crate::stream::kept::{FiniteError, Kept, KeptBytes, SegmentParts};
 use crate::stream::receiver_head::{count_existing, ReceiverHead};
+use core::mem::replace;
 use core::ops::Range;
 
 /// A [`Receiver`] over any storage.
@@ -128,6 +129,39 @@ impl<S: Storage<u8>, const N: usize> ReceiverOver<S, N> {
     /// ```
     pub fn reset_at(&mut self, first: u64) {
         self.head.reset_at(first);
+    }
+
+    /// Moves what is stored to a larger storage, and returns the one from before, whose bytes can be any. What is queued
+    /// and held stays, and so do all positions. The window grows by as many bytes as the storage does.
+    ///
+    /// So a receiver begins small, and a window that TCP or QUIC raises later costs memory only then. Each byte of the
+    /// storage from before is copied once. smoltcp has no such call.
+    ///
+    /// ```
+    /// # use net_base::receiver::Receiver;
+    /// let mut receiver = Receiver::<4>::new(vec![0; 4]);
+    /// assert!(receiver.segment(0, b"ab").is_ok() && receiver.segment(3, b"d").is_ok());
+    /// assert_eq!(receiver.window_end(), Some(4));
+    /// receiver.grow(vec![0; 16].into());
+    /// assert_eq!((receiver.queued(), receiver.window(), receiver.window_end()), (2, 14, Some(16)));
+    /// assert!(receiver.held().eq([(3, 4)]));
+    /// assert_eq!(receiver.segment(2, b"c").map(|it| it.queued), Ok(2));
+    /// ```
+    ///
+    /// # Panics
+    ///
+    /// Panics unless `larger` has at least `capacity` bytes.
+    ///
+    /// # [Guarantees](crate#guarantees)
+    ///
+    /// - `self.next() == old(self).next()`
+    #[track_caller]
+    pub fn grow(&mut self, mut larger: S) -> S {
+        assert!(larger.count() >= self.capacity(), "a smaller storage");
+        let count = larger.count();
+        let bytes = larger.part_mut(0, count);
+        self.head.grow(whole(&self.storage), bytes);
+        replace(&mut self.storage, larger)
     }
 
     /// Returns whether `pos + len` fits `u64`, as `segment` requires for a segment of `len` bytes.
@@ -633,6 +667,6 @@ fn existing(pos: u64, bytes: &[u8]) -> &[u8] {
 }
 
 /// Shows all bytes of a storage.
-fn whole<S: Storage<u8>>(storage: &S) -> &[u8] {
+pub(crate) fn whole<S: Storage<u8>>(storage: &S) -> &[u8] {
     storage.part(0, storage.count())
 }

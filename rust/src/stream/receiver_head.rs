@@ -54,6 +54,31 @@ impl ReceiverHead {
         self.held = AssemblerHead::new();
     }
 
+    /// Copies the bytes of a storage to a larger one, for which the head then is, with the same runs. A byte has another
+    /// index there: the stream's byte number i is at i modulo the capacity.
+    ///
+    /// # Requires
+    ///
+    /// The queue is in the storage, and the other one is no smaller.
+    pub(crate) fn grow(&mut self, storage: &[u8], larger: &mut [u8]) {
+        let from = self.place.read_at;
+        let to = RingHead { read_at: self.first_index(larger.len()), length: 0 };
+        // The storage from its first queued byte on, and then the bytes before that.
+        to.write_unallocated(larger, 0, &storage[from..]);
+        to.write_unallocated(larger, storage.len() - from, &storage[..from]);
+        self.place.read_at = to.read_at;
+    }
+
+    /// Returns the index of the first byte that wasn't read, in a storage of `capacity` bytes.
+    fn first_index(&self, capacity: usize) -> usize {
+        if capacity == 0 {
+            return 0;
+        }
+        let index = self.count_read % capacity as u64;
+        debug_assert!(index < capacity as u64);
+        index as usize
+    }
+
     /// Returns whether the offset of each held byte is above 0 and below `limit`.
     pub(crate) fn is_held_below(&self, limit: u64, runs: &[Run]) -> bool {
         let used = self.held.used;

@@ -162,6 +162,38 @@ impl<S: Storage<u8>, const N: usize> SendBufferOver<S, N> {
         self.settled.reset_at(first);
     }
 
+    /// Moves the bytes to a larger storage, and returns the one from before, as `FiniteSenderOver::grow` does. What is
+    /// acknowledged, in flight and lost stays so.
+    ///
+    /// ```
+    /// # use net_base::finite::SendBuffer;
+    /// let mut buffer = SendBuffer::<4>::new_at(vec![0; 4], 0);
+    /// assert!(buffer.write(b"abcdef") == 4 && buffer.mark(0..4));
+    /// buffer.grow(vec![0; 16].into());
+    /// assert_eq!((buffer.write(b"ef"), buffer.next(u64::MAX, 100)), (2, Some(4..6)));
+    /// ```
+    ///
+    /// # Panics
+    ///
+    /// Panics unless `larger` has at least as many bytes as the storage.
+    #[track_caller]
+    pub fn grow(&mut self, larger: S) -> S {
+        assert!(larger.count() >= self.capacity(), "a smaller storage");
+        self.sender.grow(larger)
+    }
+
+    /// Returns how many bytes have room: the storage's length.
+    ///
+    /// ```
+    /// # use net_base::finite::SendBuffer;
+    /// # let mut storage = [0u8; 64];
+    /// assert_eq!(SendBuffer::<4>::new_at(&mut storage[..], 0).capacity(), 64);
+    /// ```
+    #[must_use]
+    pub fn capacity(&self) -> usize {
+        self.sender.capacity()
+    }
+
     /// Returns how many bytes `write` would take.
     #[must_use]
     pub fn window(&self) -> usize {

@@ -27,6 +27,16 @@ impl SenderHead {
         SenderHead { first_unacknowledged: first, place: RingHead { read_at: 0, length: 0 } }
     }
 
+    /// Copies the queue to the beginning of a larger storage, for which the head then is.
+    ///
+    /// # Requires
+    ///
+    /// The head is sound for the storage, and the other one is no smaller.
+    pub(crate) fn grow(&mut self, storage: &[u8], larger: &mut [u8]) {
+        self.place.read_allocated(storage, 0, larger);
+        self.place.read_at = 0;
+    }
+
     /// Returns the position after the last byte that was written.
     ///
     /// # Requires

@@ -46,6 +46,13 @@ impl Draw {
         }
     }
 
+    /// Storages to move to, one after another from the last one on: most are larger than one of `capacity` bytes.
+    pub fn larger(&mut self, capacity: usize) -> Vec<Vec<u8>> {
+        [4, 3, 1, 0, 2, 1]
+            .map(|count| vec![9; capacity * count / 2 + self.below(3) as usize])
+            .into()
+    }
+
     /// A size that bytes can have: about `most`, and at most three more.
     pub fn length(&mut self, most: usize) -> usize {
         self.size(most).min(most + 3)

@@ -69,6 +69,7 @@ beside_models! {
     assemblers: assembler::play,
     receivers: receiver::play,
     receivers_of_streams_that_end: receiver::play_finite,
+    receivers_with_runs_in_storage: receiver::play_stream,
     senders: sender::play,
     scoreboards: scoreboard::play,
     buffers_of_fragments: fragments::play,

@@ -3,8 +3,9 @@ use crate::assembler::Runs;
 use crate::draw::Draw;
 use crate::support::message;
 use net_base::finite::{FiniteError, FiniteReceiver, FiniteReceiverOver};
+use net_base::finite::{StreamReceiver, StreamReceiverOver};
 use net_base::receiver::{Receiver, ReceiverOver, SegmentParts};
-use net_base::storage::{Storage, TooManyHolesError};
+use net_base::storage::{Run, Storage, TooManyHolesError};
 use std::collections::{BTreeMap, VecDeque};
 use std::ops::Range;
 
@@ -126,22 +127,26 @@ impl Model {
 pub fn play(draw: &mut Draw) {
     let (capacity, first) = (draw.of_these(&[0, 1, 4, 16, 24]), draw.first());
     let (mut bytes, mut other) = (vec![7; capacity], vec![8; capacity]);
+    let mut larger = draw.larger(capacity);
     draw.call(format_args!("{capacity} bytes from {first}"));
     match draw.below(3) {
         0 => play_over::<_, 1>(
             draw,
             [&mut bytes, &mut other].map(|it| Receiver::new_at(&mut it[..], first)),
+            larger.iter_mut().map(|it| it.as_mut_slice().into()).collect(),
             first,
         ),
         #[cfg(feature = "alloc")]
         1 => play_over::<_, 2>(
             draw,
             [bytes, other].map(|it| ReceiverOver::over_at(it, first)),
+            larger,
             first,
         ),
         _ => play_over::<_, 4>(
             draw,
             [&mut bytes, &mut other].map(|it| Receiver::new_at(&mut it[..], first)),
+            larger.iter_mut().map(|it| it.as_mut_slice().into()).collect(),
             first,
         ),
     }
@@ -150,6 +155,7 @@ pub fn play(draw: &mut Draw) {
 fn play_over<S: Storage<u8>, const N: usize>(
     draw: &mut Draw,
     both: [ReceiverOver<S, N>; 2],
+    mut larger: Vec<S>,
     first: u64,
 ) {
     let [mut it, mut other] = both;
@@ -213,11 +219,21 @@ fn play_over<S: Storage<u8>, const N: usize>(
             8 if draw.once_in(6) => {
                 let first = draw.first();
                 it.reset_at(first);
-                model = Model::new(capacity, N, first);
+                model = Model::new(model.capacity, N, first);
             }
             9 => {
                 std::mem::swap(&mut it, &mut other);
                 std::mem::swap(&mut model, &mut other_model);
+            }
+            10 if draw.once_in(4) => {
+                let Some(storage) = larger.pop() else { continue };
+                let count = storage.count();
+                if count < model.capacity {
+                    assert_eq!(message(|| it.grow(storage)), "a smaller storage");
+                } else {
+                    assert_eq!(it.grow(storage).count(), model.capacity);
+                    model.capacity = count;
+                }
             }
             _ => {}
         }
@@ -225,7 +241,7 @@ fn play_over<S: Storage<u8>, const N: usize>(
         assert_eq!(it.peek(offset, size), model.peek(offset, size));
         assert_eq!(it.same_state(&other), model.state() == other_model.state());
     }
-    assert_eq!(it.into_storage().count(), capacity);
+    assert_eq!(it.into_storage().count(), model.capacity);
 }
 
 fn see<S: Storage<u8>, const N: usize>(it: &ReceiverOver<S, N>, model: &Model) {
@@ -285,19 +301,32 @@ impl Finite {
 
 pub fn play_finite(draw: &mut Draw) {
     let (capacity, first) = (draw.of_these(&[0, 1, 4, 16]), draw.first());
-    let mut bytes = vec![7; capacity];
+    let (mut bytes, mut larger) = (vec![7; capacity], draw.larger(capacity));
     draw.call(format_args!("{capacity} bytes from {first}"));
     match draw.below(3) {
-        0 => play_finite_over::<_, 1>(draw, FiniteReceiver::new_at(&mut bytes[..], first), first),
+        0 => play_finite_over::<_, 1>(
+            draw,
+            FiniteReceiver::new_at(&mut bytes[..], first),
+            larger.iter_mut().map(|it| it.as_mut_slice().into()).collect(),
+            first,
+        ),
         #[cfg(feature = "alloc")]
-        1 => play_finite_over::<_, 4>(draw, FiniteReceiverOver::over_at(bytes, first), first),
-        _ => play_finite_over::<_, 2>(draw, FiniteReceiver::new_at(&mut bytes[..], first), first),
+        1 => {
+            play_finite_over::<_, 4>(draw, FiniteReceiverOver::over_at(bytes, first), larger, first)
+        }
+        _ => play_finite_over::<_, 2>(
+            draw,
+            FiniteReceiver::new_at(&mut bytes[..], first),
+            larger.iter_mut().map(|it| it.as_mut_slice().into()).collect(),
+            first,
+        ),
     }
 }
 
 fn play_finite_over<S: Storage<u8>, const N: usize>(
     draw: &mut Draw,
     mut it: FiniteReceiverOver<S, N>,
+    mut larger: Vec<S>,
     first: u64,
 ) {
     let capacity = it.receiver().capacity();
@@ -330,7 +359,17 @@ fn play_finite_over<S: Storage<u8>, const N: usize>(
             _ if draw.once_in(8) => {
                 let first = draw.first();
                 it.reset_at(first);
-                model = Finite { bytes: Model::new(capacity, N, first), end: None };
+                model = Finite { bytes: Model::new(model.bytes.capacity, N, first), end: None };
+            }
+            _ if draw.once_in(4) => {
+                let Some(storage) = larger.pop() else { continue };
+                let count = storage.count();
+                if count < model.bytes.capacity {
+                    assert_eq!(message(|| it.grow(storage)), "a smaller storage");
+                } else {
+                    assert_eq!(it.grow(storage).count(), model.bytes.capacity);
+                    model.bytes.capacity = count;
+                }
             }
             _ => {
                 let part = model.bytes.peek(0, usize::MAX);
@@ -360,5 +399,112 @@ fn play_finite_over<S: Storage<u8>, const N: usize>(
         assert_eq!(past_end, size - below);
         assert_eq!((old, in_window, beyond), model.bytes.parts_of(pos, below));
     }
-    assert_eq!(it.into_storage().count(), capacity);
+    assert_eq!(it.into_storage().count(), model.bytes.capacity);
+}
+
+/// A receiver whose runs are in storage is that of a stream that ends, and has as many runs as that has elements.
+pub fn play_stream(draw: &mut Draw) {
+    let (capacity, first) = (draw.of_these(&[0, 1, 4, 16]), draw.first());
+    let (mut bytes, mut larger) = (vec![7; capacity], draw.larger(capacity));
+    let mut runs = vec![Run { start: 3, end: 9 }; draw.below(4) as usize];
+    let mut more = [5, 0, 2, 1].map(|count| vec![Run::EMPTY; count]).to_vec();
+    draw.call(format_args!("{capacity} bytes, {} runs, from {first}", runs.len()));
+    match draw.below(2) {
+        #[cfg(feature = "alloc")]
+        0 => {
+            let it = StreamReceiverOver::over_at(bytes, runs, first);
+            play_stream_over(draw, it, larger, more, first);
+        }
+        _ => play_stream_over(
+            draw,
+            StreamReceiver::new_at(&mut bytes[..], &mut runs[..], first),
+            larger.iter_mut().map(|it| it.as_mut_slice().into()).collect(),
+            more.iter_mut().map(|it| it.as_mut_slice().into()).collect(),
+            first,
+        ),
+    }
+}
+
+fn play_stream_over<S: Storage<u8>, R: Storage<Run>>(
+    draw: &mut Draw,
+    mut it: StreamReceiverOver<S, R>,
+    mut larger: Vec<S>,
+    mut more: Vec<R>,
+    first: u64,
+) {
+    let capacity = it.capacity();
+    let mut model = Finite { bytes: Model::new(capacity, it.most_runs(), first), end: None };
+    for _ in 0..40 {
+        let pos = draw.near(model.bytes.next, capacity as u64 + 3);
+        let (size, kind, is_last) = (draw.size(capacity), draw.below(10), draw.once_in(5));
+        let data = draw.bytes(if kind == 0 { size.min(capacity + 3) } else { size.min(4) });
+        draw.call(format_args!("{kind}: at {pos} {data:?} {is_last}, {size}"));
+        match kind {
+            0..=4 => {
+                let given = it.keep(pos, &data, is_last.into()).map(|it| (it.kept, it.queued));
+                assert_eq!(given, model.keep(pos, &data, is_last));
+            }
+            5 => {
+                let mut into = vec![0; size.min(capacity)];
+                let count = it.read(&mut into);
+                assert_eq!(into[..count], model.bytes.read(into.len()));
+            }
+            6 if size <= model.bytes.queue.len() => {
+                it.remove(size);
+                model.bytes.read(size);
+            }
+            6 => assert_eq!(message(|| it.remove(size)), "more bytes than are queued"),
+            7 if draw.once_in(2) => {
+                let Some(storage) = larger.pop() else { continue };
+                let count = storage.count();
+                if count < model.bytes.capacity {
+                    assert_eq!(message(|| it.grow(storage)), "a smaller storage");
+                } else {
+                    assert_eq!(it.grow(storage).count(), model.bytes.capacity);
+                    model.bytes.capacity = count;
+                }
+            }
+            8 if draw.once_in(2) => {
+                let Some(runs) = more.pop() else { continue };
+                let count = runs.count();
+                if count < model.bytes.most {
+                    assert_eq!(message(|| it.grow_runs(runs)), "fewer runs");
+                } else {
+                    assert_eq!(it.grow_runs(runs).count(), model.bytes.most);
+                    model.bytes.most = count;
+                }
+            }
+            9 if draw.once_in(8) => {
+                let (first, bytes) = (draw.first(), &model.bytes);
+                it.reset_at(first);
+                model = Finite { bytes: Model::new(bytes.capacity, bytes.most, first), end: None };
+            }
+            _ => {}
+        }
+        let (bytes, end) = (&model.bytes, model.end);
+        assert_eq!(
+            (it.next(), it.queued(), it.window()),
+            (bytes.next, bytes.queue.len(), bytes.window())
+        );
+        assert_eq!((it.capacity(), it.most_runs()), (bytes.capacity, bytes.most));
+        assert_eq!(it.window_end(), bytes.next.checked_add(bytes.window() as u64));
+        assert_eq!(it.held().take(99).collect::<Runs>(), bytes.runs());
+        let (one, other) = it.as_slices();
+        assert_eq!(one, bytes.peek(0, usize::MAX));
+        assert!([one, other].concat().iter().eq(&bytes.queue));
+        assert_eq!((it.end(), it.is_complete()), (end, end == Some(bytes.next)));
+        assert_eq!(it.has_read_all(), end == Some(bytes.begin()));
+        for pos in [pos, pos.saturating_add(data.len() as u64), bytes.next, u64::MAX, u64::MAX - 1]
+        {
+            assert_eq!(it.can_end(pos), model.can_end(pos), "{pos}");
+        }
+        let SegmentParts { old, in_window, beyond, past_end, .. } = it.parts_of(pos, size);
+        let past =
+            (u128::from(pos) + size as u128).saturating_sub(u128::from(model.most().max(pos)));
+        let below = size - (past as usize).min(size);
+        assert_eq!(past_end, size - below);
+        assert_eq!((old, in_window, beyond), bytes.parts_of(pos, below));
+    }
+    let (storage, runs) = it.into_storages();
+    assert_eq!((storage.count(), runs.count()), (model.bytes.capacity, model.bytes.most));
 }

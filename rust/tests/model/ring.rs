@@ -61,25 +61,39 @@ fn swap(lent: &mut [u8], bytes: &[u8]) -> Vec<u8> {
 
 pub fn play(draw: &mut Draw) {
     let capacity = draw.of_these(&[0, 1, 2, 3, 5, 8, 12]);
-    let mut bytes = draw.bytes(capacity);
+    let (mut bytes, mut larger) = (draw.bytes(capacity), draw.larger(capacity));
     let model = Model { all: bytes.clone(), read: 0, length: 0 };
     draw.call(format_args!("a ring over {bytes:?}"));
     match (capacity, draw.below(2)) {
-        (5, 0) => play_over(draw, RingOver::over(<[u8; 5]>::try_from(&bytes[..]).unwrap()), model),
+        (5, 0) => {
+            let array = <[u8; 5]>::try_from(&bytes[..]).unwrap();
+            play_over(draw, RingOver::over(array), vec![[9; 5]; 2], model);
+        }
         #[cfg(feature = "alloc")]
-        (_, 1) => play_over(draw, RingBuffer::new(bytes), model),
-        _ => play_over(draw, RingBuffer::new(&mut bytes[..]), model),
+        (_, 1) => {
+            let larger = larger.into_iter().map(Into::into).collect();
+            play_over(draw, RingBuffer::new(bytes), larger, model);
+        }
+        _ => {
+            let larger = larger.iter_mut().map(|it| it.as_mut_slice().into()).collect();
+            play_over(draw, RingBuffer::new(&mut bytes[..]), larger, model);
+        }
     }
 }
 
-fn play_over<S: Storage<u8>>(draw: &mut Draw, mut ring: RingOver<u8, S>, mut model: Model) {
-    let capacity = model.all.len();
+fn play_over<S: Storage<u8>>(
+    draw: &mut Draw,
+    mut ring: RingOver<u8, S>,
+    mut larger: Vec<S>,
+    mut model: Model,
+) {
     for _ in 0..60 {
+        let capacity = model.all.len();
         let (size, offset) = (draw.size(capacity), draw.size(capacity));
         let bytes = draw.bytes(capacity + 2);
         let (some, byte) = (&bytes[..draw.length(capacity).min(capacity + 2)], bytes[0]);
         let taken = draw.below(2) == 0;
-        let kind = draw.below(22);
+        let kind = draw.below(23);
         draw.call(format_args!("{kind}: {size} {offset} {taken} {some:?}"));
         match kind {
             0 | 1 => {
@@ -198,6 +212,19 @@ fn play_over<S: Storage<u8>>(draw: &mut Draw, mut ring: RingOver<u8, S>, mut mod
             17 => {
                 ring.rewind_if_empty();
                 model.rewind();
+            }
+            22 => {
+                let Some(storage) = larger.pop() else { continue };
+                let count = storage.count();
+                if count < model.all.len() {
+                    assert_eq!(message(|| ring.grow(storage)), "a smaller storage");
+                } else {
+                    let queue = model.get(&model.queued(0, usize::MAX));
+                    let after = storage.part(queue.len(), count).to_vec();
+                    let old = ring.grow(storage);
+                    assert_eq!(old.part(0, old.count()), model.all);
+                    model = Model { length: queue.len(), all: [queue, after].concat(), read: 0 };
+                }
             }
             _ => {
                 let count = ring.dequeue_many(3).len();

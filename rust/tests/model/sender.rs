@@ -1,5 +1,6 @@
 //! A sender is the bytes that aren't acknowledged, the number of the first of them, and the index where it lies.
 use crate::draw::Draw;
+use crate::support::message;
 use net_base::finite::{FiniteSender, FiniteSenderOver};
 use net_base::storage::Storage;
 use std::collections::VecDeque;
@@ -75,16 +76,24 @@ impl Model {
 
 pub fn play(draw: &mut Draw) {
     let (capacity, first) = (draw.of_these(&[0, 1, 5, 12]), draw.first());
-    let mut bytes = vec![7; capacity];
+    let (mut bytes, mut larger) = (vec![7; capacity], draw.larger(capacity));
     draw.call(format_args!("{capacity} bytes from {first}"));
     match draw.below(2) {
         #[cfg(feature = "alloc")]
-        0 => play_over(draw, FiniteSenderOver::over_at(bytes, first), first),
-        _ => play_over(draw, FiniteSender::new_at(&mut bytes[..], first), first),
+        0 => play_over(draw, FiniteSenderOver::over_at(bytes, first), larger, first),
+        _ => {
+            let larger = larger.iter_mut().map(|it| it.as_mut_slice().into()).collect();
+            play_over(draw, FiniteSender::new_at(&mut bytes[..], first), larger, first);
+        }
     }
 }
 
-fn play_over<S: Storage<u8>>(draw: &mut Draw, mut it: FiniteSenderOver<S>, first: u64) {
+fn play_over<S: Storage<u8>>(
+    draw: &mut Draw,
+    mut it: FiniteSenderOver<S>,
+    mut larger: Vec<S>,
+    first: u64,
+) {
     let capacity = it.capacity();
     let mut model = Model::new(capacity, first);
     for _ in 0..50 {
@@ -118,7 +127,17 @@ fn play_over<S: Storage<u8>>(draw: &mut Draw, mut it: FiniteSenderOver<S>, first
             9 if draw.once_in(9) => {
                 let first = draw.first();
                 it.reset_at(first);
-                model = Model::new(capacity, first);
+                model = Model::new(model.capacity, first);
+            }
+            9 if draw.once_in(4) => {
+                let Some(storage) = larger.pop() else { continue };
+                let count = storage.count();
+                if count < model.capacity {
+                    assert_eq!(message(|| it.grow(storage)), "a smaller storage");
+                } else {
+                    assert_eq!(it.grow(storage).count(), model.capacity);
+                    (model.capacity, model.at) = (count, 0);
+                }
             }
             _ => {}
         }
@@ -142,5 +161,5 @@ fn play_over<S: Storage<u8>>(draw: &mut Draw, mut it: FiniteSenderOver<S>, first
             (model.is_closed, model.is_done)
         );
     }
-    assert_eq!(it.into_storage().count(), capacity);
+    assert_eq!((it.capacity(), it.into_storage().count()), (model.capacity, model.capacity));
 }

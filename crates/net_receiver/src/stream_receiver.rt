@@ -1,0 +1,513 @@
+//! A receiver of a stream that ends, whose runs are in storage as its bytes are.
+
+// Why: It is a type of its own, and not a parameter of `FiniteReceiverOver`. The number of runs decides what is refused,
+// so contracts name it: there it is the type's `N`, and here a number of the model, `most_runs`. An array of runs in the
+// value also costs no call to reach. Both types call the same functions of a head.
+#![tactic(auto, using(crate::proofs::Growth::streams))]
+
+ghost use Rattle.std.specs.Prelude.{◌≡◌, ◌≤◌, ◌<◌, ◌-◌, ◌^◌, length, take, drop, min, ◌++◌, Some, None};
+ghost use Rattle.net_assembler.specs.Positions.{maximal_runs};
+ghost use Rattle.net_receiver.specs.{no_end, fresh_finite, can_end, finite_after, finite_result, finite_after_read};
+ghost use Rattle.net_receiver.specs.{is_complete, has_read_all, is_last, next_position, limit_of, domain};
+ghost use Rattle.net_receiver.specs.PartsOf.{finite_parts};
+
+use crate::finite_receiver_head::{FiniteReceiverHead, count_below, known_end};
+use crate::held_runs::HeldRunIter;
+use crate::kept::{FiniteError, KeptBytes, SegmentParts};
+use crate::part::Part;
+use crate::receiver::whole;
+use net_assembler::Run;
+use net_ring::{ManagedSlice, Storage};
+use std::marker::Model;
+use std::mem::replace;
+
+/// A [`StreamReceiver`] over any storages.
+///
+/// It is a `FiniteReceiver` whose held runs are in storage too. So how many may be held is a number at run time. `grow`
+/// and `grow_runs` move bytes and runs to larger storages as they are needed. A stream of QUIC has a window of many
+/// packets, each of which may be lost, and mostly has all bytes in order. smoltcp has no such type.
+pub struct StreamReceiverOver<S: Storage<u8>, R: Storage<Run>> {
+    // Invariant: head, bytes and runs are sound, as `FiniteReceiverHead::is_sound` tests.
+    head: FiniteReceiverHead,
+    storage: S,
+    runs: R,
+}
+
+/// A receiver of a stream that ends, over bytes and runs that are lent or owned. Its calls are those of
+/// [`StreamReceiverOver`].
+///
+/// ```
+/// use net_base::finite::{FiniteError, Part, StreamReceiver};
+/// use net_base::storage::Run;
+///
+/// let mut receiver = StreamReceiver::new_at(vec![0; 16], vec![Run::EMPTY; 1], 0);
+/// assert!(receiver.keep(1, b"b", Part::More).is_ok());
+/// assert_eq!(receiver.keep(5, b"f", Part::More), Err(FiniteError::TooManyHoles));
+/// receiver.grow_runs(vec![Run::EMPTY; 64].into());
+/// assert!(receiver.keep(5, b"f", Part::Last).is_ok());
+/// assert_eq!(receiver.keep(0, b"abcde", Part::More).map(|it| it.queued), Ok(6));
+/// assert!(receiver.is_complete());
+/// ```
+pub type StreamReceiver<'a> = StreamReceiverOver<ManagedSlice<'a, u8>, ManagedSlice<'a, Run>>;
+
+/// Contracts see what a receiver of a stream that ends stores, and how many runs it can hold.
+impl<S: Storage<u8>, R: Storage<Run>> Model for StreamReceiverOver<S, R> {
+    ghost use Rattle.std.specs.Prelude.{length};
+    ghost use Rattle.net_receiver.specs.StreamState.{StreamState, stream_code, stream_of};
+    ghost use Rattle.net_receiver.specs.FiniteHead.{HasSoundFinite};
+
+    ghost Value = { StreamState };
+
+    ghost coded = { stream_code };
+
+    ghost view = { λ a. stream_of a.head (S.elements a.storage) (R.elements a.runs) };
+
+    ghost invariant = { λ a.
+        HasSoundFinite a.head (length (S.elements a.storage)) (R.elements a.runs) };
+}
+
+/// Written by hand, so that storage that isn't `Drop` can be used too.
+impl<S: Storage<u8> + Drop, R: Storage<Run> + Drop> Drop for StreamReceiverOver<S, R> {
+    fn drop(self) {
+        let StreamReceiverOver {
+            head: _,
+            storage,
+            runs,
+        } = self;
+        drop(storage);
+        drop(runs);
+    }
+}
+
+impl<S: Storage<u8>, R: Storage<Run>> StreamReceiverOver<S, R> {
+    /// Returns a receiver of a stream that begins at position `first`; nothing has arrived.
+    ///
+    /// Its capacity is the length of `storage`, and it can hold as many runs as `runs` has elements. Both may be 0:
+    /// without runs it takes what comes in order.
+    ///
+    /// ```
+    /// # use net_base::finite::StreamReceiverOver;
+    /// # use net_base::storage::Run;
+    /// let receiver = StreamReceiverOver::over_at([0; 16], [Run::EMPTY; 3], 100);
+    /// assert_eq!((receiver.next(), receiver.capacity(), receiver.most_runs()), (100, 16, 3));
+    /// ```
+    ///
+    /// # Requires
+    ///
+    /// `first` is below `u64::MAX`: an end there would have no number after it.
+    #[must_use]
+    #[track_caller]
+    pub const fn over_at(storage: S, runs: R, first: u64) -> Self
+        requires { first < no_end }
+        ensures runs { result.most_runs ≡ length (R.elements runs) }
+        ensures stream { result.stream ≡ fresh_finite first (length (S.elements storage)) }
+    {
+        prove!(first < u64::MAX, "no number is left for an end");
+        StreamReceiverOver {
+            head: FiniteReceiverHead::new(first),
+            storage,
+            runs,
+        }
+    }
+
+    /// Returns both storages. What is in them can be any.
+    ///
+    /// ```
+    /// # use net_base::finite::StreamReceiverOver;
+    /// # use net_base::storage::Run;
+    /// let receiver = StreamReceiverOver::over_at([0; 16], [Run::EMPTY; 3], 0);
+    /// assert_eq!(receiver.into_storages().0, [0; 16]);
+    /// ```
+    #[must_use]
+    pub fn into_storages(self) -> (S, R)
+        ensures bytes { length (S.elements result.0) ≡ self.stream.receiver.capacity }
+        ensures runs { length (R.elements result.1) ≡ self.most_runs }
+    {
+        let StreamReceiverOver {
+            head: _,
+            storage,
+            runs,
+        } = self;
+        (storage, runs)
+    }
+
+    /// Begins again over the same storages: a receiver of a stream that begins at position `first`; nothing has arrived.
+    ///
+    /// ```
+    /// # use net_base::finite::{Part, StreamReceiver};
+    /// # use net_base::storage::Run;
+    /// let mut receiver = StreamReceiver::new_at(vec![0; 4], vec![Run::EMPTY; 3], 0);
+    /// assert!(receiver.keep(0, b"abc", Part::Last).is_ok());
+    /// receiver.reset_at(7);
+    /// assert_eq!((receiver.next(), receiver.queued(), receiver.end()), (7, 0, None));
+    /// ```
+    ///
+    /// # Requires
+    ///
+    /// `first` is below `u64::MAX`: an end there would have no number after it.
+    #[track_caller]
+    pub fn reset_at(&mut self, first: u64)
+        requires { first < no_end }
+        ensures { self.new ≡ record self.old {
+          stream = fresh_finite first self.old.stream.receiver.capacity;
+        } }
+    {
+        prove!(first < u64::MAX, "no number is left for an end");
+        self.head = FiniteReceiverHead::new(first);
+    }
+
+    /// Moves what is stored to a larger storage, and returns the one from before, as `ReceiverOver::grow` does.
+    ///
+    /// ```
+    /// # use net_base::finite::{Part, StreamReceiver};
+    /// # use net_base::storage::Run;
+    /// let mut receiver = StreamReceiver::new_at(vec![0; 4], vec![Run::EMPTY; 3], 0);
+    /// assert!(receiver.keep(3, b"d", Part::More).is_ok());
+    /// receiver.grow(vec![0; 16].into());
+    /// assert_eq!((receiver.window(), receiver.keep(0, b"abc", Part::More).map(|it| it.queued)), (16, Ok(4)));
+    /// ```
+    ///
+    /// # Requires
+    ///
+    /// `larger` has at least `capacity` bytes.
+    #[track_caller]
+    pub fn grow(&mut self, mut larger: S) -> S
+        requires { self.old.stream.receiver.capacity ≤ length (S.elements larger) }
+        ensures state { self.new ≡ record self.old {
+          stream = record self.old.stream {
+            receiver = record self.old.stream.receiver { capacity = length (S.elements larger) };
+          };
+        } }
+        ensures old { length (S.elements result) ≡ self.old.stream.receiver.capacity }
+    {
+        prove!(larger.count() >= self.capacity(), "a smaller storage");
+        let count = larger.count();
+        let bytes = larger.part_mut(0, count);
+        self.head.grow(whole(&self.storage), bytes);
+        replace(&mut self.storage, larger)
+    }
+
+    /// Moves the held runs to a larger storage, and returns the one from before, whose runs can be any.
+    ///
+    /// ```
+    /// # use net_base::finite::{Part, StreamReceiver};
+    /// # use net_base::storage::Run;
+    /// let mut receiver = StreamReceiver::new_at(vec![0; 16], vec![Run::EMPTY; 0], 0);
+    /// assert!(receiver.keep(3, b"d", Part::More).is_err());
+    /// receiver.grow_runs(vec![Run::EMPTY; 8].into());
+    /// assert!(receiver.keep(3, b"d", Part::More).is_ok());
+    /// ```
+    ///
+    /// # Requires
+    ///
+    /// `more` has at least `most_runs` elements.
+    #[track_caller]
+    pub fn grow_runs(&mut self, mut more: R) -> R
+        requires { self.old.most_runs ≤ length (R.elements more) }
+        ensures state { self.new ≡ record self.old { most_runs = length (R.elements more) } }
+        ensures old { length (R.elements result) ≡ self.old.most_runs }
+    {
+        prove!(more.count() >= self.most_runs(), "fewer runs");
+        let count = more.count();
+        let to = more.part_mut(0, count);
+        self.head.move_runs(every(&self.runs), to);
+        replace(&mut self.runs, more)
+    }
+
+    /// Keeps the bytes of a segment that are in the free window and below the end, as `FiniteReceiverOver::keep` does.
+    ///
+    /// ```
+    /// # use net_base::finite::{FiniteError, Part, StreamReceiver};
+    /// # use net_base::storage::Run;
+    /// let mut receiver = StreamReceiver::new_at(vec![0; 16], vec![Run::EMPTY; 3], 0);
+    /// assert_eq!(receiver.keep(2, b"cd", Part::Last).map(|it| (it.kept, it.queued)), Ok((2, 0)));
+    /// assert_eq!(receiver.keep(2, b"cde", Part::Last), Err(FiniteError::OtherEnd));
+    /// assert_eq!(receiver.keep(0, b"ab", Part::More).map(|it| (it.kept, it.queued)), Ok((2, 4)));
+    /// ```
+    ///
+    /// # Errors
+    ///
+    /// `OtherEnd` if the segment says that the stream ends where it can't (`can_end`), and not in order; else
+    /// `TooManyHoles` if its bytes would make too many runs. Then nothing changes.
+    pub fn keep(&mut self, pos: u64, bytes: &[u8], part: Part) -> Result<KeptBytes, FiniteError>
+        ensures runs { self.new.most_runs ≡ self.old.most_runs }
+        ensures state { self.new.stream
+            ≡ finite_after self.old.most_runs self.old.stream pos bytes.now (is_last part) }
+        ensures value { result
+            ≡ finite_result self.old.most_runs self.old.stream pos bytes.now (is_last part) }
+    {
+        let count = self.storage.count();
+        let storage = self.storage.part_mut(0, count);
+        let count = self.runs.count();
+        let runs = self.runs.part_mut(0, count);
+        self.head.keep(storage, runs, pos, bytes, part.is_last())
+    }
+
+    /// Moves bytes from the head of the queue to the beginning of `into`, and returns how many: as many as are queued and
+    /// as `into` has room for. The rest of `into` stays as it is.
+    ///
+    /// ```
+    /// # use net_base::finite::{Part, StreamReceiver};
+    /// # use net_base::storage::Run;
+    /// let mut receiver = StreamReceiver::new_at(vec![0; 16], vec![Run::EMPTY; 3], 0);
+    /// assert!(receiver.keep(0, b"abc", Part::Last).is_ok());
+    /// let mut into = *b"-----";
+    /// assert_eq!((receiver.read(&mut into), &into, receiver.has_read_all()), (3, b"abc--", true));
+    /// ```
+    pub fn read(&mut self, into: &mut [u8]) -> usize
+        ensures state { self.new ≡ record self.old {
+          stream = finite_after_read self.old.stream (length into.old);
+        } }
+        ensures count { result ≡ min (length into.old) (length self.old.stream.receiver.queue) }
+        ensures into { into.new ≡ take (length into.old) self.old.stream.receiver.queue
+            ++ drop (length self.old.stream.receiver.queue) into.old }
+    {
+        self.head.read(whole(&self.storage), into)
+    }
+
+    /// Takes the first `count` bytes off the queue, as `read` does, and copies none.
+    ///
+    /// ```
+    /// # use net_base::finite::{Part, StreamReceiver};
+    /// # use net_base::storage::Run;
+    /// let mut receiver = StreamReceiver::new_at(vec![0; 16], vec![Run::EMPTY; 3], 0);
+    /// assert!(receiver.keep(0, b"abc", Part::More).is_ok());
+    /// receiver.remove(2);
+    /// assert_eq!(receiver.as_slices().0, b"c");
+    /// ```
+    ///
+    /// # Requires
+    ///
+    /// At least `count` bytes are queued.
+    #[track_caller]
+    pub fn remove(&mut self, count: usize)
+        requires { count ≤ length self.old.stream.receiver.queue }
+        ensures { self.new ≡ record self.old {
+          stream = finite_after_read self.old.stream count;
+        } }
+    {
+        prove!(count <= self.queued(), "more bytes than are queued");
+        self.head.remove(self.storage.count(), count);
+    }
+
+    /// Shows the queue, in order, in two parts. The second is empty unless the queue wraps at the storage's end.
+    ///
+    /// ```
+    /// # use net_base::finite::{Part, StreamReceiver};
+    /// # use net_base::storage::Run;
+    /// let mut receiver = StreamReceiver::new_at(vec![0; 16], vec![Run::EMPTY; 3], 0);
+    /// assert!(receiver.keep(0, b"abc", Part::More).is_ok());
+    /// assert_eq!(receiver.as_slices(), (&b"abc"[..], &b""[..]));
+    /// ```
+    #[must_use]
+    pub fn as_slices(&self) -> (&[u8], &[u8])
+        ensures { result.0.now ++ result.1.now ≡ self.now.stream.receiver.queue }
+    {
+        self.head.receiver.as_slices(whole(&self.storage))
+    }
+
+    /// Returns whether the stream can end at a position, as `FiniteReceiverOver::can_end` does.
+    ///
+    /// ```
+    /// # use net_base::finite::{Part, StreamReceiver};
+    /// # use net_base::storage::Run;
+    /// let mut receiver = StreamReceiver::new_at(vec![0; 16], vec![Run::EMPTY; 3], 0);
+    /// assert!(receiver.keep(2, b"cd", Part::More).is_ok());
+    /// assert!(receiver.can_end(4) && !receiver.can_end(3));
+    /// ```
+    #[must_use]
+    pub fn can_end(&self, pos: u64) -> bool
+        ensures { result ≡ can_end self.now.stream pos }
+    {
+        self.head.can_end(every(&self.runs), pos)
+    }
+
+    /// Returns the position after the last byte, once it is known.
+    ///
+    /// ```
+    /// # use net_base::finite::{Part, StreamReceiver};
+    /// # use net_base::storage::Run;
+    /// let mut receiver = StreamReceiver::new_at(vec![0; 16], vec![Run::EMPTY; 3], 0);
+    /// assert!(receiver.end().is_none() && receiver.keep(5, b"f", Part::Last).is_ok());
+    /// assert_eq!(receiver.end(), Some(6));
+    /// ```
+    #[must_use]
+    pub fn end(&self) -> Option<u64>
+        ensures some { self.now.stream.end < no_end → result ≡ Some self.now.stream.end }
+        ensures none { no_end ≤ self.now.stream.end → result ≡ None }
+    {
+        known_end(self.head.after_end)
+    }
+
+    /// Returns whether all bytes and the end have arrived.
+    ///
+    /// ```
+    /// # use net_base::finite::{Part, StreamReceiver};
+    /// # use net_base::storage::Run;
+    /// let mut receiver = StreamReceiver::new_at(vec![0; 16], vec![Run::EMPTY; 3], 0);
+    /// assert!(receiver.keep(2, b"c", Part::Last).is_ok() && !receiver.is_complete());
+    /// assert!(receiver.keep(0, b"ab", Part::More).is_ok() && receiver.is_complete());
+    /// ```
+    #[must_use]
+    pub fn is_complete(&self) -> bool
+        ensures { result ≡ is_complete self.now.stream }
+    {
+        self.head.is_complete()
+    }
+
+    /// Returns whether all bytes were read, up to the end.
+    ///
+    /// ```
+    /// # use net_base::finite::{Part, StreamReceiver};
+    /// # use net_base::storage::Run;
+    /// let mut receiver = StreamReceiver::new_at(vec![0; 16], vec![Run::EMPTY; 3], 0);
+    /// assert!(receiver.keep(0, b"abc", Part::Last).is_ok() && !receiver.has_read_all());
+    /// assert!(receiver.read(&mut [0; 3]) == 3 && receiver.has_read_all());
+    /// ```
+    #[must_use]
+    pub fn has_read_all(&self) -> bool
+        ensures { result ≡ has_read_all self.now.stream }
+    {
+        self.head.has_read_all()
+    }
+
+    /// Returns the first missing position.
+    ///
+    /// ```
+    /// # use net_base::finite::{Part, StreamReceiver};
+    /// # use net_base::storage::Run;
+    /// let mut receiver = StreamReceiver::new_at(vec![0; 16], vec![Run::EMPTY; 3], 0);
+    /// assert!(receiver.keep(0, b"abc", Part::More).is_ok() && receiver.next() == 3);
+    /// ```
+    #[must_use]
+    pub fn next(&self) -> u64
+        ensures { result ≡ next_position self.now.stream.receiver }
+    {
+        self.head.receiver.next()
+    }
+
+    /// Returns how many bytes are queued.
+    ///
+    /// ```
+    /// # use net_base::finite::{Part, StreamReceiver};
+    /// # use net_base::storage::Run;
+    /// let mut receiver = StreamReceiver::new_at(vec![0; 16], vec![Run::EMPTY; 3], 0);
+    /// assert!(receiver.keep(0, b"abc", Part::More).is_ok() && receiver.queued() == 3);
+    /// ```
+    #[must_use]
+    pub fn queued(&self) -> usize
+        ensures { result ≡ length self.now.stream.receiver.queue }
+    {
+        self.head.receiver.queued()
+    }
+
+    /// Returns the window: how many bytes have room after the queue, held ones among them.
+    ///
+    /// ```
+    /// # use net_base::finite::{Part, StreamReceiver};
+    /// # use net_base::storage::Run;
+    /// let mut receiver = StreamReceiver::new_at(vec![0; 16], vec![Run::EMPTY; 3], 0);
+    /// assert!(receiver.keep(0, b"abc", Part::More).is_ok() && receiver.window() == 13);
+    /// ```
+    #[must_use]
+    pub fn window(&self) -> usize
+        ensures { result ≡ self.now.stream.receiver.capacity - length self.now.stream.receiver.queue }
+    {
+        self.head.receiver.window(self.storage.count())
+    }
+
+    /// Returns the end of the free window, `next` plus `window`: the first position for which there is no room, which a
+    /// peer may be told. `None` if it doesn't fit 64 bits. It never falls.
+    ///
+    /// ```
+    /// # use net_base::finite::{Part, StreamReceiver};
+    /// # use net_base::storage::Run;
+    /// let mut receiver = StreamReceiver::new_at(vec![0; 16], vec![Run::EMPTY; 3], 0);
+    /// assert!(receiver.keep(0, b"abc", Part::More).is_ok() && receiver.window_end() == Some(16));
+    /// assert!(receiver.read(&mut [0; 3]) == 3 && receiver.window_end() == Some(19));
+    /// ```
+    #[must_use]
+    pub fn window_end(&self) -> Option<u64>
+        ensures some { limit_of self.now.stream.receiver < 2 ^ 64 →
+            result ≡ Some (limit_of self.now.stream.receiver) }
+        ensures none { 2 ^ 64 ≤ limit_of self.now.stream.receiver → result ≡ None }
+    {
+        self.head.receiver.window_end(self.storage.count())
+    }
+
+    /// Returns the held runs as absolute (start, end), the end not included, in rising order.
+    ///
+    /// ```
+    /// # use net_base::finite::{Part, StreamReceiver};
+    /// # use net_base::storage::Run;
+    /// let mut receiver = StreamReceiver::new_at(vec![0; 16], vec![Run::EMPTY; 3], 0);
+    /// assert!(receiver.keep(2, b"cd", Part::More).is_ok());
+    /// assert!(receiver.held().eq([(2, 4)]));
+    /// ```
+    #[must_use]
+    pub fn held(&self) -> HeldRunIter<'_>
+        ensures { result ≡ maximal_runs (domain self.now.stream.receiver.held) }
+    {
+        self.head.receiver.held(every(&self.runs))
+    }
+
+    /// Returns where the bytes of a segment of `len` bytes at `pos` are, as `FiniteReceiverOver::parts_of` does. A
+    /// receiver of QUIC asks before it keeps a frame: bytes `beyond` the free window, or `past_end`, are its peer's error.
+    ///
+    /// ```
+    /// # use net_base::finite::{Part, StreamReceiver};
+    /// # use net_base::storage::Run;
+    /// let mut receiver = StreamReceiver::new_at(vec![0; 8], vec![Run::EMPTY; 3], 0);
+    /// assert!(receiver.keep(3, b"d", Part::Last).is_ok());
+    /// let parts = receiver.parts_of(2, 9);
+    /// assert_eq!((parts.in_window, parts.beyond, parts.past_end), (2, 0, 7));
+    /// ```
+    #[must_use]
+    pub fn parts_of(&self, pos: u64, len: usize) -> SegmentParts
+        ensures { result ≡ finite_parts self.now.stream pos len }
+    {
+        let below = count_below(self.head.after_end, pos, len);
+        SegmentParts {
+            past_end: len - below,
+            ..self
+                .head
+                .receiver
+                .parts_of(self.storage.count(), pos, below)
+        }
+    }
+
+    /// Returns how many bytes have room, queued and held ones included: the storage's length.
+    ///
+    /// ```
+    /// # use net_base::finite::StreamReceiver;
+    /// # use net_base::storage::Run;
+    /// assert_eq!(StreamReceiver::new_at(vec![0; 16], vec![Run::EMPTY; 3], 0).capacity(), 16);
+    /// ```
+    #[must_use]
+    pub fn capacity(&self) -> usize
+        ensures { result ≡ self.now.stream.receiver.capacity }
+    {
+        self.storage.count()
+    }
+
+    /// Returns how many runs can be held.
+    ///
+    /// ```
+    /// # use net_base::finite::StreamReceiver;
+    /// # use net_base::storage::Run;
+    /// assert_eq!(StreamReceiver::new_at(vec![0; 16], vec![Run::EMPTY; 3], 0).most_runs(), 3);
+    /// ```
+    #[must_use]
+    pub fn most_runs(&self) -> usize
+        ensures { result ≡ self.now.most_runs }
+    {
+        self.runs.count()
+    }
+}
+
+/// Shows all runs of a storage.
+fn every<R: Storage<Run>>(runs: &R) -> &[Run]
+    ensures { result.now ≡ R.elements runs.now }
+{
+    runs.part(0, runs.count())
+}
