@@ -71,20 +71,20 @@
  * four can touch any memory. The others are about answers, and the proofs assume them: a call that
  * breaks one touches no other memory than it was passed, but may answer anything, or trap.
  *
- * 1. A pointer that isn't null is aligned, and valid: that of a slice, such as `data`, for as many
- *    elements as the parameter after it says, here `data_length`, of at most `PTRDIFF_MAX` bytes
- *    together; any other for one value. If the length is 0, the pointer may be any. A `bool` is 0
- *    or 1. If program and library are optimized together when they are linked, the program has
- *    written before what it passes, with any values.
+ * 1. A pointer that isn't null is aligned and valid. That of a slice, such as `data`, is valid for
+ *    as many elements as the parameter after it says, here `data_length`, which have at most
+ *    `PTRDIFF_MAX` bytes together. Any other is valid for one value. If the length is 0, the
+ *    pointer may be any. A `bool` is 0 or 1. If program and library are optimized together when
+ *    they are linked (LTO), the program first writes what it passes, with any values.
  * 2. What a call may write overlaps nothing else that it is passed.
  * 3. Two calls that share memory aren't made at once, in threads or in an interrupt and what it
- *    interrupts, unless both take it by `const`. So mask the interrupt around each call, with what
+ *    interrupts, unless both take it by `const`. So mask the interrupt around each call and what
  *    copies its elements, and around what reads fields.
  * 4. There is stack enough for a call.
  * 5. A storage, its runs and its slots have the same lengths in each call on a head.
- * 6. A head, its runs and its slots are written by calls of its own kind alone, those of a finite
- *    receiver by `net_base_finite_receiver_..`, not its `place` by `net_base_ring_..`. The caller
- *    may set a head to zeros.
+ * 6. A head, its runs and its slots are written by calls of its own kind alone. For a finite
+ *    receiver these are `net_base_finite_receiver_..`, and its `place` isn't written by
+ *    `net_base_ring_..`. The caller may set a head to zeros.
  * 7. Where a comment says `Requires`, head and runs are sound, as a call whose name ends in
  *    `_is_sound` tests. What calls of its own kind wrote, from a new head on, is sound.
  *

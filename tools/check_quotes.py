@@ -39,6 +39,7 @@ EXAMPLES = ["net_examples", "net_tests"]
 # Where names are looked for.
 SOURCES = [*(f"{folder}/**/*" for folder in "crates overlay compare rust c tools .ci .github".split()), "*", "docs/*"]
 ELSEWHERE = set("""
+    vTaskNotifyGiveFromISR ulTaskNotifyTake taskENTER_CRITICAL taskENTER_CRITICAL_FROM_ISR
     MODULE axioms nat __builtin_add_overflow int32_t spsc defmt Format Debug2Format HOLE
     c.storage-1.given time_t VecInner Cursor ANTT iface send_with yml __aeabi_memclr8
 """.split())

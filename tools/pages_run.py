@@ -51,6 +51,7 @@ ELSEWHERE = {
     "(cd c && cargo build --release --target ..": TARGET,
     "(cd c && cargo build --profile small --target ..": TARGET,
     "arm-none-eabi-gcc ..": TARGET,
+    "sh rust/examples/cortex_m/run.sh": TARGET,
     "python3 overlay/overlay.py CHECKOUT COPY": CHECKOUT,
     "SMOLTCP=CHECKOUT ..": CHECKOUT,
 }

@@ -1,5 +1,5 @@
 //! The tasks of docs/GUIDE.md of the repository, whose page quotes them: `cargo run --example guide -- TASK`, where
-//! TASK is ring, packets, receiver, quic, fragments or interrupt.
+//! TASK is ring, packets, receiver, quic, fragments, interrupt or sizes.
 use net_base::finite::{FiniteReceiver, RangeAck, SegmentBytes, SendBuffer};
 use net_base::receiver::Receiver;
 use net_base::storage::{FragmentBuffer, PacketBuffer, PacketMetadata, RingBuffer, SplitRing};
@@ -120,6 +120,17 @@ fn fragments() {
     println!("in time: {}", !packet.is_expired(now + Duration::from_secs(5)));
 }
 
+fn sizes() {
+    println!("Receiver {} and {}", size_of::<Receiver<'_, 4>>(), size_of::<Receiver<'_, 32>>());
+    let finite = (size_of::<FiniteReceiver<'_, 4>>(), size_of::<FiniteReceiver<'_, 32>>());
+    println!("FiniteReceiver {} and {}", finite.0, finite.1);
+    println!(
+        "SendBuffer {} and {}",
+        size_of::<SendBuffer<'_, 4>>(),
+        size_of::<SendBuffer<'_, 32>>()
+    );
+}
+
 fn main() {
     match std::env::args().nth(1).as_deref() {
         Some("ring") => ring(),
@@ -128,6 +139,7 @@ fn main() {
         Some("quic") => quic(),
         Some("fragments") => fragments(),
         Some("interrupt") => interrupt(),
-        _ => println!("guide ring | packets | receiver | quic | fragments | interrupt"),
+        Some("sizes") => sizes(),
+        _ => println!("guide ring | packets | receiver | quic | fragments | interrupt | sizes"),
     }
 }

@@ -1,16 +1,16 @@
 //! The data structures inside a network stack: byte rings, packet queues, reassembly of segments that arrive out of
-//! order, retransmission, timers and checksums. All is proved for every input, but for [a few parts](#what-is-proved).
-//! No call needs a heap.
+//! order, retransmission, timers and checksums. Calls are proved for every input, except for [some
+//! parts](#what-is-proved). None needs a heap.
 //!
 //! ```
 //! use net_base::receiver::Receiver;
 //!
 //! let mut storage = [0u8; 16];
 //! let mut receiver = Receiver::<2>::new(&mut storage[..]); // at most two ranges may wait
-//! receiver.segment(4, b"ef")?; // it came early, and waits
-//! receiver.segment(8, b"ij")?; // a second range waits
-//! assert!(receiver.segment(12, b"mn").is_err()); // a third may not: it is refused, and nothing changes
-//! receiver.segment(0, b"abcd")?; // the gap is filled
+//! receiver.keep(4, b"ef")?; // it came early, and waits
+//! receiver.keep(8, b"ij")?; // a second range waits
+//! assert!(receiver.keep(12, b"mn").is_err()); // a third may not: it is refused, and nothing changes
+//! receiver.keep(0, b"abcd")?; // the gap is filled
 //! let mut text = [0; 16];
 //! let count = receiver.read(&mut text);
 //! assert_eq!(&text[..count], b"abcdef");
@@ -44,8 +44,8 @@
 //!
 //! A *law* that a page names is a theorem about many calls, which `docs/laws.md` of the repository explains.
 //!
-//! Not proved, but tested: what is printed, conversions of storage, std's clocks, readers and writers, the order of a
-//! split ring's atomics, and the traits and devices of [`phy`].
+//! These parts are tested, and not proved: what is printed, conversions of storage, std's clocks, readers and writers,
+//! the memory ordering of a [`SplitRing`](storage::SplitRing), and the traits and devices of [`phy`].
 //!
 //! # Panics
 //!

@@ -12,7 +12,10 @@ import guards
 ROOT = Path(__file__).resolve().parent.parent.parent
 # What no file counts: what is asked for, and versions.
 FIXED = ["32 or 64 bits", "smoltcp 0.14.0", "until 1.0", "Rust 1.87 and Python 3.9", "smoltcp's is 1", "[0BSD]",
-         "what rustc 1.85 makes", "down to 0.75", "with 5 % delayed", "With 10 % lost", "with 20 % delayed"]
+         "what rustc 1.85 makes", "segment of 1,460 bytes", "quinn-proto 0.9.2", "sent 0.75 of Linux's MB/s", "its two bugs",
+         "N = 4", "two segments of 16 bytes", "checksum of 20 bytes", "frame of 1,200 bytes", "5 of 100", "by 2 KiB",
+         "by 64 KiB", "After the first 32", "after the first 32", "round trip of 1 ms", "With 10 % lost",
+         "0.75 of Reno's, with 5 % delayed", "with 20 % delayed"]
 WORDS = [*"none one two three four five six seven eight nine ten eleven twelve".split(), *map(str, range(13, 100))]
 NUMBER = rf"(\d(?:[\w.,-]*\w)?|(?i:{'|'.join(WORDS)}))"
 
@@ -46,18 +49,66 @@ def measured():
     times, sizes, peers = (f"compare/results/{name}.md" for name in ("times", "sizes", "peers"))
     rows = {row[0]: value(row[1]) for row in cells(times)}
     groups = [ratio for name, ratio in rows.items() if name.startswith("group ")]
-    yield "groups of calls {} to {}; single calls up to {}", times, [*span(groups), f"{max(rows.values()):.2f}"]
+    yield "time of a group of calls | {} | {} |", times, span(groups)
+    yield "slowest single call takes {} of", times, [f"{max(rows.values()):.2f}"]
+    # A round of this row has five calls.
+    lent = next(row[2].split("/") for row in cells(times) if row[0] == "stream_lent size 1460")
+    here, there = (f"{5 * float(count):,.0f}" for count in lent)
+    yield "needs {} instructions on x86-64, where smoltcp's ring and assembler need {}", times, [here, there]
+    yield "read in place | x86-64 | {} |", times, [here]
+    yield "the same with smoltcp's ring and assembler | x86-64 | {} |", times, [there]
     ratios = [value(row[k + 1]) / value(row[k]) for row in cells(sizes) if len(row) == 6 for k in (2, 4)]
     paths = {row[0]: [*map(value, row[1:])] for row in cells(sizes) if ";" in row[1]}
     ours = [[here / there for here, there in zip(paths[name], paths["smoltcp"])]
             for name in ("net-base's `Receiver`, `keep`", "the same, `segment`")]
-    yield "{} to {}; through `Receiver` {} to {}, and up to {} if built for speed", sizes, [
+    printed = dict(re.findall(r"^([^:\n]*): (\d+) instructions$", (ROOT / sizes).read_text(), re.M))
+    in_place, copied, two, byte = (f"{int(count):,}" for count in printed.values())
+    yield "On a Cortex-M4 it needs {}", sizes, [in_place]
+    for form, count in [("kept, and read in place", in_place), ("copied out", copied), ("are read in place", two),
+                        ("a byte goes through a `SplitRing`", byte)]:
+        yield form + " | Cortex-M4 | {} |", sizes, [count]
+    for form, name in [("smoltcp's ring and assembler | {} | {} |", "smoltcp"),
+                       ("net-base's ring and assembler | {} | {} |", "net-base, joined"),
+                       ("net-base's `Receiver`, by `keep` | {} | {} |", "net-base's `Receiver`, `keep`")]:
+        row = next(row for row in cells(sizes) if row[0] == name)
+        yield form, sizes, row[1].split("; ")[1::-1]
+    yield "bytes of code | {} | {} |", sizes, span([*ratios, *(ratio for row in ours for ratio in row)])
+    yield "{} to {} of smoltcp's bytes. A `Receiver` takes {} to {}, and {} if it is built for speed", sizes, [
         *span(ratios), *span([ratio for row in ours for ratio in row[:2]]), f"{max(row[2] for row in ours):.2f}"]
     linux = {row[0]: [*map(value, row[4:])] for row in cells(peers) if len(row) == 6}
-    yield "{} without loss; {} with 0.5 % lost; {} with 5 % late", peers, [
-        f"{linux[name][0]:.2f}" for name in ("clean", "0.5 % lost", "5 % delayed")]
-    yield "transfer took {} times as long", peers, [
-        next(row[7] for row in cells(peers) if len(row) == 8 and row[0] == "20 % delayed").split(";")[0]]
+    # Rows of today's version.
+    now = [ratios[0] for name, ratios in linux.items() if name not in ("clean", "3 % lost", "10 % lost")]
+    yield "sends, more is better | {} | {} |", peers, span(now)[::-1]
+    quinn = cells("compare/results/quinn.md")
+    tests, transfers = (next(row for row in quinn if row[0] == name) for name in ("pass", "256"))
+    yield "passes {} of its {} tests", "compare/results/quinn.md", re.findall(r"\d+", tests[2])
+    yield "In {} of {} lossy transfers", "compare/results/quinn.md", re.findall(r"\d+", transfers[1])
+    times_of = {row[0]: value(row[3]) for row in quinn if len(row) == 4 and re.fullmatch(r"[\d,]+", row[1])}
+    small = {name: ratio for name, ratio in times_of.items() if "of one byte" in name}
+    sent = {name: ratio for name, ratio in times_of.items() if " by " in name}
+    received = [ratio for name, ratio in times_of.items() if name not in {*small, *sent}]
+    for form, name in [("received in order, copied out", "received in order, copied"),
+                       ("received in order, looked at", "received in order, looked at"),
+                       ("5 of 100 late, copied out", "5 % of frames 20 late, copied"),
+                       ("all received, and then copied out", "all in order, then copied"),
+                       ("sent in order, written by 2 KiB", "sent in order, written by 2 KiB"),
+                       ("sent in order, written by 64 KiB", "sent in order, written by 64 KiB"),
+                       ("5 of 100 lost, written by 64 KiB", "5 % of frames lost, written by 64 KiB"),
+                       ("acknowledged with more holes than N, written by 64 KiB",
+                        "acknowledged with 437 holes, written by 64 KiB")]:
+        yield form + " | {} |", "compare/results/quinn.md", [f"{times_of[name]:.2f}"]
+    most = max(small, key=lambda name: value(name))
+    for form in ("With {} of them a frame takes {} of", "Each of {} frames of one byte takes {} of"):
+        yield form, "compare/results/quinn.md", [most.split()[0], f"{small[most]:.3f}"]
+    yield "time to receive a frame | {} | {} |", "compare/results/quinn.md", span(received)
+    yield "time to send a frame | {} | {} |", "compare/results/quinn.md", span([*sent.values()])
+    clean = next(row for row in cells(peers) if len(row) == 6 and row[0] == "clean")
+    yield "sent {} MB/s, and Linux {}", peers, [it.split(";")[0] for it in clean[1:3]]
+    delayed = next(row for row in cells(peers) if len(row) == 8 and row[0] == "20 % delayed")
+    yield "it took {} times as long as Linux took", peers, [delayed[4].split(";")[0]]
+    longest = delayed[7].split(";")[0]
+    for form in ("transfer took {} times as long", "took {} times as long to receive"):
+        yield form, peers, [longest]
     for name, ratios in linux.items():
         yield f"| {name} | {{}} | {{}} |", peers, [f"{ratio:.2f}" for ratio in ratios]
 
@@ -68,7 +119,7 @@ def counted():
     first = lambda form, path: (re.search(form, (ROOT / path).read_text(), re.M | re.S) or "00")[1]
     yield "Rust {} or later", cargo, [first(r'^rust-version = "(.*?)"', cargo)]
     yield "version {}, and write in Cargo.toml", cargo, [first(r'^version = "(.*?)"', cargo)]
-    for text in ("has to refuse each | {}", "and {} [wrong functions]"):
+    for text in ("has to refuse each | {}", "The prover rejects {} [functions]"):
         yield text, "crates/must-fail.md", [str(count(r"^\| .* \| `.*` \| `", "crates/must-fail.md"))]
     kinds = count(r"^    \w+: \w+::\w+,$", models)
     yield "tests of Rust, also on ARMv7 | what the pages say | {}", f"rust/src, rust/tests, {models}", [
@@ -77,7 +128,7 @@ def counted():
         f'{kinds * int(first(r"unwrap_or.([0-9]+)", models)):,}']
     yield "here and by an emulator | a second compiler's build | {}", "c/targets/run.py", [f'{int(first(r"^CALLS.*? = ([0-9_]+)", "c/targets/run.py")):,}']
     seeds, kinds = first(r"SEEDS: u64 = (\d+)", calls), first(r"KINDS: [^=]*; (\d+)\]", calls)
-    for text in ("with its faults mended | {}", "{} sequences of [random calls]", "{} random sequences of calls"):
+    for text in ("with its faults mended | {}", "{} sequences of [random calls]"):
         yield text, calls, [f"{int(seeds) * int(kinds):,}"]
     for text in ("each function but [{}]", "{} functions, each with its reason"):
         yield text, left, [WORDS[first(r"^== left\n(.*)", left).count(" ~~ ") // 2]]
@@ -122,7 +173,7 @@ def blanked(form, text, kept=""):
 
 def strays(text):
     """The numbers of a page in no figure, no block, no link and not between backquotes, each with its place."""
-    for form in (*FIXED, *(form for form, *_ in figures())):
+    for form in (*(form for form, *_ in figures()), *FIXED):
         text = blanked(pattern(form), text)
     text = blanked(r"^```.*?^```$|^    [^\n]*$|`[^`\n]*`|\]\([^)]*\)|<!--.*?-->", text)
     return [(found.start(), found[0]) for found in re.finditer(r"(?<![\w-])\d[\w.,]*", text)]

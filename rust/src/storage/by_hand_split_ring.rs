@@ -9,7 +9,7 @@ use super::{SplitCounts, SplitSpan};
 /// calls [`write`](Self::write) and the other one [`read`](Self::read). If two sides write at once, or two read, bytes
 /// are lost or mixed up, and from then on both calls may return 0. Nothing panics, and no other memory is touched.
 ///
-/// Where the bytes are is proved, by [`SplitCounts`]. The order of the atomics is by hand, and tested in each order of
+/// The arithmetic of the indices is proved, by [`SplitCounts`]. The memory ordering isn't: tests run each interleaving of
 /// the steps of small programs. smoltcp has no such ring.
 ///
 /// ```
