@@ -1,4 +1,4 @@
-# What scripts share that want Debian's packages; they source it after rust/examples/endpoint/namespace.sh.
+# What scripts share that want Debian's packages; they source it after rust/net-tcp/examples/endpoint/namespace.sh.
 
 # Makes sure that a file of Debian's packages is here.
 want() {

@@ -1,7 +1,7 @@
 #!/bin/sh
-# Compiles the crate and its tests with each set of features, runs what depends on one, and a program that was written
-# for smoltcp, and builds one without std that has its own panic handler. The tests themselves run once, from the
-# archive: package.sh.
+# Compiles both packages and their tests with each set of features, runs what depends on one, and a program that was
+# written for smoltcp, and builds one without std that has its own panic handler. The tests themselves run once, from
+# the archives: package.sh.
 set -eu
 cd "$(dirname "$0")"
 for features in "" "--no-default-features" "--no-default-features --features alloc" "--all-features"; do

@@ -4,7 +4,7 @@
 # tools/parts/erase_list.py lacks is named here. Of the program the example is looked at, and its test.
 set -eu
 cd "$(dirname "$0")"
-for folder in . benches exports fuzz ../c ../compare; do
+for folder in . net-tcp benches exports fuzz ../c ../compare; do
     (cd "$folder" && cargo fmt --check)
 done
 (cd ../tools/growth && cargo fmt --check -- --config-path ../../rust)

@@ -4,8 +4,8 @@
 In doc comments of crates/*/src, each block that is marked `rust` is an example in Rattle: it has to be found, line by
 line, in a file of one of EXAMPLES, crates that the gate proves, and to name the item that it documents. A block without
 a mark is one in Rust, which `cargo test` runs over the Cargo crate. The pages are README.md, CONTRIBUTING.md,
-rust/README.md, overlay/README.md and docs/*.md. Each of their blocks that is marked `rust` has to be found, line by
-line, in one file crates/*/src/**/*.rt, which the prover checks, in rust/examples, or in the examples of rust/src, which
+those of the packages of Rust, overlay/README.md and docs/*.md. Each of their blocks that is marked `rust` has to be found, line by
+line, in one file crates/*/src/**/*.rt, which the prover checks, in Rust's examples, or in those of its comments, which
 `cargo test` runs; and one that is marked `c` in a program of c/programs, which c/run.sh runs. How far it is indented
 doesn't matter, nor does the attribute `#![tactic(auto)]`, which each crate has in its root. Each link of a page has to
 lead to a file, and to a heading of it.
@@ -31,6 +31,7 @@ import sys
 import textwrap
 
 from parts import figures
+from parts.erase_list import PACKAGES
 from parts.erase_tokens import Text
 
 ROOT = pathlib.Path(__file__).resolve().parent.parent
@@ -122,8 +123,10 @@ def is_there(page, span):
 @functools.cache
 def quotable():
     """The texts that blocks of pages are from, by their marks."""
-    examples = [re.sub(r"^ *//[/!] ?", "", text, flags=re.M) for text in texts("rust/src/**/*.rs")]
-    return {"rust": texts("crates/*/src/**/*.rt", "rust/examples/**/*.rs") + examples, "c": texts("c/programs/*.[ch]")}
+    sources = texts(*(f"{folder}/**/*.rs" for folder in PACKAGES.values()))
+    examples = [re.sub(r"^ *//[/!] ?", "", text, flags=re.M) for text in sources]
+    programs = [f"{pathlib.Path(folder).parent}/examples/**/*.rs" for folder in PACKAGES.values()]
+    return {"rust": texts("crates/*/src/**/*.rt", *programs) + examples, "c": texts("c/programs/*.[ch]")}
 
 
 # What follows looks at a page or a source, and yields places in its text, each with what is wrong there.
@@ -282,7 +285,8 @@ WRITTEN = {ROOT / "docs/laws.md": laws_page, ROOT / "docs/CALLING.md": calling_p
 
 
 def main():
-    pages = [ROOT / name for name in ("README.md", "CONTRIBUTING.md", "rust/README.md", "overlay/README.md")]
+    pages = [ROOT / name for name in ("README.md", "CONTRIBUTING.md", "overlay/README.md")]
+    pages += [(ROOT / folder).parent / "README.md" for folder in PACKAGES.values()]
     pages += [page for page in sorted(ROOT.glob("docs/*.md")) if page.name not in ("laws.md", "std-calls.md")]
     if "--write" in sys.argv[1:]:
         for page in {*pages, *WRITTEN}:

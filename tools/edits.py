@@ -15,7 +15,7 @@ in the source or where an answer to it fails; that has to be a goal of this clau
 callee's precondition, a loop's invariant, and a name that a proof no longer finds refuse an edit too,
 and say nothing of the contract.
 
-A line `# test: FILE NAME` of an edit is a test of rust/tests, by its file or folder and its name, that a call tells the
+A line `# test: FILE NAME` of an edit is a test of a package of Rust, by its file or folder and its name, that a call tells the
 wrong body. `--tests` runs it over the Cargo crate with the edited text erased, where it must fail, and all of them over
 the right text, where they must not. An edit of which no test tells has a line `# no test: REASON`.
 
@@ -29,6 +29,8 @@ import shutil
 import subprocess
 import sys
 import tempfile
+
+from parts.erase_list import PACKAGES
 
 ROOT = pathlib.Path(__file__).resolve().parent.parent
 CRATES = ROOT / "crates"
@@ -63,8 +65,8 @@ def differing():
     wrong += [f"{name_of(it)}: it has no test, and says not why" for it in edits_of([])
               if bool(test_of(it)) == bool(re.search(r"^# no test: \w", it.read_text(), re.M))]
     for crate, name in tests:
-        files = (CRATES.parent / "rust/tests").rglob("*.rs") if crate == "rust" \
-            else (CRATES / crate / "src").rglob("*.rt")
+        files = (it for folder in PACKAGES.values() for it in (ROOT / folder).parent.glob("tests/**/*.rs")) \
+            if crate == "rust" else (CRATES / crate / "src").rglob("*.rt")
         texts = "".join(path.read_text() for path in files)
         if not re.search(rf"#\[test\]\nfn {name}\(", texts):
             wrong.append(f"{crate}/{name}: {PAGE.name} names this test, and there is none")

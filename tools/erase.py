@@ -1,8 +1,8 @@
 #!/usr/bin/env python3
 """Erases Rattle to Rust: what can't run goes, all else stays.
 
-    python3 tools/erase.py             writes what is erased in rust/src, of the crates that tools/parts/erase_list.py
-                                       names, and of the program in rust/examples/net_bench
+    python3 tools/erase.py             writes what is erased in the packages of Rust, of the crates that
+                                       tools/parts/erase_list.py names, and of the program in rust/examples/net_bench
     python3 tools/erase.py --check     writes nothing, and names each file that isn't so
 
 The status is 2 if there is no rustfmt.
@@ -17,15 +17,17 @@ The rules:
    that of the error's `Display`; `{0}` in it is the only field.
 2. Modules of `UNERASED` of `erase_list.py`, and imports from them, go: Rust has them by hand, or not at all. So do the
    crates' roots, whose constants have to stand in Rust's. Before the paths `crate`, `std` and those of crates there is
-   the module where Rust has them, as `FOLDERS` and `MOVED` of `erase_list.py` say.
+   the module where Rust has them, as `FOLDERS` and `MOVED` of `erase_list.py` say, behind the package's name if it is
+   another one.
 3. An impl of `Drop` goes, since rustc drops fields by itself: the comparison finds a `drop` that does more. An impl of
    `Model`, which has ghost members alone, goes too. A `clone` whose body is `Ok(..)` gives what that holds, and no
    `Result`; no other one is erased. A bound by `Drop` is one by `Sized`.
 4. What C's exports alone call, by `FOR_C` of `erase_list.py`, is in a folder of theirs. A public item becomes
-   `pub(crate)`, unless an import of a root by hand gives its name, or its module, to users or to C's exports. So do
-   functions whose signature names a head, or a type of snapshots alone, all of a type that users can't name, and
-   `CLOSED` of `erase_list.py`. What is closed has no example, since examples are another crate's. An export loses
-   `extern "C"` and its documentation, and becomes `inline(always)`.
+   `pub(crate)`, unless an import of a root by hand gives its name, or its module, to users, to C's exports, or, in the
+   module `internal`, to another package. So do functions whose signature names a head, or a type of snapshots alone,
+   all of a type that users can't name but for `SHARED_CALLS`, and `CLOSED` of `erase_list.py`. What is closed has no
+   example, since examples are another crate's. An export loses `extern "C"` and its documentation, and becomes
+   `inline(always)`.
 5. `erase_list.py` has what else differs, with its files and how often: lifetimes, attributes, and types.
 6. What does nothing goes, as `erase_ghosts.py` finds it: modules of laws; a function that gives nothing, and whose body
    names places at most; a module with a type of snapshots alone; each parameter and argument of that type; and
@@ -59,7 +61,8 @@ from parts.erase_ghosts import CALL, OF_TRAIT, OWNER, PLACES, Ghosts, around, is
 from parts.erase_tokens import SPACE, Refused, Text, words
 
 REPOSITORY = Path(__file__).resolve().parent.parent
-OUT, EXAMPLE = REPOSITORY / 'rust/src', REPOSITORY / 'rust/examples/net_bench'
+OUTS = {package: REPOSITORY / folder for package, folder in given.PACKAGES.items()}
+OUT, EXAMPLE = OUTS[given.BASE], REPOSITORY / 'rust/examples/net_bench'
 FOR_C = OUT / 'exports/for_c'                     # what C's exports alone want of other modules
 ROOT, RATTLE = 'crate::proved', 'crate::rattle'   # the second is the program's
 WRITTEN = '// Written by tools/erase.py from '
@@ -233,7 +236,7 @@ class Eraser(Text):
         signature = self.source(k, begin)
         is_of_head = re.search(r'Head\b', signature) or owner and self.public and not self.public(owner, True)
         if is_of_head or self.ghosts.types & {*words(signature)}:
-            self.close(head, k)
+            self.close(head, k, (), self.name(k) in given.SHARED_CALLS.get(self.key, ()))
         elif not owner or self.name(k) in given.CLOSED.get(self.key, ()):
             self.close(head, k, [] if owner else [self.name(k)])
         is_idle = (owner or Path(self.key).stem, self.name(k)) in self.ghosts.idle
@@ -324,13 +327,15 @@ class Eraser(Text):
         self.put(self.group(opening) - 1, self.group(opening), '')
         self.cut |= {*range(result[0], begin)} | {self.next(body + 1)}
 
-    def close(self, head, k, names=()):
-        """Makes an item `pub(crate)` if none of these names is public, and takes out its examples."""
+    def close(self, head, k, names=(), is_shared=False):
+        """Makes an item `pub(crate)` if none of these names is public, unless other packages call it, and takes out its
+        examples."""
         pub = next((j for j in range(head, k) if self.tokens[j][1] == 'pub' and self.tokens[j + 1][1] != '('), None)
         if pub is None or not self.public or self.crate == given.EXPORTS:
             return
         if not any(map(self.public, names)):
-            self.put(pub, pub + 1, 'pub(crate)')
+            if not is_shared:
+                self.put(pub, pub + 1, 'pub(crate)')
             docs = [j for j in range(head, k) if self.tokens[j][0] == 'doc']
             fences = [i for i, j in enumerate(docs) if self.tokens[j][1].startswith('/// ```')]
             for start, end in zip(fences[::2], fences[1::2]):
@@ -486,18 +491,20 @@ def leaves(use):
 
 
 def exported():
-    """What roots by hand say is public: names that users can write, names that C's exports have, and modules."""
-    names, of_exports, modules = set(), set(), set()
-    for file in OUT.rglob('*.rs'):
+    """What roots by hand say is public: names that users can write, names that C's exports have, those that other
+    packages have, and modules."""
+    names, of_exports, shared, modules = set(), set(), set(), set()
+    for out, file in ((out, file) for out in OUTS.values() for file in out.rglob('*.rs')):
         text = file.read_text()
         if not text.startswith(WRITTEN):
-            path = [part for part in file.relative_to(OUT).with_suffix('').parts
+            path = [part for part in file.relative_to(out).with_suffix('').parts
                     if part not in ('mod', 'lib', 'with_exports')]
             uses = re.findall(r'^pub use ([^;]*);', text, re.M)
-            (of_exports if path == ['exports'] else names).update(name for use in uses for name in leaves(use))
+            of = {'exports': of_exports, 'internal': shared}.get('/'.join(path), names)
+            of.update(name for use in uses for name in leaves(use))
             modules |= {'/'.join([*path, name]) for name in re.findall(r'^ *pub mod (\w+);', text, re.M)} | \
                 {'/'.join([*path, *module.split('::')]) for use in uses for module in re.findall('^(.*) as ', use)}
-    return names, of_exports, modules
+    return names, of_exports, shared - names, modules
 
 
 def omitted(crate, path):
@@ -529,7 +536,7 @@ def erased(said):
     files = {}
     left = {file for *_, found in given.REPLACED for file in found}
     of_crate, of_program, of_traits, gone = [*sources()], program(), set(), set()
-    ghosts, (names, of_exports, modules) = all_ghosts(), exported()
+    ghosts, (names, of_exports, shared, modules) = all_ghosts(), exported()
     traits = {name for *_, text in of_crate + of_program
               for name in re.findall(r'^ *(?:pub(?:\([^)]*\))? )?trait (\w+)', text, re.M)}
     for out, by_hand, (crate, path, text) in [*((OUT, (), each) for each in of_crate),
@@ -538,12 +545,13 @@ def erased(said):
         left -= {file}
         try:
             is_open = placed(file) in modules or file in given.ROOTS
-            public = lambda name, to_users=False: is_open or name in names or not to_users and name in of_exports
+            public = lambda name, to_users=False: is_open or name in names or not to_users and name in of_exports | shared
             eraser = Eraser(replaced(file, text), crate, omitted(crate, path), f'crates/{crate}/src/{path}', ghosts,
                             traits, by_hand, public if out == OUT else None)
             text = eraser.run()
             if file not in given.ROOTS:
-                files[out / f'{placed(file)}.rs'] = relocated(text)
+                package = package_of(file)
+                files[(out if by_hand else OUTS[package]) / f'{placed(file)}.rs'] = relocated(text, package)
                 if eraser.only_for_c:
                     path = placed(file).split('/')
                     of_super = re.sub(r'\bsuper(?=::)', '::'.join(['crate', *path[:-1]]), eraser.only_for_c)
@@ -561,6 +569,9 @@ def erased(said):
         said += [f'tools/parts/erase_list.py: {name} is also the name of a function of a trait'
                  for name in names if name in of_traits]
     said += [f'tools/parts/erase_list.py: no such file: {file}' for file in sorted(left)]
+    others = ''.join(text for path, text in files.items() if not {OUT, EXAMPLE} & {*path.parents})
+    said += [f'tools/parts/erase_list.py: no other package than net-base calls {name} of {file}'
+             for file, names in given.SHARED_CALLS.items() for name in names if not re.search(rf'\b{name}\(', others)]
     return files
 
 
@@ -573,10 +584,26 @@ def placed(module):
     return '/'.join(filter(None, [given.FOLDERS[crate], path]))
 
 
-def relocated(text):
-    """A text with the paths that modules have in the Cargo crate."""
+def package_of(module):
+    """The package that has a module of a crate; none if that is C's exports, which are over the modules of all."""
+    folder = placed(module).split('/')[0]
+    return given.PARTS.get(folder, given.BASE)
+
+
+def relocated(text, package=None):
+    """A text with the paths that modules have in this package, or in C's exports. Another package's modules are those of
+    that one, by its name, and what it keeps from users is in one of them."""
     names = [name.replace('/', '::') for name in [*given.MOVED, *given.FOLDERS]]
-    place = lambda name: '::'.join(['crate', *placed(name[1].replace('::', '/')).split('/')]).removesuffix('::')
+
+    def place(name):
+        module = name[1].replace('::', '/')
+        root, path = package_of(module), placed(module).split('/')
+        if package in (None, root):
+            root = 'crate'
+        else:
+            path = [given.SHARED[path[0]]] if path[0] in given.SHARED else path
+        return '::'.join([root, *path]).removesuffix('::')
+
     return re.sub(rf'{ROOT}::({"|".join(names)})\b', place, text)
 
 
@@ -588,6 +615,7 @@ def constants(text):
 def by_hand_root(out, file):
     """The file by hand in the place of a root."""
     module = placed(file.removesuffix('/lib'))
+    out = out if out == EXAMPLE else OUTS[package_of(file.removesuffix('/lib'))]
     roots = [out / name for name in (f'{module}.rs', f'{module}/mod.rs', 'lib.rs')]
     return next(root.read_text() for root in roots if root.is_file())
 
@@ -620,7 +648,7 @@ def main(arguments):
         return 2
     said = []
     files = formatted(erased(said), said)
-    old = {file: file.read_text() for out in (OUT, EXAMPLE) for file in out.rglob('*.rs')}
+    old = {file: file.read_text() for out in (*OUTS.values(), EXAMPLE) for file in out.rglob('*.rs')}
     old = {file: text for file, text in old.items() if text.startswith(WRITTEN)}
     differ = [path for path in sorted(files.keys() | old.keys()) if files.get(path) != old.get(path)]
     if arguments == ['--check']:

@@ -20,7 +20,7 @@ import tempfile
 
 ROOT = pathlib.Path(__file__).resolve().parent.parent
 # The pages, and where the commands of each are run, unless they name that folder.
-PAGES = {"README.md": ".", "rust/README.md": "rust", "docs/GUIDE.md": ".", "docs/C.md": ".", "docs/CONTRACTS.md": ".",
+PAGES = {"README.md": ".", "rust/README.md": "rust", "rust/net-tcp/README.md": "rust/net-tcp", "docs/GUIDE.md": ".", "docs/C.md": ".", "docs/CONTRACTS.md": ".",
          "docs/BENCH.md": ".", "overlay/README.md": "."}
 FIRST = r"cd|cargo|cc|sh|rt|rustup|python3|pkg-config|arm-none-eabi-gcc|echo|\.ci/run"
 WORDS = re.compile(rf"\(?(?:[A-Z_]+=\S+ )?(?:{FIRST})(?= |$)")
@@ -40,7 +40,7 @@ ELSEWHERE = {
     "sh c/targets.sh": EMULATORS,
     "sh c/targets.sh --table": EMULATORS,
     "sh examples/endpoint/run.sh": "it wants a TUN device, and takes minutes",
-    "sh rust/examples/endpoint/run.sh --runs": "it wants a TUN device, and takes an hour",
+    "sh rust/net-tcp/examples/endpoint/run.sh --runs": "it wants a TUN device, and takes an hour",
     "sh compare/peers/run.sh --runs": "it wants lwIP and a TUN device, and takes an hour",
     "cargo cinstall": "it wants cargo-c",
     "rt lemma ..": "a reader gives the words",

@@ -1,11 +1,11 @@
 #!/usr/bin/env python3
-"""python3 tools/public_items.py --check | --write: compares the public items of the Cargo crate with
-tools/public_items.txt, or writes that list. `git diff` of two versions of it says what a user of the crate has to know.
+"""python3 tools/public_items.py --check | --write: compares the public items of the packages of Rust with
+tools/public_items.txt, or writes that list. `git diff` of two versions of it says what a user of them has to know.
 
 Each line is what rustdoc shows of a module, a type, a trait, a function, a constant, a method or an impl, with
 attributes, fields and automatic traits. Impls that differ in the trait alone are one line, where `_` is the trait. `+`
 are those that only all features give, `-` those that are there without features alone. An alias is one line: its
-methods are those of the type that it names.
+methods are those of the type that it names. Items of another package than net-base begin with its name.
 
 Status 1 if the lists differ, if a link in the documentation leads nowhere, or if no test and no example names a call.
 """
@@ -17,6 +17,8 @@ import subprocess
 import sys
 import tempfile
 from pathlib import Path
+
+from parts.erase_list import BASE, PACKAGES
 
 ROOT = Path(__file__).resolve().parent.parent
 LIST = ROOT / "tools/public_items.txt"
@@ -38,12 +40,14 @@ def plain(text):
 
 def items(pages):
     """Each item, by its path, with what its page says of it."""
+    package = () if pages.name == BASE else (pages.name,)
     for page in sorted(pages.rglob("*.html")):
-        text, path = OF_STD.sub("", page.read_text()), "::".join(page.relative_to(pages).parts[:-1])
+        text = OF_STD.sub("", page.read_text())
+        path = "::".join([*package, *page.relative_to(pages).parts[:-1]])
         if "Redirecting to" in text:
             continue
         if page.name == "index.html":
-            yield f"mod {path or 'net_base'}"
+            yield f"mod {path or BASE}"
         declared = re.findall(r'<pre class="rust item-decl"><code>(.*?)</code></pre>', text, re.S)
         if page.name.startswith("type."):           # then the struct that it names, which has a page of its own
             yield f"{path}: {plain(declared[0])}"
@@ -59,11 +63,11 @@ def items(pages):
 
 
 def documented(features, folder):
-    """The crate's pages with these features."""
+    """The packages' pages with these features."""
     words = [*f"cargo doc --offline --quiet --no-deps --lib {features} --target-dir".split(), folder]
     environment = os.environ | {"RUSTDOCFLAGS": "-D rustdoc::broken_intra_doc_links"}
     subprocess.run(words, cwd=ROOT / "rust", env=environment, check=True)
-    return Path(folder) / "doc/net_base"
+    return [Path(folder) / "doc" / package for package in PACKAGES]
 
 
 def together(lines):
@@ -79,20 +83,23 @@ def together(lines):
 
 
 def listed(pages):
-    """The lines of the list, after the version of rustdoc and the crate's own attributes."""
-    found = {mark: set(items(pages[mark])) for mark in SETS}
+    """The lines of the list, after the version of rustdoc and the packages' own attributes."""
+    found = {mark: {it for package in pages[mark] for it in items(package)} for mark in SETS}
     lines = [f"  {it}" for it in found["+"] & found["-"]]
     lines += [f"{mark} {it}" for mark, other in ("+-", "-+") for it in found[mark] - found[other]]
     version = subprocess.run(["rustdoc", "--version"], capture_output=True, text=True, check=True).stdout.split()[1]
-    own = re.findall(r"^#!\[.*\]$", (ROOT / "rust/src/lib.rs").read_text(), re.M)
+    own = [f"{package}: {it}" for package, folder in PACKAGES.items()
+           for it in re.findall(r"^#!\[.*\]$", (ROOT / folder / "lib.rs").read_text(), re.M)]
     return [f"rustdoc {version}", *own, *sorted(together(lines), key=lambda line: (line[2:], line))]
 
 
 def untold(lines):
     """A line for each public call that neither tests and examples nor the examples of documentation name."""
-    texts = [path.read_text() for folder in ("tests", "examples") for path in (ROOT / "rust" / folder).rglob("*.rs")]
+    sources = [ROOT / folder for folder in PACKAGES.values()]
+    texts = [path.read_text() for source in sources for folder in ("tests", "examples")
+             for path in (source.parent / folder).rglob("*.rs")]
     docs = "".join(re.findall(r"^ *//[/!](.*\n)", "".join(
-        path.read_text() for path in (ROOT / "rust/src").rglob("*.rs")), re.M))
+        path.read_text() for source in sources for path in source.rglob("*.rs")), re.M))
     texts += [block for mark, block in re.findall(r"```(.*?)\n(.*?)```", docs, re.S) if not mark]
     known = {*re.findall(r"\w+", " ".join(texts))}
     calls = re.findall(r"^. ([\w:]+): pub (?:const )?fn (\w+)", "\n".join(lines), re.M)

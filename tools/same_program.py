@@ -23,8 +23,8 @@ reasons, beside names that the two have otherwise. What one side has alone is in
 error, and so is another compiler or kit, and an exception of this script, whatever it reads. The status is 1 if a
 function differs or isn't understood, 2 if there is no compiler.
 
-What is compared has the exports for C, and each feature. In other builds, `BUILDS`, of the crate as it is published
-each function has the same text in rustc's program, but for what parts/same_names.txt has with reasons, and for debug
+What is compared is all packages of Rust as one crate, with the exports for C and each feature. In other builds,
+`BUILDS`, of the packages as they are published each function has the same text in rustc's program, but for what parts/same_names.txt has with reasons, and for debug
 assertions: without them the bounds of widths.py aren't tested.
 
 Read parts/same_names.txt first: it has each form of term with an example. same_terms.py computes with them,
@@ -64,7 +64,7 @@ ALONE = re.compile('|'.join([
       for name in names)]))
 # What isn't understood, and was read: the digest of both texts as they were read. same_names.txt also says why.
 LEFT = {name: read for name, _, read in (row.split(' ~~ ') for row in tables('same_names.txt')['left'])}
-# Other builds of the crate than the one that is compared, which has its exports and every feature: the words of cargo,
+# Other builds of the packages than the one that is compared, which has the exports and every feature: the words of cargo,
 # and those of rustc; and what another build has otherwise. An example has no exports, and wants the feature `std`. Other
 # words than debug assertions are added to the build that has none.
 BUILDS = {'default': ((), ()), 'none': (('--no-default-features',), ()),
@@ -160,15 +160,19 @@ def text(item):
 
 
 def builds(root, kit, target, programs):
-    """What other builds of the crate and of its example have otherwise than the programs that are compared, by names."""
+    """What other builds of the packages and of the example have otherwise than the programs that are compared, by names."""
     unused = {*OTHERWISE}
     for build, (words, flags) in BUILDS.items():
         others = []
-        for what, place in (('--lib', 'deps'), ('--example=net_bench', 'examples'))[:1 + (not words)]:
-            widths.rustc(root, kit, target / build, what, words, flags, check=True)
-            of_example = ('examples/net_bench', *others) if others else ()
-            others.append(Compiled(root, widths.mir_of(target / build, place), *of_example))
-        for rust, other in zip(programs, others):
+        for package, folder in zip(given.PACKAGES, widths.SOURCES):
+            widths.rustc(root, kit, target / build, '--lib', words, flags, package.replace('_', '-'), check=True)
+            mir = widths.mir_of(target / build, name=package)
+            others.append((programs[0], Compiled(root, programs[0].own(mir), folder)))
+        if not words:
+            widths.rustc(root, kit, target / build, '--example=net_bench', words, flags, check=True)
+            mir = widths.mir_of(target / build, 'examples')
+            others.append((programs[1], Compiled(root, mir, 'examples/net_bench', library=others[0][1])))
+        for rust, other in others:
             for one, two in ((getattr(program, kind) for program in (rust, other))
                              for kind in ('functions', 'constants', 'promoted')):
                 for key in sorted(two):
@@ -188,9 +192,9 @@ def kept(crate):
 def compiled(root, kit, target):
     """Rustc's program of the crate, and of its example."""
     widths.rustc(root, kit, target, check=True)
-    library = Compiled(root, widths.mir_of(target))
+    library = Compiled(root, widths.mir_of(target, name='net_base_exports'), *widths.SOURCES)
     widths.rustc(root, kit, target, '--example=net_bench', check=True)
-    return library, Compiled(root, widths.mir_of(target, 'examples'), 'examples/net_bench', library)
+    return library, Compiled(root, widths.mir_of(target, 'examples'), 'examples/net_bench', library=library)
 
 
 def programs(arguments, temporary):

@@ -209,9 +209,9 @@ def planted(kit, temporary, proved):
     config.write_text(config.read_text() + '\npub(crate) fn head() -> crate::storage::AssemblerHead {\n'
                       '    crate::storage::AssemblerHead::new()\n}\n')
     for file, part, plant, _ in PLANTS + OTHERWISE:
-        is_program = file.split('/')[0] in same_program.given.PROGRAM
-        folder = crate / ('examples/net_bench' if is_program else 'src')
-        path = folder / f'{erase.placed(file.removesuffix(".rs"))}.rs'
+        is_program, module = file.split('/')[0] in same_program.given.PROGRAM, file.removesuffix('.rs')
+        folder = erase.EXAMPLE if is_program else erase.OUTS[erase.package_of(module)]
+        path = crate / folder.relative_to(widths.REPOSITORY / 'rust') / f'{erase.placed(module)}.rs'
         assert part in path.read_text(), (file, part)
         path.write_text(path.read_text().replace(part, plant, 1))
     library, example = same_program.compiled(crate, kit, temporary / 'target2')

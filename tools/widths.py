@@ -52,6 +52,8 @@ from parts.same_side import Branch, Call, Panic, Return, Store
 from parts.same_terms import UNIT, Differ, Unknown, any_part, mentions, reading, term
 
 REPOSITORY = Path(__file__).resolve().parent.parent
+# The folders of rust that have erased text.
+SOURCES = [str(Path(folder).relative_to('rust')) for folder in erase.given.PACKAGES.values()]
 PAGE = REPOSITORY / 'docs/std-calls.md'
 MARK = '"in any `usize`"'
 MOST = 2 ** 32 - 1                                # the greatest `usize` of 32 bits
@@ -393,18 +395,21 @@ def kit_of(folders, temporary):
     return kit
 
 
-def rustc(crate, kit, target, what='--lib', words=('--features', 'segmentation-offload,std'), flags=(), **options):
-    """Compiles an erased crate, with its exports for C if there are no other words, or an example of it."""
+def rustc(crate, kit, target, what='--lib', words=('--features', 'segmentation-offload,std'), flags=(),
+          package='net-base', **options):
+    """Compiles an erased package, or an example of it; if there are no other words all packages as one crate, with the
+    exports for C."""
     environment = dict(os.environ, RUSTC=str(kit / 'rustc'), RUSTC_BOOTSTRAP='1', CARGO_TARGET_DIR=str(target))
-    package, named = (['--package', 'net-base-exports'], ['--remap-path-prefix=exports/../src=src']) \
-        if what == '--lib' and words[:1] == ('--features',) else ([], [])
-    command = ['cargo', 'rustc', '--offline', '--quiet', what, *package, *words, '--', *FLAGS, *named, *flags]
+    is_whole = what == '--lib' and words[:1] == ('--features',)
+    named = ['--remap-path-prefix=exports/../src=src', '--remap-path-prefix=exports/../src/../='] if is_whole else []
+    command = ['cargo', 'rustc', '--offline', '--quiet', what, '--package', 'net-base-exports' if is_whole else package,
+               *words, '--', *FLAGS, *named, *flags]
     return subprocess.run(command, cwd=crate, env=environment, **options)
 
 
-def mir_of(target, folder='deps'):
-    """What `rustc` wrote."""
-    mir, = target.glob(f'**/debug/{folder}/*.mir')
+def mir_of(target, folder='deps', name=''):
+    """What `rustc` wrote, of a crate of this name if there are several."""
+    mir, = target.glob(f'**/debug/{folder}/{name and name + "-"}*.mir')
     return mir.read_text()
 
 
@@ -423,7 +428,7 @@ def with_bounds(crate):
 def compiled(crate, kit, target):
     """Rustc's program of an erased crate."""
     rustc(crate, kit, target, check=True)
-    return Compiled(crate, mir_of(target))
+    return Compiled(crate, mir_of(target), *SOURCES)
 
 
 def std_calls(rust):

@@ -1,5 +1,5 @@
 #!/bin/sh
-# Joins the endpoint of rust/examples, by a path that loses, doubles, delays, stops, cuts and forges IP packets, with
+# Joins the endpoint of rust/net-tcp/examples, by a path that loses, doubles, delays, stops, cuts and forges IP packets, with
 # itself, with lwIP, which reports no blocks as Debian builds it, and does from its sources, with gVisor's netstack, and
 # with Linux:
 #
@@ -14,7 +14,7 @@
 set -eu
 here=$(cd "$(dirname "$0")" && pwd)
 name=peers
-. "$here/../../rust/examples/endpoint/namespace.sh"
+. "$here/../../rust/net-tcp/examples/endpoint/namespace.sh"
 . "$here/../debian.sh"
 
 case "${1-}" in

@@ -12,7 +12,7 @@
 set -eu
 here=$(cd "$(dirname "$0")" && pwd)
 name=quinn
-. "$here/../../rust/examples/endpoint/namespace.sh"
+. "$here/../../rust/net-tcp/examples/endpoint/namespace.sh"
 . "$here/../debian.sh"
 
 case "${1-}" in

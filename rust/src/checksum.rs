@@ -22,4 +22,13 @@
 //! udp[6..8].copy_from_slice(&0xffff_u16.to_be_bytes());
 //! assert!(pseudo.with(&udp).is_valid());
 //! ```
-pub use crate::tcp::internet_sum::{checksum, is_valid, updated_checksum, PartsSum};
+mod internet_sum;
+
+pub use internet_sum::{checksum, is_valid, updated_checksum, PartsSum};
+
+/// The sum of no bytes.
+impl Default for PartsSum {
+    fn default() -> Self {
+        PartsSum::new()
+    }
+}

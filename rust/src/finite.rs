@@ -5,32 +5,19 @@
 //!
 //! ```
 //! use net_base::finite::{FiniteReceiver, FiniteSender, Part};
-//! use net_base::sequence_number::SequenceNumber;
-//! use net_base::tcp::{AdvertisedWindow, PeerWindow};
 //!
-//! // The SYN has position 0 and this number; the stream begins at position 1.
-//! let syn = SequenceNumber::new(u32::MAX - 2);
 //! let (mut out, mut into) = ([0u8; 16], [0u8; 16]);
-//! let mut sender = FiniteSender::new_at(&mut out[..], 1);
-//! let mut receiver = FiniteReceiver::<4>::new_at(&mut into[..], 1);
-//! // The receiver announces its room, without a scale, and the sender keeps to it.
-//! let mut advertised = AdvertisedWindow::new(1);
-//! let room = receiver.window_end().expect("positions are left");
-//! let window = advertised.announce(0, receiver.acknowledged(), room);
-//! let mut peer = PeerWindow::new();
-//! peer.open_to(1 + u64::from(window));
+//! let mut sender = FiniteSender::new_at(&mut out[..], 0);
+//! let mut receiver = FiniteReceiver::<4>::new_at(&mut into[..], 0);
 //! assert_eq!(sender.write(b"hello"), 5);
 //! sender.close();
-//! let limit = peer.send_limit(sender.numbers_end());
-//! assert_eq!((sender.send_at(1, 4).bytes, limit), (&b"hel"[..], 7)); // five bytes, and the end
 //! // The segment of the last bytes, with the end, overtakes the one before it.
-//! let lent = sender.send_at(4, limit);
-//! let number = SequenceNumber::at(syn, 4);
-//! assert_eq!((lent.bytes, lent.part, number.get()), (&b"lo"[..], Part::Last, 1));
-//! let pos = number.position(syn, receiver.acknowledged()).expect("a position nearby");
-//! assert!(receiver.keep(pos, lent.bytes, lent.part).is_ok() && !receiver.is_complete());
-//! let lent = sender.peek_at(1, 4);
-//! assert!(receiver.keep(1, lent.bytes, lent.part).is_ok() && receiver.is_complete());
+//! assert_eq!(sender.send_at(0, 3).bytes, b"hel");
+//! let lent = sender.send_at(3, sender.numbers_end());
+//! assert_eq!((lent.bytes, lent.part), (&b"lo"[..], Part::Last));
+//! assert!(receiver.keep(3, lent.bytes, lent.part).is_ok() && !receiver.is_complete());
+//! let lent = sender.peek_at(0, 3);
+//! assert!(receiver.keep(0, lent.bytes, lent.part).is_ok() && receiver.is_complete());
 //! // What is acknowledged is all five bytes and the end.
 //! assert!(sender.acknowledge(receiver.acknowledged()) && sender.is_closed_and_acknowledged());
 //! let mut text = [0; 9];
@@ -45,7 +32,7 @@ use crate::storage::{Listed, Run, Storage, TooManyHolesError};
 
 pub use crate::stream::{
     FiniteError, FiniteReceiver, FiniteReceiverOver, FiniteSender, FiniteSenderOver, LentBytes,
-    Part, RangeAck, SegmentBytes, SendBuffer, SendBufferOver, StreamReceiver, StreamReceiverOver,
+    Part, RangeAck, SegmentBytes, SendBuffer, SendBufferOver, SentNumbers, StreamReceiver, StreamReceiverOver,
 };
 
 impl From<TooManyHolesError> for FiniteError {

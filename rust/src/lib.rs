@@ -26,8 +26,8 @@
 //! | bytes from an interrupt | [`SplitRing`](storage::SplitRing) |
 //! | a stream out of segments | [`Receiver`](receiver::Receiver), [`FiniteReceiver`](finite::FiniteReceiver) if it ends |
 //! | both sides of a QUIC stream | [`FiniteReceiver`](finite::FiniteReceiver), [`SendBuffer`](finite::SendBuffer) |
-//! | both ends of a TCP connection | [`ReceivingEnd`](ends::ReceivingEnd), [`SendingEnd`](ends::SendingEnd) |
-//! | the parts of these | [`tcp`], [`scoreboard`], [`sequence_number`], [`checksum`] |
+//! | what else a transport needs | [`scoreboard`], [`sequence_number`], [`checksum`] |
+//! | both ends of a TCP connection | the crate [net-tcp](https://docs.rs/net-tcp), which is over this one |
 //! | packets out of IP fragments | [`FragmentBuffer`](storage::FragmentBuffer) |
 //!
 //! `docs/GUIDE.md` of the repository has a program for each, and the order of the calls of a TCP.
@@ -83,10 +83,11 @@ compile_error!("a `usize` has 32 or 64 bits");
 
 pub mod checksum;
 pub mod config;
-pub mod ends;
 #[cfg(test)]
 mod error_texts;
 pub mod finite;
+#[doc(hidden)]
+pub mod internal;
 pub mod managed;
 pub mod phy;
 pub mod rand;
@@ -95,7 +96,6 @@ pub mod scoreboard;
 pub mod sequence_number;
 pub mod storage;
 mod stream;
-pub mod tcp;
 pub mod time;
 
 #[cfg(doctest)]

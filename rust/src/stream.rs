@@ -1,5 +1,5 @@
-//! A stream of bytes: what receives it, what sends it, and what is lost on the way. Public are [`crate::receiver`],
-//! [`crate::finite`], [`crate::scoreboard`] and [`crate::sequence_number`], and loss recovery in [`crate::tcp`].
+//! A stream of bytes: what receives it, and what sends it. Public are [`crate::receiver`], [`crate::finite`],
+//! [`crate::scoreboard`] and [`crate::sequence_number`].
 pub(crate) mod finite_receiver;
 pub(crate) mod finite_receiver_head;
 pub(crate) mod finite_sender;
@@ -36,7 +36,3 @@ pub use sequence_number::SequenceNumber;
 pub use stream_receiver::{StreamReceiver, StreamReceiverOver};
 
 // Names for other modules.
-pub(crate) use flags::flag_of;
-pub(crate) use held_runs::HeldRun;
-pub(crate) use scoreboard_head::ScoreboardHead;
-pub(crate) use segment_bytes::lend;

@@ -3,9 +3,9 @@
 #![cfg(feature = "alloc")]
 // One range is no list of its numbers.
 #![allow(clippy::single_range_in_vec_init)]
+use net_base::finite::SentNumbers;
 use net_base::finite::{Part, RangeAck, SendBuffer, SendBufferOver};
 use net_base::rand::Rand;
-use net_base::tcp::SentNumbers;
 use std::collections::{BTreeMap, BTreeSet, VecDeque};
 use std::ops::Range;
 

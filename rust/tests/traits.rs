@@ -7,7 +7,6 @@ use std::hash::{Hash, Hasher};
 use std::iter::FusedIterator;
 
 use net_base::checksum::PartsSum;
-use net_base::ends::{ReceivingEndOver, SendingEndOver};
 use net_base::finite::{FiniteError, FiniteReceiverOver, FiniteSenderOver, Part, SendBufferOver};
 use net_base::managed::ManagedSlice;
 use net_base::phy::{Checksum, ChecksumCapabilities, DeviceCapabilities, SegmentationCapabilities};
@@ -19,11 +18,6 @@ use net_base::storage::fragment_table::{accept, FragmentSlot};
 use net_base::storage::{
     Assembler, Empty, FragmentError, FragmentsOver, Full, PacketMetadata, PacketsOver, RingBuffer,
     RingOver, Storage, TooManyHolesError,
-};
-use net_base::tcp::{
-    AdvertisedWindow, Announcement, Answer, LossRecovery, PeerWindow, Reported,
-    RetransmissionTimeout, RetransmissionTimer, RttEstimate, Sack, SentNumbers, TimeoutBounds,
-    Transmission,
 };
 use net_base::time::{Duration, Instant};
 
@@ -190,109 +184,13 @@ fn clones() {
     assert_eq!((slots[0].key, other[0].key), (None, Some(7)));
     let mut newest = finite.receiver().newest_runs(0, &mut [0; 2]);
     assert_eq!((newest.clone().count(), newest.next()), (0, None));
-    let mut receiving = ReceivingEndOver::<_, 2>::over_at([0u8; 4], 0, 4);
-    assert!(receiving.clone().arrived(0, b"a", Part::More).is_ok());
-    assert_eq!(receiving.read(&mut [0]), 0);
     let mut buffer = SendBufferOver::<_, 2>::over_at([0u8; 4], 0);
     assert_eq!((buffer.clone().write(b"ab"), buffer.write(b"abc")), (2, 3));
-    let (first_timeout, bounds) = (Duration::from_secs(1), TimeoutBounds::new());
-    let mut sending = SendingEndOver::<_, 2>::over_at([0u8; 4], 0, first_timeout, bounds);
-    assert_eq!((sending.clone().write(b"ab"), sending.write(b"abc")), (2, 3));
 }
 
 #[test]
-fn machines() {
-    assert_eq!(AdvertisedWindow::default(), AdvertisedWindow::new(0));
+fn sums() {
     assert_eq!(PartsSum::default().with(b"ab"), PartsSum::new().with(b"ab"));
-    assert_ne!(PeerWindow::of(Announcement { seq: 1, ack: 2, window: 3 }), PeerWindow::default());
-    assert_eq!(
-        (PeerWindow::default(), LossRecovery::default()),
-        (PeerWindow::new(), LossRecovery::new())
-    );
-    assert_ne!(Transmission::Once(Instant::ZERO), Transmission::Repeated);
-    assert_eq!(
-        RetransmissionTimeout::default(),
-        RetransmissionTimeout::new(Duration::from_secs(1))
-    );
-    let bounds = TimeoutBounds::default();
-    assert_eq!(
-        (bounds.least, bounds.most, bounds.tick, bounds.ack_delay),
-        (
-            Duration::from_secs(1),
-            Duration::from_secs(60),
-            Duration::from_millis(1),
-            Duration::from_millis(200)
-        )
-    );
-    let mut timeout = RetransmissionTimeout::default();
-    timeout.acknowledged(bounds, Transmission::Repeated, Instant::ZERO);
-    assert_eq!(timeout, RetransmissionTimeout::default());
-    assert_eq!(
-        RetransmissionTimer::default(),
-        RetransmissionTimer::new(Duration::from_secs(1), Sack::Absent)
-    );
-}
-
-/// A caller's own record of what was reported.
-struct Record(Scoreboard<2>);
-
-impl Reported for Record {
-    fn contains(&self, pos: u64) -> bool {
-        Reported::contains(&self.0, pos)
-    }
-
-    fn highest_reported(&self) -> u64 {
-        Reported::highest_reported(&self.0)
-    }
-
-    fn missing_between(&self, start: u64, end: u64) -> u64 {
-        Reported::missing_between(&self.0, start, end)
-    }
-
-    fn next_hole(&self, pos: u64, limit: u64) -> Option<(u64, u64)> {
-        Reported::next_hole(&self.0, pos, limit)
-    }
-
-    fn lost_below(&self, duplicates: usize, segment_size: usize) -> u64 {
-        Reported::lost_below(&self.0, duplicates, segment_size)
-    }
-}
-
-/// A recovery reads a record of the caller's as it reads a scoreboard. Of 60 positions in segments of 10 the last 40 are
-/// reported, more than two segments, so what is below them is lost (RFC 6675, IsLost).
-#[test]
-fn recovery_over_a_record_of_the_callers() {
-    let mut record = Record(Scoreboard::empty());
-    assert_eq!(record.0.report(20..60, 60), Ok(()));
-    assert_eq!(
-        (record.contains(19), record.contains(20), record.highest_reported()),
-        (false, true, 60)
-    );
-    assert_eq!((record.missing_between(10, 30), record.next_hole(0, 60)), (10, Some((0, 20))));
-    assert_eq!(record.lost_below(3, 10), 20);
-    let numbers = SentNumbers { first_unacknowledged: 0, sent: 60 };
-    let answer = Answer { first: 0, unsent: 0, reports: true, is_equal: true };
-    let mut recovery = LossRecovery::new();
-    assert!(recovery.find_losses(numbers, &record, 10, answer));
-    assert_eq!(recovery.next_segment(numbers, &record, 60, 100, 10), Some(0..10));
-    recovery.sent(numbers, 0..10);
-    assert_eq!(recovery.next_segment(numbers, &record, 60, 100, 10), Some(10..20));
-}
-
-/// None is after the last one.
-#[test]
-fn moments_of_timers() {
-    let mut timer = RetransmissionTimer::new(Duration::from_micros(7), Sack::Permitted);
-    assert_eq!((timer.expires_at(), timer.timeout()), (None, Duration::from_micros(7)));
-    timer.start(Instant::from_micros(-5));
-    assert_eq!(timer.expires_at(), Some(Instant::from_micros(2)));
-    timer.stop();
-    timer.start(Instant::from_micros(i64::MAX));
-    assert_eq!(timer.expires_at(), Some(Instant::from_micros(i64::MAX)));
-    // After a sample of 800 ms and one of 400 ms: 750 ms, and four times 400 ms.
-    let [first, second, timeout] = [800, 400, 2_350].map(Duration::from_millis);
-    let estimate = RttEstimate::first(first).with_sample(second);
-    assert_eq!((estimate.timeout(TimeoutBounds::new()), timer.rtt()), (timeout, None));
 }
 
 #[test]
@@ -502,20 +400,14 @@ fn long_queues_are_lent_whole() {
     assert_eq!(finite.fill_buf().unwrap().len(), 90_000);
 }
 
-/// No conversion cuts storage, the number of the first byte, or the size of a segment.
+/// No conversion cuts storage, or the number of the first byte.
 #[test]
 #[cfg(feature = "alloc")]
 fn nothing_is_cut() {
-    use net_base::ends::ReceivingEnd;
     use net_base::finite::SendBuffer;
     use net_base::managed::ManagedSlice;
     assert_eq!(ManagedSlice::from(vec![0u8; 70_000]).iter().count(), 70_000);
     assert_eq!(SendBuffer::<4>::new_at(vec![0; 4], 1 << 63).numbers_end(), 1 << 63);
-    let mut end = ReceivingEnd::<4>::new_at(vec![0; 60_000], 0, 9_000);
-    assert!(end.arrived(0, &[7; 50_000], Part::More).is_ok());
-    end.acknowledgement();
-    assert_eq!((end.read(&mut [0; 8_999]), end.is_wanted()), (8_999, false));
-    assert_eq!((end.read(&mut [0; 1]), end.is_wanted()), (1, true));
 }
 
 /// A part of a vector that isn't there is refused.

@@ -7,7 +7,6 @@ use std::hash::{Hash, Hasher};
 use std::sync::Mutex;
 
 use net_base::checksum::PartsSum;
-use net_base::ends::{ReceivingEndOver, SendingEndOver};
 use net_base::finite::{
     FiniteError, FiniteReceiver, FiniteReceiverOver, FiniteSender, FiniteSenderOver, Part,
 };
@@ -24,10 +23,6 @@ use net_base::storage::fragment_table::FragmentSlot;
 use net_base::storage::{
     Assembler, Empty, FragmentBuffer, FragmentError, FragmentsOver, Full, PacketBuffer,
     PacketMetadata, PacketsOver, RingBuffer, RingOver, Storage, TooManyHolesError,
-};
-use net_base::tcp::{
-    AdvertisedWindow, Announcement, Arrival, PeerWindow, RetransmissionTimeout,
-    RetransmissionTimer, RttEstimate, Segment, TimeoutBounds, Transmission, MAX_SCALE,
 };
 use net_base::time::{Duration, Instant};
 
@@ -64,23 +59,7 @@ fn texts_of_values() {
     );
     assert_eq!(debug(receiver.keep(0, bytes)), "Ok(KeptBytes { kept: 2, queued: 2 })");
     assert_eq!(debug(PacketMetadata::<u8>::EMPTY), "PacketMetadata { size: 0, header: None }");
-    assert_eq!(debug(AdvertisedWindow::new(9)), "AdvertisedWindow { edge: 9 }");
-    let it = Announcement { seq: 1, ack: 2, window: 3 };
-    assert_eq!(debug(PeerWindow::of(it)), "PeerWindow { edge: 5, seq: 1, ack: 2 }");
-    let segment = Segment { seq: 1, len: 2, syn: true, ack: false, rst: true };
-    let text = "Segment { seq: 1, len: 2, syn: true, ack: false, rst: true }";
-    assert_eq!(debug(segment), text);
-    assert_eq!(debug(Arrival::AcknowledgementOnly), "AcknowledgementOnly");
     assert_eq!(debug(PartsSum::new()), "PartsSum { sum: 0, odd: false }");
-    assert_eq!(
-        debug(RttEstimate::first(Duration::from_micros(4))),
-        "RttEstimate { srtt_8: 32, rttvar_4: 8 }"
-    );
-    assert_eq!(
-        debug(RetransmissionTimeout::new(Duration::from_micros(5))),
-        "RetransmissionTimeout { estimate: None, timeout: Duration { micros: 5 } }"
-    );
-    assert_eq!(debug(Transmission::Once(Instant::ZERO)), "Once(Instant { micros: 0 })");
 }
 
 /// Capacities and positions: not what is in storage.
@@ -139,10 +118,6 @@ fn texts_of_what_stores() {
     assert_eq!(
         debug(&sender),
         "FiniteSender { first_number: 100, numbers_end: 104, is_closed: true }"
-    );
-    assert_eq!(
-        debug(ReceivingEndOver::<_, 2>::over_at([0; 4], 7, 2)),
-        "ReceivingEnd { receiver: FiniteReceiver { next: 7, len: 0, window: 4, held: [], end: None }, .. }"
     );
     let mut scoreboard = Scoreboard::<2>::empty();
     scoreboard.acknowledge(10);
@@ -225,7 +200,6 @@ fn clones_and_defaults() {
 /// What can be called where a constant is made.
 #[test]
 fn constants() {
-    assert_eq!(MAX_SCALE, 14);
     const ASSEMBLER: Assembler<3> = Assembler::empty();
     const FOUR: Assembler = Assembler::new();
     const SCOREBOARD: Scoreboard<3> = Scoreboard::empty();
@@ -287,8 +261,7 @@ fn threads() {
     both::<FiniteSender<'_>>();
     both::<Scoreboard<4>>();
     both::<(Rand, SequenceNumber, Instant, Duration, DeviceCapabilities, PacketMeta)>();
-    both::<(PartsSum, PeerWindow, AdvertisedWindow, RetransmissionTimeout, Segment, Arrival)>();
-    both::<RetransmissionTimer>();
+    both::<PartsSum>();
     both::<PacketLoopback<'_>>();
     fn sent<T: Send>() {}
     sent::<RingBuffer<'_, std::cell::Cell<u8>>>();
@@ -370,9 +343,4 @@ fn arrays() {
     assert!(receiver.keep(7, b"ab", Part::Last).is_ok() && receiver.acknowledged() == 10);
     let mut sender = FiniteSenderOver::over_at([0u8; 4], 7);
     assert_eq!((sender.write(b"ab"), sender.numbers_end()), (2, 9));
-    let bounds = TimeoutBounds::default();
-    let mut end = SendingEndOver::<_, 2>::over_at([0; 4], 7, Duration::from_secs(1), bounds);
-    assert_eq!((end.write(b"abcde"), end.numbers().flight_size()), (4, 0));
-    let mut end = ReceivingEndOver::<_, 2>::over_at([0; 4], 7, 2);
-    assert!(end.arrived(7, b"ab", Part::Last).is_ok() && end.receiver().acknowledged() == 10);
 }

@@ -14,10 +14,23 @@ FOLDERS = {
 }
 CRATES = [crate for crate in FOLDERS if crate not in PROGRAM]
 
+# The packages of Rust: the folder of each one's sources, and which of the folders above it has. What is in none of
+# these is net-base's. The exports for C are another crate, over the sources of all.
+BASE = 'net_base'
+PACKAGES = {BASE: 'rust/src', 'net_tcp': 'rust/net-tcp/src'}
+PARTS = {'tcp': 'net_tcp', 'ends': 'net_tcp'}
+# The modules of net-base that its other packages name otherwise: what these take of them is in one that has no
+# documentation.
+SHARED = {'storage': 'internal', 'stream': 'internal'}
+# The methods that these call of a type that users can't name.
+SHARED_CALLS = {'net_receiver/scoreboard_head': [
+    'new_at', 'report', 'acknowledge', 'first_unreported', 'contains', 'highest_reported', 'first_missing',
+    'missing_between', 'lost_below', 'next_hole']}
+
 # Modules that have another place there: two heads of one folder, what smoltcp has in `phy/mod.rs`, and the program's.
 MOVED = {'net_ring/head': 'storage/ring_head', 'net_packets/head': 'storage/packets_head',
          'net_packets/packet_slot': 'exports/for_c/packet_slot',
-         'net_base/phy': 'phy/capabilities', SCHEDULE: 'schedule'}
+         'net_base/phy': 'phy/capabilities', 'net_tcp/internet_sum': 'checksum/internet_sum', SCHEDULE: 'schedule'}
 
 # The roots, in whose place are files by hand: they list modules, and their constants stand there too.
 ROOTS = {f'{crate}/lib' for crate in FOLDERS} | {'net_base/storage', 'net_base/time'}
@@ -132,7 +145,7 @@ ATTRIBUTES = [
 GROWING = {
     PHY: ['struct PacketMeta {', 'struct ChecksumCapabilities {', 'struct SegmentationCapabilities {',
           'struct DeviceCapabilities {'],
-    'net_receiver/kept': ['struct Kept {', 'struct KeptBytes {', 'struct SegmentParts {', 'enum FiniteError {'],
+    'net_receiver/kept': ['struct Kept {', 'struct SegmentParts {', 'enum FiniteError {'],
     'net_receiver/scoreboard_head': ['enum ReportError {'],
     'net_receiver/send_buffer': ['enum RangeAck {'],
     FRAGMENTS: ['enum FragmentError {'],

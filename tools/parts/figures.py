@@ -8,6 +8,7 @@ import re
 from pathlib import Path
 
 import guards
+from parts.erase_list import PACKAGES
 
 ROOT = Path(__file__).resolve().parent.parent.parent
 # What no file counts: what is asked for, and versions.
@@ -121,11 +122,13 @@ def counted():
     yield "version {}, and write in Cargo.toml", cargo, [first(r'^version = "(.*?)"', cargo)]
     for text in ("has to refuse each | {}", "The prover rejects {} [functions]"):
         yield text, "crates/must-fail.md", [str(count(r"^\| .* \| `.*` \| `", "crates/must-fail.md"))]
-    kinds = count(r"^    \w+: \w+::\w+,$", models)
-    yield "tests of Rust, also on ARMv7 | what the pages say | {}", f"rust/src, rust/tests, {models}", [
-        tens(count(r"#\[test\]", "rust/src/**/*.rs", "rust/tests/**/*.rs") + kinds)]
+    kinds = count(r"^    \w+: (?:\w+::)?play\w*,$", models, "rust/net-tcp/tests/model.rs")
+    yield "tests of Rust, also on ARMv7 | what the pages say | {}", f"src and tests of Rust's packages, {models}", [
+        tens(count(r"#\[test\]", *(f"{Path(folder).parent}/{it}/**/*.rs" for folder in PACKAGES.values()
+                                   for it in ("src", "tests"))) + kinds)]
+    seeds = first(r"unwrap_or.([0-9]+)", "rust/tests/model/beside.rs")
     yield "random calls of each type, also on ARMv7 | a plain model of the type | {} runs", models, [
-        f'{kinds * int(first(r"unwrap_or.([0-9]+)", models)):,}']
+        f"{kinds * int(seeds):,}"]
     yield "here and by an emulator | a second compiler's build | {}", "c/targets/run.py", [f'{int(first(r"^CALLS.*? = ([0-9_]+)", "c/targets/run.py")):,}']
     seeds, kinds = first(r"SEEDS: u64 = (\d+)", calls), first(r"KINDS: [^=]*; (\d+)\]", calls)
     for text in ("with its faults mended | {}", "{} sequences of [random calls]"):

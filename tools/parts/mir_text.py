@@ -19,11 +19,11 @@ def tables(name):
     return found
 
 
-def erased_files(root, folder='src'):
-    """The erased files in a folder of a crate's, by their paths: of each its module, in the prover's words and in
+def erased_files(root, *folders):
+    """The erased files in folders of a crate's, by their paths: of each its module, in the prover's words and in
     rustc's."""
     found = {}
-    for file in sorted((root / folder).rglob('*.rs')):
+    for folder, file in ((folder, file) for folder in folders for file in sorted((root / folder).rglob('*.rs'))):
         if written := WRITTEN.match(file.read_text()):
             path = file.relative_to(root / folder).with_suffix('').parts
             module = '::'.join([written[1], *written[2].split('/')]).removesuffix('::lib')

@@ -21,9 +21,9 @@ HELD = re.compile(r'\([^()]*(?:\([^()]*\)[^()]*)*\)|\{[^{}]*\}|<[^<>]*>')
 class Compiled:
     """Rustc's program: the texts of its functions and constants by name, and what the erased text declares."""
 
-    def __init__(self, root, mir, folder='src', library=None):
-        """The crate's folder, its MIR, and the folder of its root; of an example its library, too."""
-        self.root, self.erased, self.files = root, erased_files(root, folder), {}
+    def __init__(self, root, mir, *folders, library=None):
+        """The crate's folder, its MIR, and the folders of its modules; of an example its library, too."""
+        self.root, self.erased, self.files = root, erased_files(root, *folders or ['src']), {}
         self.library = {} if library is None else library.short()
         self.functions, self.constants, self.promoted, self.closures, self.traits = {}, {}, {}, {}, {}
         self.derived, self.twice, self.places = set(), set(), collections.defaultdict(set)
@@ -69,6 +69,15 @@ class Compiled:
             kept = self.functions if name[1] == 'fn ' else self.constants
             self.twice |= {path} if path in self.functions and kept[path].split('\n', 1)[0] != head else set()
             kept.setdefault(path, item)
+
+    def own(self, mir):
+        """The MIR of a package over another one, whose items have the names that they have here, where all are in one
+        crate: `proved::net_receiver::sent_numbers::SentNumbers` of `net_base::finite::SentNumbers`."""
+        functions = {path.rpartition('::')[2]: path.rpartition('::')[0] for path in self.functions if path.count('::') == 2}
+        place = lambda name: next(iter(self.places.get(name, ())), functions.get(name))
+        mir = re.sub(r'(?<![\w:])net_base::(?=(?:\w+::)+<impl )', '', mir)
+        return re.sub(r'(?<![\w:])net_base::(?:[a-z_]\w*::)*(\w+)',
+                      lambda m: f'proved::{place(m[1])}::{m[1]}' if place(m[1]) else m[0], mir)
 
     def short(self):
         """The functions by the last two words of their names, where these tell them apart."""

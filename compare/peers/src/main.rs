@@ -13,22 +13,22 @@ mod watch;
 
 // Formatted with the example.
 #[rustfmt::skip]
-#[path = "../../../rust/examples/endpoint/channel.rs"]
+#[path = "../../../rust/net-tcp/examples/endpoint/channel.rs"]
 mod channel;
 #[allow(dead_code)]
 #[rustfmt::skip]
-#[path = "../../../rust/examples/endpoint/os.rs"]
+#[path = "../../../rust/net-tcp/examples/endpoint/os.rs"]
 mod os;
 #[allow(dead_code)]
 #[rustfmt::skip]
-#[path = "../../../rust/examples/endpoint/tcp.rs"]
+#[path = "../../../rust/net-tcp/examples/endpoint/tcp.rs"]
 mod tcp;
 #[rustfmt::skip]
-#[path = "../../../rust/examples/endpoint/timestamps.rs"]
+#[path = "../../../rust/net-tcp/examples/endpoint/timestamps.rs"]
 mod timestamps;
 #[allow(dead_code)]
 #[rustfmt::skip]
-#[path = "../../../rust/examples/endpoint/wire.rs"]
+#[path = "../../../rust/net-tcp/examples/endpoint/wire.rs"]
 mod wire;
 
 use std::process::exit;

@@ -28,7 +28,7 @@ pub mod laws;
 /// What a segment without bytes tells the peer.
 ///
 /// ```
-/// use net_base::ends::ReceivingEnd;
+/// use net_tcp::ReceivingEnd;
 /// use net_base::finite::Part;
 ///
 /// let mut storage = [0u8; 64];
@@ -52,7 +52,7 @@ pub struct Acknowledgement {
 /// The blocks of an acknowledgement, at most four, as TCP's options have room for: what has arrived out of order.
 ///
 /// ```
-/// use net_base::ends::ReceivingEnd;
+/// use net_tcp::ReceivingEnd;
 /// use net_base::finite::Part;
 ///
 /// let mut storage = [0u8; 64];
@@ -139,7 +139,7 @@ fn count_of(blocks: [Option<(u64, u64)>; 4]) -> usize
 /// What a segment with bytes of its own tells the peer.
 ///
 /// ```
-/// use net_base::ends::{AckFields, ReceivingEnd};
+/// use net_tcp::{AckFields, ReceivingEnd};
 /// use net_base::finite::Part;
 ///
 /// let mut storage = [0u8; 64];
@@ -390,7 +390,7 @@ impl ReceivingHead {
 /// It is over storage that is lent or owned, and its calls are those of [`ReceivingEndOver`].
 ///
 /// ```
-/// use net_base::ends::ReceivingEnd;
+/// use net_tcp::ReceivingEnd;
 ///
 /// // 64 bytes may wait, and at most 4 ranges that arrived out of order. A segment has at most 8 bytes.
 /// let mut storage = [0u8; 64];
@@ -402,7 +402,7 @@ pub type ReceivingEnd<'a, const N: usize> = ReceivingEndOver<ManagedSlice<'a, u8
 /// A [`ReceivingEnd`] over any storage. It has no clock: how long an acknowledgement waits is its caller's choice.
 ///
 /// ```
-/// use net_base::ends::ReceivingEnd;
+/// use net_tcp::ReceivingEnd;
 /// use net_base::finite::Part;
 ///
 /// let mut storage = [0u8; 64];
@@ -469,7 +469,7 @@ impl<S: Storage<u8>, const N: usize> ReceivingEndOver<S, N> {
     /// `first` is below `u64::MAX`: an end there would have no number after it.
     ///
     /// ```
-    /// # use net_base::ends::ReceivingEnd;
+    /// # use net_tcp::ReceivingEnd;
     /// # let mut storage = [0u8; 64];
     /// # let mut receiving = ReceivingEnd::<4>::new_at(&mut storage[..], 100, 8);
     /// assert_eq!(receiving.open(100, 3), 64); // in a SYN the window has no scale
@@ -492,10 +492,10 @@ impl<S: Storage<u8>, const N: usize> ReceivingEndOver<S, N> {
     /// `heard_ends`.
     ///
     /// ```
-    /// # use net_base::ends::ReceivingEnd;
+    /// # use net_tcp::ReceivingEnd;
     /// # let mut storage = [0u8; 64];
     /// # let mut receiving = ReceivingEnd::<4>::new_at(&mut storage[..], 100, 8);
-    /// use net_base::tcp::{Arrival, Segment};
+    /// use net_tcp::{Arrival, Segment};
     ///
     /// let _window = receiving.open(100, 0);
     /// let text = |seq| Segment::new(seq, 8, 0x10);
@@ -526,7 +526,7 @@ impl<S: Storage<u8>, const N: usize> ReceivingEndOver<S, N> {
     /// As `FiniteReceiverOver::keep`.
     ///
     /// ```
-    /// # use net_base::ends::ReceivingEnd;
+    /// # use net_tcp::ReceivingEnd;
     /// # use net_base::finite::Part;
     /// # let mut storage = [0u8; 64];
     /// # let mut receiving = ReceivingEnd::<4>::new_at(&mut storage[..], 100, 8);
@@ -565,7 +565,7 @@ impl<S: Storage<u8>, const N: usize> ReceivingEndOver<S, N> {
     /// Has an acknowledgement sent at once.
     ///
     /// ```
-    /// # use net_base::ends::ReceivingEnd;
+    /// # use net_tcp::ReceivingEnd;
     /// # let mut storage = [0u8; 64];
     /// # let mut receiving = ReceivingEnd::<4>::new_at(&mut storage[..], 100, 8);
     /// let _window = receiving.open(100, 0);
@@ -581,7 +581,7 @@ impl<S: Storage<u8>, const N: usize> ReceivingEndOver<S, N> {
     /// Returns whether an acknowledgement is to be sent at once.
     ///
     /// ```
-    /// # use net_base::ends::ReceivingEnd;
+    /// # use net_tcp::ReceivingEnd;
     /// # use net_base::finite::Part;
     /// # let mut storage = [0u8; 64];
     /// # let mut receiving = ReceivingEnd::<4>::new_at(&mut storage[..], 100, 8);
@@ -604,7 +604,7 @@ impl<S: Storage<u8>, const N: usize> ReceivingEndOver<S, N> {
     /// a peer that has closed its connection would answer it by a reset.
     ///
     /// ```
-    /// # use net_base::ends::ReceivingEnd;
+    /// # use net_tcp::ReceivingEnd;
     /// # use net_base::finite::Part;
     /// # let mut storage = [0u8; 64];
     /// # let mut receiving = ReceivingEnd::<4>::new_at(&mut storage[..], 100, 8);
@@ -628,7 +628,7 @@ impl<S: Storage<u8>, const N: usize> ReceivingEndOver<S, N> {
     /// An acknowledgement that is due stays so, since it lists runs.
     ///
     /// ```
-    /// # use net_base::ends::ReceivingEnd;
+    /// # use net_tcp::ReceivingEnd;
     /// # use net_base::finite::Part;
     /// # let mut storage = [0u8; 64];
     /// # let mut receiving = ReceivingEnd::<4>::new_at(&mut storage[..], 100, 8);
@@ -653,7 +653,7 @@ impl<S: Storage<u8>, const N: usize> ReceivingEndOver<S, N> {
     /// Returns what a segment without bytes tells, and takes notice that it does. What came twice is told once.
     ///
     /// ```
-    /// # use net_base::ends::ReceivingEnd;
+    /// # use net_tcp::ReceivingEnd;
     /// # use net_base::finite::Part;
     /// # let mut storage = [0u8; 64];
     /// # let mut receiving = ReceivingEnd::<4>::new_at(&mut storage[..], 100, 8);
@@ -702,7 +702,7 @@ impl<S: Storage<u8>, const N: usize> ReceivingEndOver<S, N> {
     /// and as `into` has room for. The rest of `into` stays as it is.
     ///
     /// ```
-    /// # use net_base::ends::ReceivingEnd;
+    /// # use net_tcp::ReceivingEnd;
     /// # use net_base::finite::Part;
     /// # let mut storage = [0u8; 64];
     /// # let mut receiving = ReceivingEnd::<4>::new_at(&mut storage[..], 100, 8);
@@ -761,7 +761,7 @@ impl<S: Storage<u8>, const N: usize> ReceivingEndOver<S, N> {
     /// Lends the receiver, for reading.
     ///
     /// ```
-    /// # use net_base::ends::ReceivingEnd;
+    /// # use net_tcp::ReceivingEnd;
     /// # use net_base::finite::Part;
     /// # let mut storage = [0u8; 64];
     /// # let mut receiving = ReceivingEnd::<4>::new_at(&mut storage[..], 100, 8);

@@ -75,8 +75,8 @@ use std::ops::Range;
 /// What an acknowledgement was.
 ///
 /// ```
-/// # use net_base::ends::{AckSegment, Acknowledged, SendingEnd};
-/// # use net_base::tcp::{Announcement, Sack, TimeoutBounds};
+/// # use net_tcp::{AckSegment, Acknowledged, SendingEnd};
+/// # use net_tcp::{Announcement, Sack, TimeoutBounds};
 /// # use net_base::time::{Duration, Instant};
 /// # let mut storage = [0u8; 64];
 /// # let (second, bounds) = (Duration::from_secs(1), TimeoutBounds::default());
@@ -109,8 +109,8 @@ pub enum Acknowledged {
 /// What the segment of an acknowledgement has besides.
 ///
 /// ```
-/// # use net_base::ends::{AckSegment, Acknowledged, SendingEnd};
-/// # use net_base::tcp::{Announcement, Sack, TimeoutBounds};
+/// # use net_tcp::{AckSegment, Acknowledged, SendingEnd};
+/// # use net_tcp::{Announcement, Sack, TimeoutBounds};
 /// # use net_base::time::{Duration, Instant};
 /// # let mut storage = [0u8; 64];
 /// # let (second, bounds) = (Duration::from_secs(1), TimeoutBounds::default());
@@ -132,8 +132,8 @@ pub enum AckSegment {
 /// What the timer's end means.
 ///
 /// ```
-/// # use net_base::ends::{Expired, SendingEnd};
-/// # use net_base::tcp::{Announcement, Sack, TimeoutBounds};
+/// # use net_tcp::{Expired, SendingEnd};
+/// # use net_tcp::{Announcement, Sack, TimeoutBounds};
 /// # use net_base::time::{Duration, Instant};
 /// # let mut storage = [0u8; 64];
 /// # let (second, bounds) = (Duration::from_secs(1), TimeoutBounds::default());
@@ -165,8 +165,8 @@ pub enum Expired {
 /// A segment to send now, whose bytes `SendingEnd::bytes` lends.
 ///
 /// ```
-/// # use net_base::ends::SendingEnd;
-/// # use net_base::tcp::{Announcement, Sack, TimeoutBounds};
+/// # use net_tcp::SendingEnd;
+/// # use net_tcp::{Announcement, Sack, TimeoutBounds};
 /// # use net_base::time::{Duration, Instant};
 /// # let mut storage = [0u8; 64];
 /// # let (second, bounds) = (Duration::from_secs(1), TimeoutBounds::default());
@@ -210,8 +210,8 @@ fn is_pure(segment: AckSegment) -> bool
 /// is over storage that is lent or owned, and its calls are those of [`SendingEndOver`].
 ///
 /// ```
-/// use net_base::ends::SendingEnd;
-/// use net_base::tcp::TimeoutBounds;
+/// use net_tcp::SendingEnd;
+/// use net_tcp::TimeoutBounds;
 /// use net_base::time::Duration;
 ///
 /// // 64 bytes may wait, and at most 4 runs are remembered of what the peer reports.
@@ -225,8 +225,8 @@ pub type SendingEnd<'a, const N: usize> = SendingEndOver<ManagedSlice<'a, u8>, N
 /// `next_segment` how much may be in flight.
 ///
 /// ```
-/// use net_base::ends::{AckSegment, Acknowledged, Expired, SendingEnd};
-/// use net_base::tcp::{Announcement, Sack, TimeoutBounds};
+/// use net_tcp::{AckSegment, Acknowledged, Expired, SendingEnd};
+/// use net_tcp::{Announcement, Sack, TimeoutBounds};
 /// use net_base::time::{Duration, Instant};
 ///
 /// let second = Duration::from_secs(1);
@@ -316,8 +316,8 @@ impl<S: Storage<u8>, const N: usize> SendingEndOver<S, N> {
     /// `first` is below `u64::MAX`: an end there would have no number after it.
     ///
     /// ```
-    /// # use net_base::ends::{SendingEnd};
-    /// # use net_base::tcp::{Announcement, Sack, TimeoutBounds};
+    /// # use net_tcp::{SendingEnd};
+    /// # use net_tcp::{Announcement, Sack, TimeoutBounds};
     /// # use net_base::time::{Duration, Instant};
     /// # let mut storage = [0u8; 64];
     /// # let (second, bounds) = (Duration::from_secs(1), TimeoutBounds::default());
@@ -343,8 +343,8 @@ impl<S: Storage<u8>, const N: usize> SendingEndOver<S, N> {
     /// Enqueues the first of these bytes, as many as there is room for, and returns how many.
     ///
     /// ```
-    /// # use net_base::ends::SendingEnd;
-    /// # use net_base::tcp::{Announcement, TimeoutBounds};
+    /// # use net_tcp::SendingEnd;
+    /// # use net_tcp::{Announcement, TimeoutBounds};
     /// # use net_base::time::{Duration, Instant};
     /// # let mut storage = [0u8; 64];
     /// # let (second, bounds) = (Duration::from_secs(1), TimeoutBounds::default());
@@ -362,8 +362,8 @@ impl<S: Storage<u8>, const N: usize> SendingEndOver<S, N> {
     /// Ends the stream after what was written.
     ///
     /// ```
-    /// # use net_base::ends::SendingEnd;
-    /// # use net_base::tcp::{Announcement, Sack, TimeoutBounds};
+    /// # use net_tcp::SendingEnd;
+    /// # use net_tcp::{Announcement, Sack, TimeoutBounds};
     /// # use net_base::time::{Duration, Instant};
     /// # let mut storage = [0u8; 64];
     /// # let (second, bounds) = (Duration::from_secs(1), TimeoutBounds::default());
@@ -385,9 +385,9 @@ impl<S: Storage<u8>, const N: usize> SendingEndOver<S, N> {
     /// at a position that is acknowledged, it lends none.
     ///
     /// ```
-    /// # use net_base::ends::SendingEnd;
+    /// # use net_tcp::SendingEnd;
     /// # use net_base::finite::Part;
-    /// # use net_base::tcp::{Announcement, Sack, TimeoutBounds};
+    /// # use net_tcp::{Announcement, Sack, TimeoutBounds};
     /// # use net_base::time::{Duration, Instant};
     /// # let mut storage = [0u8; 64];
     /// # let (second, bounds) = (Duration::from_secs(1), TimeoutBounds::default());
@@ -410,8 +410,8 @@ impl<S: Storage<u8>, const N: usize> SendingEndOver<S, N> {
     /// Returns whether all that was written is acknowledged, and the end.
     ///
     /// ```
-    /// # use net_base::ends::{AckSegment, SendingEnd};
-    /// # use net_base::tcp::{Announcement, Sack, TimeoutBounds};
+    /// # use net_tcp::{AckSegment, SendingEnd};
+    /// # use net_tcp::{Announcement, Sack, TimeoutBounds};
     /// # use net_base::time::{Duration, Instant};
     /// # let mut storage = [0u8; 64];
     /// # let (second, bounds) = (Duration::from_secs(1), TimeoutBounds::default());
@@ -449,8 +449,8 @@ impl<S: Storage<u8>, const N: usize> SendingEndOver<S, N> {
     /// flight.
     ///
     /// ```
-    /// # use net_base::ends::SendingEnd;
-    /// # use net_base::tcp::{Announcement, Sack, TimeoutBounds};
+    /// # use net_tcp::SendingEnd;
+    /// # use net_tcp::{Announcement, Sack, TimeoutBounds};
     /// # use net_base::time::{Duration, Instant};
     /// # let mut storage = [0u8; 64];
     /// # let (second, bounds) = (Duration::from_secs(1), TimeoutBounds::default());
@@ -480,8 +480,8 @@ impl<S: Storage<u8>, const N: usize> SendingEndOver<S, N> {
     /// next. Ask it only until something is acknowledged, at which it doesn't look.
     ///
     /// ```
-    /// # use net_base::ends::SendingEnd;
-    /// # use net_base::tcp::{Announcement, TimeoutBounds};
+    /// # use net_tcp::SendingEnd;
+    /// # use net_tcp::{Announcement, TimeoutBounds};
     /// # use net_base::time::{Duration, Instant};
     /// # let mut storage = [0u8; 64];
     /// # let (second, bounds) = (Duration::from_secs(1), TimeoutBounds::default());
@@ -507,8 +507,8 @@ impl<S: Storage<u8>, const N: usize> SendingEndOver<S, N> {
     /// other block says nothing.
     ///
     /// ```
-    /// # use net_base::ends::{AckSegment, Acknowledged, SendingEnd};
-    /// # use net_base::tcp::{Announcement, Sack, TimeoutBounds};
+    /// # use net_tcp::{AckSegment, Acknowledged, SendingEnd};
+    /// # use net_tcp::{Announcement, Sack, TimeoutBounds};
     /// # use net_base::time::{Duration, Instant};
     /// # let mut storage = [0u8; 64];
     /// # let (second, bounds) = (Duration::from_secs(1), TimeoutBounds::default());
@@ -577,8 +577,8 @@ impl<S: Storage<u8>, const N: usize> SendingEndOver<S, N> {
     /// the last that was sent.
     ///
     /// ```
-    /// # use net_base::ends::SendingEnd;
-    /// # use net_base::tcp::{Announcement, Sack, TimeoutBounds};
+    /// # use net_tcp::SendingEnd;
+    /// # use net_tcp::{Announcement, Sack, TimeoutBounds};
     /// # use net_base::time::{Duration, Instant};
     /// # let mut storage = [0u8; 64];
     /// # let (second, bounds) = (Duration::from_secs(1), TimeoutBounds::default());
@@ -617,8 +617,8 @@ impl<S: Storage<u8>, const N: usize> SendingEndOver<S, N> {
     /// what is then to be sent.
     ///
     /// ```
-    /// # use net_base::ends::{Expired, SendingEnd};
-    /// # use net_base::tcp::{Announcement, Sack, TimeoutBounds};
+    /// # use net_tcp::{Expired, SendingEnd};
+    /// # use net_tcp::{Announcement, Sack, TimeoutBounds};
     /// # use net_base::time::{Duration, Instant};
     /// # let mut storage = [0u8; 64];
     /// # let (second, bounds) = (Duration::from_secs(1), TimeoutBounds::default());
@@ -664,8 +664,8 @@ impl<S: Storage<u8>, const N: usize> SendingEndOver<S, N> {
     /// that was written isn't acknowledged, the timer runs.
     ///
     /// ```
-    /// # use net_base::ends::SendingEnd;
-    /// # use net_base::tcp::{Announcement, Sack, TimeoutBounds};
+    /// # use net_tcp::SendingEnd;
+    /// # use net_tcp::{Announcement, Sack, TimeoutBounds};
     /// # use net_base::time::{Duration, Instant};
     /// # let mut storage = [0u8; 64];
     /// # let (second, bounds) = (Duration::from_secs(1), TimeoutBounds::default());
@@ -732,8 +732,8 @@ impl<S: Storage<u8>, const N: usize> SendingEndOver<S, N> {
     /// Returns when `expired` is to be asked.
     ///
     /// ```
-    /// # use net_base::ends::SendingEnd;
-    /// # use net_base::tcp::{Announcement, Sack, TimeoutBounds};
+    /// # use net_tcp::SendingEnd;
+    /// # use net_tcp::{Announcement, Sack, TimeoutBounds};
     /// # use net_base::time::{Duration, Instant};
     /// # let mut storage = [0u8; 64];
     /// # let (second, bounds) = (Duration::from_secs(1), TimeoutBounds::default());
@@ -775,8 +775,8 @@ impl<S: Storage<u8>, const N: usize> SendingEndOver<S, N> {
     /// another recovery begins.
     ///
     /// ```
-    /// # use net_base::ends::{AckSegment, SendingEnd};
-    /// # use net_base::tcp::{Announcement, Sack, TimeoutBounds};
+    /// # use net_tcp::{AckSegment, SendingEnd};
+    /// # use net_tcp::{Announcement, Sack, TimeoutBounds};
     /// # use net_base::time::{Duration, Instant};
     /// # let mut storage = [0u8; 64];
     /// # let (second, bounds) = (Duration::from_secs(1), TimeoutBounds::default());
@@ -806,8 +806,8 @@ impl<S: Storage<u8>, const N: usize> SendingEndOver<S, N> {
     /// Returns whether a recovery lasts.
     ///
     /// ```
-    /// # use net_base::ends::{AckSegment, SendingEnd};
-    /// # use net_base::tcp::{Announcement, Sack, TimeoutBounds};
+    /// # use net_tcp::{AckSegment, SendingEnd};
+    /// # use net_tcp::{Announcement, Sack, TimeoutBounds};
     /// # use net_base::time::{Duration, Instant};
     /// # let mut storage = [0u8; 64];
     /// # let (second, bounds) = (Duration::from_secs(1), TimeoutBounds::default());
@@ -837,8 +837,8 @@ impl<S: Storage<u8>, const N: usize> SendingEndOver<S, N> {
     /// Returns the number of a segment without positions.
     ///
     /// ```
-    /// # use net_base::ends::SendingEnd;
-    /// # use net_base::tcp::{Announcement, Sack, TimeoutBounds};
+    /// # use net_tcp::SendingEnd;
+    /// # use net_tcp::{Announcement, Sack, TimeoutBounds};
     /// # use net_base::time::{Duration, Instant};
     /// # let mut storage = [0u8; 64];
     /// # let (second, bounds) = (Duration::from_secs(1), TimeoutBounds::default());
@@ -862,8 +862,8 @@ impl<S: Storage<u8>, const N: usize> SendingEndOver<S, N> {
     /// is to wait.
     ///
     /// ```
-    /// # use net_base::ends::SendingEnd;
-    /// # use net_base::tcp::{Announcement, Sack, TimeoutBounds};
+    /// # use net_tcp::SendingEnd;
+    /// # use net_tcp::{Announcement, Sack, TimeoutBounds};
     /// # use net_base::time::{Duration, Instant};
     /// # let mut storage = [0u8; 64];
     /// # let (second, bounds) = (Duration::from_secs(1), TimeoutBounds::default());

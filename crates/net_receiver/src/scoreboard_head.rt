@@ -63,6 +63,7 @@ pub struct ScoreboardHead {
 impl ScoreboardHead {
     /// Returns a scoreboard of a stream that begins at position `first`, to which nothing was reported,
     /// whatever its runs. All positions below `first` count as reported.
+    #[must_use]
     pub const fn new_at(first: u64) -> Self
         ensures sound { (runs : List (ℕ × ℕ)) → IsSoundBoard result runs }
         ensures empty { (runs : List (ℕ × ℕ)) →
@@ -125,6 +126,7 @@ impl ScoreboardHead {
     /// # Requires
     ///
     /// The scoreboard is sound with the runs.
+    #[inline]
     pub fn report(
         &mut self,
         runs: &mut [Run],
@@ -167,6 +169,7 @@ impl ScoreboardHead {
     /// # Requires
     ///
     /// The scoreboard is sound with the runs.
+    #[inline]
     pub fn acknowledge(&mut self, runs: &mut [Run], next: u64)
         requires sound { IsSoundBoard self.old runs.old }
         ensures sound { IsSoundBoard self.new runs.new }
@@ -185,6 +188,7 @@ impl ScoreboardHead {
     }
 
     /// Returns the first position that wasn't reported.
+    #[must_use]
     pub fn first_unreported(&self) -> u64
         ensures value { result ≡ self.now.base }
         ensures state { (runs : List (ℕ × ℕ)) → IsSoundBoard self.now runs →
@@ -198,6 +202,8 @@ impl ScoreboardHead {
     /// # Requires
     ///
     /// The scoreboard is sound with the runs.
+    #[inline]
+    #[must_use]
     pub fn contains(&self, runs: &[Run], pos: u64) -> bool
         requires { IsSoundBoard self.now runs.now }
         ensures { result ≡ contains (reported_by self.now runs.now) pos }
@@ -233,6 +239,8 @@ impl ScoreboardHead {
     /// # Requires
     ///
     /// The scoreboard is sound with the runs.
+    #[inline]
+    #[must_use]
     pub fn highest_reported(&self, runs: &[Run]) -> u64
         requires { IsSoundBoard self.now runs.now }
         ensures { IsEnd (reported_by self.now runs.now) result }
@@ -245,6 +253,8 @@ impl ScoreboardHead {
     /// # Requires
     ///
     /// The scoreboard is sound with the runs.
+    #[inline]
+    #[must_use]
     pub fn first_missing(&self, runs: &[Run], pos: u64) -> u64
         requires { IsSoundBoard self.now runs.now }
         ensures { result ≡ first_missing (reported_by self.now runs.now) pos }
@@ -260,6 +270,8 @@ impl ScoreboardHead {
     /// # Requires
     ///
     /// The scoreboard is sound with the runs.
+    #[inline]
+    #[must_use]
     pub fn missing_between(&self, runs: &[Run], start: u64, end: u64) -> u64
         requires { IsSoundBoard self.now runs.now }
         ensures count { result ≡ missing_count (reported_by self.now runs.now) start (end - start) }
@@ -291,6 +303,8 @@ impl ScoreboardHead {
     /// # Requires
     ///
     /// The scoreboard is sound with the runs.
+    #[inline]
+    #[must_use]
     pub fn lost_below(&self, runs: &[Run], duplicates: usize, segment_size: usize) -> u64
         requires { IsSoundBoard self.now runs.now }
         ensures { IsLossBound duplicates segment_size (reported_by self.now runs.now) result }
@@ -325,6 +339,7 @@ impl ScoreboardHead {
     /// # Requires
     ///
     /// The scoreboard is sound with the runs.
+    #[must_use]
     pub fn next_hole(&self, runs: &[Run], pos: u64, limit: u64) -> (u64, u64)
         requires { IsSoundBoard self.now runs.now }
         ensures { IsNextHole (reported_by self.now runs.now) pos limit result.0 result.1 }

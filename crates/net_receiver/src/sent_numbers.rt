@@ -6,7 +6,7 @@ ghost use Rattle.std.specs.Prelude.{◌≡◌, ◌-◌};
 ///
 /// ```
 /// use net_base::finite::FiniteSender;
-/// use net_base::tcp::SentNumbers;
+/// use net_base::finite::SentNumbers;
 ///
 /// let mut storage = [0u8; 8];
 /// let mut sender = FiniteSender::new_at(&mut storage[..], 100);

@@ -11,7 +11,7 @@ pub const MAX_SCALE: u8 = 14;
 /// none can.
 ///
 /// ```
-/// use net_base::tcp::scale_for;
+/// use net_tcp::scale_for;
 ///
 /// assert_eq!((scale_for(65_535), scale_for(65_536), scale_for(1 << 20)), (0, 1, 5));
 /// ```
@@ -30,7 +30,7 @@ pub fn scale_for(capacity: u64) -> u8
 /// What a receiver has announced: how far its promise reaches.
 ///
 /// ```
-/// use net_base::tcp::AdvertisedWindow;
+/// use net_tcp::AdvertisedWindow;
 ///
 /// let mut advertised = AdvertisedWindow::new(0);
 /// // Nothing came yet, and there is room for 1,000 bytes. The scale is 2^3.
@@ -68,7 +68,7 @@ impl AdvertisedWindow {
     /// receiver's capacity.
     ///
     /// ```
-    /// # use net_base::tcp::{AdvertisedWindow, Arrival, Segment};
+    /// # use net_tcp::{AdvertisedWindow, Arrival, Segment};
     /// let advertised = AdvertisedWindow::new(110);
     /// let last = Segment::new(105, 5, 0x10);
     /// assert_eq!(advertised.classify(100, 10, last), Arrival::Take);
@@ -93,7 +93,7 @@ impl AdvertisedWindow {
     /// number, is acknowledged.
     ///
     /// ```
-    /// use net_base::tcp::AdvertisedWindow;
+    /// use net_tcp::AdvertisedWindow;
     ///
     /// let mut advertised = AdvertisedWindow::new(0);
     /// // In units of 8 no more is promised than there is, 15 here.
@@ -125,7 +125,7 @@ impl AdvertisedWindow {
     /// 9293, section 3.8.6.2.2).
     ///
     /// ```
-    /// use net_base::tcp::AdvertisedWindow;
+    /// use net_tcp::AdvertisedWindow;
     ///
     /// let mut advertised = AdvertisedWindow::new(0);
     /// assert_eq!(advertised.announce_in_steps(0, 0, 100, 100, 20), 100);
@@ -172,7 +172,7 @@ impl AdvertisedWindow {
     /// by a reset.
     ///
     /// ```
-    /// use net_base::tcp::AdvertisedWindow;
+    /// use net_tcp::AdvertisedWindow;
     ///
     /// // All up to 100 was promised. A segment has 20 bytes.
     /// let advertised = AdvertisedWindow::new(100);

@@ -22,7 +22,7 @@ const PERIOD: u64 = 500_000;
 /// there is answered.
 ///
 /// ```
-/// use net_base::tcp::{classify, AnswerLimit, Arrival, Segment};
+/// use net_tcp::{classify, AnswerLimit, Arrival, Segment};
 /// use net_base::time::Instant;
 ///
 /// let mut limit = AnswerLimit::new();
@@ -44,7 +44,7 @@ impl AnswerLimit {
     /// Returns a limit before any answer, which allows one at any moment.
     ///
     /// ```
-    /// use net_base::tcp::{AnswerLimit, Segment};
+    /// use net_tcp::{AnswerLimit, Segment};
     /// use net_base::time::Instant;
     ///
     /// let acknowledgement = Segment::new(7, 0, 1 << 4);
@@ -67,7 +67,7 @@ impl AnswerLimit {
     /// those of one clock; if that is set back, the limit stays until the moment that it was.
     ///
     /// ```
-    /// # use net_base::tcp::{AnswerLimit, Segment};
+    /// # use net_tcp::{AnswerLimit, Segment};
     /// # use net_base::time::Instant;
     /// let (mut limit, text) = (AnswerLimit::new(), Segment::new(7, 1, 1 << 4));
     /// // A segment with bytes is answered each time.

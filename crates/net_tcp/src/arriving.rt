@@ -16,7 +16,7 @@ use net_receiver::SentNumbers;
 /// The positions and the flags of an arriving segment.
 ///
 /// ```
-/// use net_base::tcp::Segment;
+/// use net_tcp::Segment;
 ///
 /// // Five bytes at position 95, with the flags FIN, ACK and PSH: the FIN has a position, too.
 /// let segment = Segment::new(95, 5, 0x19);
@@ -42,7 +42,7 @@ impl Segment {
     /// RST and bit 4 ACK, and others don't count. A SYN and a FIN have a position each.
     ///
     /// ```
-    /// # use net_base::tcp::Segment;
+    /// # use net_tcp::Segment;
     /// let opening = Segment { seq: 95, len: 1, syn: true, ack: false, rst: false };
     /// assert_eq!(Segment::new(95, 0, 0x02), opening);
     /// ```
@@ -67,7 +67,7 @@ impl Segment {
 /// What to do with a segment that arrives on a connection that both ends have opened.
 ///
 /// ```
-/// use net_base::tcp::{classify, Arrival, Segment};
+/// use net_tcp::{classify, Arrival, Segment};
 ///
 /// // What is to be done with a segment of one byte at 99, where 100 is missing.
 /// match classify(100, 10, 10, Segment::new(99, 1, 0x10)) {
@@ -101,7 +101,7 @@ pub enum Arrival {
 /// itself, or at `next` if the window is empty.
 ///
 /// ```
-/// use net_base::tcp::is_acceptable;
+/// use net_tcp::is_acceptable;
 ///
 /// // Position 100 is missing, and ten were announced.
 /// assert!(is_acceptable(100, 10, 95, 6) && is_acceptable(100, 10, 109, 50));
@@ -158,7 +158,7 @@ fn is_heard(next: u64, window: u64, greatest_window: u64, seq: u64, len: u64) ->
 /// Whether a segment may acknowledge what it does is tested afterwards, by `is_acknowledgement`.
 ///
 /// ```
-/// use net_base::tcp::{classify, Arrival, Segment};
+/// use net_tcp::{classify, Arrival, Segment};
 ///
 /// let (syn, ack, rst) = (0x02, 0x10, 0x04);
 /// let arrival = |seq, bytes, flags| classify(100, 10, 10, Segment::new(seq, bytes, flags));
@@ -201,7 +201,7 @@ pub fn classify(next: u64, window: u64, greatest_window: u64, segment: Segment) 
 /// section 5). If it may not, nothing of the segment is taken, and it is answered.
 ///
 /// ```
-/// use net_base::tcp::{is_acknowledgement, SentNumbers};
+/// use net_tcp::{is_acknowledgement, SentNumbers};
 ///
 /// let numbers = SentNumbers { first_unacknowledged: 100, sent: 150 };
 /// assert!(is_acknowledgement(numbers, 20, 150) && is_acknowledgement(numbers, 20, 80));

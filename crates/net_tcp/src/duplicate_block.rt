@@ -9,7 +9,7 @@ use std::ops::Range;
 /// only says again what was reported doesn't: an acknowledgement repeats blocks.
 ///
 /// ```
-/// use net_base::tcp::is_duplicate_block;
+/// use net_tcp::is_duplicate_block;
 ///
 /// assert!(is_duplicate_block(20, &(10..20), None));
 /// assert!(is_duplicate_block(20, &(30..40), Some(&(25..50))));

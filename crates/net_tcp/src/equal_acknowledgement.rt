@@ -10,7 +10,7 @@ use net_receiver::SentNumbers;
 /// where.
 ///
 /// ```
-/// use net_base::tcp::{is_equal_acknowledgement, SentNumbers};
+/// use net_tcp::{is_equal_acknowledgement, SentNumbers};
 ///
 /// let numbers = SentNumbers { first_unacknowledged: 10, sent: 30 };
 /// assert!(is_equal_acknowledgement(numbers, 10, true, true));

@@ -49,7 +49,7 @@ const MOST_DUPLICATES: usize = 1024;
 ///
 /// ```
 /// use net_base::scoreboard::Scoreboard;
-/// use net_base::tcp::{Answer, LossRecovery, SentNumbers};
+/// use net_tcp::{Answer, LossRecovery, SentNumbers};
 ///
 /// let (mut recovery, mut scoreboard) = (LossRecovery::new(), Scoreboard::<4>::empty());
 /// let before = SentNumbers { first_unacknowledged: 0, sent: 800 };
@@ -95,7 +95,7 @@ pub struct Answer {
 ///
 /// ```
 /// use net_base::scoreboard::Scoreboard;
-/// use net_base::tcp::{Answer, LossRecovery, SentNumbers};
+/// use net_tcp::{Answer, LossRecovery, SentNumbers};
 ///
 /// // Of 800 bytes in segments of 100, all sent, those from 100 to 399 were reported.
 /// let numbers = SentNumbers { first_unacknowledged: 0, sent: 800 };
@@ -162,7 +162,7 @@ impl LossRecovery {
     /// Returns that no recovery is active, and nothing came twice.
     ///
     /// ```
-    /// use net_base::tcp::{LossRecovery, SentNumbers};
+    /// use net_tcp::{LossRecovery, SentNumbers};
     ///
     /// let recovery = LossRecovery::new();
     /// assert!(!recovery.is_active(SentNumbers { first_unacknowledged: 0, sent: 800 }));
@@ -228,7 +228,7 @@ impl LossRecovery {
     /// round trip makes it four times as many once.
     ///
     /// ```
-    /// # use net_base::tcp::{LossRecovery, SentNumbers};
+    /// # use net_tcp::{LossRecovery, SentNumbers};
     /// # let numbers = SentNumbers { first_unacknowledged: 0, sent: 800 };
     /// # let mut recovery = LossRecovery::new();
     /// recovery.duplicated(numbers);
@@ -253,7 +253,7 @@ impl LossRecovery {
     /// as if `duplicated` was called. Else nothing changes: the path has doubled them, or a probe has.
     ///
     /// ```
-    /// # use net_base::tcp::{LossRecovery, SentNumbers};
+    /// # use net_tcp::{LossRecovery, SentNumbers};
     /// # let numbers = SentNumbers { first_unacknowledged: 0, sent: 800 };
     /// # let mut recovery = LossRecovery::new();
     /// recovery.lose_all(numbers);
@@ -291,7 +291,7 @@ impl LossRecovery {
     ///
     /// ```
     /// # use net_base::scoreboard::Scoreboard;
-    /// # use net_base::tcp::{LossRecovery, SentNumbers};
+    /// # use net_tcp::{LossRecovery, SentNumbers};
     /// # let numbers = SentNumbers { first_unacknowledged: 0, sent: 800 };
     /// # let mut scoreboard = Scoreboard::<4>::empty();
     /// # let mut recovery = LossRecovery::new();
@@ -321,7 +321,7 @@ impl LossRecovery {
     ///
     /// ```
     /// # use net_base::scoreboard::Scoreboard;
-    /// # use net_base::tcp::{Answer, LossRecovery, Sack, SentNumbers};
+    /// # use net_tcp::{Answer, LossRecovery, Sack, SentNumbers};
     /// # let numbers = SentNumbers { first_unacknowledged: 0, sent: 800 };
     /// # let scoreboard = Scoreboard::<4>::empty();
     /// # let mut recovery = LossRecovery::new();
@@ -352,7 +352,7 @@ impl LossRecovery {
     ///
     /// ```
     /// # use net_base::scoreboard::Scoreboard;
-    /// # use net_base::tcp::{LossRecovery, SentNumbers};
+    /// # use net_tcp::{LossRecovery, SentNumbers};
     /// # let numbers = SentNumbers { first_unacknowledged: 0, sent: 800 };
     /// # let scoreboard = Scoreboard::<4>::empty();
     /// # let mut recovery = LossRecovery::new();
@@ -400,7 +400,7 @@ impl LossRecovery {
     ///
     /// ```
     /// # use net_base::scoreboard::Scoreboard;
-    /// # use net_base::tcp::{Answer, LossRecovery, SentNumbers};
+    /// # use net_tcp::{Answer, LossRecovery, SentNumbers};
     /// # let numbers = SentNumbers { first_unacknowledged: 0, sent: 800 };
     /// # let mut scoreboard = Scoreboard::<4>::empty();
     /// # let mut recovery = LossRecovery::new();
@@ -689,7 +689,7 @@ impl LossRecovery {
     ///
     /// ```
     /// # use net_base::scoreboard::Scoreboard;
-    /// # use net_base::tcp::{LossRecovery, SentNumbers};
+    /// # use net_tcp::{LossRecovery, SentNumbers};
     /// # let numbers = SentNumbers { first_unacknowledged: 0, sent: 800 };
     /// # let mut scoreboard = Scoreboard::<4>::empty();
     /// # let mut recovery = LossRecovery::new();
@@ -724,7 +724,7 @@ impl LossRecovery {
     ///
     /// ```
     /// # use net_base::scoreboard::Scoreboard;
-    /// # use net_base::tcp::{LossRecovery, SentNumbers};
+    /// # use net_tcp::{LossRecovery, SentNumbers};
     /// # let numbers = SentNumbers { first_unacknowledged: 0, sent: 800 };
     /// # let scoreboard = Scoreboard::<4>::empty();
     /// # let recovery = LossRecovery::new();
@@ -778,7 +778,7 @@ impl LossRecovery {
     ///
     /// ```
     /// # use net_base::scoreboard::Scoreboard;
-    /// # use net_base::tcp::{Answer, LossRecovery, SentNumbers};
+    /// # use net_tcp::{Answer, LossRecovery, SentNumbers};
     /// # let numbers = SentNumbers { first_unacknowledged: 0, sent: 800 };
     /// # let mut scoreboard = Scoreboard::<4>::empty();
     /// # let mut recovery = LossRecovery::new();
@@ -808,7 +808,7 @@ impl LossRecovery {
     ///
     /// ```
     /// # use net_base::scoreboard::Scoreboard;
-    /// # use net_base::tcp::{LossRecovery, SentNumbers};
+    /// # use net_tcp::{LossRecovery, SentNumbers};
     /// # let mut numbers = SentNumbers { first_unacknowledged: 0, sent: 800 };
     /// # let mut scoreboard = Scoreboard::<4>::empty();
     /// # let mut recovery = LossRecovery::new();
@@ -835,7 +835,7 @@ impl LossRecovery {
     ///
     /// ```
     /// # use net_base::scoreboard::Scoreboard;
-    /// # use net_base::tcp::{LossRecovery, SentNumbers};
+    /// # use net_tcp::{LossRecovery, SentNumbers};
     /// # let numbers = SentNumbers { first_unacknowledged: 0, sent: 800 };
     /// # let scoreboard = Scoreboard::<4>::empty();
     /// # let mut recovery = LossRecovery::new();
@@ -877,7 +877,7 @@ impl LossRecovery {
     ///
     /// ```
     /// # use net_base::scoreboard::Scoreboard;
-    /// # use net_base::tcp::{LossRecovery, SentNumbers};
+    /// # use net_tcp::{LossRecovery, SentNumbers};
     /// # let numbers = SentNumbers { first_unacknowledged: 0, sent: 800 };
     /// # let mut scoreboard = Scoreboard::<4>::empty();
     /// # let recovery = LossRecovery::new();
@@ -922,7 +922,7 @@ impl LossRecovery {
     ///
     /// ```
     /// # use net_base::scoreboard::Scoreboard;
-    /// # use net_base::tcp::{LossRecovery, SentNumbers};
+    /// # use net_tcp::{LossRecovery, SentNumbers};
     /// # let numbers = SentNumbers { first_unacknowledged: 0, sent: 800 };
     /// # let scoreboard = Scoreboard::<4>::empty();
     /// # let recovery = LossRecovery::new();
@@ -1033,7 +1033,7 @@ impl LossRecovery {
     ///
     /// ```
     /// # use net_base::scoreboard::Scoreboard;
-    /// # use net_base::tcp::{LossRecovery, SentNumbers};
+    /// # use net_tcp::{LossRecovery, SentNumbers};
     /// # let numbers = SentNumbers { first_unacknowledged: 0, sent: 800 };
     /// # let scoreboard = Scoreboard::<4>::empty();
     /// # let mut recovery = LossRecovery::new();

@@ -10,7 +10,7 @@ use net_receiver::SentNumbers;
 /// which its age is told.
 ///
 /// ```
-/// use net_base::tcp::{scaled, Announcement, PeerWindow};
+/// use net_tcp::{scaled, Announcement, PeerWindow};
 ///
 /// // A header has the acknowledgement number of position 200 and 50 in its window field, and the scale is 2^2.
 /// let announcement = Announcement { seq: 7, ack: 200, window: scaled(50, 2) };
@@ -31,7 +31,7 @@ pub struct Announcement {
 /// position.
 ///
 /// ```
-/// use net_base::tcp::{Announcement, PeerWindow, SentNumbers};
+/// use net_tcp::{Announcement, PeerWindow, SentNumbers};
 ///
 /// let numbers = SentNumbers { first_unacknowledged: 100, sent: 150 };
 /// let mut window = PeerWindow::of(Announcement { seq: 7, ack: 100, window: 60 });
@@ -57,7 +57,7 @@ pub struct PeerWindow {
 /// section 2.3, has it.
 ///
 /// ```
-/// use net_base::tcp::scaled;
+/// use net_tcp::scaled;
 ///
 /// assert_eq!((scaled(50, 2), scaled(50, 0)), (200, 50));
 /// ```
@@ -88,7 +88,7 @@ impl PeerWindow {
     /// Returns the window that a segment announced.
     ///
     /// ```
-    /// # use net_base::tcp::{Announcement, PeerWindow};
+    /// # use net_tcp::{Announcement, PeerWindow};
     /// let window = PeerWindow::of(Announcement { seq: 7, ack: 100, window: 60 });
     /// assert_eq!(window.edge(), 160);
     /// ```
@@ -115,7 +115,7 @@ impl PeerWindow {
     /// a position, and no number that tells which of two segments is the older one. Such a window doesn't shrink.
     ///
     /// ```
-    /// use net_base::tcp::PeerWindow;
+    /// use net_tcp::PeerWindow;
     ///
     /// let mut window = PeerWindow::new();
     /// window.open_to(1_000); // a MAX_STREAM_DATA
@@ -137,7 +137,7 @@ impl PeerWindow {
     /// before this call or after it.
     ///
     /// ```
-    /// use net_base::tcp::{Announcement, PeerWindow, SentNumbers};
+    /// use net_tcp::{Announcement, PeerWindow, SentNumbers};
     ///
     /// let numbers = SentNumbers { first_unacknowledged: 100, sent: 150 };
     /// let mut window = PeerWindow::of(Announcement { seq: 7, ack: 100, window: 60 });
@@ -165,7 +165,7 @@ impl PeerWindow {
     /// Returns the end of what may be sent of the bytes below `end`.
     ///
     /// ```
-    /// use net_base::tcp::{Announcement, PeerWindow};
+    /// use net_tcp::{Announcement, PeerWindow};
     ///
     /// let window = PeerWindow::of(Announcement { seq: 7, ack: 100, window: 60 });
     /// assert_eq!((window.send_limit(500), window.send_limit(130)), (160, 130));
@@ -182,7 +182,7 @@ impl PeerWindow {
     /// closed, and there are bytes below `end` that wait.
     ///
     /// ```
-    /// use net_base::tcp::{Announcement, PeerWindow};
+    /// use net_tcp::{Announcement, PeerWindow};
     ///
     /// let shut = PeerWindow::of(Announcement { seq: 7, ack: 100, window: 0 });
     /// assert!(shut.is_probe_allowed(100, 500) && !shut.is_probe_allowed(100, 100));
@@ -206,7 +206,7 @@ impl PeerWindow {
     /// such a segment acknowledges.
     ///
     /// ```
-    /// use net_base::tcp::{Announcement, PeerWindow, SentNumbers};
+    /// use net_tcp::{Announcement, PeerWindow, SentNumbers};
     ///
     /// // The window ends at 160, and a probe was sent there.
     /// let window = PeerWindow::of(Announcement { seq: 7, ack: 160, window: 0 });

@@ -11,7 +11,7 @@ use std::marker::Model;
 ///
 /// ```
 /// use net_base::scoreboard::Scoreboard;
-/// use net_base::tcp::Reported;
+/// use net_tcp::Reported;
 ///
 /// fn missing<B: Reported>(reported: &B) -> u64 {
 ///     reported.missing_between(0, 60)

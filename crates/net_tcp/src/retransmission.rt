@@ -13,7 +13,7 @@ const LONGEST_SAMPLE: u64 = 1 << 60;
 /// variation, in quarters.
 ///
 /// ```
-/// use net_base::tcp::RttEstimate;
+/// use net_tcp::RttEstimate;
 /// use net_base::time::Duration;
 ///
 /// let estimate = RttEstimate::first(Duration::from_millis(80));
@@ -42,7 +42,7 @@ impl Model for RttEstimate {
 /// acknowledgement.
 ///
 /// ```
-/// use net_base::tcp::{RttEstimate, TimeoutBounds};
+/// use net_tcp::{RttEstimate, TimeoutBounds};
 /// use net_base::time::Duration;
 ///
 /// let mut bounds = TimeoutBounds::new();
@@ -68,7 +68,7 @@ pub struct TimeoutBounds {
 /// the copies was acknowledged is not known (Karn).
 ///
 /// ```
-/// use net_base::tcp::{RetransmissionTimeout, TimeoutBounds, Transmission};
+/// use net_tcp::{RetransmissionTimeout, TimeoutBounds, Transmission};
 /// use net_base::time::{Duration, Instant};
 ///
 /// let (bounds, now) = (TimeoutBounds::default(), Instant::from_millis(500));
@@ -90,7 +90,7 @@ impl RttEstimate {
     /// Returns the estimate after the first sample.
     ///
     /// ```
-    /// # use net_base::tcp::RttEstimate;
+    /// # use net_tcp::RttEstimate;
     /// # use net_base::time::Duration;
     /// assert_eq!(RttEstimate::first(Duration::from_millis(80)).srtt(), Duration::from_millis(80));
     /// ```
@@ -108,7 +108,7 @@ impl RttEstimate {
     /// Returns the estimate after one more sample.
     ///
     /// ```
-    /// # use net_base::tcp::RttEstimate;
+    /// # use net_tcp::RttEstimate;
     /// # use net_base::time::Duration;
     /// let estimate = RttEstimate::first(Duration::from_millis(80));
     /// assert_eq!(estimate.with_sample(Duration::from_millis(160)).srtt(), Duration::from_millis(90));
@@ -158,7 +158,7 @@ impl RttEstimate {
     /// Returns the smoothed time.
     ///
     /// ```
-    /// # use net_base::tcp::RttEstimate;
+    /// # use net_tcp::RttEstimate;
     /// # use net_base::time::Duration;
     /// let estimate = RttEstimate::first(Duration::from_micros(10));
     /// // A sample moves it by an eighth of the difference.
@@ -176,7 +176,7 @@ impl RttEstimate {
     /// Returns the timeout that it gives: at least the smoothed time, but for the greatest timeout.
     ///
     /// ```
-    /// # use net_base::tcp::{RttEstimate, TimeoutBounds};
+    /// # use net_tcp::{RttEstimate, TimeoutBounds};
     /// # use net_base::time::Duration;
     /// let estimate = RttEstimate::first(Duration::from_millis(400));
     /// assert_eq!(estimate.timeout(TimeoutBounds::default()), Duration::from_millis(1_200));
@@ -194,7 +194,7 @@ impl RttEstimate {
 /// The time until a retransmission.
 ///
 /// ```
-/// use net_base::tcp::{RetransmissionTimeout, TimeoutBounds};
+/// use net_tcp::{RetransmissionTimeout, TimeoutBounds};
 /// use net_base::time::Duration;
 ///
 /// let bounds = TimeoutBounds::default();
@@ -214,7 +214,7 @@ impl RetransmissionTimeout {
     /// Returns a timeout before any sample. The RFC has 1 second.
     ///
     /// ```
-    /// # use net_base::tcp::{RetransmissionTimeout};
+    /// # use net_tcp::{RetransmissionTimeout};
     /// # use net_base::time::Duration;
     /// let timeout = RetransmissionTimeout::new(Duration::from_secs(1));
     /// assert_eq!((timeout.rtt(), timeout.timeout()), (None, Duration::from_secs(1)));
@@ -256,7 +256,7 @@ impl RetransmissionTimeout {
     /// Takes over the sample of a segment that was acknowledged now, if it was sent once.
     ///
     /// ```
-    /// # use net_base::tcp::{RetransmissionTimeout, TimeoutBounds, Transmission};
+    /// # use net_tcp::{RetransmissionTimeout, TimeoutBounds, Transmission};
     /// # use net_base::time::{Duration, Instant};
     /// let mut timeout = RetransmissionTimeout::default();
     /// let sent = Transmission::Once(Instant::ZERO);
@@ -277,7 +277,7 @@ impl RetransmissionTimeout {
     /// acknowledged.
     ///
     /// ```
-    /// # use net_base::tcp::{RetransmissionTimeout, TimeoutBounds};
+    /// # use net_tcp::{RetransmissionTimeout, TimeoutBounds};
     /// # use net_base::time::Duration;
     /// let mut timeout = RetransmissionTimeout::default();
     /// timeout.take_sample(TimeoutBounds::default(), Duration::from_millis(400));
@@ -297,7 +297,7 @@ impl RetransmissionTimeout {
     /// Doubles the timeout within the bounds, after it passed.
     ///
     /// ```
-    /// # use net_base::tcp::{RetransmissionTimeout, TimeoutBounds};
+    /// # use net_tcp::{RetransmissionTimeout, TimeoutBounds};
     /// # use net_base::time::Duration;
     /// let mut timeout = RetransmissionTimeout::default();
     /// timeout.expired(TimeoutBounds::default());

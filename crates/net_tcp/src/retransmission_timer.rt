@@ -33,7 +33,7 @@ const PROMPT: u64 = 8;
 /// What is due where a timer has expired.
 ///
 /// ```
-/// use net_base::tcp::{Expiry, RetransmissionTimer, Sack, SentNumbers, TimeoutBounds};
+/// use net_tcp::{Expiry, RetransmissionTimer, Sack, SentNumbers, TimeoutBounds};
 /// use net_base::time::{Duration, Instant};
 ///
 /// let mut timer = RetransmissionTimer::new(Duration::from_secs(1), Sack::Permitted);
@@ -54,7 +54,7 @@ pub enum Expiry {
 /// A segment that is timed: it was sent once.
 ///
 /// ```
-/// use net_base::tcp::{RetransmissionTimer, Sack, SentNumbers, TimeoutBounds};
+/// use net_tcp::{RetransmissionTimer, Sack, SentNumbers, TimeoutBounds};
 /// use net_base::time::{Duration, Instant};
 ///
 /// let mut timer = RetransmissionTimer::new(Duration::from_secs(1), Sack::Permitted);
@@ -92,7 +92,7 @@ pub struct TimedSegment {
 /// it. One of zeros is new, with a timeout of 1 second, of a peer that reports no blocks.
 ///
 /// ```
-/// use net_base::tcp::{RetransmissionTimer, Sack, SentNumbers, TimeoutBounds};
+/// use net_tcp::{RetransmissionTimer, Sack, SentNumbers, TimeoutBounds};
 /// use net_base::time::{Duration, Instant};
 ///
 /// let bounds = TimeoutBounds::default();
@@ -187,7 +187,7 @@ impl RetransmissionTimer {
     /// Returns the estimate of the time of a round trip, if there was a sample.
     ///
     /// ```
-    /// # use net_base::tcp::{RetransmissionTimer, Sack, SentNumbers, TimeoutBounds};
+    /// # use net_tcp::{RetransmissionTimer, Sack, SentNumbers, TimeoutBounds};
     /// # use net_base::time::{Duration, Instant};
     /// # let (bounds, numbers) = (TimeoutBounds::default(), SentNumbers { first_unacknowledged: 0, sent: 0 });
     /// # let mut timer = RetransmissionTimer::new(Duration::from_secs(1), Sack::Permitted);
@@ -242,7 +242,7 @@ impl RetransmissionTimer {
     /// answered.
     ///
     /// ```
-    /// # use net_base::tcp::{Expiry, RetransmissionTimer, Sack, SentNumbers, TimeoutBounds};
+    /// # use net_tcp::{Expiry, RetransmissionTimer, Sack, SentNumbers, TimeoutBounds};
     /// # use net_base::time::{Duration, Instant};
     /// # let (bounds, numbers) = (TimeoutBounds::default(), SentNumbers { first_unacknowledged: 0, sent: 0 });
     /// # let mut timer = RetransmissionTimer::new(Duration::from_secs(1), Sack::Permitted);
@@ -261,7 +261,7 @@ impl RetransmissionTimer {
     /// probe is due.
     ///
     /// ```
-    /// # use net_base::tcp::{RetransmissionTimer, Sack};
+    /// # use net_tcp::{RetransmissionTimer, Sack};
     /// # use net_base::time::{Duration, Instant};
     /// # let mut timer = RetransmissionTimer::new(Duration::from_secs(1), Sack::Permitted);
     /// timer.start(Instant::ZERO); // the peer's window is shut
@@ -295,7 +295,7 @@ impl RetransmissionTimer {
     /// segment that has something new brings it to two round trips from `now`.
     ///
     /// ```
-    /// # use net_base::tcp::{RetransmissionTimer, Sack, SentNumbers, TimeoutBounds};
+    /// # use net_tcp::{RetransmissionTimer, Sack, SentNumbers, TimeoutBounds};
     /// # use net_base::time::{Duration, Instant};
     /// # let (bounds, numbers) = (TimeoutBounds::default(), SentNumbers { first_unacknowledged: 0, sent: 0 });
     /// # let mut timer = RetransmissionTimer::new(Duration::from_secs(1), Sack::Permitted);
@@ -366,7 +366,7 @@ impl RetransmissionTimer {
     /// finds out, and as a SACK block may say.
     ///
     /// ```
-    /// # use net_base::tcp::{RetransmissionTimer, Sack, SentNumbers, TimeoutBounds};
+    /// # use net_tcp::{RetransmissionTimer, Sack, SentNumbers, TimeoutBounds};
     /// # use net_base::time::{Duration, Instant};
     /// # let (bounds, numbers) = (TimeoutBounds::default(), SentNumbers { first_unacknowledged: 0, sent: 0 });
     /// # let mut timer = RetransmissionTimer::new(Duration::from_secs(1), Sack::Permitted);
@@ -434,7 +434,7 @@ impl RetransmissionTimer {
     /// `numbers` are the sender's before it takes the acknowledgement.
     ///
     /// ```
-    /// # use net_base::tcp::{RetransmissionTimer, Sack, SentNumbers, TimeoutBounds};
+    /// # use net_tcp::{RetransmissionTimer, Sack, SentNumbers, TimeoutBounds};
     /// # use net_base::time::{Duration, Instant};
     /// # let (bounds, numbers) = (TimeoutBounds::default(), SentNumbers { first_unacknowledged: 0, sent: 0 });
     /// # let mut timer = RetransmissionTimer::new(Duration::from_secs(1), Sack::Permitted);
@@ -482,7 +482,7 @@ impl RetransmissionTimer {
     /// reports delays no acknowledgement.
     ///
     /// ```
-    /// # use net_base::tcp::{RetransmissionTimer, Sack, SentNumbers, TimeoutBounds};
+    /// # use net_tcp::{RetransmissionTimer, Sack, SentNumbers, TimeoutBounds};
     /// # use net_base::time::{Duration, Instant};
     /// # let (bounds, numbers) = (TimeoutBounds::default(), SentNumbers { first_unacknowledged: 0, sent: 0 });
     /// # let mut timer = RetransmissionTimer::new(Duration::from_secs(1), Sack::Permitted);
@@ -506,7 +506,7 @@ impl RetransmissionTimer {
     /// probe is due until something new is acknowledged or reported.
     ///
     /// ```
-    /// # use net_base::tcp::{Expiry, RetransmissionTimer, Sack, SentNumbers, TimeoutBounds};
+    /// # use net_tcp::{Expiry, RetransmissionTimer, Sack, SentNumbers, TimeoutBounds};
     /// # use net_base::time::{Duration, Instant};
     /// # let (bounds, numbers) = (TimeoutBounds::default(), SentNumbers { first_unacknowledged: 0, sent: 0 });
     /// # let mut timer = RetransmissionTimer::new(Duration::from_secs(1), Sack::Permitted);

@@ -5,7 +5,7 @@ ghost use Rattle.net_tcp.specs.Sack.{is_permitted};
 /// Whether both ends have agreed to selective acknowledgements: the option SACK-permitted of RFC 2018, in both SYNs.
 ///
 /// ```
-/// use net_base::tcp::{LossRecovery, Sack};
+/// use net_tcp::{LossRecovery, Sack};
 ///
 /// let mut recovery = LossRecovery::new();
 /// recovery.expect_reports(Sack::Absent);

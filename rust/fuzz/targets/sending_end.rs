@@ -1,10 +1,10 @@
 //! Acknowledgements, blocks and windows of any numbers to a sending end, and moments out of order. What it gives was
 //! written and isn't acknowledged; and once the peer is honest, all of it is acknowledged.
 #![no_main]
-use net_base::ends::{AckSegment, SendingEnd};
-use net_base::tcp::{Announcement, Sack, TimeoutBounds};
 use net_base::time::{Duration, Instant};
 use net_base_fuzz::{byte_at, fuzz, Draw};
+use net_tcp::{AckSegment, SendingEnd};
+use net_tcp::{Announcement, Sack, TimeoutBounds};
 
 /// Takes a segment, if there is one to send, whose bytes are those of its positions.
 fn send(end: &mut SendingEnd<3>, written: u64, window: u64, now: Instant) -> bool {

@@ -177,12 +177,11 @@ impl<S: Storage<u8>> FiniteSenderOver<S> {
     ///
     /// ```
     /// # use net_base::finite::FiniteSender;
-    /// # use net_base::tcp::{Announcement, PeerWindow};
     /// # let mut storage = [0u8; 8];
     /// # let mut sender = FiniteSender::new_at(&mut storage[..], 100);
-    /// let mut peer = PeerWindow::new();
-    /// let announcement = Announcement { seq: 1, ack: 100, window: 9 };
-    /// assert!(peer.update(sender.sent_numbers(), announcement) && peer.edge() == 109);
+    /// assert!(sender.write(b"abc") == 3 && sender.mark_sent(102));
+    /// let numbers = sender.sent_numbers();
+    /// assert_eq!((numbers.first_unacknowledged, numbers.sent, numbers.flight_size()), (100, 102, 2));
     /// ```
     #[must_use]
     pub fn sent_numbers(&self) -> SentNumbers {

@@ -3,7 +3,7 @@
 
 /// Returns 1 for a flag that holds, and 0 for one that doesn't.
 #[must_use]
-pub(crate) const fn flag_of(flag: bool) -> u64 {
+pub const fn flag_of(flag: bool) -> u64 {
     if flag {
         1
     } else {

@@ -38,7 +38,6 @@ pub struct Kept {
 /// assert_eq!(receiver.keep(0, b"ab").map(|it| (it.kept, it.queued)), Ok((2, 4)));
 /// ```
 #[derive(Debug, Clone, Copy, PartialEq, Eq)]
-#[non_exhaustive]
 pub struct KeptBytes {
     /// How many bytes were kept: those of the segment whose positions are in the free window.
     pub kept: usize,

@@ -49,7 +49,8 @@ pub struct ScoreboardHead {
 impl ScoreboardHead {
     /// Returns a scoreboard of a stream that begins at position `first`, to which nothing was reported,
     /// whatever its runs. All positions below `first` count as reported.
-    pub(crate) const fn new_at(first: u64) -> Self {
+    #[must_use]
+    pub const fn new_at(first: u64) -> Self {
         ScoreboardHead { base: first, reported: AssemblerHead::new() }
     }
 
@@ -78,7 +79,8 @@ impl ScoreboardHead {
     /// # Requires
     ///
     /// The scoreboard is sound with the runs.
-    pub(crate) fn report(
+    #[inline]
+    pub fn report(
         &mut self,
         runs: &mut [Run],
         start: u64,
@@ -108,7 +110,8 @@ impl ScoreboardHead {
     /// # Requires
     ///
     /// The scoreboard is sound with the runs.
-    pub(crate) fn acknowledge(&mut self, runs: &mut [Run], next: u64) {
+    #[inline]
+    pub fn acknowledge(&mut self, runs: &mut [Run], next: u64) {
         if next <= self.base {
             return;
         }
@@ -120,7 +123,8 @@ impl ScoreboardHead {
     }
 
     /// Returns the first position that wasn't reported.
-    pub(crate) fn first_unreported(&self) -> u64 {
+    #[must_use]
+    pub fn first_unreported(&self) -> u64 {
         self.base
     }
 
@@ -129,7 +133,9 @@ impl ScoreboardHead {
     /// # Requires
     ///
     /// The scoreboard is sound with the runs.
-    pub(crate) fn contains(&self, runs: &[Run], pos: u64) -> bool {
+    #[inline]
+    #[must_use]
+    pub fn contains(&self, runs: &[Run], pos: u64) -> bool {
         if pos < self.base {
             return true;
         }
@@ -156,7 +162,9 @@ impl ScoreboardHead {
     /// # Requires
     ///
     /// The scoreboard is sound with the runs.
-    pub(crate) fn highest_reported(&self, runs: &[Run]) -> u64 {
+    #[inline]
+    #[must_use]
+    pub fn highest_reported(&self, runs: &[Run]) -> u64 {
         self.base + self.reported.end(runs) as u64
     }
 
@@ -165,7 +173,9 @@ impl ScoreboardHead {
     /// # Requires
     ///
     /// The scoreboard is sound with the runs.
-    pub(crate) fn first_missing(&self, runs: &[Run], pos: u64) -> u64 {
+    #[inline]
+    #[must_use]
+    pub fn first_missing(&self, runs: &[Run], pos: u64) -> u64 {
         let from = pos.max(self.base);
         let missing = self.reported.first_missing(runs, self.offset_of(from));
         from.max(self.base + missing as u64)
@@ -177,7 +187,9 @@ impl ScoreboardHead {
     /// # Requires
     ///
     /// The scoreboard is sound with the runs.
-    pub(crate) fn missing_between(&self, runs: &[Run], start: u64, end: u64) -> u64 {
+    #[inline]
+    #[must_use]
+    pub fn missing_between(&self, runs: &[Run], start: u64, end: u64) -> u64 {
         let from = start.max(self.base);
         let reported = self.reported.count_between(runs, self.offset_of(from), self.offset_of(end));
         end.saturating_sub(from) - reported as u64
@@ -200,7 +212,9 @@ impl ScoreboardHead {
     /// # Requires
     ///
     /// The scoreboard is sound with the runs.
-    pub(crate) fn lost_below(&self, runs: &[Run], duplicates: usize, segment_size: usize) -> u64 {
+    #[inline]
+    #[must_use]
+    pub fn lost_below(&self, runs: &[Run], duplicates: usize, segment_size: usize) -> u64 {
         let most = (duplicates.saturating_sub(1) as u64).saturating_mul(segment_size as u64);
         let used = self.reported.used;
         let enough = duplicates.max(1);
@@ -227,7 +241,8 @@ impl ScoreboardHead {
     /// # Requires
     ///
     /// The scoreboard is sound with the runs.
-    pub(crate) fn next_hole(&self, runs: &[Run], pos: u64, limit: u64) -> (u64, u64) {
+    #[must_use]
+    pub fn next_hole(&self, runs: &[Run], pos: u64, limit: u64) -> (u64, u64) {
         let from = pos.max(self.base);
         let (start, end) = self.reported.next_hole(runs, self.offset_of(from));
         let start = from.max(self.base + start as u64).min(limit);

@@ -29,10 +29,7 @@ pub struct SegmentBytes<'a> {
 }
 
 /// Lends the bytes of a segment, in two parts, and returns whether the stream ends after them.
-pub(crate) fn lend<S: Storage<u8>>(
-    sender: &FiniteSenderOver<S>,
-    range: Range<u64>,
-) -> SegmentBytes<'_> {
+pub fn lend<S: Storage<u8>>(sender: &FiniteSenderOver<S>, range: Range<u64>) -> SegmentBytes<'_> {
     let front = sender.peek_at(range.start, range.end).bytes;
     let after = range.start + front.len() as u64;
     let back = sender.peek_at(after, range.end);

@@ -1,0 +1,618 @@
+// Written by tools/erase.py from crates/net_ends/src/receiving_end.rt: a change here would be lost.
+//! What receives a stream that ends.
+
+use crate::tcp::{AdvertisedWindow, Arrival, Segment};
+use core::ops::Range;
+use net_base::internal::{FiniteError, FiniteReceiverOver, HeldRun, KeptBytes, Part};
+use net_base::internal::{ManagedSlice, Storage};
+
+/// What a segment without bytes tells the peer.
+///
+/// ```
+/// use net_tcp::ReceivingEnd;
+/// use net_base::finite::Part;
+///
+/// let mut storage = [0u8; 64];
+/// let mut receiving = ReceivingEnd::<4>::new_at(&mut storage[..], 100, 8);
+/// let _window = receiving.open(100, 0);
+/// receiving.arrived(108, &[7; 8], Part::More).expect("one range may wait");
+/// let told = receiving.acknowledgement();
+/// assert_eq!((told.next, told.window, told.blocks.as_slice()), (100, 64, &[108..116][..]));
+/// ```
+#[derive(Clone, Debug, PartialEq, Eq)]
+#[non_exhaustive]
+pub struct Acknowledgement {
+    /// The first number that is missing.
+    pub next: u64,
+    /// The window, in units of the scale.
+    pub window: u16,
+    /// What came twice since the last one, if anything did (RFC 2883), and then the newest runs that were kept beyond
+    /// `next`, the newest first.
+    pub blocks: SackBlocks,
+}
+
+/// The blocks of an acknowledgement, at most four, as TCP's options have room for: what has arrived out of order.
+///
+/// ```
+/// use net_tcp::ReceivingEnd;
+/// use net_base::finite::Part;
+///
+/// let mut storage = [0u8; 64];
+/// let mut receiving = ReceivingEnd::<4>::new_at(&mut storage[..], 100, 8);
+/// let _window = receiving.open(100, 0);
+/// receiving.arrived(108, &[7; 8], Part::More).expect("one range may wait");
+/// receiving.arrived(124, &[7; 8], Part::More).expect("two ranges may wait");
+/// // The newest one is the first.
+/// let blocks = receiving.acknowledgement().blocks;
+/// assert_eq!(blocks.as_slice(), [124..132, 108..116]);
+/// ```
+#[derive(Clone, PartialEq, Eq)]
+pub struct SackBlocks {
+    blocks: [Range<u64>; 4],
+    count: usize,
+}
+
+impl SackBlocks {
+    /// Lends them, as `SendingEndOver::acknowledged` takes them.
+    #[must_use]
+    pub fn as_slice(&self) -> &[Range<u64>] {
+        &self.blocks[..self.count]
+    }
+
+    /// Returns those of which there are any: no block is after one that there isn't.
+    fn of(blocks: [Option<(u64, u64)>; 4]) -> Self {
+        SackBlocks {
+            blocks: [
+                range_at(blocks[0]),
+                range_at(blocks[1]),
+                range_at(blocks[2]),
+                range_at(blocks[3]),
+            ],
+            count: count_of(blocks),
+        }
+    }
+}
+
+/// Returns a block as a range, which is empty if there is none.
+fn range_at(block: Option<(u64, u64)>) -> Range<u64> {
+    match block {
+        Some((start, end)) => start..end,
+        None => 0..0,
+    }
+}
+
+/// Returns how many blocks are before the first that there isn't.
+fn count_of(blocks: [Option<(u64, u64)>; 4]) -> usize {
+    if blocks[0].is_none() {
+        0
+    } else if blocks[1].is_none() {
+        1
+    } else if blocks[2].is_none() {
+        2
+    } else if blocks[3].is_none() {
+        3
+    } else {
+        4
+    }
+}
+
+/// What a segment with bytes of its own tells the peer.
+///
+/// ```
+/// use net_tcp::{AckFields, ReceivingEnd};
+/// use net_base::finite::Part;
+///
+/// let mut storage = [0u8; 64];
+/// let mut receiving = ReceivingEnd::<4>::new_at(&mut storage[..], 100, 8);
+/// let _window = receiving.open(100, 0);
+/// receiving.arrived(100, b"abc", Part::More).expect("it is in order");
+/// assert_eq!(receiving.announce(), AckFields { next: 103, window: 61 });
+/// ```
+#[derive(Copy, Clone, Debug, PartialEq, Eq)]
+pub struct AckFields {
+    /// The first number that is missing.
+    pub next: u64,
+    /// The window, in units of the scale.
+    pub window: u16,
+}
+
+/// What the rules of a receiving end know of its receiver: numbers.
+#[derive(Copy, Clone, Debug, PartialEq, Eq)]
+pub struct Room {
+    /// The number that an acknowledgement names.
+    pub next: u64,
+    /// The end of the free room, or the last position if that doesn't fit 64 bits.
+    pub end: u64,
+    /// How many bytes the storage has.
+    pub capacity: u64,
+    /// Whether all bytes and the end have arrived.
+    pub is_complete: bool,
+}
+
+/// All of a receiving end but its receiver: what it announced, when it acknowledges, and what came twice. Its calls are
+/// given the receiver's numbers; who holds both has the receiver take what arrives.
+///
+/// It is numbers alone, so that C has it as it is. One of zeros is new, of a stream that begins at position 0, with
+/// segments of no bytes.
+#[repr(C)]
+#[derive(Debug, Clone, Copy)]
+pub struct ReceivingHead {
+    /// What was announced.
+    pub advertised: AdvertisedWindow,
+    /// The position of the newest segment.
+    pub newest: u64,
+    /// The starts of the runs that were listed last.
+    pub recent: [u64; 4],
+    /// What came twice, and wasn't reported yet.
+    pub duplicate: HeldRun,
+    /// Not 0 if anything came twice, and wasn't reported yet.
+    pub has_duplicate: u32,
+    /// The most bytes of a segment.
+    pub segment_size: u16,
+    /// The scale of the windows.
+    pub scale: u8,
+    /// How many segments wait for an acknowledgement, 2 at most: it is due if as many do.
+    pub unanswered: u8,
+}
+
+impl ReceivingHead {
+    /// Returns the rules of a stream that begins at position `first`, of which nothing was announced.
+    pub(crate) const fn new(first: u64, segment_size: u16) -> Self {
+        ReceivingHead {
+            advertised: AdvertisedWindow::new(first),
+            newest: first,
+            recent: [0; 4],
+            duplicate: HeldRun { start: 0, end: 0 },
+            has_duplicate: 0,
+            segment_size,
+            scale: 0,
+            unanswered: 0,
+        }
+    }
+
+    /// Begins again with a stream that begins at position `first`, as `ReceivingEndOver::open` says. `room` is the
+    /// receiver's then.
+    pub(crate) fn open(&mut self, room: Room, first: u64, scale: u8) -> u16 {
+        *self = ReceivingHead::new(first, self.segment_size);
+        self.scale = scale;
+        self.advertised.announce(0, room.next, room.end)
+    }
+
+    /// Takes notice of a segment at `pos`, which is the last one or not: what of it came before, how many runs were
+    /// held before it, and what the receiver said of it.
+    pub(crate) fn take(
+        &mut self,
+        pos: u64,
+        is_last: bool,
+        part: Option<(u64, u64)>,
+        held: usize,
+        kept: Result<KeptBytes, FiniteError>,
+    ) {
+        if let Some((start, end)) = part {
+            self.duplicate = HeldRun { start, end };
+            self.has_duplicate = 1;
+        }
+        self.newest = pos;
+        self.unanswered = match kept {
+            Ok(kept) if held == 0 && !is_last && kept.queued > 0 => {
+                self.unanswered.saturating_add(1).min(2)
+            }
+            _ => 2,
+        };
+    }
+
+    /// Has an acknowledgement sent at once.
+    pub(crate) fn answer(&mut self) {
+        self.unanswered = 2;
+    }
+
+    /// Returns whether an acknowledgement is to be sent at once.
+    pub(crate) fn is_due(&self) -> bool {
+        self.unanswered >= 2
+    }
+
+    /// Returns whether an acknowledgement is to be sent before one waits, as `ReceivingEndOver::is_wanted` says.
+    ///
+    /// # Requires
+    ///
+    /// The room ends at or beyond its number.
+    pub(crate) fn is_wanted(&self, room: Room) -> bool {
+        self.unanswered > 0 || self.is_update_due(room)
+    }
+
+    /// Returns whether an update of the window is worth a segment.
+    fn is_update_due(&self, room: Room) -> bool {
+        !room.is_complete
+            && self.advertised.is_update_due(
+                self.scale,
+                room.next,
+                room.end,
+                room.capacity,
+                self.segment_size,
+            )
+    }
+
+    /// Returns what a segment with bytes of its own tells, as `ReceivingEndOver::announce` says.
+    pub(crate) fn announce(&mut self, room: Room) -> (u64, u16) {
+        // What waits for an acknowledgement has it, unless one is due.
+        if self.unanswered < 2 {
+            self.unanswered = 0;
+        }
+        self.promise(room)
+    }
+
+    /// Returns the number and the window of a segment without bytes, and takes notice that it tells them.
+    pub(crate) fn acknowledge(&mut self, room: Room) -> (u64, u16) {
+        self.unanswered = 0;
+        self.promise(room)
+    }
+
+    /// Returns the number and the window to announce, and promises that.
+    fn promise(&mut self, room: Room) -> (u64, u16) {
+        let window = self.advertised.announce_in_steps(
+            self.scale,
+            room.next,
+            room.end,
+            room.capacity,
+            self.segment_size,
+        );
+        (room.next, window)
+    }
+
+    /// Takes what came twice, if it is to be reported: an end in order lets go of what was held beyond it.
+    pub(crate) fn take_duplicate(&mut self, next: u64, is_complete: bool) -> Option<(u64, u64)> {
+        let part = self.reported(next, is_complete);
+        self.duplicate = HeldRun { start: 0, end: 0 };
+        self.has_duplicate = 0;
+        part
+    }
+
+    /// Returns what came twice, if it is to be reported.
+    fn reported(&self, next: u64, is_complete: bool) -> Option<(u64, u64)> {
+        if self.has_duplicate == 0 {
+            return None;
+        }
+        let part = self.duplicate;
+        if part.end <= next || !is_complete {
+            Some((part.start, part.end))
+        } else {
+            None
+        }
+    }
+}
+
+/// The receiving half of a TCP connection: a `FiniteReceiver`, the window that it announced, and what to acknowledge.
+/// It is over storage that is lent or owned, and its calls are those of [`ReceivingEndOver`].
+///
+/// ```
+/// use net_tcp::ReceivingEnd;
+///
+/// // 64 bytes may wait, and at most 4 ranges that arrived out of order. A segment has at most 8 bytes.
+/// let mut storage = [0u8; 64];
+/// let mut receiving = ReceivingEnd::<4>::new_at(&mut storage[..], 100, 8);
+/// assert_eq!(receiving.open(100, 0), 64);
+/// ```
+pub type ReceivingEnd<'a, const N: usize> = ReceivingEndOver<ManagedSlice<'a, u8>, N>;
+
+/// A [`ReceivingEnd`] over any storage. It has no clock: how long an acknowledgement waits is its caller's choice.
+///
+/// ```
+/// use net_tcp::ReceivingEnd;
+/// use net_base::finite::Part;
+///
+/// let mut storage = [0u8; 64];
+/// let mut receiving = ReceivingEnd::<4>::new_at(&mut storage[..], 100, 8);
+/// assert_eq!(receiving.open(100, 0), 64);
+/// // The second segment comes first: it is answered at once, and reported.
+/// assert!(receiving.arrived(108, b"bytes ok", Part::Last).is_ok() && receiving.is_due());
+/// let ack = receiving.acknowledgement();
+/// assert_eq!((ack.next, ack.window, ack.blocks.as_slice()), (100, 64, &[108..116][..]));
+/// assert!(receiving.arrived(100, b"sixteen ", Part::More).is_ok());
+/// let mut bytes = [0; 64];
+/// assert_eq!(receiving.read(&mut bytes), 16);
+/// assert!(receiving.receiver().has_read_all() && receiving.is_due());
+/// assert_eq!(receiving.acknowledgement().next, 117);
+/// ```
+#[derive(Clone)]
+pub struct ReceivingEndOver<S: Storage<u8>, const N: usize> {
+    receiver: FiniteReceiverOver<S, N>,
+    head: ReceivingHead,
+}
+
+impl<S: Storage<u8>, const N: usize> ReceivingEndOver<S, N> {
+    /// Returns the end of a stream that begins at position `first`, at which nothing has arrived. A segment has at most
+    /// `segment_size` bytes.
+    ///
+    /// A program in which `N` is 0 does not compile.
+    ///
+    /// # Panics
+    ///
+    /// Panics unless `first` is below `u64::MAX`: an end there would have no number after it.
+    #[must_use]
+    #[track_caller]
+    pub fn over_at(storage: S, first: u64, segment_size: u16) -> Self {
+        const { assert!(N >= 1, "N is at least 1") };
+        assert!(first < u64::MAX, "no number is left for an end");
+        ReceivingEndOver {
+            receiver: FiniteReceiverOver::over_at(storage, first),
+            head: ReceivingHead::new(first, segment_size),
+        }
+    }
+
+    /// Begins again with a stream that begins at position `first`, and whose windows have this scale. Returns the
+    /// window that a SYN announces, which has no scale.
+    ///
+    /// # Panics
+    ///
+    /// Panics unless `first` is below `u64::MAX`: an end there would have no number after it.
+    ///
+    /// ```
+    /// # use net_tcp::ReceivingEnd;
+    /// # let mut storage = [0u8; 64];
+    /// # let mut receiving = ReceivingEnd::<4>::new_at(&mut storage[..], 100, 8);
+    /// assert_eq!(receiving.open(100, 3), 64); // in a SYN the window has no scale
+    /// assert_eq!(receiving.announce().window, 8); // in units of 2^3
+    /// ```
+    #[track_caller]
+    pub fn open(&mut self, first: u64, scale: u8) -> u16 {
+        assert!(first < u64::MAX, "no number is left for an end");
+        self.receiver.reset_at(first);
+        let room = self.room();
+        self.head.open(room, first, scale)
+    }
+
+    /// Returns what to do with a segment, as `tcp::classify` says, in the window that was announced. Its
+    /// acknowledgement is taken if it is of a peer that hears of what is announced here, whatever the path does: law
+    /// `heard_ends`.
+    ///
+    /// ```
+    /// # use net_tcp::ReceivingEnd;
+    /// # let mut storage = [0u8; 64];
+    /// # let mut receiving = ReceivingEnd::<4>::new_at(&mut storage[..], 100, 8);
+    /// use net_tcp::{Arrival, Segment};
+    ///
+    /// let _window = receiving.open(100, 0);
+    /// let text = |seq| Segment::new(seq, 8, 0x10);
+    /// assert_eq!(receiving.classify(text(100)), Arrival::Take);
+    /// assert_eq!(receiving.classify(text(164)), Arrival::Answer);
+    /// ```
+    #[must_use]
+    pub fn classify(&self, segment: Segment) -> Arrival {
+        self.head.advertised.classify(
+            self.receiver.acknowledged(),
+            self.receiver.receiver().capacity() as u64,
+            segment,
+        )
+    }
+
+    /// Takes the bytes of a segment, and the end if it is the last part. A segment out of order, one with the end, and
+    /// one that is refused are answered at once; of the others each second one is. What of its bytes came before is
+    /// reported by the next acknowledgement, as `Receiver::duplicate_of` tells it. One with neither bytes nor the end
+    /// changes nothing.
+    ///
+    /// # Errors
+    ///
+    /// As `FiniteReceiverOver::keep`.
+    ///
+    /// ```
+    /// # use net_tcp::ReceivingEnd;
+    /// # use net_base::finite::Part;
+    /// # let mut storage = [0u8; 64];
+    /// # let mut receiving = ReceivingEnd::<4>::new_at(&mut storage[..], 100, 8);
+    /// let _window = receiving.open(100, 0);
+    /// let kept = receiving.arrived(103, b"def", Part::Last).expect("one range may wait");
+    /// assert_eq!((kept.kept, kept.queued), (3, 0));
+    /// let kept = receiving.arrived(100, b"abc", Part::More).expect("it is in order");
+    /// assert_eq!((kept.kept, kept.queued), (3, 6));
+    /// ```
+    pub fn arrived(
+        &mut self,
+        pos: u64,
+        bytes: &[u8],
+        part: Part,
+    ) -> Result<KeptBytes, FiniteError> {
+        if bytes.is_empty() && !part.is_last() {
+            return Ok(KeptBytes { kept: 0, queued: 0 });
+        }
+        self.take(pos, bytes, part)
+    }
+
+    /// Takes a segment that has a byte or the end. A function of its own: `arrived` says what one of neither does.
+    fn take(&mut self, pos: u64, bytes: &[u8], part: Part) -> Result<KeptBytes, FiniteError> {
+        let came = pair_of(self.receiver.receiver().duplicate_of(pos, bytes.len()));
+        let held = self.receiver.receiver().held_count();
+        let kept = self.receiver.keep(pos, bytes, part);
+        self.head.take(pos, part.is_last(), came, held, kept);
+        kept
+    }
+
+    /// Has an acknowledgement sent at once.
+    ///
+    /// ```
+    /// # use net_tcp::ReceivingEnd;
+    /// # let mut storage = [0u8; 64];
+    /// # let mut receiving = ReceivingEnd::<4>::new_at(&mut storage[..], 100, 8);
+    /// let _window = receiving.open(100, 0);
+    /// receiving.answer(); // a segment was out of the window
+    /// assert!(receiving.is_due());
+    /// ```
+    pub fn answer(&mut self) {
+        self.head.answer();
+    }
+
+    /// Returns whether an acknowledgement is to be sent at once.
+    ///
+    /// ```
+    /// # use net_tcp::ReceivingEnd;
+    /// # use net_base::finite::Part;
+    /// # let mut storage = [0u8; 64];
+    /// # let mut receiving = ReceivingEnd::<4>::new_at(&mut storage[..], 100, 8);
+    /// let _window = receiving.open(100, 0);
+    /// // One segment may wait for a second one.
+    /// receiving.arrived(100, &[7; 8], Part::More).expect("it is in order");
+    /// assert!(!receiving.is_due() && receiving.is_wanted());
+    /// receiving.arrived(108, &[7; 8], Part::More).expect("it is in order");
+    /// assert!(receiving.is_due());
+    /// ```
+    #[must_use]
+    pub fn is_due(&self) -> bool {
+        self.head.is_due()
+    }
+
+    /// Returns whether an acknowledgement is to be sent before one waits: something came, or an update of the window
+    /// is worth a segment. No update is, once all bytes and the end have arrived: nothing follows that needs room, and
+    /// a peer that has closed its connection would answer it by a reset.
+    ///
+    /// ```
+    /// # use net_tcp::ReceivingEnd;
+    /// # use net_base::finite::Part;
+    /// # let mut storage = [0u8; 64];
+    /// # let mut receiving = ReceivingEnd::<4>::new_at(&mut storage[..], 100, 8);
+    /// let _window = receiving.open(100, 0);
+    /// assert!(!receiving.is_wanted());
+    /// receiving.arrived(100, b"abc", Part::More).expect("it is in order");
+    /// assert!(receiving.is_wanted());
+    /// receiving.acknowledgement();
+    /// assert!(!receiving.is_wanted());
+    /// ```
+    #[must_use]
+    pub fn is_wanted(&self) -> bool {
+        self.head.is_wanted(self.room())
+    }
+
+    /// Returns what a segment with bytes of its own tells, and takes notice that it does: the first number that is
+    /// missing, and the window, in units of the scale. The window's edge is moved only if that is worth a segment.
+    /// An acknowledgement that is due stays so, since it lists runs.
+    ///
+    /// ```
+    /// # use net_tcp::ReceivingEnd;
+    /// # use net_base::finite::Part;
+    /// # let mut storage = [0u8; 64];
+    /// # let mut receiving = ReceivingEnd::<4>::new_at(&mut storage[..], 100, 8);
+    /// let _window = receiving.open(100, 0);
+    /// receiving.arrived(100, b"abc", Part::More).expect("it is in order");
+    /// let told = receiving.announce();
+    /// assert_eq!((told.next, told.window), (103, 61));
+    /// assert!(!receiving.is_wanted()); // the segment with bytes tells it
+    /// ```
+    pub fn announce(&mut self) -> AckFields {
+        let room = self.room();
+        let (next, window) = self.head.announce(room);
+        AckFields { next, window }
+    }
+
+    /// Returns what a segment without bytes tells, and takes notice that it does. What came twice is told once.
+    ///
+    /// ```
+    /// # use net_tcp::ReceivingEnd;
+    /// # use net_base::finite::Part;
+    /// # let mut storage = [0u8; 64];
+    /// # let mut receiving = ReceivingEnd::<4>::new_at(&mut storage[..], 100, 8);
+    /// let _window = receiving.open(100, 0);
+    /// receiving.arrived(100, b"abc", Part::More).expect("it is in order");
+    /// receiving.arrived(100, b"abc", Part::More).expect("it came twice");
+    /// let told = receiving.acknowledgement();
+    /// assert_eq!((told.next, told.window, told.blocks.as_slice()), (103, 61, &[100..103][..]));
+    /// assert!(receiving.acknowledgement().blocks.as_slice().is_empty());
+    /// ```
+    pub fn acknowledgement(&mut self) -> Acknowledgement {
+        let room = self.room();
+        let (next, window) = self.head.acknowledge(room);
+        let duplicate = self.head.take_duplicate(room.next, room.is_complete);
+        let blocks = SackBlocks::of(in_front(duplicate, self.runs()));
+        Acknowledgement { next, window, blocks }
+    }
+
+    /// Lists the newest runs, at most four.
+    fn runs(&mut self) -> [Option<(u64, u64)>; 4] {
+        let mut runs =
+            self.receiver.receiver().newest_runs(self.head.newest, &mut self.head.recent);
+        [runs.next(), runs.next(), runs.next(), runs.next()]
+    }
+
+    /// Moves bytes from the head of the queue to the beginning of `into`, and returns how many: as many as are queued
+    /// and as `into` has room for. The rest of `into` stays as it is.
+    ///
+    /// ```
+    /// # use net_tcp::ReceivingEnd;
+    /// # use net_base::finite::Part;
+    /// # let mut storage = [0u8; 64];
+    /// # let mut receiving = ReceivingEnd::<4>::new_at(&mut storage[..], 100, 8);
+    /// let _window = receiving.open(100, 0);
+    /// receiving.arrived(100, b"abc", Part::More).expect("it is in order");
+    /// let mut into = [0; 8];
+    /// assert_eq!((receiving.read(&mut into), &into[..3]), (3, &b"abc"[..]));
+    /// ```
+    pub fn read(&mut self, into: &mut [u8]) -> usize {
+        self.receiver.read(into)
+    }
+
+    /// Calls `f` on the first part of the queue, takes as many bytes off the queue as `f` counts, and returns what `f`
+    /// returned. The part is empty only if the queue is.
+    ///
+    /// # Panics
+    ///
+    /// Panics unless `f` takes that part, and counts no more bytes than it is lent.
+    #[track_caller]
+    pub fn read_with<R, F: FnOnce(&[u8]) -> (usize, R)>(&mut self, f: F) -> (usize, R) {
+        let part = self.first_part();
+        let lent = part.len();
+        let answer = f(part);
+        assert!(answer.0 <= lent, "more bytes than were lent");
+        self.receiver.remove(answer.0);
+        answer
+    }
+
+    /// Lends the first part of the queue, which is empty only if the queue is.
+    fn first_part(&self) -> &[u8] {
+        let receiver = self.receiver.receiver();
+        receiver.peek(0, receiver.queued())
+    }
+
+    /// Lends the receiver, for reading.
+    ///
+    /// ```
+    /// # use net_tcp::ReceivingEnd;
+    /// # use net_base::finite::Part;
+    /// # let mut storage = [0u8; 64];
+    /// # let mut receiving = ReceivingEnd::<4>::new_at(&mut storage[..], 100, 8);
+    /// let _window = receiving.open(100, 0);
+    /// receiving.arrived(100, b"abc", Part::Last).expect("it is in order");
+    /// assert!(!receiving.receiver().has_read_all());
+    /// assert_eq!(receiving.read(&mut [0; 8]), 3);
+    /// assert!(receiving.receiver().has_read_all());
+    /// ```
+    #[must_use]
+    pub fn receiver(&self) -> &FiniteReceiverOver<S, N> {
+        &self.receiver
+    }
+
+    /// Returns the receiver's numbers.
+    fn room(&self) -> Room {
+        Room {
+            next: self.receiver.acknowledged(),
+            end: self.receiver.window_end().unwrap_or(u64::MAX),
+            capacity: self.receiver.receiver().capacity() as u64,
+            is_complete: self.receiver.is_complete(),
+        }
+    }
+}
+
+/// Returns four blocks with what came twice in front, if anything did, in place of the last one.
+fn in_front(
+    duplicate: Option<(u64, u64)>,
+    blocks: [Option<(u64, u64)>; 4],
+) -> [Option<(u64, u64)>; 4] {
+    match duplicate {
+        Some(part) => [Some(part), blocks[0], blocks[1], blocks[2]],
+        None => blocks,
+    }
+}
+
+/// Returns the start and the end of a range, if there is one.
+fn pair_of(range: Option<Range<u64>>) -> Option<(u64, u64)> {
+    match range {
+        Some(range) => Some((range.start, range.end)),
+        None => None,
+    }
+}

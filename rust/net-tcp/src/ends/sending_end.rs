@@ -1,0 +1,698 @@
+// Written by tools/erase.py from crates/net_ends/src/sending_end.rt: a change here would be lost.
+//! What sends a stream that ends.
+//!
+//! ```text
+//!   acknowledged  |  in flight, lost or reported  |  written, never sent  |  room to write
+//!               first                            sent                    end
+//! ```
+//!
+//! `first` is TCP's SND.UNA, `sent` its SND.NXT (SND.MAX, where something is sent again), and `end` is after the last
+//! byte, and after the end of the stream once it is closed. The peer's `edge`, SND.UNA + SND.WND, can be anywhere: what
+//! is sent ends at it, but for a probe, which is the number at `first` alone.
+
+// Why: What is held back for a small window waits for the timer that there is, as RFC 9293 allows. If nothing was in
+// flight, nothing was lost, so `expired` answers `Probe` then, and no congestion window is cut. Copies are never
+// held back, nor a probe for an answer. Nagle's rule has half of the greatest window wait too, so at most one
+// segment in flight is less than a whole one, but for the timer's.
+//
+// A timeout leaves what was reported. RFC 2018, section 8, has a sender forget all reports then, since the peer may
+// have dropped what it reported. Only a peer that has dropped it acknowledges up to a number that it reported. So
+// after each acknowledgement the first number that isn't acknowledged counts as missing (clause `missing` of
+// `acknowledged`), and a timeout sends it again.
+
+use crate::ends::sending_head::SendingHead;
+use crate::ends::tcp_buffer::{accept, mark, Queued};
+use crate::tcp::{Announcement, Expiry, Sack, TimeoutBounds};
+use core::ops::Range;
+use net_base::internal::Run;
+use net_base::internal::{lend, FiniteSenderOver, SegmentBytes, SentNumbers};
+use net_base::internal::{ManagedSlice, Storage};
+use net_base::time::{Duration, Instant};
+
+/// What an acknowledgement was.
+///
+/// ```
+/// # use net_tcp::{AckSegment, Acknowledged, SendingEnd};
+/// # use net_tcp::{Announcement, Sack, TimeoutBounds};
+/// # use net_base::time::{Duration, Instant};
+/// # let mut storage = [0u8; 64];
+/// # let (second, bounds) = (Duration::from_secs(1), TimeoutBounds::default());
+/// # let mut sending = SendingEnd::<4>::new_at(&mut storage[..], 100, second, bounds);
+/// sending.open(Announcement { seq: 1, ack: 100, window: 1000 }, 8, Sack::Permitted, Instant::ZERO);
+/// let announcement = Announcement { seq: 1, ack: 101, window: 1000 };
+/// match sending.acknowledged(announcement, &[], AckSegment::Pure, Instant::ZERO) {
+///     Acknowledged::Refused => println!("101 was never sent: answer the segment, and take nothing"),
+///     other => panic!("{other:?}"),
+/// }
+/// ```
+#[derive(Copy, Clone, Debug, PartialEq, Eq)]
+#[non_exhaustive]
+pub enum Acknowledged {
+    /// One that no peer sends: of what was never sent, or too far below what is acknowledged. Nothing of its segment is
+    /// to be taken, and it is answered (RFC 5961, section 5).
+    Refused,
+    /// An old one. It says nothing but what came twice, and the bytes of its segment may be new.
+    Old,
+    /// It was taken.
+    Taken {
+        /// How many numbers it acknowledged that weren't before.
+        new: u64,
+        /// Whether a block of it reports what wasn't known.
+        reports: bool,
+        /// Whether it begins a recovery: then halve the congestion window.
+        begins: bool,
+    },
+}
+
+/// What the segment of an acknowledgement has besides.
+///
+/// ```
+/// # use net_tcp::{AckSegment, Acknowledged, SendingEnd};
+/// # use net_tcp::{Announcement, Sack, TimeoutBounds};
+/// # use net_base::time::{Duration, Instant};
+/// # let mut storage = [0u8; 64];
+/// # let (second, bounds) = (Duration::from_secs(1), TimeoutBounds::default());
+/// # let mut sending = SendingEnd::<4>::new_at(&mut storage[..], 100, second, bounds);
+/// # sending.open(Announcement { seq: 1, ack: 100, window: 1000 }, 8, Sack::Permitted, Instant::ZERO);
+/// // The peer has bytes of its own to send, and acknowledges with them: that is no repeated acknowledgement.
+/// let announcement = Announcement { seq: 1, ack: 100, window: 1000 };
+/// let taken = sending.acknowledged(announcement, &[], AckSegment::WithData, Instant::ZERO);
+/// assert_eq!(taken, Acknowledged::Taken { new: 0, reports: false, begins: false });
+/// ```
+#[derive(Copy, Clone, Debug, PartialEq, Eq, Hash)]
+pub enum AckSegment {
+    /// Neither a byte nor a FIN: a pure acknowledgement.
+    Pure,
+    /// Bytes, or a FIN.
+    WithData,
+}
+
+/// What the timer's end means.
+///
+/// ```
+/// # use net_tcp::{Expired, SendingEnd};
+/// # use net_tcp::{Announcement, Sack, TimeoutBounds};
+/// # use net_base::time::{Duration, Instant};
+/// # let mut storage = [0u8; 64];
+/// # let (second, bounds) = (Duration::from_secs(1), TimeoutBounds::default());
+/// # let mut sending = SendingEnd::<4>::new_at(&mut storage[..], 100, second, bounds);
+/// # sending.open(Announcement { seq: 1, ack: 100, window: 1000 }, 8, Sack::Permitted, Instant::ZERO);
+/// let _taken = sending.write(b"abc");
+/// let _segment_to_send = sending.next_segment(1200, Instant::ZERO);
+/// // Before any sample the timeout is all that the timer waits for.
+/// assert_eq!(sending.expired(Instant::from_millis(999)), Expired::No);
+/// assert_eq!(sending.expired(Instant::from_secs(1)), Expired::Lost);
+/// ```
+#[derive(Copy, Clone, Debug, PartialEq, Eq)]
+#[non_exhaustive]
+pub enum Expired {
+    /// It hasn't ended, or a probe is due and the peer reports nothing, so that it couldn't answer.
+    No,
+    /// No answer has come in time: what is overdue is lost, and if nothing of it may be sent, the next segment is a
+    /// probe for an answer.
+    Overdue {
+        /// Whether it begins a recovery: then halve the congestion window.
+        begins: bool,
+    },
+    /// The peer's window is shut, and the next segment is a probe of it; or nothing is in flight, and the next segment
+    /// has what was held back.
+    Probe,
+    /// All that was sent is lost: let one segment be in flight.
+    Lost,
+}
+
+/// A segment to send now, whose bytes `SendingEnd::bytes` lends.
+///
+/// ```
+/// # use net_tcp::SendingEnd;
+/// # use net_tcp::{Announcement, Sack, TimeoutBounds};
+/// # use net_base::time::{Duration, Instant};
+/// # let mut storage = [0u8; 64];
+/// # let (second, bounds) = (Duration::from_secs(1), TimeoutBounds::default());
+/// # let mut sending = SendingEnd::<4>::new_at(&mut storage[..], 100, second, bounds);
+/// # sending.open(Announcement { seq: 1, ack: 100, window: 1000 }, 8, Sack::Permitted, Instant::ZERO);
+/// let _taken = sending.write(b"abc");
+/// let segment = sending.next_segment(1200, Instant::ZERO);
+/// assert_eq!(segment.map(|it| (it.pos, it.end, it.is_again)), Some((100, 103, false)));
+/// ```
+#[derive(Copy, Clone, Debug, PartialEq, Eq)]
+#[non_exhaustive]
+pub struct Outgoing {
+    /// The position of its first byte, or of the end.
+    pub pos: u64,
+    /// The number after its last one, that of the end among them.
+    pub end: u64,
+    /// Whether some of it was sent before.
+    pub is_again: bool,
+}
+
+impl Outgoing {
+    /// Returns its numbers, as `SendingEnd::bytes` takes them.
+    #[must_use]
+    pub fn range(&self) -> Range<u64> {
+        self.pos..self.end
+    }
+}
+
+/// Returns whether a segment has neither a byte nor a FIN.
+fn is_pure(segment: AckSegment) -> bool {
+    match segment {
+        AckSegment::Pure => true,
+        AckSegment::WithData => false,
+    }
+}
+
+/// The sending half of a TCP connection: its bytes, the peer's window, the retransmission timer, and what is lost. It
+/// is over storage that is lent or owned, and its calls are those of [`SendingEndOver`].
+///
+/// ```
+/// use net_tcp::SendingEnd;
+/// use net_tcp::TimeoutBounds;
+/// use net_base::time::Duration;
+///
+/// // 64 bytes may wait, and at most 4 runs are remembered of what the peer reports.
+/// let (mut storage, bounds) = ([0u8; 64], TimeoutBounds::default());
+/// let sending = SendingEnd::<4>::new_at(&mut storage[..], 100, Duration::from_secs(1), bounds);
+/// assert_eq!((sending.window(), sending.flight_size()), (64, 0));
+/// ```
+pub type SendingEnd<'a, const N: usize> = SendingEndOver<ManagedSlice<'a, u8>, N>;
+
+/// A [`SendingEnd`] over any storage. It has no clock and no congestion window: each call is told the time, and
+/// `next_segment` how much may be in flight.
+///
+/// ```
+/// use net_tcp::{AckSegment, Acknowledged, Expired, SendingEnd};
+/// use net_tcp::{Announcement, Sack, TimeoutBounds};
+/// use net_base::time::{Duration, Instant};
+///
+/// let second = Duration::from_secs(1);
+/// let bounds = TimeoutBounds::default();
+/// let mut storage = [0u8; 64];
+/// let mut sending = SendingEnd::<4>::new_at(&mut storage[..], 100, second, bounds);
+/// // The peer's SYN announces a window of 1000 bytes, and agrees to SACK. A segment has at most 8 bytes.
+/// let mut now = Instant::ZERO;
+/// sending.open(Announcement { seq: 1, ack: 100, window: 1000 }, 8, Sack::Permitted, now);
+/// assert_eq!(sending.write(b"sixteen bytes ok"), 16);
+/// let mut segments = Vec::new();
+/// while let Some(segment) = sending.next_segment(1200, now) {
+///     let bytes = sending.bytes(segment.range());
+///     segments.push((segment.pos, [bytes.front, bytes.back].concat()));
+/// }
+/// assert_eq!(segments, [(100, b"sixteen ".to_vec()), (108, b"bytes ok".to_vec())]);
+/// // An acknowledgement of the first one.
+/// now += Duration::from_millis(100);
+/// let announcement = Announcement { seq: 1, ack: 108, window: 1000 };
+/// let taken = sending.acknowledged(announcement, &[], AckSegment::Pure, now);
+/// assert_eq!(taken, Acknowledged::Taken { new: 8, reports: false, begins: false });
+/// // None of the second one: when the timer ends, a probe asks for one, and in the end all is lost.
+/// while sending.expired(now) != Expired::Lost {
+///     let _segment_to_send = sending.next_segment(1200, now);
+///     now = sending.expires_at().expect("something is in flight");
+/// }
+/// let segment = sending.next_segment(8, now).expect("what was lost");
+/// assert_eq!((segment.range(), segment.is_again), (108..116, true));
+/// ```
+#[derive(Clone)]
+pub struct SendingEndOver<S: Storage<u8>, const N: usize> {
+    sender: FiniteSenderOver<S>,
+    runs: [Run; N],
+    head: SendingHead,
+    first_timeout: Duration,
+    bounds: TimeoutBounds,
+}
+
+impl<S: Storage<u8>, const N: usize> SendingEndOver<S, N> {
+    /// Returns the end of a stream that begins at position `first`, to which nothing was written. `first_timeout` is
+    /// that before any sample: 1 second for TCP (RFC 6298, 2.1).
+    ///
+    /// A program in which `N` is 0 does not compile.
+    ///
+    /// # Panics
+    ///
+    /// Panics unless `first` is below `u64::MAX`: an end there would have no number after it.
+    #[must_use]
+    #[track_caller]
+    pub fn over_at(storage: S, first: u64, first_timeout: Duration, bounds: TimeoutBounds) -> Self {
+        const { assert!(N >= 1, "N is at least 1") };
+        assert!(first < u64::MAX, "no number is left for an end");
+        SendingEndOver {
+            sender: FiniteSenderOver::over_at(storage, first),
+            runs: [Run { start: 0, end: 0 }; N],
+            head: SendingHead::new_at(first, first_timeout),
+            first_timeout,
+            bounds,
+        }
+    }
+
+    /// Begins again over the same storage, without a peer: a stream that begins at position `first`, to which nothing
+    /// was written. Whether Nagle's rule is enabled stays. It begins a new connection after one that was reset.
+    ///
+    /// # Panics
+    ///
+    /// Panics unless `first` is below `u64::MAX`: an end there would have no number after it.
+    ///
+    /// ```
+    /// # use net_tcp::{SendingEnd};
+    /// # use net_tcp::{Announcement, Sack, TimeoutBounds};
+    /// # use net_base::time::{Duration, Instant};
+    /// # let mut storage = [0u8; 64];
+    /// # let (second, bounds) = (Duration::from_secs(1), TimeoutBounds::default());
+    /// # let mut sending = SendingEnd::<4>::new_at(&mut storage[..], 100, second, bounds);
+    /// # sending.open(Announcement { seq: 1, ack: 100, window: 1000 }, 8, Sack::Permitted, Instant::ZERO);
+    /// let _taken = sending.write(b"abc");
+    /// sending.reset_at(5_000);
+    /// assert_eq!((sending.window(), sending.numbers().sent), (64, 5_000));
+    /// ```
+    #[track_caller]
+    pub fn reset_at(&mut self, first: u64) {
+        assert!(first < u64::MAX, "no number is left for an end");
+        self.sender.reset_at(first);
+        let no_delay = self.head.no_delay;
+        self.head = SendingHead::new_at(first, self.first_timeout);
+        self.head.no_delay = no_delay;
+    }
+
+    /// Enqueues the first of these bytes, as many as there is room for, and returns how many.
+    ///
+    /// ```
+    /// # use net_tcp::SendingEnd;
+    /// # use net_tcp::{Announcement, TimeoutBounds};
+    /// # use net_base::time::{Duration, Instant};
+    /// # let mut storage = [0u8; 64];
+    /// # let (second, bounds) = (Duration::from_secs(1), TimeoutBounds::default());
+    /// # let mut sending = SendingEnd::<4>::new_at(&mut storage[..], 100, second, bounds);
+    /// assert_eq!((sending.write(&[7; 60]), sending.write(&[7; 60])), (60, 4));
+    /// ```
+    #[must_use]
+    pub fn write(&mut self, bytes: &[u8]) -> usize {
+        self.sender.write(bytes)
+    }
+
+    /// Ends the stream after what was written.
+    ///
+    /// ```
+    /// # use net_tcp::SendingEnd;
+    /// # use net_tcp::{Announcement, Sack, TimeoutBounds};
+    /// # use net_base::time::{Duration, Instant};
+    /// # let mut storage = [0u8; 64];
+    /// # let (second, bounds) = (Duration::from_secs(1), TimeoutBounds::default());
+    /// # let mut sending = SendingEnd::<4>::new_at(&mut storage[..], 100, second, bounds);
+    /// # sending.open(Announcement { seq: 1, ack: 100, window: 1000 }, 8, Sack::Permitted, Instant::ZERO);
+    /// let _taken = sending.write(b"abc");
+    /// sending.close();
+    /// // The end has a number, too.
+    /// let segment = sending.next_segment(1200, Instant::ZERO).expect("three bytes and the end");
+    /// assert_eq!((segment.pos, segment.end), (100, 104));
+    /// ```
+    pub fn close(&mut self) {
+        self.sender.close();
+    }
+
+    /// Lends the bytes of a segment, in two parts, and returns whether the stream ends after them. If the range begins
+    /// at a position that is acknowledged, it lends none.
+    ///
+    /// ```
+    /// # use net_tcp::SendingEnd;
+    /// # use net_base::finite::Part;
+    /// # use net_tcp::{Announcement, Sack, TimeoutBounds};
+    /// # use net_base::time::{Duration, Instant};
+    /// # let mut storage = [0u8; 64];
+    /// # let (second, bounds) = (Duration::from_secs(1), TimeoutBounds::default());
+    /// # let mut sending = SendingEnd::<4>::new_at(&mut storage[..], 100, second, bounds);
+    /// # sending.open(Announcement { seq: 1, ack: 100, window: 1000 }, 8, Sack::Permitted, Instant::ZERO);
+    /// let _taken = sending.write(b"abc");
+    /// sending.close();
+    /// let segment = sending.next_segment(1200, Instant::ZERO).expect("three bytes and the end");
+    /// let bytes = sending.bytes(segment.range());
+    /// assert_eq!((bytes.front, bytes.back, bytes.part), (&b"abc"[..], &b""[..], Part::Last));
+    /// ```
+    #[must_use]
+    pub fn bytes(&self, range: Range<u64>) -> SegmentBytes<'_> {
+        lend(&self.sender, range)
+    }
+
+    /// Returns whether all that was written is acknowledged, and the end.
+    ///
+    /// ```
+    /// # use net_tcp::{AckSegment, SendingEnd};
+    /// # use net_tcp::{Announcement, Sack, TimeoutBounds};
+    /// # use net_base::time::{Duration, Instant};
+    /// # let mut storage = [0u8; 64];
+    /// # let (second, bounds) = (Duration::from_secs(1), TimeoutBounds::default());
+    /// # let mut sending = SendingEnd::<4>::new_at(&mut storage[..], 100, second, bounds);
+    /// # sending.open(Announcement { seq: 1, ack: 100, window: 1000 }, 8, Sack::Permitted, Instant::ZERO);
+    /// let _taken = sending.write(b"abc");
+    /// sending.close();
+    /// let now = Instant::ZERO;
+    /// let _segment_to_send = sending.next_segment(1200, now);
+    /// assert!(!sending.is_done());
+    /// let announcement = Announcement { seq: 1, ack: 104, window: 1000 };
+    /// let _taken = sending.acknowledged(announcement, &[], AckSegment::Pure, now);
+    /// assert!(sending.is_done());
+    /// ```
+    #[must_use]
+    pub fn is_done(&self) -> bool {
+        self.sender.is_closed_and_acknowledged()
+    }
+
+    /// Returns how many bytes `write` would take.
+    #[must_use]
+    pub fn window(&self) -> usize {
+        self.sender.window()
+    }
+}
+
+impl<S: Storage<u8>, const N: usize> SendingEndOver<S, N> {
+    /// Begins with a peer, whose SYN announced a window, how many bytes a segment may have, and whether it reports
+    /// blocks: one that doesn't couldn't answer a probe, and is sent none. What was written stays. It is done
+    /// once, before anything is sent; a second time begins with another peer, and the timer runs if something is in
+    /// flight.
+    ///
+    /// ```
+    /// # use net_tcp::SendingEnd;
+    /// # use net_tcp::{Announcement, Sack, TimeoutBounds};
+    /// # use net_base::time::{Duration, Instant};
+    /// # let mut storage = [0u8; 64];
+    /// # let (second, bounds) = (Duration::from_secs(1), TimeoutBounds::default());
+    /// # let mut sending = SendingEnd::<4>::new_at(&mut storage[..], 100, second, bounds);
+    /// let announcement = Announcement { seq: 1, ack: 100, window: 1000 };
+    /// sending.open(announcement, 536, Sack::Permitted, Instant::ZERO);
+    /// assert_eq!(sending.segment_size(), 536);
+    /// ```
+    pub fn open(&mut self, it: Announcement, segment_size: usize, sack: Sack, now: Instant) {
+        let numbers = self.numbers();
+        self.head.open(numbers, self.first_timeout, it, segment_size, sack, now);
+    }
+
+    /// Begins again without a peer: the timer stops, unless something is in flight. What was written stays.
+    pub fn forget(&mut self, now: Instant) {
+        let numbers = self.numbers();
+        self.head.forget(numbers, self.first_timeout, now);
+    }
+
+    /// Returns whether a SYN is to be sent now, the first one or one after a timeout, and starts the timer for the
+    /// next. Ask it only until something is acknowledged, at which it doesn't look.
+    ///
+    /// ```
+    /// # use net_tcp::SendingEnd;
+    /// # use net_tcp::{Announcement, TimeoutBounds};
+    /// # use net_base::time::{Duration, Instant};
+    /// # let mut storage = [0u8; 64];
+    /// # let (second, bounds) = (Duration::from_secs(1), TimeoutBounds::default());
+    /// # let mut sending = SendingEnd::<4>::new_at(&mut storage[..], 100, second, bounds);
+    /// // A SYN is sent now, and again after a second.
+    /// assert!(sending.is_opening_due(Instant::ZERO));
+    /// assert!(!sending.is_opening_due(Instant::from_millis(999)));
+    /// assert!(sending.is_opening_due(Instant::from_secs(1)));
+    /// ```
+    pub fn is_opening_due(&mut self, now: Instant) -> bool {
+        self.head.is_opening_due(self.bounds, now)
+    }
+
+    /// Takes what a segment acknowledges and announces, the blocks that it reports, and whether it has anything
+    /// besides. Whatever it says, the end stays sound.
+    ///
+    /// A block counts that begins above the first number that isn't reported, has a number, and ends where something
+    /// was sent and less than 2^32 above that one, if what is reported beyond that one is at most `N` runs then. Any
+    /// other block says nothing.
+    ///
+    /// ```
+    /// # use net_tcp::{AckSegment, Acknowledged, SendingEnd};
+    /// # use net_tcp::{Announcement, Sack, TimeoutBounds};
+    /// # use net_base::time::{Duration, Instant};
+    /// # let mut storage = [0u8; 64];
+    /// # let (second, bounds) = (Duration::from_secs(1), TimeoutBounds::default());
+    /// # let mut sending = SendingEnd::<4>::new_at(&mut storage[..], 100, second, bounds);
+    /// # sending.open(Announcement { seq: 1, ack: 100, window: 1000 }, 8, Sack::Permitted, Instant::ZERO);
+    /// let (now, _taken) = (Instant::ZERO, sending.write(&[7; 32]));
+    /// while let Some(_segment_to_send) = sending.next_segment(1200, now) {}
+    /// // The first of four segments is missing, and the other three have come: a recovery begins.
+    /// let announcement = Announcement { seq: 1, ack: 100, window: 1000 };
+    /// let taken = sending.acknowledged(announcement, &[108..132], AckSegment::Pure, now);
+    /// assert_eq!(taken, Acknowledged::Taken { new: 0, reports: true, begins: true });
+    /// let segment = sending.next_segment(1200, now).expect("what was lost");
+    /// assert_eq!((segment.pos, segment.end, segment.is_again), (100, 108, true));
+    /// ```
+    pub fn acknowledged(
+        &mut self,
+        it: Announcement,
+        blocks: &[Range<u64>],
+        segment: AckSegment,
+        now: Instant,
+    ) -> Acknowledged {
+        let numbers = self.numbers();
+        let said = self.head.acknowledged(
+            &mut self.runs,
+            numbers,
+            self.bounds,
+            it,
+            blocks,
+            is_pure(segment),
+            now,
+        );
+        let _is_taken = accept(&mut self.sender, it.ack);
+        said
+    }
+
+    /// Returns the first number that isn't acknowledged, near which those of an acknowledgement are, and the one after
+    /// the last that was sent.
+    ///
+    /// ```
+    /// # use net_tcp::SendingEnd;
+    /// # use net_tcp::{Announcement, Sack, TimeoutBounds};
+    /// # use net_base::time::{Duration, Instant};
+    /// # let mut storage = [0u8; 64];
+    /// # let (second, bounds) = (Duration::from_secs(1), TimeoutBounds::default());
+    /// # let mut sending = SendingEnd::<4>::new_at(&mut storage[..], 100, second, bounds);
+    /// # sending.open(Announcement { seq: 1, ack: 100, window: 1000 }, 8, Sack::Permitted, Instant::ZERO);
+    /// let _taken = sending.write(b"abc");
+    /// let _segment_to_send = sending.next_segment(1200, Instant::ZERO);
+    /// let numbers = sending.numbers();
+    /// assert_eq!((numbers.first_unacknowledged, numbers.sent), (100, 103));
+    /// ```
+    #[must_use]
+    pub fn numbers(&self) -> SentNumbers {
+        self.sender.sent_numbers()
+    }
+
+    /// Returns what the sender has sent, and what is queued.
+    fn queued(&self) -> Queued {
+        Queued {
+            numbers: self.sender.sent_numbers(),
+            end: self.sender.numbers_end(),
+            is_closed: self.sender.is_closed(),
+        }
+    }
+
+    /// Returns whether the timer has ended, and what that means. If it has, it starts again, and `next_segment` returns
+    /// what is then to be sent.
+    ///
+    /// ```
+    /// # use net_tcp::{Expired, SendingEnd};
+    /// # use net_tcp::{Announcement, Sack, TimeoutBounds};
+    /// # use net_base::time::{Duration, Instant};
+    /// # let mut storage = [0u8; 64];
+    /// # let (second, bounds) = (Duration::from_secs(1), TimeoutBounds::default());
+    /// # let mut sending = SendingEnd::<4>::new_at(&mut storage[..], 100, second, bounds);
+    /// # sending.open(Announcement { seq: 1, ack: 100, window: 1000 }, 8, Sack::Permitted, Instant::ZERO);
+    /// let _taken = sending.write(b"abc");
+    /// let _segment_to_send = sending.next_segment(1200, Instant::ZERO);
+    /// let now = sending.expires_at().expect("something is in flight");
+    /// assert_eq!((sending.expired(now), sending.timeouts()), (Expired::Lost, 1));
+    /// let segment = sending.next_segment(1200, now).expect("what was lost");
+    /// assert!(segment.is_again);
+    /// ```
+    pub fn expired(&mut self, now: Instant) -> Expired {
+        match self.head.timer.expire(self.bounds, now) {
+            Some(Expiry::Probe) => {
+                let queued = self.queued();
+                self.head.take_silence(&self.runs, queued)
+            }
+            Some(Expiry::Timeout) => {
+                let queued = self.queued();
+                self.head.take_timeout(queued)
+            }
+            None => Expired::No,
+        }
+    }
+
+    /// Returns the segment that is to be sent now, and takes notice that it is: if the peer's window and the congestion
+    /// window have room for one, or as a probe. What was never sent is held back if it is less than a segment, unless
+    /// it is all that is left, or half of the greatest window that the peer announced (RFC 9293, 3.8.6.2.1), and
+    /// Nagle's rule doesn't have it wait. Once the timer has ended, the next segment isn't held back. While anything
+    /// that was written isn't acknowledged, the timer runs.
+    ///
+    /// ```
+    /// # use net_tcp::SendingEnd;
+    /// # use net_tcp::{Announcement, Sack, TimeoutBounds};
+    /// # use net_base::time::{Duration, Instant};
+    /// # let mut storage = [0u8; 64];
+    /// # let (second, bounds) = (Duration::from_secs(1), TimeoutBounds::default());
+    /// # let mut sending = SendingEnd::<4>::new_at(&mut storage[..], 100, second, bounds);
+    /// # sending.open(Announcement { seq: 1, ack: 100, window: 1000 }, 8, Sack::Permitted, Instant::ZERO);
+    /// let _taken = sending.write(&[7; 20]);
+    /// // 16 positions may be in flight: two segments of 8.
+    /// let mut sent = vec![];
+    /// while let Some(segment) = sending.next_segment(16, Instant::ZERO) {
+    ///     sent.push((segment.pos, segment.end));
+    /// }
+    /// assert_eq!(sent, [(100, 108), (108, 116)]);
+    /// ```
+    pub fn next_segment(&mut self, congestion_window: u64, now: Instant) -> Option<Outgoing> {
+        let queued = self.queued();
+        let Some(it) =
+            self.head.next_segment(&self.runs, queued, self.bounds, congestion_window, now)
+        else {
+            return None;
+        };
+        let _is_written = mark(&mut self.sender, it.end);
+        Some(it)
+    }
+
+    /// Returns when `expired` is to be asked.
+    ///
+    /// ```
+    /// # use net_tcp::SendingEnd;
+    /// # use net_tcp::{Announcement, Sack, TimeoutBounds};
+    /// # use net_base::time::{Duration, Instant};
+    /// # let mut storage = [0u8; 64];
+    /// # let (second, bounds) = (Duration::from_secs(1), TimeoutBounds::default());
+    /// # let mut sending = SendingEnd::<4>::new_at(&mut storage[..], 100, second, bounds);
+    /// # sending.open(Announcement { seq: 1, ack: 100, window: 1000 }, 8, Sack::Permitted, Instant::ZERO);
+    /// assert_eq!(sending.expires_at(), None);
+    /// let _taken = sending.write(b"abc");
+    /// let _segment_to_send = sending.next_segment(1200, Instant::from_millis(5));
+    /// assert_eq!(sending.expires_at(), Some(Instant::from_millis(1_005)));
+    /// ```
+    #[must_use]
+    pub fn expires_at(&self) -> Option<Instant> {
+        self.head.timer.expires_at()
+    }
+
+    /// Returns how often the timeout has passed in a row, without anything new that was acknowledged or reported in
+    /// between, that of a SYN too: enough of them, and the peer is gone. Probes of a window that is shut count too,
+    /// though each is answered.
+    #[must_use]
+    pub fn timeouts(&self) -> u64 {
+        self.head.timer.timeouts()
+    }
+
+    /// Returns the smoothed time of a round trip, once there was a sample.
+    #[must_use]
+    pub fn round_trip(&self) -> Option<Duration> {
+        self.head.round_trip()
+    }
+
+    /// Returns whether the last recovery was for nothing, and ends it then: nothing that was found lost is missing but
+    /// what was sent again, and all that was sent again came twice (RFC 3708). Then the congestion window may be what
+    /// it was when the recovery began. Ask it after each acknowledgement, an old one too. It is true once: not before
+    /// another recovery begins.
+    ///
+    /// ```
+    /// # use net_tcp::{AckSegment, SendingEnd};
+    /// # use net_tcp::{Announcement, Sack, TimeoutBounds};
+    /// # use net_base::time::{Duration, Instant};
+    /// # let mut storage = [0u8; 64];
+    /// # let (second, bounds) = (Duration::from_secs(1), TimeoutBounds::default());
+    /// # let mut sending = SendingEnd::<4>::new_at(&mut storage[..], 100, second, bounds);
+    /// # sending.open(Announcement { seq: 1, ack: 100, window: 1000 }, 8, Sack::Permitted, Instant::ZERO);
+    /// let (now, _taken) = (Instant::ZERO, sending.write(&[7; 64]));
+    /// while let Some(_segment_to_send) = sending.next_segment(1200, now) {}
+    /// // Three segments beyond the first were reported: halve the congestion window, and send it again.
+    /// let announcement = Announcement { seq: 1, ack: 100, window: 1000 };
+    /// let _taken = sending.acknowledged(announcement, &[108..132], AckSegment::Pure, now);
+    /// let _segment_to_send = sending.next_segment(1200, now).expect("what was lost");
+    /// // It came twice: the first one was late, and not lost.
+    /// let announcement = Announcement { seq: 1, ack: 132, window: 1000 };
+    /// let _taken = sending.acknowledged(announcement, &[100..108], AckSegment::Pure, now);
+    /// assert!(sending.take_back()); // so undo that
+    /// ```
+    #[must_use]
+    pub fn take_back(&mut self) -> bool {
+        let numbers = self.numbers();
+        self.head.buffer.take_back(&self.runs, numbers)
+    }
+
+    /// Returns whether a recovery lasts.
+    ///
+    /// ```
+    /// # use net_tcp::{AckSegment, SendingEnd};
+    /// # use net_tcp::{Announcement, Sack, TimeoutBounds};
+    /// # use net_base::time::{Duration, Instant};
+    /// # let mut storage = [0u8; 64];
+    /// # let (second, bounds) = (Duration::from_secs(1), TimeoutBounds::default());
+    /// # let mut sending = SendingEnd::<4>::new_at(&mut storage[..], 100, second, bounds);
+    /// # sending.open(Announcement { seq: 1, ack: 100, window: 1000 }, 8, Sack::Permitted, Instant::ZERO);
+    /// let (now, _taken) = (Instant::ZERO, sending.write(&[7; 32]));
+    /// while let Some(_segment_to_send) = sending.next_segment(1200, now) {}
+    /// let announcement = Announcement { seq: 1, ack: 100, window: 1000 };
+    /// let _taken = sending.acknowledged(announcement, &[108..132], AckSegment::Pure, now);
+    /// assert!(sending.is_recovering()); // until all is acknowledged that was sent by now
+    /// ```
+    #[must_use]
+    pub fn is_recovering(&self) -> bool {
+        self.head.buffer.recovery.is_active(self.numbers())
+    }
+
+    /// Returns how many numbers were sent and aren't acknowledged.
+    #[must_use]
+    pub fn flight_size(&self) -> u64 {
+        self.numbers().flight_size()
+    }
+
+    /// Returns the number of a segment without positions.
+    ///
+    /// ```
+    /// # use net_tcp::SendingEnd;
+    /// # use net_tcp::{Announcement, Sack, TimeoutBounds};
+    /// # use net_base::time::{Duration, Instant};
+    /// # let mut storage = [0u8; 64];
+    /// # let (second, bounds) = (Duration::from_secs(1), TimeoutBounds::default());
+    /// # let mut sending = SendingEnd::<4>::new_at(&mut storage[..], 100, second, bounds);
+    /// # sending.open(Announcement { seq: 1, ack: 100, window: 1000 }, 8, Sack::Permitted, Instant::ZERO);
+    /// let _taken = sending.write(b"abc");
+    /// let _segment_to_send = sending.next_segment(1200, Instant::ZERO);
+    /// assert_eq!(sending.acknowledgement_number(), 103);
+    /// ```
+    #[must_use]
+    pub fn acknowledgement_number(&self) -> u64 {
+        self.head.peer_window.acknowledgement_number(self.numbers())
+    }
+
+    /// Enables Nagle's rule (RFC 9293, 3.7.4), or disables it. While something that was sent isn't acknowledged, less
+    /// than a whole segment waits by it, unless the stream is closed or the timer has ended. It is enabled at first, as
+    /// in a socket of smoltcp: the RFC wants it so. Disable it where few bytes are written at a time, and none of them
+    /// is to wait.
+    ///
+    /// ```
+    /// # use net_tcp::SendingEnd;
+    /// # use net_tcp::{Announcement, Sack, TimeoutBounds};
+    /// # use net_base::time::{Duration, Instant};
+    /// # let mut storage = [0u8; 64];
+    /// # let (second, bounds) = (Duration::from_secs(1), TimeoutBounds::default());
+    /// # let mut sending = SendingEnd::<4>::new_at(&mut storage[..], 100, second, bounds);
+    /// # sending.open(Announcement { seq: 1, ack: 100, window: 1000 }, 8, Sack::Permitted, Instant::ZERO);
+    /// let (now, _taken) = (Instant::ZERO, sending.write(b"abc"));
+    /// let _segment_to_send = sending.next_segment(1200, now);
+    /// // Three more bytes are less than a segment, and something is in flight.
+    /// let _taken = sending.write(b"def");
+    /// assert_eq!(sending.next_segment(1200, now), None);
+    /// sending.set_nagle_enabled(false);
+    /// assert!(sending.next_segment(1200, now).is_some());
+    /// ```
+    pub fn set_nagle_enabled(&mut self, enabled: bool) {
+        self.head.set_nagle_enabled(enabled);
+    }
+
+    /// Returns whether Nagle's rule is enabled.
+    #[must_use]
+    pub fn nagle_enabled(&self) -> bool {
+        self.head.nagle_enabled()
+    }
+
+    /// Returns the most bytes of a segment.
+    #[must_use]
+    pub fn segment_size(&self) -> usize {
+        self.head.segment_size()
+    }
+}
