@@ -32,7 +32,8 @@ use crate::storage::{Listed, Run, Storage, TooManyHolesError};
 
 pub use crate::stream::{
     FiniteError, FiniteReceiver, FiniteReceiverOver, FiniteSender, FiniteSenderOver, LentBytes,
-    Part, RangeAck, SegmentBytes, SendBuffer, SendBufferOver, SentNumbers, StreamReceiver, StreamReceiverOver,
+    Part, RangeAck, SegmentBytes, SendBuffer, SendBufferOver, SentNumbers, StreamReceiver,
+    StreamReceiverOver,
 };
 
 impl From<TooManyHolesError> for FiniteError {
