@@ -58,8 +58,8 @@
  * its kind says. Storage, runs and slots need no particular values. Lengths are in elements; a
  * length of 0 is allowed, of runs too: then no run is held. A length, an index or a count is a
  * `size_t`, a position or a time a `uint64_t` or an `int64_t` on every processor. A time is in
- * microseconds. A flag of a head or a slot is as wide as the number beside it, so that they have no
- * padding; a sum in parts has a `bool`.
+ * microseconds. A flag of a slot, or of a packet in fragments, is as wide as the number beside it;
+ * others are a `bool`.
  *
  * Fields of a head may be read: `length` is how many elements are queued, `used` how many runs are
  * stored. `start` and `end` of a stored run are offsets from `first_start` of the head, so the
@@ -91,13 +91,13 @@
  * Refusals
  *
  * All else that a call needs is tested. Nonsense in arguments, as a null pointer but to a slice of
- * length 0, is refused before anything else. A refused call changes nothing. It returns `false`
- * where it returns a `bool`, and one whose comment names no answer returns `true` where it is done;
- * where it returns one of these alone or as the first field of a struct, the `NET_BASE_.._REFUSED`
- * of a status, `NET_BASE_NONE` of a `size_t`, `UINT64_MAX` of a `uint64_t`; and 0 of another
- * number, which is refused for null alone. A test whose failure makes a packet unsafe returns
- * `true`, as its comment says. `NET_BASE_.._REFUSED` always means a refusal; the others can also be
- * results of calls that are done.
+ * length 0, or to a struct whose `bool` is neither 0 nor 1, is refused before anything else. A
+ * refused call changes nothing. It returns `false` where it returns a `bool`, and one whose comment
+ * names no answer returns `true` where it is done; where it returns one of these alone or as the
+ * first field of a struct, the `NET_BASE_.._REFUSED` of a status, `NET_BASE_NONE` of a `size_t`,
+ * `UINT64_MAX` of a `uint64_t`; and 0 of another number, which is refused for these alone. A test
+ * whose failure makes a packet unsafe returns `true`, as its comment says. `NET_BASE_.._REFUSED`
+ * always means a refusal; the others can also be results of calls that are done.
  *
  * A `bool` answers a question, or that a call was done. A status says what became of a call that
  * can end in more ways: what is done is 0, as in other libraries of C. Only what to do with a
@@ -148,7 +148,7 @@
 /** The number of this interface. It is in the name that each function is linked by, so that no
  * library of another version links or loads.
  */
-#define NET_BASE_INTERFACE 6
+#define NET_BASE_INTERFACE 7
 /** @cond */
 #ifdef NET_BASE_PLAIN_NAMES /* without the number, as in a library of another maker */
 #define NET_BASE_LINK(name)
@@ -217,7 +217,7 @@
 #else
 #define NET_BASE_TEXT(text) #text
 #define NET_BASE_LABEL(before, name) __asm__(NET_BASE_TEXT(before) name)
-#define NET_BASE_LINK(name) NET_BASE_LABEL(__USER_LABEL_PREFIX__, "net_base_6_" #name)
+#define NET_BASE_LINK(name) NET_BASE_LABEL(__USER_LABEL_PREFIX__, "net_base_7_" #name)
 #endif
 /** @endcond */
 
@@ -824,11 +824,11 @@ struct net_base_receiving {
     uint64_t newest; /**< The position of the newest segment. */
     uint64_t recent[4]; /**< The starts of the runs that were listed last. */
     struct net_base_held_run duplicate; /**< What came twice, and wasn't reported yet. */
-    uint32_t has_duplicate; /**< Not 0 if anything came twice, and wasn't reported yet. */
     uint16_t segment_size; /**< The most bytes of a segment. */
     uint8_t scale; /**< The scale of the windows. */
     /** How many segments wait for an acknowledgement, 2 at most: it is due if as many do. */
     uint8_t unanswered;
+    bool has_duplicate; /**< Whether anything came twice, and wasn't reported yet. */
 };
 
 /** The receiving end of a stream.
@@ -1004,18 +1004,16 @@ struct net_base_loss_recovery {
     uint64_t sent; /**< The number after the last one that was sent when `resume` was set. */
     uint64_t later; /**< How many positions were sent again from `resume` on since then. */
     uint64_t probe; /**< Where the probe begins that wasn't answered, if there is one. */
-    uint64_t has_probe; /**< Not 0 while a probe wasn't answered. */
     uint64_t asked; /**< The number after the last one that was sent when the probe was. */
-    uint64_t is_blind; /**< Not 0 if the peer doesn't report what has arrived, as the SYNs say. */
     uint64_t unknown; /**< How many positions have arrived that it doesn't report. */
     uint64_t round; /**< Until all positions below this one are acknowledged, `duplicates` stays. */
     uint64_t since; /**< The first position that wasn't acknowledged when the recovery began. */
     /** How many positions were sent again since then, less those that came twice. */
     uint64_t copies;
-    /** How many segments above a position tell that it is lost, if `has_duplicates` isn't 0; else 3
-     * do. */
+    /** How many segments above a position tell that it is lost. Fewer than 3 count as 3. */
     size_t duplicates;
-    size_t has_duplicates; /**< Not 0 once `duplicates` counts. */
+    bool has_probe; /**< Whether a probe wasn't answered. */
+    bool is_blind; /**< Whether the peer doesn't report what has arrived, as the SYNs say. */
 };
 
 /** What was reported and what is lost of what a sender has sent: a scoreboard, and a recovery. Its
@@ -1034,22 +1032,22 @@ struct net_base_retransmission_timer {
      * don't exceed. */
     uint64_t srtt_8;
     uint64_t rttvar_4; /**< Four times its variation. No more than 2^62 of it counts. */
-    uint64_t has_estimate; /**< Not 0 once there was a sample. */
-    uint64_t timeout; /**< The timeout, if `has_timeout` isn't 0; else it is 1 second. */
-    uint64_t has_timeout; /**< Not 0 once `timeout` counts. */
+    uint64_t timeout; /**< The timeout, if `has_timeout`; else it is 1 second. */
     int64_t ends_at; /**< When the timeout passes, while it runs. */
-    uint64_t is_running; /**< Not 0 while it runs. */
     int64_t probe_at; /**< When a probe is due, if the timer runs and that is earlier. */
     uint64_t wait; /**< How long the probe has waited then. The next one waits twice that. */
-    uint64_t is_alone; /**< Not 0 while it waits for an acknowledgement that may be delayed. */
     uint64_t timed; /**< The position of the timed segment, if there is one. */
     int64_t timed_since; /**< When that was sent. */
-    uint64_t is_timing; /**< Not 0 while a segment is timed. */
     uint64_t last; /**< Where the last segment begins that had something new. */
     /** How often the timeout has passed since anything new was acknowledged or reported. */
     uint64_t timeouts;
-    uint64_t reports; /**< Not 0 if the peer reports blocks. */
     uint64_t prompt; /**< How many samples in a row of one segment alone weren't late, up to 8. */
+    bool has_estimate; /**< Whether there was a sample. */
+    bool has_timeout; /**< Whether `timeout` counts: always but in a timer of zeros. */
+    bool is_running; /**< Whether it runs. */
+    bool is_alone; /**< Whether it waits for an acknowledgement that may be delayed. */
+    bool is_timing; /**< Whether a segment is timed. */
+    bool reports; /**< Whether the peer reports blocks. */
 };
 
 /** The window that the peer announced, and the segment that it is from. It is kept as its right
@@ -1071,13 +1069,13 @@ struct net_base_sending {
     uint64_t greatest_window; /**< The greatest window that the peer ever announced. */
     uint64_t last_window; /**< The window that it announced last. */
     size_t segment_size; /**< The most bytes of a segment. 0 counts as 1. */
-    size_t no_delay; /**< Not 0 if Nagle's rule is disabled. */
-    uint64_t is_open; /**< Not 0 once the peer has acknowledged anything, if only the own SYN. */
-    /** Not 0 if the timeout has passed and nothing was sent since then: nothing is held back, and
-     * if the window is shut, the next segment is a probe of it. */
-    uint64_t is_window_probe_due;
-    /** Not 0 if the next segment is a probe for an answer, if nothing else may be sent. */
-    uint64_t is_overdue;
+    bool no_delay; /**< Whether Nagle's rule is disabled. */
+    bool is_open; /**< Whether the peer has acknowledged anything, if only the own SYN. */
+    /** Whether the timeout has passed and nothing was sent since then: nothing is held back, and if
+     * the window is shut, the next segment is a probe of it. */
+    bool is_window_probe_due;
+    /** Whether the next segment is a probe for an answer, if nothing else may be sent. */
+    bool is_overdue;
 };
 
 /** The bounds of a timeout, the tick of the clock that the samples are read from, and how long a
@@ -1103,9 +1101,8 @@ struct net_base_timeout_bounds {
  * `net_base_sending_end_bytes` where it is. At the moment of `net_base_sending_end_expires_at` the
  * timer is asked by `net_base_sending_end_expired`.
  *
- * A flag of `head` holds if it isn't 0. A call that sets it writes 1, and each other call leaves
- * what a program wrote. A number whose flag is 0 doesn't count, whatever it is. A timeout of 0
- * that counts passes at once, and then becomes the least one; no call writes such a timeout. */
+ * A number whose flag is false doesn't count, whatever it is. A timeout of 0 that counts passes at
+ * once, and then becomes the least one; no call writes such a timeout. */
 struct net_base_sending_end {
     struct net_base_finite_sender sender; /**< The sender. */
     struct net_base_run runs[16]; /**< The runs of what was reported. */

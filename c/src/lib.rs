@@ -30,13 +30,17 @@ macro_rules! export {
         export! { @ $link, $call, [$($more)*] [$($c)* $it: *const $of, length: usize,]
             [$($get)* ($it = slice($it, length), $it, length, size_of::<$of>(), false)] [$($pass)* $it,] $($rest)* }
     };
+    (@ $link:literal, $call:path, [$it:ident: new &mut $of:ty, $($more:tt)*] [$($c:tt)*] [$($get:tt)*] [$($pass:tt)*] $($rest:tt)*) => {
+        export! { @ $link, $call, [$($more)*] [$($c)* $it: *mut $of,]
+            [$($get)* ($it = new_mut($it), $it, 1, size_of::<$of>(), true)] [$($pass)* $it,] $($rest)* }
+    };
     (@ $link:literal, $call:path, [$it:ident: &mut $of:ty, $($more:tt)*] [$($c:tt)*] [$($get:tt)*] [$($pass:tt)*] $($rest:tt)*) => {
         export! { @ $link, $call, [$($more)*] [$($c)* $it: *mut $of,]
-            [$($get)* ($it = $it.as_mut(), $it, 1, size_of::<$of>(), true)] [$($pass)* $it,] $($rest)* }
+            [$($get)* ($it = value_mut($it), $it, 1, size_of::<$of>(), true)] [$($pass)* $it,] $($rest)* }
     };
     (@ $link:literal, $call:path, [$it:ident: &$of:ty, $($more:tt)*] [$($c:tt)*] [$($get:tt)*] [$($pass:tt)*] $($rest:tt)*) => {
         export! { @ $link, $call, [$($more)*] [$($c)* $it: *const $of,]
-            [$($get)* ($it = $it.as_ref(), $it, 1, size_of::<$of>(), false)] [$($pass)* $it,] $($rest)* }
+            [$($get)* ($it = value($it), $it, 1, size_of::<$of>(), false)] [$($pass)* $it,] $($rest)* }
     };
     (@ $link:literal, $call:path, [$it:ident: $of:ty, $($more:tt)*] [$($c:tt)*] [$($get:tt)*] [$($pass:tt)*] $($rest:tt)*) => {
         export! { @ $link, $call, [$($more)*] [$($c)* $it: $of,] [$($get)*] [$($pass)* $it,] $($rest)* }
@@ -99,6 +103,99 @@ unsafe fn slice_mut<'a, T>(pointer: *mut T, length: usize) -> Option<&'a mut [T]
     }
     // SAFETY: the caller's duty, if it isn't null.
     (!pointer.is_null()).then(|| unsafe { from_raw_parts_mut(pointer, length) })
+}
+
+/// A type that C passes a pointer to.
+trait Passed {
+    /// Its flags, one or more in each byte that isn't 0: they are 0 or 1 if no other bit is set.
+    ///
+    /// # Safety
+    ///
+    /// The duties of `net_base.h` on memory.
+    #[inline(always)]
+    unsafe fn flags(_: *const Self) -> u32 {
+        0
+    }
+
+    /// Makes each of its flags 0 or 1, and leaves those that are.
+    ///
+    /// # Safety
+    ///
+    /// The duties of `net_base.h` on memory.
+    #[inline(always)]
+    unsafe fn mask(_: *mut Self) {}
+}
+
+/// Four flags, as a word; and two, and one.
+///
+/// # Safety
+///
+/// The duties of `net_base.h` on memory.
+#[inline(always)]
+unsafe fn four(at: *const u8) -> u32 {
+    // SAFETY: the caller's duty.
+    unsafe { at.cast::<u32>().read_unaligned() }
+}
+
+#[inline(always)]
+unsafe fn two(at: *const u8) -> u32 {
+    // SAFETY: the caller's duty.
+    u32::from(unsafe { at.cast::<u16>().read_unaligned() })
+}
+
+#[inline(always)]
+unsafe fn one(at: *const u8) -> u32 {
+    // SAFETY: the caller's duty.
+    u32::from(unsafe { at.read() })
+}
+
+/// Makes each of so many flags 0 or 1.
+#[inline(always)]
+unsafe fn mask(at: *mut u8, count: usize) {
+    for it in 0..count {
+        // SAFETY: the caller's duty.
+        unsafe { *at.add(it) &= 1 };
+    }
+}
+
+/// The value that C passes a pointer to: none if that is null, or if a flag of it is neither 0 nor 1, so that no `bool`
+/// is invalid whatever the memory holds.
+///
+/// # Safety
+///
+/// The duties of `net_base.h` on memory.
+#[inline(always)]
+unsafe fn value<'a, T: Passed>(pointer: *const T) -> Option<&'a T> {
+    // SAFETY: the caller's duty, if it isn't null.
+    (!pointer.is_null() && unsafe { T::flags(pointer) } & !0x0101_0101 == 0).then(|| unsafe { &*pointer })
+}
+
+/// The same of one that is written.
+///
+/// # Safety
+///
+/// The duties of `net_base.h` on memory.
+#[inline(always)]
+unsafe fn value_mut<'a, T: Passed>(pointer: *mut T) -> Option<&'a mut T> {
+    // SAFETY: the caller's duty, if it isn't null.
+    (!pointer.is_null() && unsafe { T::flags(pointer) } & !0x0101_0101 == 0).then(|| unsafe { &mut *pointer })
+}
+
+/// The same of one that is made: its memory may have held anything.
+///
+/// # Safety
+///
+/// The duties of `net_base.h` on memory.
+#[inline(always)]
+unsafe fn new_mut<'a, T: Passed>(pointer: *mut T) -> Option<&'a mut T> {
+    if pointer.is_null() {
+        return None;
+    }
+    // SAFETY: the caller's duty.
+    unsafe {
+        T::mask(pointer);
+        Some(&mut *pointer)
+    }
 }
 
 // Rust's core library comes compiled for panics that unwind, and names this where it is linked without an optimization

@@ -121,7 +121,7 @@ fn copy(mut old: Buffer, new: &mut Buffer) {
     let bytes = old.bytes(first..old.numbers_end());
     let written = new.write(bytes.front) + new.write(bytes.back);
     debug_assert_eq!(first + written as u64, old.numbers_end());
-    let mut is_taken = new.mark(first..sent);
+    let mut is_taken = first == sent || new.mark(first..sent);
     let lost: Vec<_> = take_open(&mut old, sent).collect();
     // No call lists what is acknowledged: it is what lies between the ranges that aren't.
     old.lose_all();

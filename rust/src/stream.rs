@@ -4,7 +4,6 @@ pub(crate) mod finite_receiver;
 pub(crate) mod finite_receiver_head;
 pub(crate) mod finite_sender;
 pub(crate) mod finite_sender_head;
-pub(crate) mod flags;
 pub(crate) mod held_runs;
 pub(crate) mod kept;
 pub(crate) mod numbering;

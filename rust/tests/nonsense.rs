@@ -43,7 +43,7 @@ fn send_buffers() {
             }
             9 => buffer.lose_all(),
             10 => assert!(buffer.bytes(from..to).front.len() <= 16),
-            11 => assert_eq!(buffer.mark(from..to), to <= buffer.numbers_end()),
+            11 => assert_eq!(buffer.mark(from..to), from < to && to <= buffer.numbers_end()),
             12 | 13 => {
                 assert_eq!(buffer.lose(from..to), to <= before.sent);
                 let is_lost = from < to && to <= before.sent && !buffer.is_acknowledged(from);

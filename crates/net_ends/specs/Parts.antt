@@ -1,7 +1,7 @@
 -- What a sender and the head of a sending end represent.
 --     end_of s h runs first_timeout bounds      an end
 --     marked s said      the sender after what is said of a segment
-use Rattle.std.specs.Prelude.{ℕ, List, max, not, nat_eq, Option, Some, None}
+use Rattle.std.specs.Prelude.{ℕ, List, max, not, Option, Some, None}
 use Rattle.net_receiver.specs.FiniteSender.{FiniteSenderState, sender_after_command, Marks}
 use Rattle.net_tcp.specs.LossRecovery.{recovery_of}
 use Rattle.net_tcp.specs.Retransmission.{timer_of}
@@ -23,10 +23,10 @@ end_of s h runs first_timeout bounds = record {
   greatest = h.greatest_window;
   last = h.last_window;
   size = max h.segment_size 1;
-  is_open = not (nat_eq h.is_open 0);
-  nagle = nat_eq h.no_delay 0;
-  probes = not (nat_eq h.is_window_probe_due 0);
-  overdue = not (nat_eq h.is_overdue 0);
+  is_open = h.is_open;
+  nagle = not h.no_delay;
+  probes = h.is_window_probe_due;
+  overdue = h.is_overdue;
 }
 
 abbrev pub marked : FiniteSenderState → Option Outgoing → FiniteSenderState

@@ -4,7 +4,7 @@
 --     receiving_of s h      an end
 --     worth_at h room, field_at h room, promise_at h room      whether an update of the window is worth a segment; the
 --         window that it announces now, and the right edge which that promises
-use Rattle.std.specs.Prelude.{ℕ, ◌-◌, min, Bool, Option, None, Some, nat_le, nat_eq, if◌then◌else◌}
+use Rattle.std.specs.Prelude.{ℕ, ◌-◌, min, Bool, Option, None, Some, nat_le, if◌then◌else◌}
 use Rattle.net_tcp.specs.Windows.{announced, shift_count, worth, gain, field_for}
 use Rattle.net_receiver.specs.Finite.{FiniteState, acknowledged, is_complete}
 use Rattle.net_ends.specs.Receiving.{Receiving, free_end}
@@ -20,7 +20,7 @@ room_of s = record {
 }
 
 abbrev pub waiting : ReceivingHead → Option (ℕ × ℕ)
-waiting h = if nat_eq h.has_duplicate 0 then None else Some h.duplicate
+waiting h = if h.has_duplicate then Some h.duplicate else None
 
 abbrev pub receiving_of : FiniteState → ReceivingHead → Receiving
 receiving_of s h = record {

@@ -56,9 +56,9 @@ known_of h runs q = record {
   peer = h.peer_window;
   greatest = h.greatest_window;
   size = max h.segment_size 1;
-  nagle = nat_eq h.no_delay 0;
-  probes = not (nat_eq h.is_window_probe_due 0);
-  overdue = not (nat_eq h.is_overdue 0);
+  nagle = not h.no_delay;
+  probes = h.is_window_probe_due;
+  overdue = h.is_overdue;
 }
 
 -- of a head that looks at no run

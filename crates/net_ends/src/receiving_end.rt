@@ -1,7 +1,7 @@
 //! What receives a stream that ends.
 ghost use Rattle.std.specs.Prelude.{◌≡◌, ◌-◌, ◌+◌, ◌<◌, ◌≤◌, ℕ, min, max, length, take, drop, ◌++◌};
 ghost use Rattle.std.specs.Prelude.{nat_eq, nat_lt, nat_le, ◌&&◌, ◌||◌, not, if◌then◌else◌};
-ghost use Rattle.std.specs.Prelude.{None, List};
+ghost use Rattle.std.specs.Prelude.{None, List, false};
 ghost use Rattle.std.specs.Option.{option_to_list};
 ghost use Rattle.std.specs.Fn.{FnOnceTakesAt, FnOnceReturnsAt};
 ghost use Rattle.net_tcp.specs.Windows.{IsArrival, announced, field_for};
@@ -185,14 +185,14 @@ pub struct ReceivingHead {
     pub recent: [u64; 4],
     /// What came twice, and wasn't reported yet.
     pub duplicate: HeldRun,
-    /// Not 0 if anything came twice, and wasn't reported yet.
-    pub has_duplicate: u32,
     /// The most bytes of a segment.
     pub segment_size: u16,
     /// The scale of the windows.
     pub scale: u8,
     /// How many segments wait for an acknowledgement, 2 at most: it is due if as many do.
     pub unanswered: u8,
+    /// Whether anything came twice, and wasn't reported yet.
+    pub has_duplicate: bool,
 }
 
 impl ReceivingHead {
@@ -203,10 +203,10 @@ impl ReceivingHead {
           newest = first;
           recent = 0 ∷ 0 ∷ 0 ∷ 0 ∷ [];
           duplicate = (0, 0);
-          has_duplicate = 0;
           segment_size = segment_size;
           scale = 0;
           unanswered = 0;
+          has_duplicate = false;
         } }
     {
         ReceivingHead {
@@ -214,10 +214,10 @@ impl ReceivingHead {
             newest: first,
             recent: [0; 4],
             duplicate: HeldRun { start: 0, end: 0 },
-            has_duplicate: 0,
             segment_size,
             scale: 0,
             unanswered: 0,
+            has_duplicate: false,
         }
     }
 
@@ -230,7 +230,7 @@ impl ReceivingHead {
           newest = first;
           recent = 0 ∷ 0 ∷ 0 ∷ 0 ∷ [];
           duplicate = (0, 0);
-          has_duplicate = 0;
+          has_duplicate = false;
           segment_size = self.old.segment_size;
           scale = scale;
           unanswered = 0;
@@ -262,7 +262,7 @@ impl ReceivingHead {
     {
         if let Some((start, end)) = part {
             self.duplicate = HeldRun { start, end };
-            self.has_duplicate = 1;
+            self.has_duplicate = true;
         }
         self.newest = pos;
         self.unanswered = match kept {
@@ -362,11 +362,11 @@ impl ReceivingHead {
     /// Takes what came twice, if it is to be reported: an end in order lets go of what was held beyond it.
     pub fn take_duplicate(&mut self, next: u64, is_complete: bool) -> Option<(u64, u64)>
         ensures value { option_to_list result ≡ part_reported next is_complete (waiting self.old) }
-        ensures state { self.new ≡ record self.old { duplicate = (0, 0); has_duplicate = 0 } }
+        ensures state { self.new ≡ record self.old { duplicate = (0, 0); has_duplicate = false } }
     {
         let part = self.reported(next, is_complete);
         self.duplicate = HeldRun { start: 0, end: 0 };
-        self.has_duplicate = 0;
+        self.has_duplicate = false;
         part
     }
 
@@ -374,7 +374,7 @@ impl ReceivingHead {
     fn reported(&self, next: u64, is_complete: bool) -> Option<(u64, u64)>
         ensures { option_to_list result ≡ part_reported next is_complete (waiting self.now) }
     {
-        if self.has_duplicate == 0 {
+        if !self.has_duplicate {
             return None;
         }
         let part = self.duplicate;
@@ -811,8 +811,5 @@ fn in_front(
 fn pair_of(range: Option<Range<u64>>) -> Option<(u64, u64)>
     ensures { result ≡ pair_of range }
 {
-    match range {
-        Some(range) => Some((range.start, range.end)),
-        None => None,
-    }
+    range.map(|range| (range.start, range.end))
 }

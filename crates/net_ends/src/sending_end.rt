@@ -200,10 +200,7 @@ impl Outgoing {
 fn is_pure(segment: AckSegment) -> bool
     ensures { result ≡ is_pure segment }
 {
-    match segment {
-        AckSegment::Pure => true,
-        AckSegment::WithData => false,
-    }
+    matches!(segment, AckSegment::Pure)
 }
 
 /// The sending half of a TCP connection: its bytes, the peer's window, the retransmission timer, and what is lost. It

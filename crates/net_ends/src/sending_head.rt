@@ -35,7 +35,7 @@ ghost use Rattle.net_tcp.specs.LossRecovery.{new_recovery, no_loss, recovery_of}
 ghost use Rattle.net_tcp.specs.Retransmission.{new_timer, new_fields, started};
 ghost use Rattle.net_receiver.specs.NewHeads.{scoreboard_head};
 ghost use Rattle.net_tcp.specs.Windows.{no_window, window_from};
-ghost use Rattle.std.specs.Prelude.{List, max, nat_eq};
+ghost use Rattle.std.specs.Prelude.{List, max, true};
 ghost use Rattle.net_tcp.specs.Retransmission.{timer_of};
 ghost use Rattle.net_ends.specs.Buffers.{is_window_probe, is_tail_probe};
 ghost use Rattle.net_tcp.specs.Retransmission.{has_ended, has_expired, after_expiry};
@@ -57,8 +57,8 @@ use std::ops::Range;
 /// All of a sending end but its sender and the times that were set: what was reported and what is lost, the timer, and
 /// what the peer announced. Its calls are given the sender's numbers; who holds both has the sender take what they say.
 ///
-/// It is numbers alone, so that C has it as it is: a flag is not 0 where it holds. One of zeros is new. It is sound if
-/// the scoreboard is, with its runs.
+/// It is numbers and flags alone, so that C has it as it is. One of zeros is new. It is sound if the scoreboard is, with
+/// its runs.
 #[repr(C)]
 #[derive(Copy, Clone, Debug)]
 pub struct SendingHead {
@@ -74,15 +74,15 @@ pub struct SendingHead {
     pub last_window: u64,
     /// The most bytes of a segment. 0 counts as 1.
     pub segment_size: usize,
-    /// Not 0 if Nagle's rule is disabled.
-    pub no_delay: usize,
-    /// Not 0 once the peer has acknowledged anything, if only the own SYN.
-    pub is_open: u64,
-    /// Not 0 if the timeout has passed and nothing was sent since then: nothing is held back, and if the window is
+    /// Whether Nagle's rule is disabled.
+    pub no_delay: bool,
+    /// Whether the peer has acknowledged anything, if only the own SYN.
+    pub is_open: bool,
+    /// Whether the timeout has passed and nothing was sent since then: nothing is held back, and if the window is
     /// shut, the next segment is a probe of it.
-    pub is_window_probe_due: u64,
-    /// Not 0 if the next segment is a probe for an answer, if nothing else may be sent.
-    pub is_overdue: u64,
+    pub is_window_probe_due: bool,
+    /// Whether the next segment is a probe for an answer, if nothing else may be sent.
+    pub is_overdue: bool,
 }
 
 impl SendingHead {
@@ -103,10 +103,10 @@ impl SendingHead {
           greatest_window = 0;
           last_window = 0;
           segment_size = 0;
-          no_delay = 0;
-          is_open = 0;
-          is_window_probe_due = 0;
-          is_overdue = 0;
+          no_delay = false;
+          is_open = false;
+          is_window_probe_due = false;
+          is_overdue = false;
         } }
     {
         SendingHead {
@@ -116,10 +116,10 @@ impl SendingHead {
             greatest_window: 0,
             last_window: 0,
             segment_size: 0,
-            no_delay: 0,
-            is_open: 0,
-            is_window_probe_due: 0,
-            is_overdue: 0,
+            no_delay: false,
+            is_open: false,
+            is_window_probe_due: false,
+            is_overdue: false,
         }
     }
 
@@ -144,9 +144,9 @@ impl SendingHead {
           greatest_window = it.window;
           last_window = it.window;
           segment_size = segment_size;
-          is_open = 0;
-          is_window_probe_due = 0;
-          is_overdue = 0;
+          is_open = false;
+          is_window_probe_due = false;
+          is_overdue = false;
         } }
         ensures scoreboard { self.new.buffer.scoreboard ≡ self.old.buffer.scoreboard }
         ensures recovery { recovery_of self.new.buffer.recovery
@@ -159,14 +159,14 @@ impl SendingHead {
         self.greatest_window = it.window;
         self.last_window = it.window;
         self.segment_size = segment_size;
-        self.is_window_probe_due = 0;
-        self.is_overdue = 0;
+        self.is_window_probe_due = false;
+        self.is_overdue = false;
     }
 
     /// Begins again without a peer: the timer stops, unless something is in flight. What was written stays.
     #[inline]
     pub fn forget(&mut self, numbers: SentNumbers, first_timeout: Duration, now: Instant)
-        ensures rest { self.new ≡ record self.old { timer = self.new.timer; is_open = 0 } }
+        ensures rest { self.new ≡ record self.old { timer = self.new.timer; is_open = false } }
         ensures timer { timer_of self.new.timer ≡ renewed_by numbers first_timeout false now }
     {
         self.renew(numbers, first_timeout, Sack::Absent, now);
@@ -175,14 +175,14 @@ impl SendingHead {
     /// Begins with a timer that had no sample.
     #[inline]
     fn renew(&mut self, numbers: SentNumbers, first_timeout: Duration, sack: Sack, now: Instant)
-        ensures rest { self.new ≡ record self.old { timer = self.new.timer; is_open = 0 } }
+        ensures rest { self.new ≡ record self.old { timer = self.new.timer; is_open = false } }
         ensures timer { timer_of self.new.timer ≡ renewed_by numbers first_timeout (is_permitted sack) now }
     {
         self.timer = RetransmissionTimer::new(first_timeout, sack);
         if numbers.first_unacknowledged < numbers.sent {
             self.timer.start(now);
         }
-        self.is_open = 0;
+        self.is_open = false;
     }
 
     /// Returns whether a SYN is to be sent now, the first one or one after a timeout, and starts the timer for the
@@ -262,12 +262,12 @@ impl SendingHead {
           greatest_window = greatest_of self.old.peer_window self.old.greatest_window
               numbers.first_unacknowledged numbers.sent it.seq it.ack it.window;
           last_window = it.window;
-          is_open = 1;
+          is_open = true;
         } }
         ensures timer { timer_of self.new.timer ≡ told result.reports now (after_acknowledged bounds
             numbers.first_unacknowledged numbers.sent it.ack now
             (sampled (board_of self.new.buffer runs.new) bounds now
-            (synchronized (not (nat_eq self.old.is_open 0)) numbers.first_unacknowledged numbers.sent
+            (synchronized self.old.is_open numbers.first_unacknowledged numbers.sent
             (timer_of self.old.timer)))) }
         ensures reported { board_of self.new.buffer runs.new
             ≡ kept (reported_by (length runs.old) numbers.sent (board_of self.old.buffer runs.old) it.ack
@@ -306,16 +306,16 @@ impl SendingHead {
           greatest_window = greatest_of self.old.peer_window self.old.greatest_window
               numbers.first_unacknowledged numbers.sent it.seq it.ack it.window;
           last_window = it.window;
-          is_open = 1;
+          is_open = true;
         } }
-        ensures timer { timer_of self.new.timer ≡ synchronized (not (nat_eq self.old.is_open 0))
+        ensures timer { timer_of self.new.timer ≡ synchronized self.old.is_open
             numbers.first_unacknowledged numbers.sent (timer_of self.old.timer) }
     {
         // The timer of the SYN stops, if this is the first acknowledgement and nothing is in flight.
-        if self.is_open == 0 && numbers.sent <= numbers.first_unacknowledged {
+        if !self.is_open && numbers.sent <= numbers.first_unacknowledged {
             self.timer.stop();
         }
-        self.is_open = 1;
+        self.is_open = true;
         self.greatest_window = greatest_after_update(
             &mut self.peer_window,
             self.greatest_window,
@@ -367,22 +367,22 @@ impl SendingHead {
         requires { IsSoundBoard self.old.buffer.scoreboard runs.now }
         ensures rest { self.new ≡ record self.old {
           buffer = self.new.buffer;
-          is_window_probe_due = 0;
+          is_window_probe_due = false;
           is_overdue = self.new.is_overdue;
         } }
         ensures scoreboard { self.new.buffer.scoreboard ≡ self.old.buffer.scoreboard }
         ensures silent { (s : FiniteSenderState) (timeout : ℕ) (bounds : TimeoutBounds) → queued_of s ≡ queued →
             Silent (end_of s self.old runs.now timeout bounds) result (end_of s self.new runs.now timeout bounds) }
     {
-        self.is_window_probe_due = 0;
-        self.is_overdue = 0;
+        self.is_window_probe_due = false;
+        self.is_overdue = false;
         if self.buffer.recovery.is_blind() {
             return Expired::No;
         }
         if self.is_shut(queued) {
             return Expired::Overdue { begins: false };
         }
-        self.is_overdue = 1;
+        self.is_overdue = true;
         Expired::Overdue {
             begins: self.buffer.find_overdue(runs, queued.numbers),
         }
@@ -394,8 +394,8 @@ impl SendingHead {
     pub fn take_timeout(&mut self, queued: Queued) -> Expired
         ensures rest { self.new ≡ record self.old {
           buffer = self.new.buffer;
-          is_window_probe_due = 1;
-          is_overdue = 0;
+          is_window_probe_due = true;
+          is_overdue = false;
         } }
         ensures scoreboard { self.new.buffer.scoreboard ≡ self.old.buffer.scoreboard }
         ensures late { (s : FiniteSenderState) (runs : List (ℕ × ℕ)) (timeout : ℕ) (bounds : TimeoutBounds) →
@@ -403,8 +403,8 @@ impl SendingHead {
             TimesOut (end_of s self.old runs timeout bounds) result (end_of s self.new runs timeout bounds) }
     {
         self.buffer.recovery.lose_all(queued.numbers);
-        self.is_window_probe_due = 1;
-        self.is_overdue = 0;
+        self.is_window_probe_due = true;
+        self.is_overdue = false;
         if self.is_shut(queued) || queued.numbers.flight_size() == 0 {
             Expired::Probe
         } else {
@@ -457,12 +457,12 @@ impl SendingHead {
             low k < k.queued.end → IsTrue (is_some result.0) }
     {
         let first = queued.numbers.first_unacknowledged;
-        if self.is_window_probe_due != 0 && self.is_shut(queued) {
+        if self.is_window_probe_due && self.is_shut(queued) {
             return (Some(first..first + 1), Sending::WindowProbe);
         }
         let limit = self.peer_window.send_limit(queued.end);
         let next = self.next_range(runs, queued, limit, congestion_window);
-        if next.is_some() || self.is_overdue == 0 {
+        if next.is_some() || !self.is_overdue {
             return (next, Sending::Segment);
         }
         (
@@ -532,7 +532,7 @@ impl SendingHead {
     fn is_due(&self, queued: Queued, from: u64, to: u64) -> bool
         ensures { result ≡ due (known_by self.now queued) from to }
     {
-        let hurries = self.is_window_probe_due != 0 || self.is_overdue != 0;
+        let hurries = self.is_window_probe_due || self.is_overdue;
         hurries || from < queued.numbers.sent || self.is_worth(queued, from, to)
     }
 
@@ -588,8 +588,8 @@ impl SendingHead {
         };
         let (from, to) = (range.start, range.end);
         self.timer.sent(bounds, from..to, queued.numbers, now);
-        self.is_window_probe_due = 0;
-        self.is_overdue = 0;
+        self.is_window_probe_due = false;
+        self.is_overdue = false;
         self.buffer.sent(queued.numbers, range, sending);
         Some(Outgoing {
             pos: from,
@@ -614,9 +614,9 @@ impl SendingHead {
     #[must_use]
     #[inline]
     pub fn nagle_enabled(&self) -> bool
-        ensures { result ≡ nat_eq self.now.no_delay 0 }
+        ensures { result ≡ not self.now.no_delay }
     {
-        self.no_delay == 0
+        !self.no_delay
     }
 
     /// Returns the most bytes of a segment.
@@ -635,9 +635,9 @@ impl SendingHead {
     #[inline]
     pub fn set_nagle_enabled(&mut self, enabled: bool)
         ensures rest { self.new ≡ record self.old { no_delay = self.new.no_delay } }
-        ensures value { nat_eq self.new.no_delay 0 ≡ enabled }
+        ensures value { not self.new.no_delay ≡ enabled }
     {
-        self.no_delay = if enabled { 0 } else { 1 };
+        self.no_delay = !enabled;
     }
 }
 

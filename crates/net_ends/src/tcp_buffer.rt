@@ -353,10 +353,7 @@ pub(crate) fn mark<S: Storage<u8>>(sender: &mut FiniteSenderOver<S>, to: u64) ->
 fn is_repeat(kind: AckKind) -> bool
     ensures { result ≡ is_repeat kind }
 {
-    match kind {
-        AckKind::Repeat => true,
-        AckKind::Other => false,
-    }
+    matches!(kind, AckKind::Repeat)
 }
 
 /// Finds what is lost by an acknowledgement, and returns whether a recovery begins. If the peer has dropped what it had
@@ -440,13 +437,7 @@ fn report_block(board: &mut ScoreboardHead, runs: &mut [Run], block: &Range<u64>
 fn has_block(blocks: &[Range<u64>]) -> bool
     ensures { result ≡ has_block blocks.now }
 {
-    let mut is_found = false;
-    for block in blocks {
-        if block.start < block.end {
-            is_found = true;
-        }
-    }
-    is_found
+    blocks.iter().any(|block| block.start < block.end)
 }
 
 /// Returns whether the first block reports what came twice.

@@ -5,7 +5,7 @@
 --     IsPlausibleEnd c e      what the exports test, where the storage has c bytes
 --     HasSoundEnd c e      the head is that of an end whose storage has c bytes
 --     fields_of list      the blocks of an acknowledgement, which are zeros where there is none
-use Rattle.std.specs.Prelude.{ℕ, Option, List, [], ◌∷◌, map, replicate, unwrap_or}
+use Rattle.std.specs.Prelude.{ℕ, Option, List, [], ◌∷◌, false, map, replicate, unwrap_or}
 use Rattle.net_receiver.specs.FiniteHead.{finite_of, HasSoundFinite}
 use Rattle.net_receiver.specs.NewHeads.{finite_receiver_head}
 use Rattle.net_ends.specs.Receiving.{Receiving, blocks_of}
@@ -28,10 +28,10 @@ begun_receiving first size = record {
     newest = first;
     recent = 0 ∷ 0 ∷ 0 ∷ 0 ∷ [];
     duplicate = (0, 0);
-    has_duplicate = 0;
     segment_size = size;
     scale = 0;
     unanswered = 0;
+    has_duplicate = false;
   };
 }
 

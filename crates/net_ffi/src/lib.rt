@@ -7,8 +7,8 @@
 //! whose name ends in `_init` makes it; one of zeros is new too, as the comment of its kind says. Storage, runs and
 //! slots need no particular values. Lengths are in elements; a length of 0 is allowed, of runs too: then no run is
 //! held. A length, an index or a count is a `size_t`, a position or a time a `uint64_t` or an `int64_t` on every
-//! processor. A time is in microseconds. A flag of a head or a slot is as wide as the number beside it, so that they
-//! have no padding; a sum in parts has a `bool`.
+//! processor. A time is in microseconds. A flag of a slot, or of a packet in fragments, is as wide as the number beside
+//! it; others are a `bool`.
 //!
 //! Fields of a head may be read: `length` is how many elements are queued, `used` how many runs are stored. `start`
 //! and `end` of a stored run are offsets from `first_start` of the head, so the first one starts at 0. A block has
@@ -22,8 +22,9 @@
 //!
 //! 1. A pointer that isn't null is aligned and valid. That of a slice, such as `data`, is valid for as many elements as
 //!    the parameter after it says, here `data_length`, which have at most `PTRDIFF_MAX` bytes together. Any other is
-//!    valid for one value. If the length is 0, the pointer may be any. A `bool` is 0 or 1. If program and library are
-//!    optimized together when they are linked (LTO), the program first writes what it passes, with any values.
+//!    valid for one value. If the length is 0, the pointer may be any. A `bool` outside of a struct is 0 or 1. If
+//!    program and library are optimized together when they are linked (LTO), the program first writes what it passes,
+//!    with any values.
 //! 2. What a call may write overlaps nothing else that it is passed.
 //! 3. Two calls that share memory aren't made at once, in threads or in an interrupt and what it interrupts, unless
 //!    both take it by `const`. So mask the interrupt around each call and what copies its elements, and around what
@@ -38,11 +39,11 @@
 //!
 //! # Refusals
 //!
-//! All else that a call needs is tested. Nonsense in arguments, as a null pointer but to a slice of length 0, is refused
-//! before anything else. A refused call changes nothing. It returns
+//! All else that a call needs is tested. Nonsense in arguments, as a null pointer but to a slice of length 0, or to a
+//! struct whose `bool` is neither 0 nor 1, is refused before anything else. A refused call changes nothing. It returns
 //! `false` where it returns a `bool`, and one whose comment names no answer returns `true` where it is done; where it
 //! returns one of these alone or as the first field of a struct, the `NET_BASE_.._REFUSED` of a status,
-//! `NET_BASE_NONE` of a `size_t`, `UINT64_MAX` of a `uint64_t`; and 0 of another number, which is refused for null
+//! `NET_BASE_NONE` of a `size_t`, `UINT64_MAX` of a `uint64_t`; and 0 of another number, which is refused for these
 //! alone. A test whose failure makes a packet unsafe returns `true`, as its comment says. `NET_BASE_.._REFUSED`
 //! always means a refusal; the others can also be results of calls that are done.
 //!

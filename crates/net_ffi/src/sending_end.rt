@@ -10,12 +10,11 @@
 //! where it is. At the moment of `net_base_sending_end_expires_at` the timer is asked by
 //! `net_base_sending_end_expired`.
 //!
-//! A flag of `head` holds if it isn't 0. A call that sets it writes 1, and each other call leaves what a program wrote.
-//! A number whose flag is 0 doesn't count, whatever it is. A timeout of 0 that counts passes at once, and then becomes
-//! the least one; no call writes such a timeout.
+//! A number whose flag is false doesn't count, whatever it is. A timeout of 0 that counts passes at once, and then
+//! becomes the least one; no call writes such a timeout.
 
 // Why: The rules are those of `SendingHead`, over runs that are lent. An end of C lends the 16 in its struct, so that
-// all of it but the bytes is one struct. They read a flag as 0 or not, and each number of the head has a meaning. So
+// all of it but the bytes is one struct. Each flag and each number of the head has a meaning. So
 // `is_sound`, which each call asks, looks at the sender and at what was reported, and at nothing else.
 
 ghost use Rattle.std.specs.Prelude.{◌≡◌, ◌↔◌, ◌+◌, ◌-◌, ◌<◌, ◌≤◌, ◌^◌, ◌==◌, ◌++◌, ◌||◌, ℕ, List, length, min};

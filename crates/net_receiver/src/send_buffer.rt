@@ -16,7 +16,7 @@
 #![tactic(auto, using(crate::proofs::SendBuffers::buffers))]
 
 ghost use Rattle.std.specs.Prelude.{◌≡◌, ◌↔◌, ◌-◌, ◌+◌, ◌<◌, ◌≤◌, ◌&&◌, ◌==◌, ◌^◌, ℕ, Option, Some, None, IsTrue, IsFalse};
-ghost use Rattle.std.specs.Prelude.{IfSome, IfNone, min, max, length, not, nat_le};
+ghost use Rattle.std.specs.Prelude.{IfSome, IfNone, min, max, length, not, nat_le, nat_lt};
 ghost use Rattle.net_assembler.specs.Positions.{contains, front, with_range, nothing, maximal_runs};
 ghost use Rattle.net_receiver.specs.FiniteSender.{sender_after_command, Writes, Closes, Marks, Acknowledges};
 ghost use Rattle.net_receiver.specs.FiniteSender.{finite_room, first_number, numbers_end, moved_finite_sender};
@@ -488,8 +488,8 @@ impl<S: Storage<u8>, const N: usize> SendBufferOver<S, N> {
         hole_end(&self.settled, from, known)
     }
 
-    /// Marks a range as sent: it is in flight, and not lost any more. Returns true, or false if the range ends above
-    /// `numbers_end`: then it was never written, and nothing changes.
+    /// Marks a range as sent: it is in flight, and not lost any more. Returns true, or false if the range is empty, or
+    /// ends above `numbers_end` and so was never written: then nothing changes.
     ///
     /// Pass what `next` returned, or a part of that from its start on, or what was sent before, as a probe. All below
     /// the range's end counts as sent then, and what of it was never marked counts as lost. A range beyond the first
@@ -501,14 +501,17 @@ impl<S: Storage<u8>, const N: usize> SendBufferOver<S, N> {
     /// # let mut buffer = SendBuffer::<4>::new_at(&mut storage[..], 0);
     /// assert_eq!(buffer.write(b"abc"), 3);
     /// assert!(!buffer.mark(0..4)); // only 3 bytes were written
+    /// assert!(!buffer.mark(2..2)); // nothing was sent
     /// assert!(buffer.mark(0..3));
     /// assert_eq!(buffer.numbers().sent, 3);
     /// ```
     #[must_use]
     pub fn mark(&mut self, range: Range<u64>) -> bool
-        ensures accepted { result ≡ nat_le range.end (numbers_end self.old.sender) }
+        ensures accepted { result ≡ (nat_lt range.start range.end
+            && nat_le range.end (numbers_end self.old.sender)) }
         ensures refused { IsFalse result → self.new ≡ self.old }
-        ensures sender { self.new.sender ≡ sender_after_command self.old.sender (Marks range.end) }
+        ensures sender { IsTrue result →
+            self.new.sender ≡ sender_after_command self.old.sender (Marks range.end) }
         ensures acknowledged { self.new.acknowledged ≡ self.old.acknowledged }
         ensures others { (p : ℕ) → IsFalse (is_within range.start range.end p) →
             is_open self.new p ≡ is_open self.old p }
@@ -520,6 +523,9 @@ impl<S: Storage<u8>, const N: usize> SendBufferOver<S, N> {
             (HasNoRoom N self.old.settled range.start (range.end - range.start) → ⊥) →
             (p : ℕ) → IsTrue (is_within range.start range.end p) → IsFalse (is_open self.new p) }
     {
+        if range.start >= range.end {
+            return false;
+        }
         if !self.sender.mark_sent(range.end) {
             return false;
         }

@@ -118,17 +118,17 @@ pub record Timer : Type 0 where
 abbrev pub timer_of : RetransmissionTimer → Timer
 timer_of t = record {
   timeout = record {
-    estimate = if nat_eq t.has_estimate 0 then None else Some (within t.srtt_8 t.rttvar_4);
-    timeout = if nat_eq t.has_timeout 0 then 1000000 else t.timeout;
+    estimate = if t.has_estimate then Some (within t.srtt_8 t.rttvar_4) else None;
+    timeout = if t.has_timeout then t.timeout else 1000000;
   };
-  ends_at = if nat_eq t.is_running 0 then None else Some t.ends_at;
+  ends_at = if t.is_running then Some t.ends_at else None;
   probe_at = t.probe_at;
   wait = t.wait;
-  is_alone = not (nat_eq t.is_alone 0);
-  timed = if nat_eq t.is_timing 0 then None else Some (record { pos = t.timed; since = t.timed_since });
+  is_alone = t.is_alone;
+  timed = if t.is_timing then Some (record { pos = t.timed; since = t.timed_since }) else None;
   last = t.last;
   timeouts = t.timeouts;
-  reports = not (nat_eq t.reports 0);
+  reports = t.reports;
   prompt = t.prompt;
 }
 
@@ -152,21 +152,21 @@ abbrev pub new_fields : ℕ → Bool → RetransmissionTimer
 new_fields t reports = record {
   srtt_8 = 0;
   rttvar_4 = 0;
-  has_estimate = 0;
   timeout = t;
-  has_timeout = 1;
   ends_at = whole 0;
-  is_running = 0;
   probe_at = whole 0;
   wait = 0;
-  is_alone = 0;
   timed = 0;
   timed_since = whole 0;
-  is_timing = 0;
   last = 0;
   timeouts = 0;
-  reports = if reports then 1 else 0;
   prompt = 0;
+  has_estimate = false;
+  has_timeout = true;
+  is_running = false;
+  is_alone = false;
+  is_timing = false;
+  reports = reports;
 }
 
 -- a sample of one segment alone is late if a probe comes before it that doesn't expect that; another one changes

@@ -31,12 +31,12 @@ ghost use Rattle.net_tcp.specs.LossRecovery.{unsent_lost, after_hearing, blind_l
 ghost use Rattle.net_tcp.specs.LossRecovery.{most_later, heard_of, after_answer, answers_copy};
 ghost use Rattle.net_tcp.specs.LossRecovery.{unsent, next_range, next_segment, resumed, gone_on, begins_at, as_range};
 ghost use Rattle.net_tcp.specs.LossRecovery.{next_probe, after_copies, with_copies, is_wrong, taken_back};
-ghost use Rattle.net_tcp.specs.LossRecovery.{after_probe};
+ghost use Rattle.net_tcp.specs.LossRecovery.{after_probe, after_arrival};
 ghost use Rattle.net_tcp.specs.Sack.{is_permitted};
 
 use crate::reported::Reported;
 use crate::sack::{Sack, is_permitted};
-use net_receiver::{SentNumbers, flag_of};
+use net_receiver::SentNumbers;
 use std::ops::Range;
 
 /// How many segments above a position tell that it is lost, as long as nothing came twice (RFC 6675's DupThresh).
@@ -117,8 +117,8 @@ pub struct Answer {
 /// assert_eq!(recovery.next_probe(numbers, &scoreboard, 800, 100), Some(0..100));
 /// ```
 ///
-/// It is numbers alone, so that C has it as it is: a flag is not 0 where it holds, and what there may be has one beside
-/// it. One of zeros is new.
+/// It is numbers and flags alone, so that C has it as it is: what there may be has a flag that says so. One of zeros is
+/// new.
 #[repr(C)]
 #[derive(Copy, Clone, Debug, PartialEq, Eq, Hash)]
 pub struct LossRecovery {
@@ -138,12 +138,8 @@ pub struct LossRecovery {
     later: u64,
     /// Where the probe begins that wasn't answered, if there is one.
     probe: u64,
-    /// Not 0 while a probe wasn't answered.
-    has_probe: u64,
     /// The number after the last one that was sent when the probe was.
     asked: u64,
-    /// Not 0 if the peer doesn't report what has arrived, as the SYNs say.
-    is_blind: u64,
     /// How many positions have arrived that it doesn't report.
     unknown: u64,
     /// Until all positions below this one are acknowledged, `duplicates` stays.
@@ -152,10 +148,12 @@ pub struct LossRecovery {
     since: u64,
     /// How many positions were sent again since then, less those that came twice.
     copies: u64,
-    /// How many segments above a position tell that it is lost, if `has_duplicates` isn't 0; else 3 do.
+    /// How many segments above a position tell that it is lost. Fewer than 3 count as 3.
     duplicates: usize,
-    /// Not 0 once `duplicates` counts.
-    has_duplicates: usize,
+    /// Whether a probe wasn't answered.
+    has_probe: bool,
+    /// Whether the peer doesn't report what has arrived, as the SYNs say.
+    is_blind: bool,
 }
 
 impl LossRecovery {
@@ -182,15 +180,14 @@ impl LossRecovery {
             sent: 0,
             later: 0,
             probe: 0,
-            has_probe: 0,
             asked: 0,
-            is_blind: 0,
             unknown: 0,
             round: 0,
             since: 0,
             copies: 0,
             duplicates: DUPLICATES,
-            has_duplicates: 1,
+            has_probe: false,
+            is_blind: false,
         }
     }
 
@@ -207,19 +204,7 @@ impl LossRecovery {
     pub fn duplicates(&self) -> usize
         ensures { result ≡ (recovery_of self.now).duplicates }
     {
-        if self.has_duplicates == 0 {
-            DUPLICATES
-        } else {
-            self.duplicates
-        }
-    }
-
-    /// Sets how many segments above a position tell that it is lost.
-    fn set_duplicates(&mut self, duplicates: usize)
-        ensures { recovery_of self.new ≡ record (recovery_of self.old) { duplicates = duplicates } }
-    {
-        self.duplicates = duplicates;
-        self.has_duplicates = 1;
+        self.duplicates.max(DUPLICATES)
     }
 
     /// Takes notice that something was sent again for nothing, as the timestamps of TCP may tell (RFC 3522). Where the
@@ -242,8 +227,7 @@ impl LossRecovery {
         if numbers.first_unacknowledged < self.round {
             return;
         }
-        let duplicates = self.duplicates().saturating_mul(4).min(MOST_DUPLICATES);
-        self.set_duplicates(duplicates);
+        self.duplicates = self.duplicates().saturating_mul(4).min(MOST_DUPLICATES);
         self.round = numbers.sent;
     }
 
@@ -335,7 +319,7 @@ impl LossRecovery {
         ensures { recovery_of self.new
             ≡ record (recovery_of self.old) { is_blind = not (is_permitted sack); unknown = 0 } }
     {
-        self.is_blind = if is_permitted(sack) { 0 } else { 1 };
+        self.is_blind = !is_permitted(sack);
         self.unknown = 0;
     }
 
@@ -344,7 +328,7 @@ impl LossRecovery {
     pub fn is_blind(&self) -> bool
         ensures { result ≡ (recovery_of self.now).is_blind }
     {
-        self.is_blind != 0
+        self.is_blind
     }
 
     /// Returns how many positions are lost and weren't sent again. `find_losses` wants it as it was before the
@@ -384,16 +368,20 @@ impl LossRecovery {
     /// Finds what is lost. Call it after each acknowledgement, with the sender's numbers after it, once the scoreboard
     /// has it, and with what it answers.
     ///
-    /// What was sent once is lost as `Scoreboard::lost_below` says for as many segments as `duplicates` has. What was
-    /// sent before a pass is lost, and what was sent again in it again, once more than `duplicates() - 1` segments are
-    /// reported of what was sent after it. Once a probe is answered, all that was sent before it, and isn't reported,
-    /// is lost; but if what it sends was sent again before, all that was sent before the pass, since the answer may be
-    /// that to the earlier copy. If more than one position has arrived that was lost and wasn't sent again, it wasn't
-    /// lost: nothing that wasn't sent again is, and it is as if something came twice, as `duplicated` says. One
-    /// position may be the byte that asks for a window. If the peer reports nothing, as `expect_reports` says, the
-    /// first segment is lost after `duplicates` equal acknowledgements, and in a recovery where something new is
-    /// acknowledged. An equal one of what a recovery lasted for answers a copy then: it counts as a report of what came
-    /// twice.
+    /// Lost is
+    ///
+    /// - what was sent once, as `Scoreboard::lost_below` says for as many segments as `duplicates` has;
+    /// - what was sent before a pass, and what was sent again in it, once more than `duplicates() - 1` segments are
+    ///   reported of what was sent after it;
+    /// - all that was sent before a probe and isn't reported, once that is answered; if it repeats what was sent again
+    ///   before, only what was sent before the pass, since the answer may be that to the earlier copy;
+    /// - the first segment, if the peer reports nothing, as `expect_reports` says: after `duplicates` equal
+    ///   acknowledgements, and in a recovery where something new is acknowledged.
+    ///
+    /// If more than one position has arrived that was lost and wasn't sent again, finding it lost was wrong: nothing
+    /// that wasn't sent again is lost then, and it is as if something came twice, as `duplicated` says. One position
+    /// may be the byte that asks for a window. Of a peer that reports nothing, an equal acknowledgement of all that a
+    /// recovery lasted for answers a copy: it counts as a report of what came twice.
     ///
     /// Returns whether this call begins a recovery: then halve the congestion window, until `take_back` says that this
     /// was wrong.
@@ -455,11 +443,16 @@ impl LossRecovery {
             self.duplicated(numbers);
         }
         self.count_unreported(numbers, segment_size, Answer { is_equal, ..answer });
-        // Nothing that wasn't sent again is lost, if such a thing has arrived: more than the byte of a window's probe.
-        if answer.unsent > 1
-            && !self.is_blind()
-            && self.unsent_lost(numbers, scoreboard) < answer.unsent - 1
-        {
+        self.withdraw(numbers, scoreboard, answer.unsent);
+    }
+
+    /// Finds that nothing is lost which wasn't sent again, if such a thing has arrived: more than the byte of a
+    /// window's probe. There were `before` of these.
+    fn withdraw<B: Reported>(&mut self, numbers: SentNumbers, scoreboard: &B, before: u64)
+        ensures { recovery_of self.new ≡ after_arrival before numbers.first_unacknowledged numbers.sent
+            (B.set scoreboard.now) (recovery_of self.old) }
+    {
+        if before > 1 && !self.is_blind() && self.unsent_lost(numbers, scoreboard) < before - 1 {
             self.turn = self.again;
             self.lost = self.lost.min(self.again.max(self.resume));
             self.duplicated(numbers);
@@ -586,9 +579,9 @@ impl LossRecovery {
         ensures begins { result ≡ (not (is_active (recovery_of self.old) numbers.first_unacknowledged)
             && nat_lt numbers.first_unacknowledged (found (B.set scoreboard.now) lost highest (recovery_of self.old))) }
     {
-        if self.has_probe != 0 && scoreboard.contains(self.probe) {
+        if self.has_probe && scoreboard.contains(self.probe) {
             self.probe = 0;
-            self.has_probe = 0;
+            self.has_probe = false;
             let asked = if self.is_blind() { 0 } else { self.asked };
             return self.lose(
                 numbers,
@@ -795,7 +788,7 @@ impl LossRecovery {
     {
         let is_again = self.is_active(numbers) && positions.start < self.again.max(self.resume);
         self.probe = positions.start;
-        self.has_probe = 1;
+        self.has_probe = true;
         self.asked = if is_again { self.sent } else { numbers.sent };
         self.copy(numbers, positions);
     }
@@ -847,7 +840,7 @@ impl LossRecovery {
         ensures { recovery_of self.new ≡ begun numbers.first_unacknowledged numbers.sent numbers.sent
             (forgotten (recovery_of self.old)) }
     {
-        self.set_duplicates(DUPLICATES);
+        self.duplicates = DUPLICATES;
         self.unknown = 0;
         self.begin(numbers, numbers.sent);
     }
@@ -867,7 +860,7 @@ impl LossRecovery {
         self.sent = numbers.sent;
         self.later = 0;
         self.probe = 0;
-        self.has_probe = 0;
+        self.has_probe = false;
         self.asked = 0;
     }
 

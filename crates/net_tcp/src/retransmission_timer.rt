@@ -18,7 +18,7 @@ ghost use Rattle.net_tcp.specs.Sack.{is_permitted};
 use crate::retransmission::{RetransmissionTimeout, RttEstimate, TimeoutBounds};
 use crate::sack::{Sack, is_permitted};
 use net_base::time::{Duration, Instant};
-use net_receiver::{SentNumbers, flag_of};
+use net_receiver::SentNumbers;
 use std::ops::Range;
 
 /// The least time without an answer after which a probe is sent, in microseconds.
@@ -88,8 +88,8 @@ pub struct TimedSegment {
 /// runs until `stop`, or until all that was sent is acknowledged, if some of it wasn't before. What is sent where
 /// nothing is on the way starts it anew: its time isn't that of what was waited for.
 ///
-/// It is numbers alone, so that C has it as it is: a flag is not 0 where it holds, and what there may be has one beside
-/// it. One of zeros is new, with a timeout of 1 second, of a peer that reports no blocks.
+/// It is numbers and flags alone, so that C has it as it is: what there may be has a flag that says so. One of zeros is
+/// new, with a timeout of 1 second, of a peer that reports no blocks.
 ///
 /// ```
 /// use net_tcp::{RetransmissionTimer, Sack, SentNumbers, TimeoutBounds};
@@ -111,36 +111,36 @@ pub struct RetransmissionTimer {
     srtt_8: u64,
     /// Four times its variation. No more than 2^62 of it counts.
     rttvar_4: u64,
-    /// Not 0 once there was a sample.
-    has_estimate: u64,
-    /// The timeout, if `has_timeout` isn't 0; else it is 1 second.
+    /// The timeout, if `has_timeout`; else it is 1 second.
     timeout: u64,
-    /// Not 0 once `timeout` counts.
-    has_timeout: u64,
     /// When the timeout passes, while it runs.
     ends_at: i64,
-    /// Not 0 while it runs.
-    is_running: u64,
     /// When a probe is due, if the timer runs and that is earlier.
     probe_at: i64,
     /// How long the probe has waited then. The next one waits twice that.
     wait: u64,
-    /// Not 0 while it waits for an acknowledgement that may be delayed.
-    is_alone: u64,
     /// The position of the timed segment, if there is one.
     timed: u64,
     /// When that was sent.
     timed_since: i64,
-    /// Not 0 while a segment is timed.
-    is_timing: u64,
     /// Where the last segment begins that had something new.
     last: u64,
     /// How often the timeout has passed since anything new was acknowledged or reported.
     timeouts: u64,
-    /// Not 0 if the peer reports blocks.
-    reports: u64,
     /// How many samples in a row of one segment alone weren't late, up to 8.
     prompt: u64,
+    /// Whether there was a sample.
+    has_estimate: bool,
+    /// Whether `timeout` counts: always but in a timer of zeros.
+    has_timeout: bool,
+    /// Whether it runs.
+    is_running: bool,
+    /// Whether it waits for an acknowledgement that may be delayed.
+    is_alone: bool,
+    /// Whether a segment is timed.
+    is_timing: bool,
+    /// Whether the peer reports blocks.
+    reports: bool,
 }
 
 impl RetransmissionTimer {
@@ -154,21 +154,21 @@ impl RetransmissionTimer {
         RetransmissionTimer {
             srtt_8: 0,
             rttvar_4: 0,
-            has_estimate: 0,
             timeout: timeout.total_micros(),
-            has_timeout: 1,
             ends_at: 0,
-            is_running: 0,
             probe_at: 0,
             wait: 0,
-            is_alone: 0,
             timed: 0,
             timed_since: 0,
-            is_timing: 0,
             last: 0,
             timeouts: 0,
-            reports: flag_of(is_permitted(sack)),
             prompt: 0,
+            has_estimate: false,
+            has_timeout: true,
+            is_running: false,
+            is_alone: false,
+            is_timing: false,
+            reports: is_permitted(sack),
         }
     }
 
@@ -177,10 +177,10 @@ impl RetransmissionTimer {
     pub fn timeout(&self) -> Duration
         ensures { result ≡ (timer_of self.now).timeout.timeout }
     {
-        if self.has_timeout == 0 {
-            Duration::from_micros(FIRST_TIMEOUT)
-        } else {
+        if self.has_timeout {
             Duration::from_micros(self.timeout)
+        } else {
+            Duration::from_micros(FIRST_TIMEOUT)
         }
     }
 
@@ -200,10 +200,10 @@ impl RetransmissionTimer {
     pub fn rtt(&self) -> Option<RttEstimate>
         ensures { result ≡ (timer_of self.now).timeout.estimate }
     {
-        if self.has_estimate == 0 {
-            None
-        } else {
+        if self.has_estimate {
             Some(RttEstimate::from_scaled(self.srtt_8, self.rttvar_4))
+        } else {
+            None
         }
     }
 
@@ -212,10 +212,10 @@ impl RetransmissionTimer {
     pub fn expires_at(&self) -> Option<Instant>
         ensures { result ≡ expires_at (timer_of self.now) }
     {
-        if self.is_running == 0 {
+        if !self.is_running {
             return None;
         }
-        let at = if self.reports != 0 && self.probe_at < self.ends_at {
+        let at = if self.reports && self.probe_at < self.ends_at {
             self.probe_at
         } else {
             self.ends_at
@@ -228,7 +228,7 @@ impl RetransmissionTimer {
     pub fn timed(&self) -> Option<TimedSegment>
         ensures { result ≡ (timer_of self.now).timed }
     {
-        if self.is_timing == 0 {
+        if !self.is_timing {
             return None;
         }
         Some(TimedSegment {
@@ -272,7 +272,7 @@ impl RetransmissionTimer {
     pub fn start(&mut self, now: Instant)
         ensures state { timer_of self.new ≡ started now (timer_of self.old) }
     {
-        if self.is_running == 0 {
+        if !self.is_running {
             self.wait_for_timeout(now);
         }
     }
@@ -281,7 +281,7 @@ impl RetransmissionTimer {
     pub fn stop(&mut self)
         ensures state { timer_of self.new ≡ stopped (timer_of self.old) }
     {
-        self.is_running = 0;
+        self.is_running = false;
         self.ends_at = 0;
     }
 
@@ -329,14 +329,14 @@ impl RetransmissionTimer {
     fn run(&mut self, ack_delay: Duration, is_alone: bool, is_new: bool, now: Instant)
         ensures state { timer_of self.new ≡ running ack_delay is_alone is_new now (timer_of self.old) }
     {
-        if self.is_running == 0 || is_alone {
+        if !self.is_running || is_alone {
             self.restart(ack_delay, is_alone, now);
-        } else if self.is_alone != 0 && is_new {
+        } else if self.is_alone && is_new {
             // Two round trips from now on.
             let wait = first_wait(self.rtt());
             self.wait = wait.total_micros();
             self.probe_at = now.saturating_add(wait).total_micros();
-            self.is_alone = 0;
+            self.is_alone = false;
         }
     }
 
@@ -346,10 +346,10 @@ impl RetransmissionTimer {
     {
         if self.times(pos, end) {
             self.untime();
-        } else if self.is_timing == 0 && sent <= pos {
+        } else if !self.is_timing && sent <= pos {
             self.timed = pos;
             self.timed_since = now.total_micros();
-            self.is_timing = 1;
+            self.is_timing = true;
         }
     }
 
@@ -359,7 +359,7 @@ impl RetransmissionTimer {
     {
         self.timed = 0;
         self.timed_since = 0;
-        self.is_timing = 0;
+        self.is_timing = false;
     }
 
     /// Takes the sample of the timed segment, if there is one, since it has arrived: as `acknowledged`
@@ -395,23 +395,23 @@ impl RetransmissionTimer {
             Some(estimate) => {
                 self.srtt_8 = estimate.srtt_8();
                 self.rttvar_4 = estimate.rttvar_4();
-                self.has_estimate = 1;
+                self.has_estimate = true;
             }
             None => {
                 self.srtt_8 = 0;
                 self.rttvar_4 = 0;
-                self.has_estimate = 0;
+                self.has_estimate = false;
             }
         }
         self.timeout = timeout.timeout().total_micros();
-        self.has_timeout = 1;
+        self.has_timeout = true;
     }
 
     /// Returns how many segments alone in a row weren't acknowledged late, after one more sample.
     fn prompt_after(&self, ack_delay: Duration, time: Duration) -> u64
         ensures { result ≡ prompt_after ack_delay time (timer_of self.now) }
     {
-        if self.is_alone == 0 {
+        if !self.is_alone {
             return self.prompt;
         }
         // How long the first probe waits if the acknowledgement isn't expected to be late.
@@ -494,7 +494,7 @@ impl RetransmissionTimer {
         ensures state { timer_of self.new ≡ after_report now (timer_of self.old) }
     {
         self.timeouts = 0;
-        if self.is_running != 0 {
+        if self.is_running {
             self.restart(Duration::ZERO, false, now);
         }
     }
@@ -520,14 +520,14 @@ impl RetransmissionTimer {
         ensures state { timer_of self.new ≡ after_expiry bounds now (timer_of self.old) }
         ensures unchanged { IsFalse (has_expired (timer_of self.old) now) → self.new ≡ self.old }
     {
-        if self.is_running == 0 {
+        if !self.is_running {
             return None;
         }
         if self.ends_at <= now.total_micros() {
             self.time_out(bounds, now);
             return Some(Expiry::Timeout);
         }
-        if self.reports != 0 && self.probe_at <= now.total_micros() {
+        if self.reports && self.probe_at <= now.total_micros() {
             self.probe(now);
             return Some(Expiry::Probe);
         }
@@ -538,9 +538,9 @@ impl RetransmissionTimer {
     fn time_out(&mut self, bounds: TimeoutBounds, now: Instant)
         ensures state { timer_of self.new ≡ timed_out bounds now (timer_of self.old) }
     {
-        if self.has_timeout == 0 {
+        if !self.has_timeout {
             self.timeout = FIRST_TIMEOUT;
-            self.has_timeout = 1;
+            self.has_timeout = true;
         }
         let mut timeout = RetransmissionTimeout::new(Duration::from_micros(self.timeout));
         timeout.expired(bounds);
@@ -572,7 +572,7 @@ impl RetransmissionTimer {
             .saturating_add(allowance(ack_delay, is_alone, self.prompt));
         let wait = Duration::from_micros(self.wait);
         self.probe_at = now.saturating_add(wait).total_micros();
-        self.is_alone = flag_of(is_alone);
+        self.is_alone = is_alone;
     }
 
     /// Has the timeout pass its length from now on.
@@ -582,7 +582,7 @@ impl RetransmissionTimer {
         } }
     {
         self.ends_at = now.saturating_add(self.timeout()).total_micros();
-        self.is_running = 1;
+        self.is_running = true;
     }
 
     /// Starts the timer without a probe.
@@ -592,14 +592,14 @@ impl RetransmissionTimer {
         self.end_after_timeout(now);
         self.wait = u64::MAX;
         self.probe_at = now.saturating_add(Duration::MAX).total_micros();
-        self.is_alone = 0;
+        self.is_alone = false;
     }
 
     /// Returns whether the timed segment is at `from` or above, and below `to`.
     fn times(&self, from: u64, to: u64) -> bool
         ensures { result ≡ times (timer_of self.now) from to }
     {
-        self.is_timing != 0 && from <= self.timed && self.timed < to
+        self.is_timing && from <= self.timed && self.timed < to
     }
 }
 

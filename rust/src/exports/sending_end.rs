@@ -1,6 +1,6 @@
 // Written by tools/erase.py from crates/net_ffi/src/sending_end.rt: a change here would be lost.
 // Why: The rules are those of `SendingHead`, over runs that are lent. An end of C lends the 16 in its struct, so that
-// all of it but the bytes is one struct. They read a flag as 0 or not, and each number of the head has a meaning. So
+// all of it but the bytes is one struct. Each flag and each number of the head has a meaning. So
 // `is_sound`, which each call asks, looks at the sender and at what was reported, and at nothing else.
 
 use crate::exports::receiver::RUNS;

@@ -148,6 +148,7 @@ impl<const N: usize> SplitRing<N> {
     /// static RING: SplitRing<4> = SplitRing::new();
     /// assert_eq!((RING.write(b"abc"), RING.write(b"de")), (3, 1));
     /// ```
+    #[must_use]
     pub fn write(&self, data: &[u8]) -> usize {
         let written = self.written.load(Ordering::Relaxed);
         let taken = self.taken.load(Ordering::Acquire);
@@ -215,6 +216,7 @@ impl<const N: usize> Default for SplitRing<N> {
 
 impl<const N: usize> SplitWriter<'_, N> {
     /// Writes the first of these bytes, as many as there is room for, and returns how many.
+    #[must_use]
     pub fn write(&mut self, data: &[u8]) -> usize {
         self.0.write(data)
     }

@@ -382,8 +382,8 @@ impl<S: Storage<u8>, const N: usize> SendBufferOver<S, N> {
         hole_end(&self.settled, from, known)
     }
 
-    /// Marks a range as sent: it is in flight, and not lost any more. Returns true, or false if the range ends above
-    /// `numbers_end`: then it was never written, and nothing changes.
+    /// Marks a range as sent: it is in flight, and not lost any more. Returns true, or false if the range is empty, or
+    /// ends above `numbers_end` and so was never written: then nothing changes.
     ///
     /// Pass what `next` returned, or a part of that from its start on, or what was sent before, as a probe. All below
     /// the range's end counts as sent then, and what of it was never marked counts as lost. A range beyond the first
@@ -395,11 +395,15 @@ impl<S: Storage<u8>, const N: usize> SendBufferOver<S, N> {
     /// # let mut buffer = SendBuffer::<4>::new_at(&mut storage[..], 0);
     /// assert_eq!(buffer.write(b"abc"), 3);
     /// assert!(!buffer.mark(0..4)); // only 3 bytes were written
+    /// assert!(!buffer.mark(2..2)); // nothing was sent
     /// assert!(buffer.mark(0..3));
     /// assert_eq!(buffer.numbers().sent, 3);
     /// ```
     #[must_use]
     pub fn mark(&mut self, range: Range<u64>) -> bool {
+        if range.start >= range.end {
+            return false;
+        }
         if !self.sender.mark_sent(range.end) {
             return false;
         }

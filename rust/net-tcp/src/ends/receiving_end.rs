@@ -145,14 +145,14 @@ pub struct ReceivingHead {
     pub recent: [u64; 4],
     /// What came twice, and wasn't reported yet.
     pub duplicate: HeldRun,
-    /// Not 0 if anything came twice, and wasn't reported yet.
-    pub has_duplicate: u32,
     /// The most bytes of a segment.
     pub segment_size: u16,
     /// The scale of the windows.
     pub scale: u8,
     /// How many segments wait for an acknowledgement, 2 at most: it is due if as many do.
     pub unanswered: u8,
+    /// Whether anything came twice, and wasn't reported yet.
+    pub has_duplicate: bool,
 }
 
 impl ReceivingHead {
@@ -163,10 +163,10 @@ impl ReceivingHead {
             newest: first,
             recent: [0; 4],
             duplicate: HeldRun { start: 0, end: 0 },
-            has_duplicate: 0,
             segment_size,
             scale: 0,
             unanswered: 0,
+            has_duplicate: false,
         }
     }
 
@@ -190,7 +190,7 @@ impl ReceivingHead {
     ) {
         if let Some((start, end)) = part {
             self.duplicate = HeldRun { start, end };
-            self.has_duplicate = 1;
+            self.has_duplicate = true;
         }
         self.newest = pos;
         self.unanswered = match kept {
@@ -263,13 +263,13 @@ impl ReceivingHead {
     pub(crate) fn take_duplicate(&mut self, next: u64, is_complete: bool) -> Option<(u64, u64)> {
         let part = self.reported(next, is_complete);
         self.duplicate = HeldRun { start: 0, end: 0 };
-        self.has_duplicate = 0;
+        self.has_duplicate = false;
         part
     }
 
     /// Returns what came twice, if it is to be reported.
     fn reported(&self, next: u64, is_complete: bool) -> Option<(u64, u64)> {
-        if self.has_duplicate == 0 {
+        if !self.has_duplicate {
             return None;
         }
         let part = self.duplicate;
@@ -611,8 +611,5 @@ fn in_front(
 
 /// Returns the start and the end of a range, if there is one.
 fn pair_of(range: Option<Range<u64>>) -> Option<(u64, u64)> {
-    match range {
-        Some(range) => Some((range.start, range.end)),
-        None => None,
-    }
+    range.map(|range| (range.start, range.end))
 }

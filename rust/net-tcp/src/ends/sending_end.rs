@@ -156,10 +156,7 @@ impl Outgoing {
 
 /// Returns whether a segment has neither a byte nor a FIN.
 fn is_pure(segment: AckSegment) -> bool {
-    match segment {
-        AckSegment::Pure => true,
-        AckSegment::WithData => false,
-    }
+    matches!(segment, AckSegment::Pure)
 }
 
 /// The sending half of a TCP connection: its bytes, the peer's window, the retransmission timer, and what is lost. It

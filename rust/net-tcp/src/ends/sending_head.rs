@@ -15,8 +15,8 @@ use net_base::time::{Duration, Instant};
 /// All of a sending end but its sender and the times that were set: what was reported and what is lost, the timer, and
 /// what the peer announced. Its calls are given the sender's numbers; who holds both has the sender take what they say.
 ///
-/// It is numbers alone, so that C has it as it is: a flag is not 0 where it holds. One of zeros is new. It is sound if
-/// the scoreboard is, with its runs.
+/// It is numbers and flags alone, so that C has it as it is. One of zeros is new. It is sound if the scoreboard is, with
+/// its runs.
 #[repr(C)]
 #[derive(Copy, Clone, Debug)]
 pub struct SendingHead {
@@ -32,15 +32,15 @@ pub struct SendingHead {
     pub last_window: u64,
     /// The most bytes of a segment. 0 counts as 1.
     pub segment_size: usize,
-    /// Not 0 if Nagle's rule is disabled.
-    pub no_delay: usize,
-    /// Not 0 once the peer has acknowledged anything, if only the own SYN.
-    pub is_open: u64,
-    /// Not 0 if the timeout has passed and nothing was sent since then: nothing is held back, and if the window is
+    /// Whether Nagle's rule is disabled.
+    pub no_delay: bool,
+    /// Whether the peer has acknowledged anything, if only the own SYN.
+    pub is_open: bool,
+    /// Whether the timeout has passed and nothing was sent since then: nothing is held back, and if the window is
     /// shut, the next segment is a probe of it.
-    pub is_window_probe_due: u64,
-    /// Not 0 if the next segment is a probe for an answer, if nothing else may be sent.
-    pub is_overdue: u64,
+    pub is_window_probe_due: bool,
+    /// Whether the next segment is a probe for an answer, if nothing else may be sent.
+    pub is_overdue: bool,
 }
 
 impl SendingHead {
@@ -53,10 +53,10 @@ impl SendingHead {
             greatest_window: 0,
             last_window: 0,
             segment_size: 0,
-            no_delay: 0,
-            is_open: 0,
-            is_window_probe_due: 0,
-            is_overdue: 0,
+            no_delay: false,
+            is_open: false,
+            is_window_probe_due: false,
+            is_overdue: false,
         }
     }
 
@@ -80,8 +80,8 @@ impl SendingHead {
         self.greatest_window = it.window;
         self.last_window = it.window;
         self.segment_size = segment_size;
-        self.is_window_probe_due = 0;
-        self.is_overdue = 0;
+        self.is_window_probe_due = false;
+        self.is_overdue = false;
     }
 
     /// Begins again without a peer: the timer stops, unless something is in flight. What was written stays.
@@ -97,7 +97,7 @@ impl SendingHead {
         if numbers.first_unacknowledged < numbers.sent {
             self.timer.start(now);
         }
-        self.is_open = 0;
+        self.is_open = false;
     }
 
     /// Returns whether a SYN is to be sent now, the first one or one after a timeout, and starts the timer for the
@@ -165,10 +165,10 @@ impl SendingHead {
     /// Takes the window that is announced, and that a peer answers.
     fn take_window(&mut self, numbers: SentNumbers, it: Announcement) {
         // The timer of the SYN stops, if this is the first acknowledgement and nothing is in flight.
-        if self.is_open == 0 && numbers.sent <= numbers.first_unacknowledged {
+        if !self.is_open && numbers.sent <= numbers.first_unacknowledged {
             self.timer.stop();
         }
-        self.is_open = 1;
+        self.is_open = true;
         self.greatest_window =
             greatest_after_update(&mut self.peer_window, self.greatest_window, numbers, it);
         self.last_window = it.window;
@@ -207,15 +207,15 @@ impl SendingHead {
     /// peer's window is shut, or it reports nothing: then it is sent no probe.
     #[inline]
     pub(crate) fn take_silence(&mut self, runs: &[Run], queued: Queued) -> Expired {
-        self.is_window_probe_due = 0;
-        self.is_overdue = 0;
+        self.is_window_probe_due = false;
+        self.is_overdue = false;
         if self.buffer.recovery.is_blind() {
             return Expired::No;
         }
         if self.is_shut(queued) {
             return Expired::Overdue { begins: false };
         }
-        self.is_overdue = 1;
+        self.is_overdue = true;
         Expired::Overdue { begins: self.buffer.find_overdue(runs, queued.numbers) }
     }
 
@@ -224,8 +224,8 @@ impl SendingHead {
     #[inline]
     pub(crate) fn take_timeout(&mut self, queued: Queued) -> Expired {
         self.buffer.recovery.lose_all(queued.numbers);
-        self.is_window_probe_due = 1;
-        self.is_overdue = 0;
+        self.is_window_probe_due = true;
+        self.is_overdue = false;
         if self.is_shut(queued) || queued.numbers.flight_size() == 0 {
             Expired::Probe
         } else {
@@ -247,12 +247,12 @@ impl SendingHead {
         congestion_window: u64,
     ) -> (Option<Range<u64>>, Sending) {
         let first = queued.numbers.first_unacknowledged;
-        if self.is_window_probe_due != 0 && self.is_shut(queued) {
+        if self.is_window_probe_due && self.is_shut(queued) {
             return (Some(first..first + 1), Sending::WindowProbe);
         }
         let limit = self.peer_window.send_limit(queued.end);
         let next = self.next_range(runs, queued, limit, congestion_window);
-        if next.is_some() || self.is_overdue == 0 {
+        if next.is_some() || !self.is_overdue {
             return (next, Sending::Segment);
         }
         (self.next_probe(runs, queued.numbers, limit), Sending::TailProbe)
@@ -285,7 +285,7 @@ impl SendingHead {
 
     /// Returns whether a range isn't held back: the timer asks for it, it was sent before, or it is worth a segment.
     fn is_due(&self, queued: Queued, from: u64, to: u64) -> bool {
-        let hurries = self.is_window_probe_due != 0 || self.is_overdue != 0;
+        let hurries = self.is_window_probe_due || self.is_overdue;
         hurries || from < queued.numbers.sent || self.is_worth(queued, from, to)
     }
 
@@ -330,8 +330,8 @@ impl SendingHead {
         };
         let (from, to) = (range.start, range.end);
         self.timer.sent(bounds, from..to, queued.numbers, now);
-        self.is_window_probe_due = 0;
-        self.is_overdue = 0;
+        self.is_window_probe_due = false;
+        self.is_overdue = false;
         self.buffer.sent(queued.numbers, range, sending);
         Some(Outgoing { pos: from, end: to, is_again: from < queued.numbers.sent })
     }
@@ -350,7 +350,7 @@ impl SendingHead {
     #[must_use]
     #[inline]
     pub(crate) fn nagle_enabled(&self) -> bool {
-        self.no_delay == 0
+        !self.no_delay
     }
 
     /// Returns the most bytes of a segment.
@@ -366,7 +366,7 @@ impl SendingHead {
     /// is to wait.
     #[inline]
     pub(crate) fn set_nagle_enabled(&mut self, enabled: bool) {
-        self.no_delay = if enabled { 0 } else { 1 };
+        self.no_delay = !enabled;
     }
 }
 

@@ -200,10 +200,7 @@ pub(crate) fn mark<S: Storage<u8>>(sender: &mut FiniteSenderOver<S>, to: u64) ->
 
 /// Returns whether an acknowledgement is of a kind that only repeats the last.
 fn is_repeat(kind: AckKind) -> bool {
-    match kind {
-        AckKind::Repeat => true,
-        AckKind::Other => false,
-    }
+    matches!(kind, AckKind::Repeat)
 }
 
 /// Finds what is lost by an acknowledgement, and returns whether a recovery begins. If the peer has dropped what it had
@@ -264,13 +261,7 @@ fn report_block(
 
 /// Returns whether one of the blocks has a position.
 fn has_block(blocks: &[Range<u64>]) -> bool {
-    let mut is_found = false;
-    for block in blocks {
-        if block.start < block.end {
-            is_found = true;
-        }
-    }
-    is_found
+    blocks.iter().any(|block| block.start < block.end)
 }
 
 /// Returns whether the first block reports what came twice.

@@ -80,8 +80,8 @@ pub struct TimedSegment {
 /// runs until `stop`, or until all that was sent is acknowledged, if some of it wasn't before. What is sent where
 /// nothing is on the way starts it anew: its time isn't that of what was waited for.
 ///
-/// It is numbers alone, so that C has it as it is: a flag is not 0 where it holds, and what there may be has one beside
-/// it. One of zeros is new, with a timeout of 1 second, of a peer that reports no blocks.
+/// It is numbers and flags alone, so that C has it as it is: what there may be has a flag that says so. One of zeros is
+/// new, with a timeout of 1 second, of a peer that reports no blocks.
 ///
 /// ```
 /// use net_tcp::{RetransmissionTimer, Sack, SentNumbers, TimeoutBounds};
@@ -103,36 +103,36 @@ pub struct RetransmissionTimer {
     srtt_8: u64,
     /// Four times its variation. No more than 2^62 of it counts.
     rttvar_4: u64,
-    /// Not 0 once there was a sample.
-    has_estimate: u64,
-    /// The timeout, if `has_timeout` isn't 0; else it is 1 second.
+    /// The timeout, if `has_timeout`; else it is 1 second.
     timeout: u64,
-    /// Not 0 once `timeout` counts.
-    has_timeout: u64,
     /// When the timeout passes, while it runs.
     ends_at: i64,
-    /// Not 0 while it runs.
-    is_running: u64,
     /// When a probe is due, if the timer runs and that is earlier.
     probe_at: i64,
     /// How long the probe has waited then. The next one waits twice that.
     wait: u64,
-    /// Not 0 while it waits for an acknowledgement that may be delayed.
-    is_alone: u64,
     /// The position of the timed segment, if there is one.
     timed: u64,
     /// When that was sent.
     timed_since: i64,
-    /// Not 0 while a segment is timed.
-    is_timing: u64,
     /// Where the last segment begins that had something new.
     last: u64,
     /// How often the timeout has passed since anything new was acknowledged or reported.
     timeouts: u64,
-    /// Not 0 if the peer reports blocks.
-    reports: u64,
     /// How many samples in a row of one segment alone weren't late, up to 8.
     prompt: u64,
+    /// Whether there was a sample.
+    has_estimate: bool,
+    /// Whether `timeout` counts: always but in a timer of zeros.
+    has_timeout: bool,
+    /// Whether it runs.
+    is_running: bool,
+    /// Whether it waits for an acknowledgement that may be delayed.
+    is_alone: bool,
+    /// Whether a segment is timed.
+    is_timing: bool,
+    /// Whether the peer reports blocks.
+    reports: bool,
 }
 
 impl RetransmissionTimer {
@@ -143,31 +143,31 @@ impl RetransmissionTimer {
         RetransmissionTimer {
             srtt_8: 0,
             rttvar_4: 0,
-            has_estimate: 0,
             timeout: timeout.total_micros(),
-            has_timeout: 1,
             ends_at: 0,
-            is_running: 0,
             probe_at: 0,
             wait: 0,
-            is_alone: 0,
             timed: 0,
             timed_since: 0,
-            is_timing: 0,
             last: 0,
             timeouts: 0,
-            reports: flag_of(is_permitted(sack)),
             prompt: 0,
+            has_estimate: false,
+            has_timeout: true,
+            is_running: false,
+            is_alone: false,
+            is_timing: false,
+            reports: is_permitted(sack),
         }
     }
 
     /// Returns the timeout.
     #[must_use]
     pub fn timeout(&self) -> Duration {
-        if self.has_timeout == 0 {
-            Duration::from_micros(FIRST_TIMEOUT)
-        } else {
+        if self.has_timeout {
             Duration::from_micros(self.timeout)
+        } else {
+            Duration::from_micros(FIRST_TIMEOUT)
         }
     }
 
@@ -185,31 +185,28 @@ impl RetransmissionTimer {
     #[inline]
     #[must_use]
     pub fn rtt(&self) -> Option<RttEstimate> {
-        if self.has_estimate == 0 {
-            None
-        } else {
+        if self.has_estimate {
             Some(RttEstimate::from_scaled(self.srtt_8, self.rttvar_4))
+        } else {
+            None
         }
     }
 
     /// Returns when it expires, if it runs: when the timeout passes, or a probe is due before that.
     #[must_use]
     pub fn expires_at(&self) -> Option<Instant> {
-        if self.is_running == 0 {
+        if !self.is_running {
             return None;
         }
-        let at = if self.reports != 0 && self.probe_at < self.ends_at {
-            self.probe_at
-        } else {
-            self.ends_at
-        };
+        let at =
+            if self.reports && self.probe_at < self.ends_at { self.probe_at } else { self.ends_at };
         Some(Instant::from_micros(at))
     }
 
     /// Returns the segment that is timed, if there is one.
     #[must_use]
     pub fn timed(&self) -> Option<TimedSegment> {
-        if self.is_timing == 0 {
+        if !self.is_timing {
             return None;
         }
         Some(TimedSegment { pos: self.timed, since: Instant::from_micros(self.timed_since) })
@@ -246,14 +243,14 @@ impl RetransmissionTimer {
     /// assert_eq!(timer.expires_at(), None);
     /// ```
     pub fn start(&mut self, now: Instant) {
-        if self.is_running == 0 {
+        if !self.is_running {
             self.wait_for_timeout(now);
         }
     }
 
     /// Stops the timer. A segment that is timed stays so.
     pub fn stop(&mut self) {
-        self.is_running = 0;
+        self.is_running = false;
         self.ends_at = 0;
     }
 
@@ -296,14 +293,14 @@ impl RetransmissionTimer {
     /// Starts the timer if it doesn't run, or one segment `is_alone`: what it ran for is no longer waited for.
     /// Otherwise a second segment that `is_new` brings the probe of one that was alone.
     fn run(&mut self, ack_delay: Duration, is_alone: bool, is_new: bool, now: Instant) {
-        if self.is_running == 0 || is_alone {
+        if !self.is_running || is_alone {
             self.restart(ack_delay, is_alone, now);
-        } else if self.is_alone != 0 && is_new {
+        } else if self.is_alone && is_new {
             // Two round trips from now on.
             let wait = first_wait(self.rtt());
             self.wait = wait.total_micros();
             self.probe_at = now.saturating_add(wait).total_micros();
-            self.is_alone = 0;
+            self.is_alone = false;
         }
     }
 
@@ -311,10 +308,10 @@ impl RetransmissionTimer {
     fn time(&mut self, pos: u64, end: u64, sent: u64, now: Instant) {
         if self.times(pos, end) {
             self.untime();
-        } else if self.is_timing == 0 && sent <= pos {
+        } else if !self.is_timing && sent <= pos {
             self.timed = pos;
             self.timed_since = now.total_micros();
-            self.is_timing = 1;
+            self.is_timing = true;
         }
     }
 
@@ -322,7 +319,7 @@ impl RetransmissionTimer {
     fn untime(&mut self) {
         self.timed = 0;
         self.timed_since = 0;
-        self.is_timing = 0;
+        self.is_timing = false;
     }
 
     /// Takes the sample of the timed segment, if there is one, since it has arrived: as `acknowledged`
@@ -354,21 +351,21 @@ impl RetransmissionTimer {
             Some(estimate) => {
                 self.srtt_8 = estimate.srtt_8();
                 self.rttvar_4 = estimate.rttvar_4();
-                self.has_estimate = 1;
+                self.has_estimate = true;
             }
             None => {
                 self.srtt_8 = 0;
                 self.rttvar_4 = 0;
-                self.has_estimate = 0;
+                self.has_estimate = false;
             }
         }
         self.timeout = timeout.timeout().total_micros();
-        self.has_timeout = 1;
+        self.has_timeout = true;
     }
 
     /// Returns how many segments alone in a row weren't acknowledged late, after one more sample.
     fn prompt_after(&self, ack_delay: Duration, time: Duration) -> u64 {
-        if self.is_alone == 0 {
+        if !self.is_alone {
             return self.prompt;
         }
         // How long the first probe waits if the acknowledgement isn't expected to be late.
@@ -444,7 +441,7 @@ impl RetransmissionTimer {
     /// ```
     pub fn reported(&mut self, now: Instant) {
         self.timeouts = 0;
-        if self.is_running != 0 {
+        if self.is_running {
             self.restart(Duration::ZERO, false, now);
         }
     }
@@ -466,14 +463,14 @@ impl RetransmissionTimer {
     /// assert_eq!(timer.expires_at(), Some(Instant::from_secs(3)));
     /// ```
     pub fn expire(&mut self, bounds: TimeoutBounds, now: Instant) -> Option<Expiry> {
-        if self.is_running == 0 {
+        if !self.is_running {
             return None;
         }
         if self.ends_at <= now.total_micros() {
             self.time_out(bounds, now);
             return Some(Expiry::Timeout);
         }
-        if self.reports != 0 && self.probe_at <= now.total_micros() {
+        if self.reports && self.probe_at <= now.total_micros() {
             self.probe(now);
             return Some(Expiry::Probe);
         }
@@ -482,9 +479,9 @@ impl RetransmissionTimer {
 
     /// Doubles the timeout, and starts the timer again.
     fn time_out(&mut self, bounds: TimeoutBounds, now: Instant) {
-        if self.has_timeout == 0 {
+        if !self.has_timeout {
             self.timeout = FIRST_TIMEOUT;
-            self.has_timeout = 1;
+            self.has_timeout = true;
         }
         let mut timeout = RetransmissionTimeout::new(Duration::from_micros(self.timeout));
         timeout.expired(bounds);
@@ -509,13 +506,13 @@ impl RetransmissionTimer {
         self.wait = wait.total_micros().saturating_add(allowance(ack_delay, is_alone, self.prompt));
         let wait = Duration::from_micros(self.wait);
         self.probe_at = now.saturating_add(wait).total_micros();
-        self.is_alone = flag_of(is_alone);
+        self.is_alone = is_alone;
     }
 
     /// Has the timeout pass its length from now on.
     fn end_after_timeout(&mut self, now: Instant) {
         self.ends_at = now.saturating_add(self.timeout()).total_micros();
-        self.is_running = 1;
+        self.is_running = true;
     }
 
     /// Starts the timer without a probe.
@@ -523,12 +520,12 @@ impl RetransmissionTimer {
         self.end_after_timeout(now);
         self.wait = u64::MAX;
         self.probe_at = now.saturating_add(Duration::MAX).total_micros();
-        self.is_alone = 0;
+        self.is_alone = false;
     }
 
     /// Returns whether the timed segment is at `from` or above, and below `to`.
     fn times(&self, from: u64, to: u64) -> bool {
-        self.is_timing != 0 && from <= self.timed && self.timed < to
+        self.is_timing && from <= self.timed && self.timed < to
     }
 }
 

@@ -28,10 +28,10 @@ returns-clause-numbers c =
         greatest_window = 0;
         last_window = 0;
         segment_size = 0;
-        no_delay = 0;
-        is_open = 0;
-        is_window_probe_due = 0;
-        is_overdue = 0;
+        no_delay = false;
+        is_open = false;
+        is_window_probe_due = false;
+        is_overdue = false;
       };
       first_timeout = c.args.first_timeout;
       bounds = c.args.bounds.now;

@@ -1,6 +1,6 @@
 -- A new one over the same storage, and whether Nagle's rule is enabled stays.
 use Rattle.std.proofs.Common.{ap, ◌∙◌}
-use Rattle.std.specs.Prelude.{nat_eq}
+use Rattle.std.specs.Prelude.{not}
 use Rattle.net_assembler.specs.Positions.{Positions, with_range, nothing}
 use Rattle.net_receiver.specs.FiniteSender.{FiniteSenderState, fresh_finite_sender}
 use Rattle.net_tcp.specs.LossRecovery.{Recovery, recovery_of, new_recovery}
@@ -26,7 +26,7 @@ returns g c =
       reported = p;
       recovery = r;
       timer = t;
-      nagle = nat_eq inside.head.no_delay 0;
+      nagle = not inside.head.no_delay;
     } in
     let fresh = fresh_finite_sender capacity c.args.first in
     let none = with_range nothing 0 c.args.first in

@@ -1,4 +1,4 @@
-use Rattle.std.proofs.Common.{◌++◌, None, length, min, max, ap, sym, ◌∙◌, subst}
+use Rattle.std.proofs.Common.{◌++◌, None, false, length, min, max, ap, sym, ◌∙◌, subst}
 use Rattle.net_receiver.specs.NewestRuns.{with_starts}
 use Rattle.net_receiver.specs.FiniteHead.{finite_of}
 use Rattle.net_ends.specs.Receiving.{listed, part_reported}
@@ -49,7 +49,7 @@ returns-clause-step c = λ storage room.
     let starts = c.list_runs-runs.ensures.recent storage sound ∙ (λ i. with_starts (before i) (list i)) in
     ap (λ e. end_of (finite_of e.receiver storage e.runs) e.head) c.list_runs-runs.ensures.rest
     ∙ ap (λ (h : ReceivingHead). end_of s (record h { recent = recent })) taken
-    ∙ ap (λ (h : ReceivingHead). end_of s (record h { recent = recent; duplicate = (0, 0); has_duplicate = 0 })) told
+    ∙ ap (λ (h : ReceivingHead). end_of s (record h { recent = recent; duplicate = (0, 0); has_duplicate = false })) told
     ∙ (λ i. record (end_of s it.head) {
       edge = max it.head.advertised.edge (promise_at it.head (known i));
       recent = starts i;
