@@ -3,7 +3,6 @@
 pub use crate::managed::ManagedSlice;
 pub use crate::storage::assembler::{AssemblerHead, Run};
 pub use crate::storage::Storage;
-pub use crate::stream::flags::flag_of;
 pub use crate::stream::held_runs::HeldRun;
 pub use crate::stream::scoreboard_head::ScoreboardHead;
 pub use crate::stream::segment_bytes::lend;
