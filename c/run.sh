@@ -267,9 +267,10 @@ else
 fi
 
 at="rustc alone"
-mkdir -p "$out/rustc/c" "$out/rustc/rust"
+mkdir -p "$out/rustc/c" "$out/rustc/rust/net-tcp"
 cp -R "$here/src" "$out/rustc/c"
 cp -R "$here/../rust/src" "$out/rustc/rust"
+cp -R "$here/../rust/net-tcp/src" "$out/rustc/rust/net-tcp"
 sed -n 's/^    \(rustc .*\)/\1/p' "$here/../docs/C.md" > "$out/rustc/lines"
 (cd "$out/rustc" && sh -e lines)
 "$compiler" -I "$here" "$here/programs/guide.c" "$out/rustc/c/target/libnet_base.a" -o "$out/program"
