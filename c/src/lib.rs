@@ -167,7 +167,8 @@ unsafe fn mask(at: *mut u8, count: usize) {
 #[inline(always)]
 unsafe fn value<'a, T: Passed>(pointer: *const T) -> Option<&'a T> {
     // SAFETY: the caller's duty, if it isn't null.
-    (!pointer.is_null() && unsafe { T::flags(pointer) } & !0x0101_0101 == 0).then(|| unsafe { &*pointer })
+    (!pointer.is_null() && unsafe { T::flags(pointer) } & !0x0101_0101 == 0)
+        .then(|| unsafe { &*pointer })
 }
 
 /// The same of one that is written.
@@ -178,7 +179,8 @@ unsafe fn value<'a, T: Passed>(pointer: *const T) -> Option<&'a T> {
 #[inline(always)]
 unsafe fn value_mut<'a, T: Passed>(pointer: *mut T) -> Option<&'a mut T> {
     // SAFETY: the caller's duty, if it isn't null.
-    (!pointer.is_null() && unsafe { T::flags(pointer) } & !0x0101_0101 == 0).then(|| unsafe { &mut *pointer })
+    (!pointer.is_null() && unsafe { T::flags(pointer) } & !0x0101_0101 == 0)
+        .then(|| unsafe { &mut *pointer })
 }
 
 /// The same of one that is made: its memory may have held anything.
