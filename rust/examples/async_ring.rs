@@ -12,12 +12,13 @@ use net_base::storage::{SplitReader, SplitRing, SplitWriter};
 
 static WAKER: Mutex<Option<Waker>> = Mutex::new(None);
 
-/// What the interrupt of a UART does. A byte for which there is no room is lost.
-fn on_byte(writer: &mut SplitWriter<'_, 64>, byte: u8) {
-    writer.write(&[byte]);
+/// What the interrupt of a UART does. Returns whether there was room for the byte: otherwise it is lost.
+fn on_byte(writer: &mut SplitWriter<'_, 64>, byte: u8) -> bool {
+    let is_kept = writer.write(&[byte]) == 1;
     if let Some(waker) = WAKER.lock().expect("no panic").take() {
         waker.wake();
     }
+    is_kept
 }
 
 /// Waits until there are bytes, and returns how many it has read.
@@ -57,7 +58,7 @@ fn main() {
     let (mut writer, mut reader) = ring.split(); // one end for each side: a second writer doesn't compile
     let (mut text, mut into) = (Vec::new(), [0; 16]);
     thread::scope(|threads| {
-        threads.spawn(move || b"ping".iter().for_each(|&byte| on_byte(&mut writer, byte)));
+        threads.spawn(move || assert!(b"ping".iter().all(|&byte| on_byte(&mut writer, byte))));
         block_on(async {
             while text.len() < 4 {
                 let count = read(&mut reader, &mut into).await;
