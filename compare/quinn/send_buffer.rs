@@ -52,7 +52,8 @@ impl SendBuffer {
             max_len -= 8;
         }
         let range = open.start..open.end.min(open.start + max_len as u64);
-        if let Some(buffer) = &mut self.0 {
+        // A frame that has the FIN alone has no bytes, and so nothing to mark.
+        if let Some(buffer) = self.0.as_mut().filter(|_| !range.is_empty()) {
             let is_written = buffer.mark(range.clone());
             debug_assert!(is_written);
         }
