@@ -45,6 +45,7 @@ The rules:
    with "Proof:".
 9. In documentation what a public function requires and tests is under "Panics".
 """
+import functools
 import itertools
 import re
 import shutil
@@ -590,18 +591,33 @@ def package_of(module):
     return given.PARTS.get(folder, given.BASE)
 
 
+@functools.cache
+def homes():
+    """The module by hand of net-base in which other packages find a name: a public one, or `internal`."""
+    files = {name: OUT / f'{name}.rs' for name in re.findall(r'^pub mod (\w+);', (OUT / 'lib.rs').read_text(), re.M)}
+    texts = {name: (file if file.is_file() else OUT / name / 'mod.rs').read_text() for name, file in files.items()}
+    return {name: module for module, text in texts.items() for use in re.findall(r'^pub use ([^;]*);', text, re.M)
+            for name in leaves(use)}
+
+
 def relocated(text, package=None):
-    """A text with the paths that modules have in this package, or in C's exports. Another package's modules are those of
-    that one, by its name, and what it keeps from users is in one of them."""
+    """A text with the paths that modules have in this package, or in C's exports. Another package's names are those of
+    its modules by hand."""
     names = [name.replace('/', '::') for name in [*given.MOVED, *given.FOLDERS]]
+    hidden = '|'.join(crate for crate, folder in given.FOLDERS.items() if folder in given.HIDDEN)
+
+    def shown(use):
+        modules = [(homes()[name], name) for name in leaves(use[1])]
+        return '\n'.join(f'use {given.BASE}::{module}::{{{", ".join(name for at, name in modules if at == module)}}};'
+                         for module in sorted({module for module, _ in modules}))
+
+    if package not in (None, given.BASE):
+        text = re.sub(rf'use {ROOT}::(?:{hidden})::([^;]*);', shown, text)
 
     def place(name):
         module = name[1].replace('::', '/')
         root, path = package_of(module), placed(module).split('/')
-        if package in (None, root):
-            root = 'crate'
-        else:
-            path = [given.SHARED[path[0]]] if path[0] in given.SHARED else path
+        root = 'crate' if package in (None, root) else root
         return '::'.join([root, *path]).removesuffix('::')
 
     return re.sub(rf'{ROOT}::({"|".join(names)})\b', place, text)

@@ -61,8 +61,8 @@ fn quic() {
     while !sending.is_done() {
         let mut acknowledged = vec![];
         while let Some(range) = sending.next(max_stream_data, 8) {
-            let SegmentBytes { front, back, part } = sending.bytes(range.clone());
-            let (offset, data, fin) = (range.start, [front, back].concat(), part.is_last());
+            let SegmentBytes { front, back, fin } = sending.bytes(range.clone());
+            let (offset, data) = (range.start, [front, back].concat());
             assert!(sending.mark(range.clone())); // it is in flight
             packet += 1;
             println!("packet {packet}: {range:?} {:?} fin {fin}", text(&data));
@@ -77,7 +77,7 @@ fn quic() {
             if receiving.end().is_some_and(|known| end > known) || fin && !receiving.can_end(end) {
                 return println!("FINAL_SIZE_ERROR");
             }
-            receiving.keep(offset, &data, fin.into()).expect("eight ranges are enough here");
+            receiving.keep(offset, &data, fin).expect("eight ranges are enough here");
             acknowledged.push(range); // an ACK frame names the packet
         }
         for range in acknowledged {

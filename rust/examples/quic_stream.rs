@@ -59,9 +59,8 @@ impl Sender {
     fn send(&mut self, path: &mut Path, now: u64) {
         while self.ranges.len() < WINDOW {
             let Some(range) = self.stream.next(self.max_stream_data, SIZE) else { break };
-            let SegmentBytes { front, back, part } = self.stream.bytes(range.clone());
+            let SegmentBytes { front, back, fin } = self.stream.bytes(range.clone());
             let (number, data) = (self.next_number, [front, back].concat());
-            let fin = part.is_last();
             path.send(now, &Packet::Stream { number, offset: range.start, data, fin });
             assert!(self.stream.mark(range.clone()), "it was written");
             self.ranges.insert(number, range);
@@ -106,12 +105,12 @@ impl Receiver {
         if self.stream.end().is_some_and(|known| end > known) || fin && !self.stream.can_end(end) {
             return Err("FINAL_SIZE_ERROR");
         }
-        if self.stream.keep(offset, data, fin.into()).is_err() {
+        if self.stream.keep(offset, data, fin).is_err() {
             // Too many ranges wait. With room for one more, this one may wait too. A limit belongs here: a peer that
             // sends tiny frames, with a hole after each, attacks (RFC 9000, section 21.7).
             let runs = vec![Run::EMPTY; 2 * self.stream.most_runs() + 1];
             self.stream.grow_runs(runs.into());
-            self.stream.keep(offset, data, fin.into()).map_err(|_| "INTERNAL_ERROR")?;
+            self.stream.keep(offset, data, fin).map_err(|_| "INTERNAL_ERROR")?;
         }
         Ok(())
     }

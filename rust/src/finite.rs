@@ -4,7 +4,7 @@
 //! [`SendBuffer`] also knows which ranges are acknowledged and lost, as the sending side of QUIC needs.
 //!
 //! ```
-//! use net_base::finite::{FiniteReceiver, FiniteSender, Part};
+//! use net_base::finite::{FiniteReceiver, FiniteSender};
 //!
 //! let (mut out, mut into) = ([0u8; 16], [0u8; 16]);
 //! let mut sender = FiniteSender::new_at(&mut out[..], 0);
@@ -14,10 +14,10 @@
 //! // The segment of the last bytes, with the end, overtakes the one before it.
 //! assert_eq!(sender.send_at(0, 3).bytes, b"hel");
 //! let lent = sender.send_at(3, sender.numbers_end());
-//! assert_eq!((lent.bytes, lent.part), (&b"lo"[..], Part::Last));
-//! assert!(receiver.keep(3, lent.bytes, lent.part).is_ok() && !receiver.is_complete());
+//! assert_eq!((lent.bytes, lent.fin), (&b"lo"[..], true));
+//! assert!(receiver.keep(3, lent.bytes, lent.fin).is_ok() && !receiver.is_complete());
 //! let lent = sender.peek_at(0, 3);
-//! assert!(receiver.keep(0, lent.bytes, lent.part).is_ok() && receiver.is_complete());
+//! assert!(receiver.keep(0, lent.bytes, lent.fin).is_ok() && receiver.is_complete());
 //! // What is acknowledged is all five bytes and the end.
 //! assert!(sender.acknowledge(receiver.acknowledged()) && sender.is_closed_and_acknowledged());
 //! let mut text = [0; 9];
@@ -32,7 +32,7 @@ use crate::storage::{Listed, Run, Storage, TooManyHolesError};
 
 pub use crate::stream::{
     FiniteError, FiniteReceiver, FiniteReceiverOver, FiniteSender, FiniteSenderOver, LentBytes,
-    Part, RangeAck, SegmentBytes, SendBuffer, SendBufferOver, SentNumbers, StreamReceiver,
+    RangeAck, SegmentBytes, SendBuffer, SendBufferOver, SentNumbers, StreamReceiver,
     StreamReceiverOver,
 };
 
@@ -59,10 +59,10 @@ impl<'a, const N: usize> FiniteReceiver<'a, N> {
     /// Returns a receiver of a stream that ends, whose first byte has position `first`, with room for `N` held runs.
     ///
     /// ```
-    /// # use net_base::finite::{FiniteReceiver, Part};
+    /// # use net_base::finite::FiniteReceiver;
     /// let mut storage = [0; 16];
     /// let mut receiver = FiniteReceiver::<4>::new_at(&mut storage[..], 1);
-    /// assert!(receiver.keep(1, b"abc", Part::Last).is_ok());
+    /// assert!(receiver.keep(1, b"abc", true).is_ok());
     /// assert_eq!((receiver.is_complete(), receiver.end()), (true, Some(4)));
     /// ```
     ///
@@ -97,11 +97,11 @@ impl<'a> StreamReceiver<'a> {
     /// Returns a receiver of a stream that begins at position `first`; nothing has arrived.
     ///
     /// ```
-    /// # use net_base::finite::{Part, StreamReceiver};
+    /// # use net_base::finite::StreamReceiver;
     /// # use net_base::storage::Run;
     /// let (mut storage, mut runs) = ([0; 16], [Run::EMPTY; 2]);
     /// let mut receiver = StreamReceiver::new_at(&mut storage, &mut runs, 1);
-    /// assert!(receiver.keep(1, b"abc", Part::Last).is_ok() && receiver.end() == Some(4));
+    /// assert!(receiver.keep(1, b"abc", true).is_ok() && receiver.end() == Some(4));
     /// ```
     ///
     /// # Panics
@@ -172,7 +172,7 @@ impl<'a> FiniteSender<'a> {
     /// assert_eq!((sender.write(b"abc"), sender.numbers_end()), (3, 4));
     /// sender.close();
     /// let sent = sender.send_at(1, 9);
-    /// assert!(sent.bytes == b"abc" && sent.part.is_last());
+    /// assert!(sent.bytes == b"abc" && sent.fin);
     /// ```
     ///
     /// # Panics

@@ -1,5 +1,5 @@
 //! What a storage has after calls, and slots of a table of fragments that begin again.
-use net_base::finite::{FiniteReceiver, FiniteSender, Part};
+use net_base::finite::{FiniteReceiver, FiniteSender};
 use net_base::receiver::Receiver;
 use net_base::storage::fragment_table::{
     accept, remove_expired, take_complete, AcceptError, FragmentSlot,
@@ -74,12 +74,8 @@ fn storage_is_written_only_where_bytes_are_kept() {
     assert_eq!(&receiver, b"ab..e...");
     let finite = left_by(|storage| {
         let mut finite: FiniteReceiver<1> = FiniteReceiver::new_at(storage, 0);
-        assert!(
-            finite.keep(0, b"ab", Part::More).is_ok() && finite.keep(4, b"e", Part::Last).is_ok()
-        );
-        assert!(
-            finite.keep(6, b"g", Part::Last).is_err() && finite.keep(4, b"fg", Part::More).is_ok()
-        );
+        assert!(finite.keep(0, b"ab", false).is_ok() && finite.keep(4, b"e", true).is_ok());
+        assert!(finite.keep(6, b"g", true).is_err() && finite.keep(4, b"fg", false).is_ok());
         assert_eq!(finite.read(&mut [0; 2]), 2);
     });
     assert_eq!(&finite, b"ab..f...");

@@ -1,7 +1,7 @@
 //! Streams that end: closures, and what has no number for its end. `model` has calls that are drawn.
 mod support;
 
-use net_base::finite::{FiniteReceiver, FiniteSender, Part};
+use net_base::finite::{FiniteReceiver, FiniteSender};
 use support::message;
 
 /// A closure is lent the contiguous bytes, and those that it counts are read: if it counts more or panics, none.
@@ -9,7 +9,7 @@ use support::message;
 fn closures() {
     let mut storage = [0u8; 8];
     let mut it = FiniteReceiver::<2>::new_at(&mut storage[..], 5);
-    assert!(it.keep(5, b"abcdef", Part::Last).is_ok());
+    assert!(it.keep(5, b"abcdef", true).is_ok());
     assert_eq!(it.read_with(|part| (2, part.to_vec())), (2, b"abcdef".to_vec()));
     assert_eq!((it.receiver().queued(), it.acknowledged(), it.has_read_all()), (4, 12, false));
     let more = "more bytes than were lent";

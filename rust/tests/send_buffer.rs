@@ -4,7 +4,7 @@
 // One range is no list of its numbers.
 #![allow(clippy::single_range_in_vec_init)]
 use net_base::finite::SentNumbers;
-use net_base::finite::{Part, RangeAck, SendBuffer, SendBufferOver};
+use net_base::finite::{RangeAck, SendBuffer, SendBufferOver};
 use net_base::rand::Rand;
 use std::collections::{BTreeMap, BTreeSet, VecDeque};
 use std::ops::Range;
@@ -120,7 +120,7 @@ fn against_sets<const N: usize>(seed: u64) -> (u32, u32) {
                 let (start, end) = (range.start - first, range.end.min(model.bytes) - first);
                 let bytes = [it.front, it.back].concat();
                 assert_eq!(bytes, written[start as usize..end as usize]);
-                assert_eq!(it.part, Part::from(model.is_closed && range.end == model.end()));
+                assert_eq!(it.fin, model.is_closed && range.end == model.end());
                 let to = (range.end - u64::from(rand.below(5) == 0)).max(range.start + 1);
                 assert!(buffer.mark(range.start..to));
                 model.sent = model.sent.max(to);

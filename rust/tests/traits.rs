@@ -7,7 +7,7 @@ use std::hash::{Hash, Hasher};
 use std::iter::FusedIterator;
 
 use net_base::checksum::PartsSum;
-use net_base::finite::{FiniteError, FiniteReceiverOver, FiniteSenderOver, Part, SendBufferOver};
+use net_base::finite::{FiniteError, FiniteReceiverOver, FiniteSenderOver, SendBufferOver};
 use net_base::managed::ManagedSlice;
 use net_base::phy::{Checksum, ChecksumCapabilities, DeviceCapabilities, SegmentationCapabilities};
 use net_base::rand::Rand;
@@ -176,8 +176,8 @@ fn clones() {
     assert!(receiver.segment(1, b"b").is_ok() && receiver.clone().segment(0, b"a").is_ok());
     assert_eq!((receiver.next(), receiver.clone().held().next()), (0, Some((1, 2))));
     let mut finite = FiniteReceiverOver::<_, 2>::over([0u8; 4]);
-    assert!(finite.clone().keep(0, b"a", Part::Last).is_ok());
-    assert_eq!((finite.keep(0, b"b", Part::More).is_ok(), finite.end()), (true, None));
+    assert!(finite.clone().keep(0, b"a", true).is_ok());
+    assert_eq!((finite.keep(0, b"b", false).is_ok(), finite.end()), (true, None));
     let slots = [FragmentSlot::<u8, _, 2>::over([0u8; 4])];
     let mut other = slots.clone();
     assert_eq!(accept(&mut other, 7, 0, b"a", false, Instant::ZERO), Ok(0));
@@ -266,7 +266,7 @@ fn elements_and_texts() {
 
 #[cfg(feature = "std")]
 mod streams {
-    use net_base::finite::{FiniteReceiver, FiniteSender, Part};
+    use net_base::finite::{FiniteReceiver, FiniteSender};
     use net_base::receiver::Receiver;
     use net_base::storage::RingOver;
     use std::fmt::Debug;
@@ -311,8 +311,8 @@ mod streams {
         reads(receiver, Some(ErrorKind::WouldBlock));
         for is_last in [false, true] {
             let mut finite = FiniteReceiver::<4>::new_at(&mut other[..], 0);
-            assert!(finite.keep(0, b"----ab", Part::More).is_ok() && finite.read(&mut [0; 4]) == 4);
-            assert!(finite.keep(6, b"cd", is_last.into()).is_ok());
+            assert!(finite.keep(0, b"----ab", false).is_ok() && finite.read(&mut [0; 4]) == 4);
+            assert!(finite.keep(6, b"cd", is_last).is_ok());
             reads(finite, if is_last { None } else { Some(ErrorKind::WouldBlock) });
         }
     }
@@ -332,20 +332,20 @@ mod streams {
         let mut receiver = FiniteReceiver::<4>::new_at(&mut storage[..], 0);
         let (mut text, mut copied) = (String::new(), Vec::new());
         assert_eq!(refusal(receiver.read_to_string(&mut text)), ErrorKind::WouldBlock);
-        assert!(receiver.keep(0, b"GET /pay?sum=10", Part::More).is_ok());
-        assert!(receiver.keep(17, b"\n", Part::Last).is_ok()); // the end is known, and 15 and 16 are missing
+        assert!(receiver.keep(0, b"GET /pay?sum=10", false).is_ok());
+        assert!(receiver.keep(17, b"\n", true).is_ok()); // the end is known, and 15 and 16 are missing
         assert_eq!(refusal(receiver.read_to_string(&mut text)), ErrorKind::WouldBlock);
         assert_eq!(refusal(io::copy(&mut receiver, &mut copied)), ErrorKind::WouldBlock);
         assert_eq!(refusal(receiver.read_exact(&mut [0])), ErrorKind::WouldBlock);
         assert_eq!(refusal(receiver.fill_buf().map(<[u8]>::len)), ErrorKind::WouldBlock);
-        assert!(receiver.keep(15, b"00", Part::More).is_ok() && !receiver.has_read_all());
+        assert!(receiver.keep(15, b"00", false).is_ok() && !receiver.has_read_all());
         assert_eq!(receiver.read_to_string(&mut text).unwrap(), 3);
         assert_eq!((&text[..], receiver.has_read_all()), ("GET /pay?sum=1000\n", true));
         assert_eq!(receiver.read_to_string(&mut text).unwrap(), 0);
         // An end that comes without bytes.
         receiver.reset_at(7);
         assert_eq!(refusal(receiver.fill_buf().map(<[u8]>::len)), ErrorKind::WouldBlock);
-        assert!(receiver.keep(7, b"", Part::Last).is_ok());
+        assert!(receiver.keep(7, b"", true).is_ok());
         assert!(receiver.fill_buf().unwrap().is_empty());
         assert_eq!(receiver.lines().count(), 0);
     }
@@ -396,7 +396,7 @@ fn long_queues_are_lent_whole() {
     assert_eq!(receiver.keep(0, &[7; 90_000]).unwrap().queued, 90_000);
     assert_eq!(receiver.fill_buf().unwrap().len(), 90_000);
     let mut finite = FiniteReceiver::<4>::new_at(vec![0; 90_000], 0);
-    assert!(finite.keep(0, &[7; 90_000], Part::More).is_ok());
+    assert!(finite.keep(0, &[7; 90_000], false).is_ok());
     assert_eq!(finite.fill_buf().unwrap().len(), 90_000);
 }
 

@@ -8,7 +8,7 @@ use std::sync::Mutex;
 
 use net_base::checksum::PartsSum;
 use net_base::finite::{
-    FiniteError, FiniteReceiver, FiniteReceiverOver, FiniteSender, FiniteSenderOver, Part,
+    FiniteError, FiniteReceiver, FiniteReceiverOver, FiniteSender, FiniteSenderOver,
 };
 use net_base::managed::ManagedSlice;
 use net_base::phy::{
@@ -99,10 +99,7 @@ fn texts_of_what_stores() {
         "Receiver { next: 100, len: 0, window: 16, held: [(103, 104), (106, 107)] }"
     );
     let mut receiver = FiniteReceiver::<2>::new_at(&mut bytes[..], 100);
-    assert!(
-        receiver.keep(100, b"abc", Part::More).is_ok()
-            && receiver.keep(105, b"f", Part::Last).is_ok()
-    );
+    assert!(receiver.keep(100, b"abc", false).is_ok() && receiver.keep(105, b"f", true).is_ok());
     assert_eq!(receiver.read(&mut [0]), 1);
     assert_eq!(
         debug(&receiver),
@@ -340,7 +337,7 @@ fn arrays() {
     assert!(queue.dequeue().is_ok());
     assert_eq!((queue.len(), queue.peek()), (1, Ok((&2, &b"cde"[..]))));
     let mut receiver = FiniteReceiverOver::<[u8; 4], 2>::over_at([0; 4], 7);
-    assert!(receiver.keep(7, b"ab", Part::Last).is_ok() && receiver.acknowledged() == 10);
+    assert!(receiver.keep(7, b"ab", true).is_ok() && receiver.acknowledged() == 10);
     let mut sender = FiniteSenderOver::over_at([0u8; 4], 7);
     assert_eq!((sender.write(b"ab"), sender.numbers_end()), (2, 9));
 }

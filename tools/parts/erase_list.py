@@ -19,9 +19,9 @@ CRATES = [crate for crate in FOLDERS if crate not in PROGRAM]
 BASE = 'net_base'
 PACKAGES = {BASE: 'rust/src', 'net_tcp': 'rust/net-tcp/src'}
 PARTS = {'tcp': 'net_tcp', 'ends': 'net_tcp'}
-# The modules of net-base that its other packages name otherwise: what these take of them is in one that has no
-# documentation.
-SHARED = {'storage': 'internal', 'stream': 'internal'}
+# The folders of net-base whose names its other packages take from modules by hand: from public ones, and from
+# `internal`, which has no documentation.
+HIDDEN = ['storage', 'stream']
 # The methods that these call of a type that users can't name.
 SHARED_CALLS = {'net_receiver/scoreboard_head': [
     'new_at', 'report', 'acknowledge', 'first_unreported', 'contains', 'highest_reported', 'first_missing',
@@ -30,10 +30,10 @@ SHARED_CALLS = {'net_receiver/scoreboard_head': [
 # Modules that have another place there: two heads of one folder, what smoltcp has in `phy/mod.rs`, and the program's.
 MOVED = {'net_ring/head': 'storage/ring_head', 'net_packets/head': 'storage/packets_head',
          'net_packets/packet_slot': 'exports/for_c/packet_slot',
-         'net_base/phy': 'phy/capabilities', 'net_tcp/internet_sum': 'checksum/internet_sum', SCHEDULE: 'schedule'}
+         'net_base/phy': 'phy/capabilities', SCHEDULE: 'schedule'}
 
 # The roots, in whose place are files by hand: they list modules, and their constants stand there too.
-ROOTS = {f'{crate}/lib' for crate in FOLDERS} | {'net_base/storage', 'net_base/time'}
+ROOTS = {f'{crate}/lib' for crate in FOLDERS} | {'net_base/checksum', 'net_base/storage', 'net_base/time'}
 
 # The modules of them that aren't, and why.
 UNERASED = {

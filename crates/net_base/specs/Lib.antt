@@ -23,3 +23,4 @@ pub mod Phy
 pub mod Fragments
 pub mod Time
 pub mod Values
+pub mod InternetChecksum

@@ -1,4 +1,4 @@
-//! Storage, time, network devices and random words: what a small TCP/IP stack needs.
+//! Storage, time, network devices, checksums and random words: what a small TCP/IP stack needs.
 //!
 //! # Calling from a proof: Times and devices
 //!
@@ -33,6 +33,7 @@
 //! - `Device` states frames, idleness and room, and `transmit` leaves the device as it was.
 #![tactic(auto)]
 
+pub mod checksum;
 pub mod phy;
 pub mod rand;
 pub mod storage;

@@ -25,7 +25,7 @@ ghost use Rattle.std.specs.Prelude.{length, Bool};
 ghost use Rattle.net_assembler.specs.Positions.{contains};
 ghost use Rattle.net_tcp.specs.LossRecovery.{is_active, is_wrong, taken_back};
 ghost use Rattle.net_receiver.specs.FiniteSender.{sender_after_command, Acknowledges, accepts, finite_room};
-ghost use Rattle.net_receiver.specs.Finite.{no_end, is_last};
+ghost use Rattle.net_receiver.specs.Finite.{no_end};
 ghost use Rattle.net_tcp.specs.Sack.{is_permitted};
 ghost use Rattle.net_ends.specs.Ends.{new_end, is_pure, first, end, is_acceptable, greatest_of, is_shut, asks, told};
 ghost use Rattle.net_ends.specs.Ends.{limit, may_send, after_event, Wrote, Shut, Heard, Looked, Sent, Rested};
@@ -66,7 +66,7 @@ use crate::sending_head::SendingHead;
 use crate::tcp_buffer::{Queued, accept, mark};
 use net_assembler::Run;
 use net_base::time::{Duration, Instant};
-use net_receiver::{FiniteSenderOver, SegmentBytes, SentNumbers, lend};
+use net_receiver::{FiniteSenderOver, SegmentBytes, SentNumbers};
 use net_ring::{ManagedSlice, Storage};
 use net_tcp::{Announcement, Expiry, Sack, TimeoutBounds};
 use std::marker::Model;
@@ -383,7 +383,6 @@ impl<S: Storage<u8>, const N: usize> SendingEndOver<S, N> {
     ///
     /// ```
     /// # use net_tcp::SendingEnd;
-    /// # use net_base::finite::Part;
     /// # use net_tcp::{Announcement, Sack, TimeoutBounds};
     /// # use net_base::time::{Duration, Instant};
     /// # let mut storage = [0u8; 64];
@@ -394,14 +393,14 @@ impl<S: Storage<u8>, const N: usize> SendingEndOver<S, N> {
     /// sending.close();
     /// let segment = sending.next_segment(1200, Instant::ZERO).expect("three bytes and the end");
     /// let bytes = sending.bytes(segment.range());
-    /// assert_eq!((bytes.front, bytes.back, bytes.part), (&b"abc"[..], &b""[..], Part::Last));
+    /// assert_eq!((bytes.front, bytes.back, bytes.fin), (&b"abc"[..], &b""[..], true));
     /// ```
     #[must_use]
     pub fn bytes(&self, range: Range<u64>) -> SegmentBytes<'_>
         ensures { IsSegment self.now.sender range.start range.end
-            (result.front.now ++ result.back.now) (is_last result.part) }
+            (result.front.now ++ result.back.now) result.fin }
     {
-        lend(&self.sender, range)
+        self.sender.bytes(range)
     }
 
     /// Returns whether all that was written is acknowledged, and the end.

@@ -1,6 +1,6 @@
 //! What laws say of both ends of a connection: small functions, each with a contract that is by a law.
 ghost use Rattle.std.specs.Prelude.{◌≡◌, ◌<◌, ◌≤◌, ℕ, List, IsTrue, IsSome, is_some, take};
-ghost use Rattle.net_receiver.specs.Finite.{MatchesFinite, acknowledged, is_last};
+ghost use Rattle.net_receiver.specs.Finite.{MatchesFinite, acknowledged};
 ghost use Rattle.net_receiver.specs.FiniteSender.{IsSoundSent};
 ghost use Rattle.net_ends.specs.Ends.{IsUnacknowledged, rest, runs, Event, small_sends, expiries, has_timed_out};
 ghost use Rattle.net_ends.specs.Ends.{first, end};
@@ -11,7 +11,6 @@ use net_ends::{
     AckSegment, Acknowledged, Acknowledgement, Outgoing, ReceivingEnd, ReceivingEndOver,
     SendingEndOver, laws, receiving_end,
 };
-use net_receiver::Part;
 use net_ring::{ManagedSlice, Storage};
 use net_tcp::{Announcement, Sack};
 
@@ -80,7 +79,7 @@ pub fn take_segment<S: Storage<u8>, const N: usize>(
     receiver: &mut ReceivingEndOver<S, N>,
     pos: u64,
     bytes: &[u8],
-    part: Part,
+    fin: bool,
 ) -> Acknowledgement
     ensures number { IsSoundReceiving receiver.old →
         acknowledged receiver.old.receiver ≤ result.next }
@@ -88,17 +87,17 @@ pub fn take_segment<S: Storage<u8>, const N: usize>(
     ensures sound { IsSoundReceiving receiver.old → IsSoundReceiving receiver.new }
 {
     receiving_end::laws::announcements();
-    let _kept = receiver.arrived(pos, bytes, part).is_ok();
+    let _kept = receiver.arrived(pos, bytes, fin).is_ok();
     receiver.acknowledgement()
 }
 
 /// Takes one segment at a new end and reads. What is read is the beginning of each stream of which it is a segment.
-pub fn read_first(storage: &mut [u8], pos: u64, bytes: &[u8], part: Part, into: &mut [u8]) -> usize
-    ensures { (x : List ℕ) → MatchesFinite 0 x pos bytes.now (is_last part) →
+pub fn read_first(storage: &mut [u8], pos: u64, bytes: &[u8], fin: bool, into: &mut [u8]) -> usize
+    ensures { (x : List ℕ) → MatchesFinite 0 x pos bytes.now fin →
         take result «into».new ≡ take result x }
 {
     receiving_end::laws::receiving_ends();
     let mut end = ReceivingEnd::<4>::over_at(ManagedSlice::Borrowed(storage), 0, 536);
-    let _kept = end.arrived(pos, bytes, part).is_ok();
+    let _kept = end.arrived(pos, bytes, fin).is_ok();
     end.read(into)
 }

@@ -12,7 +12,6 @@ ghost use Rattle.net_ends_tests.specs.Path.{IsCarried, IsWriting};
 use net_base::time::{Duration, Instant};
 use net_ends::{AckSegment, ReceivingEnd, SendingEnd, laws};
 use net_examples::Segment;
-use net_receiver::Part;
 use net_ring::ManagedSlice;
 use net_tcp::{Announcement, TimeoutBounds};
 use std::alloc::{AllocError, Allocator};
@@ -181,7 +180,7 @@ fn put<A: Allocator + Copy>(
     path.push_reserved(Segment {
         pos,
         bytes,
-        is_last: lent.part.is_last(),
+        is_last: lent.fin,
     });
     Ok(())
 }
@@ -208,7 +207,7 @@ fn take(receiver: &mut ReceivingEnd<'_, 4>, pos: u64, bytes: &[u8], is_last: boo
 {
     net_receiver::laws::finite_receivers();
     net_receiver::laws::numbers();
-    let _kept = receiver.arrived(pos, bytes, Part::from(is_last)).is_ok();
+    let _kept = receiver.arrived(pos, bytes, is_last).is_ok();
 }
 
 /// Takes an acknowledgement, whatever it says.

@@ -14,7 +14,7 @@ ghost use Rattle.net_receiver.specs.Finite.{acknowledged, is_complete};
 ghost use Rattle.net_receiver.specs.FiniteSender.{first_number};
 ghost use Rattle.net_examples.specs.AnyPath.{IsCarried, IsSending, IsOfText, IsReading};
 
-use net_receiver::{FiniteReceiver, FiniteSender, Part, laws};
+use net_receiver::{FiniteReceiver, FiniteSender, laws};
 use net_ring::ManagedSlice;
 use std::alloc::{AllocError, Allocator};
 
@@ -131,7 +131,7 @@ fn send<A: Allocator + Copy>(
     if sender.first_number() <= pos {
         path.reserve(1)?;
         let lent = sender.peek_at(pos, limit);
-        let is_last = lent.part.is_last();
+        let is_last = lent.fin;
         let bytes = Vec::from_slice(alloc, lent.bytes)?;
         let end = pos + bytes.len() as u64 + u64::from(is_last);
         path.push_reserved(Segment {
@@ -156,9 +156,7 @@ fn arrive<A: Allocator + Copy>(
 {
     if index < path.len() {
         let it = &path[index];
-        let _kept = receiver
-            .keep(it.pos, &it.bytes, Part::from(it.is_last))
-            .is_ok();
+        let _kept = receiver.keep(it.pos, &it.bytes, it.is_last).is_ok();
     }
 }
 

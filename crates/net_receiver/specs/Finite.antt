@@ -1,7 +1,6 @@
 -- A stream that ends, and a receiver of it: what it stores, and where the stream ends.
 --     no_end      the end's position while that isn't known
 --     top_of v      the first missing position, or the end of the last held run if that is greater
---     is_last part      it is the last part of the stream
 --     FiniteState, fresh_finite first capacity      what a receiver stores, and the end
 --     knows_end s, can_end s e      whether the end is known; whether it can be e
 --     can_end_by end top e      whether it can, if `end` is known, and the bytes end at `top`
@@ -46,8 +45,6 @@ use Rattle.net_receiver.specs.ReceiverState.{receiver_after_read, IsSound, Refin
 use Rattle.net_receiver.specs.ReceiverState.{setting}
 use Rattle.net_assembler.specs.declared.assembler.error.TooManyHolesError.{TooManyHolesError}
 use Rattle.net_assembler.specs.Positions.{bound_of, positions}
-use Rattle.net_receiver.specs.declared.part.Part.{Part}
-use Rattle.net_receiver.specs.declared.part.Part.TheVariants.{More, Last}
 use Rattle.net_receiver.specs.declared.kept.FiniteError.{FiniteError}
 use Rattle.net_receiver.specs.declared.kept.KeptBytes.{KeptBytes}
 use Rattle.net_receiver.specs.Schedule.{piece, piece_within, KeptState, Setting, bytes_read}
@@ -64,11 +61,6 @@ no_end = 2 ^ 64 - 1
 -- the first missing position, or the position after the last held byte if there is one
 abbrev pub top_of : ReceiverState → ℕ
 top_of v = max (next_position v) (bound_of (positions (domain v.held)))
-
--- it is the last part of the stream
-abbrev pub is_last : Part → Bool
-is_last Last = true
-is_last More = false
 
 -- what a receiver stores, and the position after the stream's last byte, or `no_end`
 pub record FiniteState : Type 0 where

@@ -14,7 +14,7 @@
 ghost use Rattle.std.specs.Prelude.{◌≡◌, ℕ, ◌+◌, ◌-◌, ◌<◌, ◌≤◌, ◌^◌, min, List, length, ◌++◌, IsTrue, Some, None};
 ghost use Rattle.std.specs.Prelude.{take, drop, max, IsOk};
 ghost use Rattle.net_receiver.specs.{no_end, fresh_finite, can_end, bytes_end, finite_after, finite_result};
-ghost use Rattle.net_receiver.specs.{finite_after_read, is_complete, acknowledged, has_read_all, is_last};
+ghost use Rattle.net_receiver.specs.{finite_after_read, is_complete, acknowledged, has_read_all};
 ghost use Rattle.net_receiver.specs.{IsSoundEnd, finite_of, HasSoundFinite, new_count, MatchesFinite, ReceivesFinite};
 ghost use Rattle.net_receiver.specs.{end_with, contiguous_count, first_part, limit_of, next_position};
 ghost use Rattle.net_receiver.specs.{IsSound, ends_in_order};
@@ -26,7 +26,6 @@ use crate::finite_receiver_head::{
     FiniteReceiverHead, NO_END, acknowledged, count_below, end_or_max, known_end,
 };
 use crate::kept::{FiniteError, KeptBytes, SegmentParts};
-use crate::part::Part;
 use crate::receiver::ReceiverOver;
 use net_assembler::Run;
 use net_ring::{ManagedSlice, Storage};
@@ -40,11 +39,11 @@ use std::marker::Model;
 /// held runs. The list of held runs doesn't show an end that came early, so its sender sends it again.
 ///
 /// ```
-/// use net_base::finite::{FiniteReceiverOver, Part};
+/// use net_base::finite::FiniteReceiverOver;
 ///
 /// let mut receiver = FiniteReceiverOver::<_, 4>::over([0u8; 16]);
-/// assert!(receiver.keep(3, b"de", Part::Last).is_ok() && receiver.end() == Some(5));
-/// assert!(receiver.keep(0, b"abc", Part::More).is_ok() && receiver.is_complete());
+/// assert!(receiver.keep(3, b"de", true).is_ok() && receiver.end() == Some(5));
+/// assert!(receiver.keep(0, b"abc", false).is_ok() && receiver.is_complete());
 /// assert_eq!(receiver.acknowledged(), 6); // the end has a number, too
 /// ```
 pub struct FiniteReceiverOver<S: Storage<u8>, const N: usize> {
@@ -60,11 +59,11 @@ pub struct FiniteReceiverOver<S: Storage<u8>, const N: usize> {
 /// [`FiniteReceiverOver`].
 ///
 /// ```
-/// use net_base::finite::{FiniteReceiver, Part};
+/// use net_base::finite::FiniteReceiver;
 ///
 /// let mut storage = [0u8; 16];
 /// let mut receiver = FiniteReceiver::<4>::new_at(&mut storage[..], 100);
-/// assert!(receiver.keep(100, b"abc", Part::Last).is_ok());
+/// assert!(receiver.keep(100, b"abc", true).is_ok());
 /// let mut text = [0; 9];
 /// assert_eq!((receiver.read(&mut text), &text[..3], receiver.has_read_all()), (3, &b"abc"[..], true));
 /// ```
@@ -181,10 +180,10 @@ impl<S: Storage<u8>, const N: usize> FiniteReceiverOver<S, N> {
     /// alone, so none is kept after the end.
     ///
     /// ```
-    /// # use net_base::finite::{FiniteReceiver, Part};
+    /// # use net_base::finite::FiniteReceiver;
     /// # let mut storage = [0u8; 16];
     /// # let mut receiver = FiniteReceiver::<4>::new_at(&mut storage[..], 0);
-    /// assert!(receiver.keep(0, b"abc", Part::Last).is_ok());
+    /// assert!(receiver.keep(0, b"abc", true).is_ok());
     /// assert_eq!((receiver.receiver().queued(), receiver.receiver().window()), (3, 13));
     /// ```
     #[must_use]
@@ -198,10 +197,10 @@ impl<S: Storage<u8>, const N: usize> FiniteReceiverOver<S, N> {
     /// nothing has arrived.
     ///
     /// ```
-    /// # use net_base::finite::{FiniteReceiver, Part};
+    /// # use net_base::finite::FiniteReceiver;
     /// # let mut storage = [0u8; 16];
     /// # let mut receiver = FiniteReceiver::<4>::new_at(&mut storage[..], 0);
-    /// assert!(receiver.keep(0, b"abc", Part::Last).is_ok());
+    /// assert!(receiver.keep(0, b"abc", true).is_ok());
     /// receiver.reset_at(7);
     /// assert_eq!((receiver.acknowledged(), receiver.end()), (7, None));
     /// ```
@@ -223,11 +222,11 @@ impl<S: Storage<u8>, const N: usize> FiniteReceiverOver<S, N> {
     /// stays as it is.
     ///
     /// ```
-    /// # use net_base::finite::{FiniteReceiver, Part};
+    /// # use net_base::finite::FiniteReceiver;
     /// let mut receiver = FiniteReceiver::<4>::new_at(vec![0; 4], 0);
-    /// assert!(receiver.keep(0, b"ab", Part::More).is_ok());
+    /// assert!(receiver.keep(0, b"ab", false).is_ok());
     /// receiver.grow(vec![0; 16].into());
-    /// assert_eq!(receiver.keep(2, b"cdefgh", Part::Last).map(|it| it.kept), Ok(6));
+    /// assert_eq!(receiver.keep(2, b"cdefgh", true).map(|it| it.kept), Ok(6));
     /// assert_eq!((receiver.receiver().queued(), receiver.end()), (8, Some(8)));
     /// ```
     ///
@@ -256,12 +255,12 @@ impl<S: Storage<u8>, const N: usize> FiniteReceiverOver<S, N> {
     /// has no number after it.
     ///
     /// ```
-    /// # use net_base::finite::{FiniteReceiver, Part};
+    /// # use net_base::finite::FiniteReceiver;
     /// # let mut storage = [0u8; 16];
     /// # let mut receiver = FiniteReceiver::<4>::new_at(&mut storage[..], 0);
-    /// assert!(receiver.keep(2, b"cd", Part::More).is_ok());
+    /// assert!(receiver.keep(2, b"cd", false).is_ok());
     /// assert!(receiver.can_end(4) && !receiver.can_end(3)); // the bytes at 2 and 3 have arrived
-    /// assert!(receiver.keep(4, b"e", Part::Last).is_ok());
+    /// assert!(receiver.keep(4, b"e", true).is_ok());
     /// assert!(receiver.can_end(5) && !receiver.can_end(6));
     /// ```
     #[must_use]
@@ -275,7 +274,7 @@ impl<S: Storage<u8>, const N: usize> FiniteReceiverOver<S, N> {
     }
 
     /// Keeps the bytes of a segment that are in the free window and below the end, as
-    /// `ReceiverOver::keep` does. `part` says whether the stream ends after the segment. Any segment may
+    /// `ReceiverOver::keep` does. `fin` says whether the stream ends after the segment. Any segment may
     /// arrive: bytes after which an end has no number, which no stream has, are left out.
     ///
     /// The end is taken if it is at most the end of the free window. An end beyond that is left out, as
@@ -289,13 +288,13 @@ impl<S: Storage<u8>, const N: usize> FiniteReceiverOver<S, N> {
     /// `can_end` first.
     ///
     /// ```
-    /// # use net_base::finite::{FiniteError, FiniteReceiver, Part};
+    /// # use net_base::finite::{FiniteError, FiniteReceiver};
     /// # let mut storage = [0u8; 16];
     /// # let mut receiver = FiniteReceiver::<4>::new_at(&mut storage[..], 0);
-    /// assert!(receiver.keep(0, b"abc", Part::More).is_ok());
-    /// assert!(receiver.keep(9, b"forged", Part::Last).is_ok());
-    /// assert_eq!(receiver.keep(4, b"e", Part::Last), Err(FiniteError::OtherEnd));
-    /// assert!(receiver.keep(3, b"d", Part::Last).is_ok());
+    /// assert!(receiver.keep(0, b"abc", false).is_ok());
+    /// assert!(receiver.keep(9, b"forged", true).is_ok());
+    /// assert_eq!(receiver.keep(4, b"e", true), Err(FiniteError::OtherEnd));
+    /// assert!(receiver.keep(3, b"d", true).is_ok());
     /// assert_eq!((receiver.end(), receiver.is_complete()), (Some(4), true));
     /// ```
     ///
@@ -303,30 +302,30 @@ impl<S: Storage<u8>, const N: usize> FiniteReceiverOver<S, N> {
     ///
     /// `OtherEnd` if the segment says that the stream ends where it can't (`can_end`), and not in order; else
     /// `TooManyHoles` if its bytes are refused. Then nothing changes.
-    pub fn keep(&mut self, pos: u64, bytes: &[u8], part: Part) -> Result<KeptBytes, FiniteError>
-        ensures state { self.new ≡ finite_after N self.old pos bytes.now (is_last part) }
-        ensures value { result ≡ finite_result N self.old pos bytes.now (is_last part) }
+    pub fn keep(&mut self, pos: u64, bytes: &[u8], fin: bool) -> Result<KeptBytes, FiniteError>
+        ensures state { self.new ≡ finite_after N self.old pos bytes.now fin }
+        ensures value { result ≡ finite_result N self.old pos bytes.now fin }
         ensures receives { (f : ℕ) (x : List ℕ) → ReceivesFinite f x self.old →
-            MatchesFinite f x pos bytes.now (is_last part) → ReceivesFinite f x self.new }
+            MatchesFinite f x pos bytes.now fin → ReceivesFinite f x self.new }
         ensures read { self.new.receiver.read ≡ self.old.receiver.read }
         // Guarantee.
-        ensures in_order { IsTrue (is_last part) →
+        ensures in_order { IsTrue fin →
             IsTrue (ends_in_order self.old pos (pos + length bytes.now)) → IsOk result }
         // Guarantee.
         ensures grows { acknowledged self.old ≤ acknowledged self.new }
     {
         self.receiver
-            .keep_finite(&mut self.after_end, pos, bytes, part.is_last())
+            .keep_finite(&mut self.after_end, pos, bytes, fin)
     }
 
     /// Moves bytes from the head of the queue to the beginning of `into`, and returns how many: as
     /// many as are queued and as `into` has room for. The rest of `into` stays as it is.
     ///
     /// ```
-    /// # use net_base::finite::{FiniteReceiver, Part};
+    /// # use net_base::finite::FiniteReceiver;
     /// # let mut storage = [0u8; 16];
     /// # let mut receiver = FiniteReceiver::<4>::new_at(&mut storage[..], 0);
-    /// assert!(receiver.keep(0, b"abc", Part::Last).is_ok());
+    /// assert!(receiver.keep(0, b"abc", true).is_ok());
     /// let mut into = *b"-----";
     /// assert_eq!((receiver.read(&mut into), &into, receiver.has_read_all()), (3, b"abc--", true));
     /// ```
@@ -348,10 +347,10 @@ impl<S: Storage<u8>, const N: usize> FiniteReceiverOver<S, N> {
     /// queue is.
     ///
     /// ```
-    /// # use net_base::finite::{FiniteReceiver, Part};
+    /// # use net_base::finite::FiniteReceiver;
     /// # let mut storage = [0u8; 16];
     /// # let mut receiver = FiniteReceiver::<4>::new_at(&mut storage[..], 0);
-    /// assert!(receiver.keep(0, b"abc", Part::Last).is_ok());
+    /// assert!(receiver.keep(0, b"abc", true).is_ok());
     /// assert_eq!(receiver.read_with(|bytes| (2, bytes.len())), (2, 3));
     /// assert_eq!((receiver.receiver().queued(), receiver.has_read_all()), (1, false));
     /// ```
@@ -381,10 +380,10 @@ impl<S: Storage<u8>, const N: usize> FiniteReceiverOver<S, N> {
     /// Takes the first `count` bytes off the queue and copies none, as `ReceiverOver::remove` does.
     ///
     /// ```
-    /// # use net_base::finite::{FiniteReceiver, Part};
+    /// # use net_base::finite::FiniteReceiver;
     /// # let mut storage = [0u8; 16];
     /// # let mut receiver = FiniteReceiver::<4>::new_at(&mut storage[..], 0);
-    /// assert!(receiver.keep(0, b"abc", Part::More).is_ok());
+    /// assert!(receiver.keep(0, b"abc", false).is_ok());
     /// receiver.remove(2);
     /// assert_eq!(receiver.receiver().peek(0, 9), b"c");
     /// ```
@@ -407,11 +406,11 @@ impl<S: Storage<u8>, const N: usize> FiniteReceiverOver<S, N> {
     /// Returns the position after the last byte, once it is known.
     ///
     /// ```
-    /// # use net_base::finite::{FiniteReceiver, Part};
+    /// # use net_base::finite::FiniteReceiver;
     /// # let mut storage = [0u8; 16];
     /// # let mut receiver = FiniteReceiver::<4>::new_at(&mut storage[..], 0);
-    /// assert!(receiver.keep(0, b"abc", Part::More).is_ok() && receiver.end().is_none());
-    /// assert!(receiver.keep(5, b"f", Part::Last).is_ok());
+    /// assert!(receiver.keep(0, b"abc", false).is_ok() && receiver.end().is_none());
+    /// assert!(receiver.keep(5, b"f", true).is_ok());
     /// assert_eq!(receiver.end(), Some(6));
     /// ```
     #[must_use]
@@ -425,11 +424,11 @@ impl<S: Storage<u8>, const N: usize> FiniteReceiverOver<S, N> {
     /// Returns whether all bytes and the end have arrived. Once it is so it stays so, until `reset_at`.
     ///
     /// ```
-    /// # use net_base::finite::{FiniteReceiver, Part};
+    /// # use net_base::finite::FiniteReceiver;
     /// # let mut storage = [0u8; 16];
     /// # let mut receiver = FiniteReceiver::<4>::new_at(&mut storage[..], 0);
-    /// assert!(receiver.keep(2, b"c", Part::Last).is_ok() && !receiver.is_complete());
-    /// assert!(receiver.keep(0, b"ab", Part::More).is_ok() && receiver.is_complete());
+    /// assert!(receiver.keep(2, b"c", true).is_ok() && !receiver.is_complete());
+    /// assert!(receiver.keep(0, b"ab", false).is_ok() && receiver.is_complete());
     /// ```
     #[must_use]
     pub fn is_complete(&self) -> bool
@@ -442,10 +441,10 @@ impl<S: Storage<u8>, const N: usize> FiniteReceiverOver<S, N> {
     /// acknowledgement of TCP carries `acknowledged`.
     ///
     /// ```
-    /// # use net_base::finite::{FiniteReceiver, Part};
+    /// # use net_base::finite::FiniteReceiver;
     /// # let mut storage = [0u8; 16];
     /// # let mut receiver = FiniteReceiver::<4>::new_at(&mut storage[..], 0);
-    /// assert!(receiver.keep(0, b"abc", Part::Last).is_ok());
+    /// assert!(receiver.keep(0, b"abc", true).is_ok());
     /// assert_eq!((receiver.next(), receiver.acknowledged()), (3, 4));
     /// ```
     #[must_use]
@@ -459,11 +458,11 @@ impl<S: Storage<u8>, const N: usize> FiniteReceiverOver<S, N> {
     /// bytes and the end have arrived, the end plus 1, since the end has a number.
     ///
     /// ```
-    /// # use net_base::finite::{FiniteReceiver, Part};
+    /// # use net_base::finite::FiniteReceiver;
     /// # let mut storage = [0u8; 16];
     /// # let mut receiver = FiniteReceiver::<4>::new_at(&mut storage[..], 0);
-    /// assert!(receiver.keep(0, b"abc", Part::More).is_ok() && receiver.acknowledged() == 3);
-    /// assert!(receiver.keep(3, b"", Part::Last).is_ok() && receiver.acknowledged() == 4);
+    /// assert!(receiver.keep(0, b"abc", false).is_ok() && receiver.acknowledged() == 3);
+    /// assert!(receiver.keep(3, b"", true).is_ok() && receiver.acknowledged() == 4);
     /// ```
     #[must_use]
     pub fn acknowledged(&self) -> u64
@@ -475,10 +474,10 @@ impl<S: Storage<u8>, const N: usize> FiniteReceiverOver<S, N> {
     /// Returns whether all bytes were read, up to the end. Once it is so it stays so, until `reset_at`.
     ///
     /// ```
-    /// # use net_base::finite::{FiniteReceiver, Part};
+    /// # use net_base::finite::FiniteReceiver;
     /// # let mut storage = [0u8; 16];
     /// # let mut receiver = FiniteReceiver::<4>::new_at(&mut storage[..], 0);
-    /// assert!(receiver.keep(0, b"abc", Part::Last).is_ok() && !receiver.has_read_all());
+    /// assert!(receiver.keep(0, b"abc", true).is_ok() && !receiver.has_read_all());
     /// assert!(receiver.read(&mut [0; 3]) == 3 && receiver.has_read_all());
     /// ```
     #[must_use]
@@ -493,12 +492,12 @@ impl<S: Storage<u8>, const N: usize> FiniteReceiverOver<S, N> {
     /// doesn't fit 64 bits.
     ///
     /// ```
-    /// # use net_base::finite::{FiniteReceiver, Part};
+    /// # use net_base::finite::FiniteReceiver;
     /// # let mut storage = [0u8; 3];
     /// # let mut receiver = FiniteReceiver::<4>::new_at(&mut storage[..], 0);
-    /// assert!(receiver.keep(0, b"abc", Part::More).is_ok());
+    /// assert!(receiver.keep(0, b"abc", false).is_ok());
     /// assert_eq!((receiver.acknowledged(), receiver.window_end()), (3, Some(3)));
-    /// assert!(receiver.keep(3, b"", Part::Last).is_ok());
+    /// assert!(receiver.keep(3, b"", true).is_ok());
     /// assert_eq!((receiver.acknowledged(), receiver.window_end()), (4, Some(4)));
     /// ```
     #[must_use]
@@ -520,10 +519,10 @@ impl<S: Storage<u8>, const N: usize> FiniteReceiverOver<S, N> {
     /// QUIC's do, or past the free window.
     ///
     /// ```
-    /// # use net_base::finite::{FiniteReceiver, Part};
+    /// # use net_base::finite::FiniteReceiver;
     /// # let mut storage = [0u8; 8];
     /// # let mut receiver = FiniteReceiver::<4>::new_at(&mut storage[..], 0);
-    /// assert!(receiver.keep(3, b"d", Part::Last).is_ok());
+    /// assert!(receiver.keep(3, b"d", true).is_ok());
     /// let parts = receiver.parts_of(2, 9);
     /// assert_eq!((parts.in_window, parts.beyond, parts.past_end), (2, 0, 7));
     /// ```
@@ -545,10 +544,10 @@ impl<S: Storage<u8>, const N: usize> FiniteReceiverOver<S, N> {
     /// after them, which no stream has, aren't counted.
     ///
     /// ```
-    /// # use net_base::finite::{FiniteReceiver, Part};
+    /// # use net_base::finite::FiniteReceiver;
     /// # let mut storage = [0u8; 16];
     /// # let mut receiver = FiniteReceiver::<4>::new_at(&mut storage[..], 0);
-    /// assert!(receiver.keep(2, b"c", Part::More).is_ok());
+    /// assert!(receiver.keep(2, b"c", false).is_ok());
     /// assert_eq!((receiver.count_new(0, 4), receiver.count_new(2, 1)), (3, 0));
     /// ```
     #[must_use]

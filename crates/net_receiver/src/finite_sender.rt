@@ -7,12 +7,12 @@ ghost use Rattle.std.specs.Int.{from_bool};
 ghost use Rattle.std.specs.Borrow.{sem};
 ghost use Rattle.net_receiver.specs.{end_of, Sends, no_end, MatchesFinite, IsLent, IsSoundSent, finite_sender_of};
 ghost use Rattle.net_receiver.specs.{IsSoundFiniteSender, fresh_finite_sender, first_number, numbers_end, finite_room};
-ghost use Rattle.net_receiver.specs.{with_bytes, closed_sender, acknowledged_below, is_last, sent_after};
+ghost use Rattle.net_receiver.specs.{with_bytes, closed_sender, acknowledged_below, sent_after};
 ghost use Rattle.net_receiver.specs.FiniteSender.{moved_finite_sender};
 
 use crate::finite_sender_head::FiniteSenderHead;
 use crate::laws;
-use crate::part::{LentBytes, Part};
+use crate::lent_bytes::LentBytes;
 use crate::sent_numbers::SentNumbers;
 use net_ring::{ManagedSlice, Storage};
 use std::marker::Model;
@@ -389,7 +389,7 @@ impl<S: Storage<u8>> FiniteSenderOver<S> {
     /// Lends the queued bytes of a segment from the one at `pos` on, without a copy: as many as are
     /// contiguous in the storage, which wraps. No byte is lent if the byte at `pos` isn't queued.
     ///
-    /// The part is the last one if the segment ends the stream (TCP's FIN): the sender is closed, the bytes
+    /// `fin` says that the segment ends the stream (TCP's FIN): the sender is closed, the bytes
     /// end where it does, and the end isn't acknowledged. A segment without bytes that ends the stream is the
     /// end alone.
     ///
@@ -400,29 +400,29 @@ impl<S: Storage<u8>> FiniteSenderOver<S> {
     /// which numbers it has.
     ///
     /// ```
-    /// # use net_base::finite::{FiniteSender, LentBytes, Part};
+    /// # use net_base::finite::{FiniteSender, LentBytes};
     /// # let mut storage = [0u8; 4];
     /// # let mut sender = FiniteSender::new_at(&mut storage[..], 100);
     /// assert!(sender.write(b"abcd") == 4 && sender.mark_sent(103) && sender.acknowledge(103));
     /// assert_eq!(sender.write(b"ef"), 2);
     /// sender.close();
     /// // The queue wraps in the storage: the segment from 103 on has one byte.
-    /// assert_eq!(sender.peek_at(103, 999), LentBytes { bytes: b"d", part: Part::More });
-    /// assert_eq!(sender.peek_at(104, 999), LentBytes { bytes: b"ef", part: Part::Last });
+    /// assert_eq!(sender.peek_at(103, 999), LentBytes { bytes: b"d", fin: false });
+    /// assert_eq!(sender.peek_at(104, 999), LentBytes { bytes: b"ef", fin: true });
     /// ```
     #[must_use]
     pub fn peek_at(&self, pos: u64, limit: u64) -> LentBytes<'_>
-        ensures lent { IsLent self.now pos limit result.bytes.now (is_last result.part) }
+        ensures lent { IsLent self.now pos limit result.bytes.now result.fin }
         ensures later { (f : ℕ) (w more : List ℕ) → Sends f w self.now.sender →
             self.now.sender.first_unacknowledged ≤ pos → (self.now.closed ≡ 1 → more ≡ []) →
-            MatchesFinite f (w ++ more) pos result.bytes.now (is_last result.part) }
+            MatchesFinite f (w ++ more) pos result.bytes.now result.fin }
     {
         laws::matches_stream();
         let lent = self.head.peek_at(self.storage.count(), pos, limit);
         let from = lent.0.from;
         LentBytes {
             bytes: self.storage.part(from, from + lent.0.contiguous),
-            part: Part::from(lent.1),
+            fin: lent.1,
         }
     }
 
@@ -431,31 +431,31 @@ impl<S: Storage<u8>> FiniteSenderOver<S> {
     /// numbers changes nothing.
     ///
     /// ```
-    /// # use net_base::finite::{FiniteSender, LentBytes, Part};
+    /// # use net_base::finite::{FiniteSender, LentBytes};
     /// # let mut storage = [0u8; 8];
     /// # let mut sender = FiniteSender::new_at(&mut storage[..], 100);
     /// assert_eq!(sender.write(b"hello"), 5);
     /// sender.close();
     /// let bytes = sender.send_at(100, 105); // the end's number is 105
-    /// assert_eq!(bytes, LentBytes { bytes: b"hello", part: Part::More });
-    /// assert_eq!(sender.send_at(105, 106), LentBytes { bytes: b"", part: Part::Last });
+    /// assert_eq!(bytes, LentBytes { bytes: b"hello", fin: false });
+    /// assert_eq!(sender.send_at(105, 106), LentBytes { bytes: b"", fin: true });
     /// assert_eq!(sender.sent(), 106);
     /// ```
     pub fn send_at(&mut self, pos: u64, limit: u64) -> LentBytes<'_>
         ensures* marks { sem 𝓛 (ends_as S.row S.Storage self.entry (record self.old {
-          sent = sent_after self.old.sent pos (length result.bytes.now + from_bool (is_last result.part));
+          sent = sent_after self.old.sent pos (length result.bytes.now + from_bool result.fin);
         })) }
-        ensures lent { IsLent self.old pos limit result.bytes.now (is_last result.part) }
+        ensures lent { IsLent self.old pos limit result.bytes.now result.fin }
         ensures later { (f : ℕ) (w more : List ℕ) → Sends f w self.old.sender →
             self.old.sender.first_unacknowledged ≤ pos → (self.old.closed ≡ 1 → more ≡ []) →
-            MatchesFinite f (w ++ more) pos result.bytes.now (is_last result.part) }
+            MatchesFinite f (w ++ more) pos result.bytes.now result.fin }
     {
         laws::matches_stream();
         let lent = self.head.send_at(self.storage.count(), pos, limit);
         let from = lent.0.from;
         LentBytes {
             bytes: self.storage.part(from, from + lent.0.contiguous),
-            part: Part::from(lent.1),
+            fin: lent.1,
         }
     }
 

@@ -8,13 +8,12 @@
 ghost use Rattle.std.specs.Prelude.{◌≡◌, ◌≤◌, ◌<◌, ◌-◌, ◌^◌, length, take, drop, min, ◌++◌, Some, None};
 ghost use Rattle.net_assembler.specs.Positions.{maximal_runs};
 ghost use Rattle.net_receiver.specs.{no_end, fresh_finite, can_end, finite_after, finite_result, finite_after_read};
-ghost use Rattle.net_receiver.specs.{is_complete, has_read_all, is_last, next_position, limit_of, domain};
+ghost use Rattle.net_receiver.specs.{is_complete, has_read_all, next_position, limit_of, domain};
 ghost use Rattle.net_receiver.specs.PartsOf.{finite_parts};
 
 use crate::finite_receiver_head::{FiniteReceiverHead, count_below, known_end};
 use crate::held_runs::HeldRunIter;
 use crate::kept::{FiniteError, KeptBytes, SegmentParts};
-use crate::part::Part;
 use crate::receiver::whole;
 use net_assembler::Run;
 use net_ring::{ManagedSlice, Storage};
@@ -37,15 +36,15 @@ pub struct StreamReceiverOver<S: Storage<u8>, R: Storage<Run>> {
 /// [`StreamReceiverOver`].
 ///
 /// ```
-/// use net_base::finite::{FiniteError, Part, StreamReceiver};
+/// use net_base::finite::{FiniteError, StreamReceiver};
 /// use net_base::storage::Run;
 ///
 /// let mut receiver = StreamReceiver::new_at(vec![0; 16], vec![Run::EMPTY; 1], 0);
-/// assert!(receiver.keep(1, b"b", Part::More).is_ok());
-/// assert_eq!(receiver.keep(5, b"f", Part::More), Err(FiniteError::TooManyHoles));
+/// assert!(receiver.keep(1, b"b", false).is_ok());
+/// assert_eq!(receiver.keep(5, b"f", false), Err(FiniteError::TooManyHoles));
 /// receiver.grow_runs(vec![Run::EMPTY; 64].into());
-/// assert!(receiver.keep(5, b"f", Part::Last).is_ok());
-/// assert_eq!(receiver.keep(0, b"abcde", Part::More).map(|it| it.queued), Ok(6));
+/// assert!(receiver.keep(5, b"f", true).is_ok());
+/// assert_eq!(receiver.keep(0, b"abcde", false).map(|it| it.queued), Ok(6));
 /// assert!(receiver.is_complete());
 /// ```
 pub type StreamReceiver<'a> = StreamReceiverOver<ManagedSlice<'a, u8>, ManagedSlice<'a, Run>>;
@@ -134,10 +133,10 @@ impl<S: Storage<u8>, R: Storage<Run>> StreamReceiverOver<S, R> {
     /// Begins again over the same storages: a receiver of a stream that begins at position `first`; nothing has arrived.
     ///
     /// ```
-    /// # use net_base::finite::{Part, StreamReceiver};
+    /// # use net_base::finite::StreamReceiver;
     /// # use net_base::storage::Run;
     /// let mut receiver = StreamReceiver::new_at(vec![0; 4], vec![Run::EMPTY; 3], 0);
-    /// assert!(receiver.keep(0, b"abc", Part::Last).is_ok());
+    /// assert!(receiver.keep(0, b"abc", true).is_ok());
     /// receiver.reset_at(7);
     /// assert_eq!((receiver.next(), receiver.queued(), receiver.end()), (7, 0, None));
     /// ```
@@ -159,12 +158,12 @@ impl<S: Storage<u8>, R: Storage<Run>> StreamReceiverOver<S, R> {
     /// Moves what is stored to a larger storage, and returns the one from before, as `ReceiverOver::grow` does.
     ///
     /// ```
-    /// # use net_base::finite::{Part, StreamReceiver};
+    /// # use net_base::finite::StreamReceiver;
     /// # use net_base::storage::Run;
     /// let mut receiver = StreamReceiver::new_at(vec![0; 4], vec![Run::EMPTY; 3], 0);
-    /// assert!(receiver.keep(3, b"d", Part::More).is_ok());
+    /// assert!(receiver.keep(3, b"d", false).is_ok());
     /// receiver.grow(vec![0; 16].into());
-    /// assert_eq!((receiver.window(), receiver.keep(0, b"abc", Part::More).map(|it| it.queued)), (16, Ok(4)));
+    /// assert_eq!((receiver.window(), receiver.keep(0, b"abc", false).map(|it| it.queued)), (16, Ok(4)));
     /// ```
     ///
     /// # Requires
@@ -190,12 +189,12 @@ impl<S: Storage<u8>, R: Storage<Run>> StreamReceiverOver<S, R> {
     /// Moves the held runs to a larger storage, and returns the one from before, whose runs can be any.
     ///
     /// ```
-    /// # use net_base::finite::{Part, StreamReceiver};
+    /// # use net_base::finite::StreamReceiver;
     /// # use net_base::storage::Run;
     /// let mut receiver = StreamReceiver::new_at(vec![0; 16], vec![Run::EMPTY; 0], 0);
-    /// assert!(receiver.keep(3, b"d", Part::More).is_err());
+    /// assert!(receiver.keep(3, b"d", false).is_err());
     /// receiver.grow_runs(vec![Run::EMPTY; 8].into());
-    /// assert!(receiver.keep(3, b"d", Part::More).is_ok());
+    /// assert!(receiver.keep(3, b"d", false).is_ok());
     /// ```
     ///
     /// # Requires
@@ -217,40 +216,40 @@ impl<S: Storage<u8>, R: Storage<Run>> StreamReceiverOver<S, R> {
     /// Keeps the bytes of a segment that are in the free window and below the end, as `FiniteReceiverOver::keep` does.
     ///
     /// ```
-    /// # use net_base::finite::{FiniteError, Part, StreamReceiver};
+    /// # use net_base::finite::{FiniteError, StreamReceiver};
     /// # use net_base::storage::Run;
     /// let mut receiver = StreamReceiver::new_at(vec![0; 16], vec![Run::EMPTY; 3], 0);
-    /// assert_eq!(receiver.keep(2, b"cd", Part::Last).map(|it| (it.kept, it.queued)), Ok((2, 0)));
-    /// assert_eq!(receiver.keep(2, b"cde", Part::Last), Err(FiniteError::OtherEnd));
-    /// assert_eq!(receiver.keep(0, b"ab", Part::More).map(|it| (it.kept, it.queued)), Ok((2, 4)));
+    /// assert_eq!(receiver.keep(2, b"cd", true).map(|it| (it.kept, it.queued)), Ok((2, 0)));
+    /// assert_eq!(receiver.keep(2, b"cde", true), Err(FiniteError::OtherEnd));
+    /// assert_eq!(receiver.keep(0, b"ab", false).map(|it| (it.kept, it.queued)), Ok((2, 4)));
     /// ```
     ///
     /// # Errors
     ///
     /// `OtherEnd` if the segment says that the stream ends where it can't (`can_end`), and not in order; else
     /// `TooManyHoles` if its bytes would make too many runs. Then nothing changes.
-    pub fn keep(&mut self, pos: u64, bytes: &[u8], part: Part) -> Result<KeptBytes, FiniteError>
+    pub fn keep(&mut self, pos: u64, bytes: &[u8], fin: bool) -> Result<KeptBytes, FiniteError>
         ensures runs { self.new.most_runs ≡ self.old.most_runs }
         ensures state { self.new.stream
-            ≡ finite_after self.old.most_runs self.old.stream pos bytes.now (is_last part) }
+            ≡ finite_after self.old.most_runs self.old.stream pos bytes.now fin }
         ensures value { result
-            ≡ finite_result self.old.most_runs self.old.stream pos bytes.now (is_last part) }
+            ≡ finite_result self.old.most_runs self.old.stream pos bytes.now fin }
     {
         let count = self.storage.count();
         let storage = self.storage.part_mut(0, count);
         let count = self.runs.count();
         let runs = self.runs.part_mut(0, count);
-        self.head.keep(storage, runs, pos, bytes, part.is_last())
+        self.head.keep(storage, runs, pos, bytes, fin)
     }
 
     /// Moves bytes from the head of the queue to the beginning of `into`, and returns how many: as many as are queued and
     /// as `into` has room for. The rest of `into` stays as it is.
     ///
     /// ```
-    /// # use net_base::finite::{Part, StreamReceiver};
+    /// # use net_base::finite::StreamReceiver;
     /// # use net_base::storage::Run;
     /// let mut receiver = StreamReceiver::new_at(vec![0; 16], vec![Run::EMPTY; 3], 0);
-    /// assert!(receiver.keep(0, b"abc", Part::Last).is_ok());
+    /// assert!(receiver.keep(0, b"abc", true).is_ok());
     /// let mut into = *b"-----";
     /// assert_eq!((receiver.read(&mut into), &into, receiver.has_read_all()), (3, b"abc--", true));
     /// ```
@@ -268,10 +267,10 @@ impl<S: Storage<u8>, R: Storage<Run>> StreamReceiverOver<S, R> {
     /// Takes the first `count` bytes off the queue, as `read` does, and copies none.
     ///
     /// ```
-    /// # use net_base::finite::{Part, StreamReceiver};
+    /// # use net_base::finite::StreamReceiver;
     /// # use net_base::storage::Run;
     /// let mut receiver = StreamReceiver::new_at(vec![0; 16], vec![Run::EMPTY; 3], 0);
-    /// assert!(receiver.keep(0, b"abc", Part::More).is_ok());
+    /// assert!(receiver.keep(0, b"abc", false).is_ok());
     /// receiver.remove(2);
     /// assert_eq!(receiver.as_slices().0, b"c");
     /// ```
@@ -293,10 +292,10 @@ impl<S: Storage<u8>, R: Storage<Run>> StreamReceiverOver<S, R> {
     /// Shows the queue, in order, in two parts. The second is empty unless the queue wraps at the storage's end.
     ///
     /// ```
-    /// # use net_base::finite::{Part, StreamReceiver};
+    /// # use net_base::finite::StreamReceiver;
     /// # use net_base::storage::Run;
     /// let mut receiver = StreamReceiver::new_at(vec![0; 16], vec![Run::EMPTY; 3], 0);
-    /// assert!(receiver.keep(0, b"abc", Part::More).is_ok());
+    /// assert!(receiver.keep(0, b"abc", false).is_ok());
     /// assert_eq!(receiver.as_slices(), (&b"abc"[..], &b""[..]));
     /// ```
     #[must_use]
@@ -309,10 +308,10 @@ impl<S: Storage<u8>, R: Storage<Run>> StreamReceiverOver<S, R> {
     /// Returns whether the stream can end at a position, as `FiniteReceiverOver::can_end` does.
     ///
     /// ```
-    /// # use net_base::finite::{Part, StreamReceiver};
+    /// # use net_base::finite::StreamReceiver;
     /// # use net_base::storage::Run;
     /// let mut receiver = StreamReceiver::new_at(vec![0; 16], vec![Run::EMPTY; 3], 0);
-    /// assert!(receiver.keep(2, b"cd", Part::More).is_ok());
+    /// assert!(receiver.keep(2, b"cd", false).is_ok());
     /// assert!(receiver.can_end(4) && !receiver.can_end(3));
     /// ```
     #[must_use]
@@ -325,10 +324,10 @@ impl<S: Storage<u8>, R: Storage<Run>> StreamReceiverOver<S, R> {
     /// Returns the position after the last byte, once it is known.
     ///
     /// ```
-    /// # use net_base::finite::{Part, StreamReceiver};
+    /// # use net_base::finite::StreamReceiver;
     /// # use net_base::storage::Run;
     /// let mut receiver = StreamReceiver::new_at(vec![0; 16], vec![Run::EMPTY; 3], 0);
-    /// assert!(receiver.end().is_none() && receiver.keep(5, b"f", Part::Last).is_ok());
+    /// assert!(receiver.end().is_none() && receiver.keep(5, b"f", true).is_ok());
     /// assert_eq!(receiver.end(), Some(6));
     /// ```
     #[must_use]
@@ -342,11 +341,11 @@ impl<S: Storage<u8>, R: Storage<Run>> StreamReceiverOver<S, R> {
     /// Returns whether all bytes and the end have arrived.
     ///
     /// ```
-    /// # use net_base::finite::{Part, StreamReceiver};
+    /// # use net_base::finite::StreamReceiver;
     /// # use net_base::storage::Run;
     /// let mut receiver = StreamReceiver::new_at(vec![0; 16], vec![Run::EMPTY; 3], 0);
-    /// assert!(receiver.keep(2, b"c", Part::Last).is_ok() && !receiver.is_complete());
-    /// assert!(receiver.keep(0, b"ab", Part::More).is_ok() && receiver.is_complete());
+    /// assert!(receiver.keep(2, b"c", true).is_ok() && !receiver.is_complete());
+    /// assert!(receiver.keep(0, b"ab", false).is_ok() && receiver.is_complete());
     /// ```
     #[must_use]
     pub fn is_complete(&self) -> bool
@@ -358,10 +357,10 @@ impl<S: Storage<u8>, R: Storage<Run>> StreamReceiverOver<S, R> {
     /// Returns whether all bytes were read, up to the end.
     ///
     /// ```
-    /// # use net_base::finite::{Part, StreamReceiver};
+    /// # use net_base::finite::StreamReceiver;
     /// # use net_base::storage::Run;
     /// let mut receiver = StreamReceiver::new_at(vec![0; 16], vec![Run::EMPTY; 3], 0);
-    /// assert!(receiver.keep(0, b"abc", Part::Last).is_ok() && !receiver.has_read_all());
+    /// assert!(receiver.keep(0, b"abc", true).is_ok() && !receiver.has_read_all());
     /// assert!(receiver.read(&mut [0; 3]) == 3 && receiver.has_read_all());
     /// ```
     #[must_use]
@@ -374,10 +373,10 @@ impl<S: Storage<u8>, R: Storage<Run>> StreamReceiverOver<S, R> {
     /// Returns the first missing position.
     ///
     /// ```
-    /// # use net_base::finite::{Part, StreamReceiver};
+    /// # use net_base::finite::StreamReceiver;
     /// # use net_base::storage::Run;
     /// let mut receiver = StreamReceiver::new_at(vec![0; 16], vec![Run::EMPTY; 3], 0);
-    /// assert!(receiver.keep(0, b"abc", Part::More).is_ok() && receiver.next() == 3);
+    /// assert!(receiver.keep(0, b"abc", false).is_ok() && receiver.next() == 3);
     /// ```
     #[must_use]
     pub fn next(&self) -> u64
@@ -389,10 +388,10 @@ impl<S: Storage<u8>, R: Storage<Run>> StreamReceiverOver<S, R> {
     /// Returns how many bytes are queued.
     ///
     /// ```
-    /// # use net_base::finite::{Part, StreamReceiver};
+    /// # use net_base::finite::StreamReceiver;
     /// # use net_base::storage::Run;
     /// let mut receiver = StreamReceiver::new_at(vec![0; 16], vec![Run::EMPTY; 3], 0);
-    /// assert!(receiver.keep(0, b"abc", Part::More).is_ok() && receiver.queued() == 3);
+    /// assert!(receiver.keep(0, b"abc", false).is_ok() && receiver.queued() == 3);
     /// ```
     #[must_use]
     pub fn queued(&self) -> usize
@@ -404,10 +403,10 @@ impl<S: Storage<u8>, R: Storage<Run>> StreamReceiverOver<S, R> {
     /// Returns the window: how many bytes have room after the queue, held ones among them.
     ///
     /// ```
-    /// # use net_base::finite::{Part, StreamReceiver};
+    /// # use net_base::finite::StreamReceiver;
     /// # use net_base::storage::Run;
     /// let mut receiver = StreamReceiver::new_at(vec![0; 16], vec![Run::EMPTY; 3], 0);
-    /// assert!(receiver.keep(0, b"abc", Part::More).is_ok() && receiver.window() == 13);
+    /// assert!(receiver.keep(0, b"abc", false).is_ok() && receiver.window() == 13);
     /// ```
     #[must_use]
     pub fn window(&self) -> usize
@@ -420,10 +419,10 @@ impl<S: Storage<u8>, R: Storage<Run>> StreamReceiverOver<S, R> {
     /// peer may be told. `None` if it doesn't fit 64 bits. It never falls.
     ///
     /// ```
-    /// # use net_base::finite::{Part, StreamReceiver};
+    /// # use net_base::finite::StreamReceiver;
     /// # use net_base::storage::Run;
     /// let mut receiver = StreamReceiver::new_at(vec![0; 16], vec![Run::EMPTY; 3], 0);
-    /// assert!(receiver.keep(0, b"abc", Part::More).is_ok() && receiver.window_end() == Some(16));
+    /// assert!(receiver.keep(0, b"abc", false).is_ok() && receiver.window_end() == Some(16));
     /// assert!(receiver.read(&mut [0; 3]) == 3 && receiver.window_end() == Some(19));
     /// ```
     #[must_use]
@@ -438,10 +437,10 @@ impl<S: Storage<u8>, R: Storage<Run>> StreamReceiverOver<S, R> {
     /// Returns the held runs as absolute (start, end), the end not included, in rising order.
     ///
     /// ```
-    /// # use net_base::finite::{Part, StreamReceiver};
+    /// # use net_base::finite::StreamReceiver;
     /// # use net_base::storage::Run;
     /// let mut receiver = StreamReceiver::new_at(vec![0; 16], vec![Run::EMPTY; 3], 0);
-    /// assert!(receiver.keep(2, b"cd", Part::More).is_ok());
+    /// assert!(receiver.keep(2, b"cd", false).is_ok());
     /// assert!(receiver.held().eq([(2, 4)]));
     /// ```
     #[must_use]
@@ -455,10 +454,10 @@ impl<S: Storage<u8>, R: Storage<Run>> StreamReceiverOver<S, R> {
     /// receiver of QUIC asks before it keeps a frame: bytes `beyond` the free window, or `past_end`, are its peer's error.
     ///
     /// ```
-    /// # use net_base::finite::{Part, StreamReceiver};
+    /// # use net_base::finite::StreamReceiver;
     /// # use net_base::storage::Run;
     /// let mut receiver = StreamReceiver::new_at(vec![0; 8], vec![Run::EMPTY; 3], 0);
-    /// assert!(receiver.keep(3, b"d", Part::Last).is_ok());
+    /// assert!(receiver.keep(3, b"d", true).is_ok());
     /// let parts = receiver.parts_of(2, 9);
     /// assert_eq!((parts.in_window, parts.beyond, parts.past_end), (2, 0, 7));
     /// ```

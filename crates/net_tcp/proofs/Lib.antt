@@ -1,4 +1,3 @@
-pub mod WordSums
 pub mod WindowFacts
 pub mod Timers
 pub mod Arrivals

@@ -1,6 +1,5 @@
 pub mod AnswerLimit
 pub mod Sack
-pub mod InternetChecksum
 pub mod Windows
 pub mod Estimate
 pub mod Retransmission

@@ -2,8 +2,6 @@
 ghost use Rattle.std.specs.Prelude.{◌≡◌, ℕ, ◌+◌, ◌-◌, ◌*◌, ◌^◌, ◌<◌, ◌≤◌, ◌⊎◌, IsTrue, IsFalse, min, max};
 ghost use Rattle.std.specs.Prelude.{◌/◌, List, [], ◌∷◌, ◌++◌, All, Some, Bool, ℤ, false, true};
 ghost use Rattle.std.specs.Fn.{iterate};
-ghost use Rattle.net_tcp.specs.InternetChecksum.{carried_sum, folded, internet_checksum, word_bytes, word_sum};
-ghost use Rattle.net_tcp.specs.InternetChecksum.{updated as updated_word, IsEven};
 ghost use Rattle.net_tcp.specs.Windows.{IsAcceptable, IsInTable, IsScaleFor, announced, field_for, gain, worth};
 ghost use Rattle.net_tcp.specs.Windows.{IsBehind, IsHeard, IsTaken};
 ghost use Rattle.net_tcp.specs.Windows.{window_from, with_segment, no_window, BothEnds, acknowledgement_number};
@@ -23,46 +21,6 @@ ghost use Rattle.net_tcp.specs.LossRecovery.{after_silence, is_answered, overtak
 ghost use Rattle.net_tcp.specs.LossRecovery.{after_hearing, after_answer, answers_copy, withdrawn, unsent_lost, blind_lost};
 ghost use Rattle.net_tcp.specs.LossRecovery.{is_wrong, taken_back, after_copies};
 ghost use Rattle.net_tcp.specs.LossRecovery.{Recovery};
-
-/// States what the folded sum is: that of RFC 1071, which adds each carry at the low end; and that
-/// neither cuts at even offsets nor where a part is folded changes it.
-#[tactic(auto, using(crate::proofs::WordSums::sums))]
-pub fn sums()
-    ensures carried { (xs : List ℕ) → All (λ x. x < 256) xs →
-        carried_sum 0 xs ≡ folded (word_sum xs) }
-    ensures groups { (xs ys : List ℕ) → IsEven xs →
-        word_sum (xs ++ ys) ≡ word_sum xs + word_sum ys }
-    ensures folds { (a b : ℕ) → folded (a + folded b) ≡ folded (a + b) }
-{}
-
-/// States which checksums are valid, at an even offset: the one that is computed with a zero field, and
-/// no other, except perhaps 65535 where that is 0.
-#[tactic(auto, using(crate::proofs::WordSums::checksum_verifies))]
-pub fn verification()
-    ensures verifies { (xs ys : List ℕ) → IsEven xs →
-        folded (word_sum (xs ++ word_bytes (internet_checksum (xs ++ word_bytes 0 ++ ys))
-        ++ ys)) ≡ 65535 }
-    ensures only { (xs ys : List ℕ) (c : ℕ) → IsEven xs → c ≤ 65535 →
-        folded (word_sum (xs ++ word_bytes c ++ ys)) ≡ 65535 →
-        (c ≡ internet_checksum (xs ++ word_bytes 0 ++ ys))
-        ⊎ ((c ≡ 65535) × (internet_checksum (xs ++ word_bytes 0 ++ ys) ≡ 0)) }
-{}
-
-/// States what an update gives, unless the message is all zeros then: from the checksum of the message
-/// before, the checksum of the message; and a message that was valid stays so.
-#[tactic(auto, using(crate::proofs::WordSums::updates))]
-pub fn updates()
-    ensures checksum { (xs ys : List ℕ) (m n : ℕ) → IsEven xs → m ≤ 65535 → n ≤ 65535 →
-        0 < word_sum (xs ++ word_bytes n ++ ys) →
-        updated_word (internet_checksum (xs ++ word_bytes m ++ ys)) m n
-        ≡ internet_checksum (xs ++ word_bytes n ++ ys) }
-    ensures valid { (xs ys zs : List ℕ) (c m n : ℕ) → IsEven xs → IsEven ys →
-        c ≤ 65535 → m ≤ 65535 →
-        n ≤ 65535 → 0 < word_sum (xs ++ ys ++ word_bytes n ++ zs) →
-        folded (word_sum (xs ++ word_bytes c ++ ys ++ word_bytes m ++ zs)) ≡ 65535 →
-        folded (word_sum (xs ++ word_bytes (updated_word c m n) ++ ys ++ word_bytes n
-        ++ zs)) ≡ 65535 }
-{}
 
 /// States how acceptable segments and the table of RFC 9293 are related: what the table accepts is
 /// acceptable, and what is acceptable is in the table, unless it begins before the window and ends after

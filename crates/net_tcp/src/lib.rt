@@ -1,4 +1,4 @@
-//! Small machines that a TCP needs beside its two queues: the Internet checksum, the test of an
+//! Small machines that a TCP needs beside its two queues: the test of an
 //! arriving segment, the windows of both sides, the time until a retransmission, its timer, and what is
 //! sent next where segments are lost. They store no bytes: a recovery is given the sender's numbers and the
 //! scoreboard.
@@ -9,7 +9,6 @@ pub mod answer_limit;
 pub mod arriving;
 pub mod duplicate_block;
 pub mod equal_acknowledgement;
-pub mod internet_sum;
 pub mod laws;
 pub mod loss_recovery;
 pub mod peer_window;
@@ -23,7 +22,6 @@ pub use answer_limit::AnswerLimit;
 pub use arriving::{Arrival, Segment, classify, is_acceptable, is_acknowledgement};
 pub use duplicate_block::is_duplicate_block;
 pub use equal_acknowledgement::is_equal_acknowledgement;
-pub use internet_sum::{PartsSum, checksum, is_valid, updated_checksum};
 pub use loss_recovery::{Answer, LossRecovery};
 pub use peer_window::{Announcement, PeerWindow, scaled};
 pub use reported::{LentScoreboard, Reported};

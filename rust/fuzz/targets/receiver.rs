@@ -27,7 +27,7 @@ fn play(mut draw: Draw) {
         } else {
             let (pos, bytes, is_last) = (draw.near(next), draw.bytes(), draw.below(2) == 1);
             let known = (finite.acknowledged(), finite.end());
-            let kept = finite.keep(pos, &bytes, is_last.into());
+            let kept = finite.keep(pos, &bytes, is_last);
             assert!(
                 known.0 <= finite.acknowledged() && known.1.is_some() <= finite.end().is_some()
             );

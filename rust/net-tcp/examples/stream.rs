@@ -1,6 +1,6 @@
 //! A stream that ends, over a link that swaps neighbouring segments: sequence numbers that wrap, the window that is
 //! announced, and the end, which has a number as a byte has.
-use net_base::finite::{FiniteReceiver, FiniteSender, LentBytes, Part};
+use net_base::finite::{FiniteReceiver, FiniteSender, LentBytes};
 use net_base::sequence_number::SequenceNumber;
 use net_tcp::{is_acceptable, scaled, AdvertisedWindow, PeerWindow};
 
@@ -13,13 +13,13 @@ struct Segment {
     number: SequenceNumber,
     payload: Vec<u8>,
     /// Whether the stream ends after the payload.
-    part: Part,
+    fin: bool,
 }
 
 impl Segment {
     /// How many numbers it has: the end's is one.
     fn len(&self) -> u64 {
-        self.payload.len() as u64 + u64::from(self.part.is_last())
+        self.payload.len() as u64 + u64::from(self.fin)
     }
 }
 
@@ -28,9 +28,9 @@ fn segments(sender: &mut FiniteSender, window: &PeerWindow) -> Vec<Segment> {
     let (mut segments, mut pos) = (vec![], sender.first_number());
     let limit = window.send_limit(sender.numbers_end());
     while pos < limit {
-        let LentBytes { bytes, part } = sender.send_at(pos, limit.min(pos + u64::from(MSS)));
+        let LentBytes { bytes, fin } = sender.send_at(pos, limit.min(pos + u64::from(MSS)));
         let segment =
-            Segment { number: SequenceNumber::at(FIRST, pos), payload: bytes.to_vec(), part };
+            Segment { number: SequenceNumber::at(FIRST, pos), payload: bytes.to_vec(), fin };
         pos += segment.len();
         segments.push(segment);
     }
@@ -57,7 +57,7 @@ fn main() {
             let next = receiver.acknowledged();
             let Some(pos) = segment.number.position(FIRST, next) else { continue };
             if is_acceptable(next, advertised.edge() - next, pos, segment.len()) {
-                let kept = receiver.keep(pos, &segment.payload, segment.part);
+                let kept = receiver.keep(pos, &segment.payload, segment.fin);
                 let held = receiver.receiver().held().collect::<Vec<_>>();
                 println!("{} at {pos}: {kept:?}, held {held:?}", segment.number.get());
             }

@@ -2,7 +2,6 @@
 //! again.
 use std::collections::VecDeque;
 
-use net_base::finite::Part;
 use net_base::rand::Rand;
 use net_base::time::{Duration, Instant};
 use net_tcp::{
@@ -26,7 +25,7 @@ const BOUNDS: TimeoutBounds = {
 #[derive(Clone)]
 enum Datagram {
     /// A position and its bytes, and whether the file ends after them.
-    Text(u64, Vec<u8>, Part),
+    Text(u64, Vec<u8>, bool),
     Answer(Acknowledgement),
 }
 
@@ -66,9 +65,9 @@ fn main() {
         let mut begins = sending.expired(now) == (Expired::Overdue { begins: true });
         let is_due = path.datagrams.front().is_some_and(|it| it.0 <= now);
         match is_due.then(|| path.datagrams.pop_front()).flatten() {
-            Some((_at, Datagram::Text(pos, bytes, part))) => {
+            Some((_at, Datagram::Text(pos, bytes, fin))) => {
                 // What is refused is sent again.
-                let _is_kept = receiving.arrived(pos, &bytes, part);
+                let _is_kept = receiving.arrived(pos, &bytes, fin);
                 let mut into = [0; CAPACITY];
                 let count = receiving.read(&mut into);
                 read.extend(&into[..count]);
@@ -90,8 +89,8 @@ fn main() {
             window = (window / 2).max(2 * SIZE as u64);
         }
         while let Some(segment) = sending.next_segment(window, now) {
-            let SegmentBytes { front, back, part } = sending.bytes(segment.range());
-            path.send(now, Datagram::Text(segment.pos, [front, back].concat(), part));
+            let SegmentBytes { front, back, fin } = sending.bytes(segment.range());
+            path.send(now, Datagram::Text(segment.pos, [front, back].concat(), fin));
         }
         // The next thing that happens: a datagram arrives, or the timer expires.
         let arrival = path.datagrams.front().map(|it| it.0);

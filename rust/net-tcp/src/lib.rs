@@ -8,7 +8,6 @@
 //! connection has the timer and finds the losses, so its streams have a [`SendBuffer`](net_base::finite::SendBuffer).
 //!
 //! ```
-//! use net_base::finite::Part;
 //! use net_base::time::{Duration, Instant};
 //! use net_tcp::{Announcement, ReceivingEnd, Sack, SendingEnd, TimeoutBounds};
 //!
@@ -22,8 +21,8 @@
 //! sending.set_nagle_enabled(false);
 //! while let Some(segment) = sending.next_segment(u64::MAX, now) {
 //!     let lent = sending.bytes(segment.range());
-//!     assert!(lent.back.is_empty() && lent.part == Part::More);
-//!     receiving.arrived(segment.pos, lent.front, lent.part)?;
+//!     assert!(lent.back.is_empty() && !lent.fin);
+//!     receiving.arrived(segment.pos, lent.front, lent.fin)?;
 //! }
 //! let mut text = [0; 64];
 //! let count = receiving.read(&mut text);

@@ -3,7 +3,6 @@
 #![cfg(feature = "alloc")]
 // One block is a slice of one range.
 #![allow(clippy::single_range_in_vec_init)]
-use net_base::finite::Part;
 use net_base::rand::Rand;
 use net_base::time::{Duration, Instant};
 use net_tcp::{
@@ -122,16 +121,16 @@ fn whatever_arrives() {
                     let window = any(rand, [0, 1, 30, u64::MAX]);
                     let una = end.numbers().first_unacknowledged;
                     while let Some(it) = end.next_segment(window, now) {
-                        let SegmentBytes { front, back, part } = end.bytes(it.range());
+                        let SegmentBytes { front, back, fin } = end.bytes(it.range());
                         let bytes = [front, back].concat();
-                        let after = it.pos + bytes.len() as u64 + u64::from(part.is_last());
+                        let after = it.pos + bytes.len() as u64 + u64::from(fin);
                         assert_eq!(after, it.end);
                         assert!(it.pos < after && after <= written + u64::from(closed));
                         assert!(bytes
                             .iter()
                             .zip(0..)
                             .all(|(found, at)| *found == byte(it.pos + at)));
-                        assert_eq!(part.is_last(), closed && after == written + 1);
+                        assert_eq!(fin, closed && after == written + 1);
                         assert!(
                             after <= edge || (it.pos, after) == (una, una + 1),
                             "beyond the edge"
@@ -348,7 +347,7 @@ fn a_timer_runs_for_what_is_in_flight() {
 fn a_full_window_and_an_end() {
     let mut end = ReceivingEnd::<4>::new_at(vec![0; 3], 0, 1_000);
     assert_eq!(end.open(0, 0), 3);
-    assert!(end.arrived(0, b"abc", Part::Last).is_ok());
+    assert!(end.arrived(0, b"abc", true).is_ok());
     assert!(end.is_due() && end.is_wanted());
     let it = end.acknowledgement();
     assert_eq!((it.next, it.window, end.announce()), (4, 0, AckFields { next: 4, window: 0 }));
@@ -356,7 +355,7 @@ fn a_full_window_and_an_end() {
     assert_eq!((end.read(&mut [0; 3]), end.is_wanted()), (2, false));
     // Room for a segment is worth an update, and one byte less isn't.
     let mut end = ReceivingEnd::<4>::new_at(vec![0; 40], 0, 8);
-    assert_eq!((end.open(0, 0), end.arrived(0, &[7; 20], Part::More).is_ok()), (40, true));
+    assert_eq!((end.open(0, 0), end.arrived(0, &[7; 20], false).is_ok()), (40, true));
     assert_eq!((end.acknowledgement().window, end.is_wanted()), (20, false));
     assert_eq!((end.read(&mut [0; 7]), end.is_wanted()), (7, false));
     assert_eq!((end.read(&mut [0; 1]), end.is_wanted()), (1, true));
@@ -388,14 +387,14 @@ fn what_is_read_is_what_was_written() {
             }
             let _is_lost = sending.expired(now);
             while let Some(it) = sending.next_segment(400, now) {
-                let SegmentBytes { front, back, part } = sending.bytes(it.range());
+                let SegmentBytes { front, back, fin } = sending.bytes(it.range());
                 for _copy in 0..any(rand, [0, 1, 1, 1, 1, 2]) {
-                    there.push((it.pos, [front, back].concat(), part));
+                    there.push((it.pos, [front, back].concat(), fin));
                 }
             }
             if !there.is_empty() {
-                let (pos, bytes, part) = there.swap_remove(rand.below(there.len() as u32) as usize);
-                let _is_kept = receiving.arrived(pos, &bytes, part);
+                let (pos, bytes, fin) = there.swap_remove(rand.below(there.len() as u32) as usize);
+                let _is_kept = receiving.arrived(pos, &bytes, fin);
             }
             let mut into = [0; 70];
             let count = receiving.read(&mut into);

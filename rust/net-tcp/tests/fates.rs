@@ -6,7 +6,6 @@
 use std::collections::BTreeMap;
 use std::ops::Range;
 
-use net_base::finite::Part;
 use net_base::rand::Rand;
 use net_base::time::{Duration, Instant};
 use net_tcp::{AckSegment, Acknowledged, Expired, ReceivingEnd, SegmentBytes, SendingEnd};
@@ -29,7 +28,7 @@ fn one_of<T: Copy>(rand: &mut Rand, of: &[T]) -> T {
 #[derive(Clone)]
 enum Datagram {
     /// A position, how many bytes, and whether the stream ends after them.
-    Text(u64, usize, Part),
+    Text(u64, usize, bool),
     /// What an acknowledgement says, and its blocks.
     Answer(Announcement, Vec<Range<u64>>),
 }
@@ -61,7 +60,7 @@ impl Path {
             self.count += 1;
             let datagram = match datagram {
                 Datagram::Text(pos, len, _) if len > 1 && self.chance(self.cut) => {
-                    Datagram::Text(pos, 1 + self.rand.below(len as u32 - 1) as usize, Part::More)
+                    Datagram::Text(pos, 1 + self.rand.below(len as u32 - 1) as usize, false)
                 }
                 ref whole => whole.clone(),
             };
@@ -184,17 +183,17 @@ impl Schedule {
         }
         let mut is_probe = expired == Expired::Probe;
         while let Some(it) = self.sending.next_segment(self.congestion, self.now) {
-            let SegmentBytes { front, back, part } = self.sending.bytes(it.range());
+            let SegmentBytes { front, back, fin } = self.sending.bytes(it.range());
             let bytes = [front, back].concat();
             let limit = it.pos + bytes.len() as u64;
             assert!((it.pos..).zip(&bytes).all(|(pos, found)| *found == byte(pos)));
-            assert!(part == Part::More || limit == END - 1);
+            assert!(!fin || limit == END - 1);
             let is_again = (it.pos..limit).any(|pos| self.told.is_reported(pos));
             assert!(!is_again, "what was reported is sent again");
-            assert_eq!(it.end, limit + u64::from(part.is_last()));
+            assert_eq!(it.end, limit + u64::from(fin));
             let is_probe = std::mem::take(&mut is_probe) && it.end == it.pos + 1;
             assert!(is_probe || it.end <= self.told.edge, "beyond the peer's edge");
-            self.path.send(self.now, Datagram::Text(it.pos, bytes.len(), part));
+            self.path.send(self.now, Datagram::Text(it.pos, bytes.len(), fin));
         }
     }
 
@@ -231,10 +230,10 @@ impl Schedule {
         {
             match datagram.remove() {
                 Datagram::Answer(it, blocks) => self.acknowledged(it, &blocks),
-                Datagram::Text(pos, len, part) => {
+                Datagram::Text(pos, len, fin) => {
                     let bytes: Vec<u8> = (pos..pos + len as u64).map(byte).collect();
                     // What is refused is sent again.
-                    let _is_kept = self.receiving.arrived(pos, &bytes, part);
+                    let _is_kept = self.receiving.arrived(pos, &bytes, fin);
                     if self.receiving.is_due() {
                         self.answer();
                     }

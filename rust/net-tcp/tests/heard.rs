@@ -2,7 +2,6 @@
 //! lost, copied, and come in another order. Each test fails where an end refuses what the other's segment without
 //! bytes says because of its number: then each answer is answered, and no timer ends that.
 #![cfg(feature = "alloc")]
-use net_base::finite::Part;
 use net_base::rand::Rand;
 use net_base::time::{Duration, Instant};
 use net_tcp::{scaled, Announcement, Arrival, Sack, Segment, TimeoutBounds};
@@ -27,7 +26,7 @@ struct Packet {
     ack: u64,
     window: u16,
     bytes: Vec<u8>,
-    part: Part,
+    fin: bool,
 }
 
 struct End {
@@ -71,19 +70,19 @@ impl End {
     fn acknowledgement(&mut self) -> Packet {
         let it = self.receiving.acknowledgement();
         let seq = self.sending.acknowledgement_number();
-        Packet { seq, ack: it.next, window: it.window, bytes: vec![], part: Part::More }
+        Packet { seq, ack: it.next, window: it.window, bytes: vec![], fin: false }
     }
 
     fn next(&mut self, now: Instant) -> Option<Packet> {
         let it = self.sending.next_segment(u64::MAX, now)?;
         let AckFields { next: ack, window } = self.receiving.announce();
-        let SegmentBytes { front, back, part } = self.sending.bytes(it.range());
-        Some(Packet { seq: it.pos, ack, window, bytes: [front, back].concat(), part })
+        let SegmentBytes { front, back, fin } = self.sending.bytes(it.range());
+        Some(Packet { seq: it.pos, ack, window, bytes: [front, back].concat(), fin })
     }
 
     /// Takes a packet. Returns whether it is to be answered at once.
     fn take(&mut self, it: &Packet, now: Instant) -> bool {
-        let len = it.bytes.len() as u64 + u64::from(it.part.is_last());
+        let len = it.bytes.len() as u64 + u64::from(it.fin);
         let placed = Segment { seq: it.seq, len, syn: false, ack: true, rst: false };
         let arrival = self.receiving.classify(placed);
         if arrival == Arrival::Answer {
@@ -99,7 +98,7 @@ impl End {
         if arrival == Arrival::AcknowledgementOnly {
             return true;
         }
-        let _kept = self.receiving.arrived(it.seq, &it.bytes, it.part);
+        let _kept = self.receiving.arrived(it.seq, &it.bytes, it.fin);
         self.receiving.is_due()
     }
 
@@ -211,8 +210,7 @@ fn an_update_overtakes_an_answer() {
     ends[0].write();
     let sent = std::iter::from_fn(|| ends[0].next(BEGUN)).collect::<Vec<_>>();
     ends[0].take(&shut, BEGUN);
-    sent.iter()
-        .for_each(|packet| assert!(ends[1].take(packet, BEGUN) || packet.part == Part::More));
+    sent.iter().for_each(|packet| assert!(ends[1].take(packet, BEGUN) || !packet.fin));
     let packet = ends[0].acknowledgement();
     let next = ends[1].receiving.receiver().acknowledged();
     assert_eq!((packet.seq, next), (FIRST + 60_000, FIRST + 120_000));

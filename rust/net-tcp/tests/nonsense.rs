@@ -3,7 +3,7 @@
 mod draws;
 
 use draws::{calls, Draw, BYTES};
-use net_base::finite::{Part, SegmentBytes};
+use net_base::finite::SegmentBytes;
 use net_base::scoreboard::Scoreboard;
 use net_base::time::{Duration, Instant};
 use net_tcp::{
@@ -116,8 +116,8 @@ fn sending_ends() {
             _ => {
                 if let Some(it) = end.next_segment(window, now) {
                     assert!(before.first_unacknowledged <= it.pos && it.pos < it.end);
-                    let SegmentBytes { front, back, part } = end.bytes(it.range());
-                    let numbers = front.len() + back.len() + usize::from(part.is_last());
+                    let SegmentBytes { front, back, fin } = end.bytes(it.range());
+                    let numbers = front.len() + back.len() + usize::from(fin);
                     assert!(numbers as u64 == it.end - it.pos && end.expires_at().is_some());
                 }
             }
@@ -160,10 +160,10 @@ fn receiving_ends() {
             13..=16 => assert!(end.read(&mut [0; 9]) <= 9),
             17 => assert!(end.read_with(|part| (part.len() / 2, part.len())).1 <= 16),
             _ => {
-                let (part, was_due) = (Part::from(draw.below(8) == 0), end.is_due());
-                let kept = end.arrived(pos, bytes, part);
+                let (fin, was_due) = (draw.below(8) == 0, end.is_due());
+                let kept = end.arrived(pos, bytes, fin);
                 assert!(kept.map_or(0, |it| it.kept) <= bytes.len());
-                assert!(was_due || end.is_due() || part == Part::More);
+                assert!(was_due || end.is_due() || !fin);
             }
         }
         assert!(!end.is_due() || end.is_wanted());

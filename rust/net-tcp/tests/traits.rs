@@ -2,7 +2,6 @@
 //! hand.
 use std::fmt::Debug;
 
-use net_base::finite::Part;
 use net_base::scoreboard::Scoreboard;
 use net_base::time::{Duration, Instant};
 use net_tcp::{
@@ -47,7 +46,7 @@ fn constants() {
 #[test]
 fn clones() {
     let mut receiving = ReceivingEndOver::<_, 2>::over_at([0u8; 4], 0, 4);
-    assert!(receiving.clone().arrived(0, b"a", Part::More).is_ok());
+    assert!(receiving.clone().arrived(0, b"a", false).is_ok());
     assert_eq!(receiving.read(&mut [0]), 0);
     let (first_timeout, bounds) = (Duration::from_secs(1), TimeoutBounds::new());
     let mut sending = SendingEndOver::<_, 2>::over_at([0u8; 4], 0, first_timeout, bounds);
@@ -68,7 +67,7 @@ fn arrays() {
     let mut end = SendingEndOver::<_, 2>::over_at([0; 4], 7, Duration::from_secs(1), bounds);
     assert_eq!((end.write(b"abcde"), end.numbers().flight_size()), (4, 0));
     let mut end = ReceivingEndOver::<_, 2>::over_at([0; 4], 7, 2);
-    assert!(end.arrived(7, b"ab", Part::Last).is_ok() && end.receiver().acknowledged() == 10);
+    assert!(end.arrived(7, b"ab", true).is_ok() && end.receiver().acknowledged() == 10);
 }
 
 /// No conversion cuts the size of a segment.
@@ -76,7 +75,7 @@ fn arrays() {
 #[cfg(feature = "alloc")]
 fn nothing_is_cut() {
     let mut end = net_tcp::ReceivingEnd::<4>::new_at(vec![0; 60_000], 0, 9_000);
-    assert!(end.arrived(0, &[7; 50_000], Part::More).is_ok());
+    assert!(end.arrived(0, &[7; 50_000], false).is_ok());
     end.acknowledgement();
     assert_eq!((end.read(&mut [0; 8_999]), end.is_wanted()), (8_999, false));
     assert_eq!((end.read(&mut [0; 1]), end.is_wanted()), (1, true));

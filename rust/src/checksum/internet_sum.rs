@@ -1,4 +1,4 @@
-// Written by tools/erase.py from crates/net_tcp/src/internet_sum.rt: a change here would be lost.
+// Written by tools/erase.py from crates/net_base/src/checksum/internet_sum.rt: a change here would be lost.
 //! The Internet checksum (RFC 1071), over one part or several, and its update (RFC 1624).
 
 // Why: Words are added whose low byte comes first, of 64 bits where registers have as many, else of 32. By one lemma

@@ -105,16 +105,16 @@ impl<S: Storage<u8>, const N: usize> BufRead for ReceiverOver<S, N> {
 /// [`has_read_all`](FiniteReceiverOver::has_read_all) tests; otherwise it is refused as [`ErrorKind::WouldBlock`].
 ///
 /// ```
-/// use net_base::finite::{FiniteReceiver, Part};
+/// use net_base::finite::FiniteReceiver;
 /// use std::io::{ErrorKind, Read};
 ///
 /// let mut storage = [0u8; 32];
 /// let mut receiver = FiniteReceiver::<4>::new_at(&mut storage[..], 0);
-/// assert!(receiver.keep(0, b"sum=10", Part::More).is_ok());
+/// assert!(receiver.keep(0, b"sum=10", false).is_ok());
 /// let mut text = String::new();
 /// let refused = receiver.read_to_string(&mut text).unwrap_err();
 /// assert_eq!((refused.kind(), text.as_str()), (ErrorKind::WouldBlock, "sum=10"));
-/// assert!(receiver.keep(6, b"00", Part::Last).is_ok());
+/// assert!(receiver.keep(6, b"00", true).is_ok());
 /// assert_eq!((receiver.read_to_string(&mut text).unwrap(), text.as_str()), (2, "sum=1000"));
 /// ```
 impl<S: Storage<u8>, const N: usize> Read for FiniteReceiverOver<S, N> {

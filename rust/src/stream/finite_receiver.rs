@@ -15,7 +15,6 @@ use crate::stream::finite_receiver_head::{
     acknowledged, count_below, end_or_max, known_end, NO_END,
 };
 use crate::stream::kept::{FiniteError, KeptBytes, SegmentParts};
-use crate::stream::part::Part;
 use crate::stream::receiver::ReceiverOver;
 
 /// A [`FiniteReceiver`] over any storage.
@@ -26,11 +25,11 @@ use crate::stream::receiver::ReceiverOver;
 /// held runs. The list of held runs doesn't show an end that came early, so its sender sends it again.
 ///
 /// ```
-/// use net_base::finite::{FiniteReceiverOver, Part};
+/// use net_base::finite::FiniteReceiverOver;
 ///
 /// let mut receiver = FiniteReceiverOver::<_, 4>::over([0u8; 16]);
-/// assert!(receiver.keep(3, b"de", Part::Last).is_ok() && receiver.end() == Some(5));
-/// assert!(receiver.keep(0, b"abc", Part::More).is_ok() && receiver.is_complete());
+/// assert!(receiver.keep(3, b"de", true).is_ok() && receiver.end() == Some(5));
+/// assert!(receiver.keep(0, b"abc", false).is_ok() && receiver.is_complete());
 /// assert_eq!(receiver.acknowledged(), 6); // the end has a number, too
 /// ```
 #[derive(Clone)]
@@ -47,11 +46,11 @@ pub struct FiniteReceiverOver<S: Storage<u8>, const N: usize> {
 /// [`FiniteReceiverOver`].
 ///
 /// ```
-/// use net_base::finite::{FiniteReceiver, Part};
+/// use net_base::finite::FiniteReceiver;
 ///
 /// let mut storage = [0u8; 16];
 /// let mut receiver = FiniteReceiver::<4>::new_at(&mut storage[..], 100);
-/// assert!(receiver.keep(100, b"abc", Part::Last).is_ok());
+/// assert!(receiver.keep(100, b"abc", true).is_ok());
 /// let mut text = [0; 9];
 /// assert_eq!((receiver.read(&mut text), &text[..3], receiver.has_read_all()), (3, &b"abc"[..], true));
 /// ```
@@ -93,10 +92,10 @@ impl<S: Storage<u8>, const N: usize> FiniteReceiverOver<S, N> {
     /// alone, so none is kept after the end.
     ///
     /// ```
-    /// # use net_base::finite::{FiniteReceiver, Part};
+    /// # use net_base::finite::FiniteReceiver;
     /// # let mut storage = [0u8; 16];
     /// # let mut receiver = FiniteReceiver::<4>::new_at(&mut storage[..], 0);
-    /// assert!(receiver.keep(0, b"abc", Part::Last).is_ok());
+    /// assert!(receiver.keep(0, b"abc", true).is_ok());
     /// assert_eq!((receiver.receiver().queued(), receiver.receiver().window()), (3, 13));
     /// ```
     #[must_use]
@@ -108,10 +107,10 @@ impl<S: Storage<u8>, const N: usize> FiniteReceiverOver<S, N> {
     /// nothing has arrived.
     ///
     /// ```
-    /// # use net_base::finite::{FiniteReceiver, Part};
+    /// # use net_base::finite::FiniteReceiver;
     /// # let mut storage = [0u8; 16];
     /// # let mut receiver = FiniteReceiver::<4>::new_at(&mut storage[..], 0);
-    /// assert!(receiver.keep(0, b"abc", Part::Last).is_ok());
+    /// assert!(receiver.keep(0, b"abc", true).is_ok());
     /// receiver.reset_at(7);
     /// assert_eq!((receiver.acknowledged(), receiver.end()), (7, None));
     /// ```
@@ -130,11 +129,11 @@ impl<S: Storage<u8>, const N: usize> FiniteReceiverOver<S, N> {
     /// stays as it is.
     ///
     /// ```
-    /// # use net_base::finite::{FiniteReceiver, Part};
+    /// # use net_base::finite::FiniteReceiver;
     /// let mut receiver = FiniteReceiver::<4>::new_at(vec![0; 4], 0);
-    /// assert!(receiver.keep(0, b"ab", Part::More).is_ok());
+    /// assert!(receiver.keep(0, b"ab", false).is_ok());
     /// receiver.grow(vec![0; 16].into());
-    /// assert_eq!(receiver.keep(2, b"cdefgh", Part::Last).map(|it| it.kept), Ok(6));
+    /// assert_eq!(receiver.keep(2, b"cdefgh", true).map(|it| it.kept), Ok(6));
     /// assert_eq!((receiver.receiver().queued(), receiver.end()), (8, Some(8)));
     /// ```
     ///
@@ -152,12 +151,12 @@ impl<S: Storage<u8>, const N: usize> FiniteReceiverOver<S, N> {
     /// has no number after it.
     ///
     /// ```
-    /// # use net_base::finite::{FiniteReceiver, Part};
+    /// # use net_base::finite::FiniteReceiver;
     /// # let mut storage = [0u8; 16];
     /// # let mut receiver = FiniteReceiver::<4>::new_at(&mut storage[..], 0);
-    /// assert!(receiver.keep(2, b"cd", Part::More).is_ok());
+    /// assert!(receiver.keep(2, b"cd", false).is_ok());
     /// assert!(receiver.can_end(4) && !receiver.can_end(3)); // the bytes at 2 and 3 have arrived
-    /// assert!(receiver.keep(4, b"e", Part::Last).is_ok());
+    /// assert!(receiver.keep(4, b"e", true).is_ok());
     /// assert!(receiver.can_end(5) && !receiver.can_end(6));
     /// ```
     #[must_use]
@@ -169,7 +168,7 @@ impl<S: Storage<u8>, const N: usize> FiniteReceiverOver<S, N> {
     }
 
     /// Keeps the bytes of a segment that are in the free window and below the end, as
-    /// `ReceiverOver::keep` does. `part` says whether the stream ends after the segment. Any segment may
+    /// `ReceiverOver::keep` does. `fin` says whether the stream ends after the segment. Any segment may
     /// arrive: bytes after which an end has no number, which no stream has, are left out.
     ///
     /// The end is taken if it is at most the end of the free window. An end beyond that is left out, as
@@ -183,13 +182,13 @@ impl<S: Storage<u8>, const N: usize> FiniteReceiverOver<S, N> {
     /// `can_end` first.
     ///
     /// ```
-    /// # use net_base::finite::{FiniteError, FiniteReceiver, Part};
+    /// # use net_base::finite::{FiniteError, FiniteReceiver};
     /// # let mut storage = [0u8; 16];
     /// # let mut receiver = FiniteReceiver::<4>::new_at(&mut storage[..], 0);
-    /// assert!(receiver.keep(0, b"abc", Part::More).is_ok());
-    /// assert!(receiver.keep(9, b"forged", Part::Last).is_ok());
-    /// assert_eq!(receiver.keep(4, b"e", Part::Last), Err(FiniteError::OtherEnd));
-    /// assert!(receiver.keep(3, b"d", Part::Last).is_ok());
+    /// assert!(receiver.keep(0, b"abc", false).is_ok());
+    /// assert!(receiver.keep(9, b"forged", true).is_ok());
+    /// assert_eq!(receiver.keep(4, b"e", true), Err(FiniteError::OtherEnd));
+    /// assert!(receiver.keep(3, b"d", true).is_ok());
     /// assert_eq!((receiver.end(), receiver.is_complete()), (Some(4), true));
     /// ```
     ///
@@ -200,20 +199,20 @@ impl<S: Storage<u8>, const N: usize> FiniteReceiverOver<S, N> {
     ///
     /// # [Guarantees](crate#guarantees)
     ///
-    /// - if `is_last(part)` and `ends_in_order(old(self), pos, pos + bytes.len())`, then `result.is_ok()`
+    /// - if `fin` and `ends_in_order(old(self), pos, pos + bytes.len())`, then `result.is_ok()`
     /// - `old(self).acknowledged() <= self.acknowledged()`
-    pub fn keep(&mut self, pos: u64, bytes: &[u8], part: Part) -> Result<KeptBytes, FiniteError> {
-        self.receiver.keep_finite(&mut self.after_end, pos, bytes, part.is_last())
+    pub fn keep(&mut self, pos: u64, bytes: &[u8], fin: bool) -> Result<KeptBytes, FiniteError> {
+        self.receiver.keep_finite(&mut self.after_end, pos, bytes, fin)
     }
 
     /// Moves bytes from the head of the queue to the beginning of `into`, and returns how many: as
     /// many as are queued and as `into` has room for. The rest of `into` stays as it is.
     ///
     /// ```
-    /// # use net_base::finite::{FiniteReceiver, Part};
+    /// # use net_base::finite::FiniteReceiver;
     /// # let mut storage = [0u8; 16];
     /// # let mut receiver = FiniteReceiver::<4>::new_at(&mut storage[..], 0);
-    /// assert!(receiver.keep(0, b"abc", Part::Last).is_ok());
+    /// assert!(receiver.keep(0, b"abc", true).is_ok());
     /// let mut into = *b"-----";
     /// assert_eq!((receiver.read(&mut into), &into, receiver.has_read_all()), (3, b"abc--", true));
     /// ```
@@ -231,10 +230,10 @@ impl<S: Storage<u8>, const N: usize> FiniteReceiverOver<S, N> {
     /// queue is.
     ///
     /// ```
-    /// # use net_base::finite::{FiniteReceiver, Part};
+    /// # use net_base::finite::FiniteReceiver;
     /// # let mut storage = [0u8; 16];
     /// # let mut receiver = FiniteReceiver::<4>::new_at(&mut storage[..], 0);
-    /// assert!(receiver.keep(0, b"abc", Part::Last).is_ok());
+    /// assert!(receiver.keep(0, b"abc", true).is_ok());
     /// assert_eq!(receiver.read_with(|bytes| (2, bytes.len())), (2, 3));
     /// assert_eq!((receiver.receiver().queued(), receiver.has_read_all()), (1, false));
     /// ```
@@ -255,10 +254,10 @@ impl<S: Storage<u8>, const N: usize> FiniteReceiverOver<S, N> {
     /// Takes the first `count` bytes off the queue and copies none, as `ReceiverOver::remove` does.
     ///
     /// ```
-    /// # use net_base::finite::{FiniteReceiver, Part};
+    /// # use net_base::finite::FiniteReceiver;
     /// # let mut storage = [0u8; 16];
     /// # let mut receiver = FiniteReceiver::<4>::new_at(&mut storage[..], 0);
-    /// assert!(receiver.keep(0, b"abc", Part::More).is_ok());
+    /// assert!(receiver.keep(0, b"abc", false).is_ok());
     /// receiver.remove(2);
     /// assert_eq!(receiver.receiver().peek(0, 9), b"c");
     /// ```
@@ -275,11 +274,11 @@ impl<S: Storage<u8>, const N: usize> FiniteReceiverOver<S, N> {
     /// Returns the position after the last byte, once it is known.
     ///
     /// ```
-    /// # use net_base::finite::{FiniteReceiver, Part};
+    /// # use net_base::finite::FiniteReceiver;
     /// # let mut storage = [0u8; 16];
     /// # let mut receiver = FiniteReceiver::<4>::new_at(&mut storage[..], 0);
-    /// assert!(receiver.keep(0, b"abc", Part::More).is_ok() && receiver.end().is_none());
-    /// assert!(receiver.keep(5, b"f", Part::Last).is_ok());
+    /// assert!(receiver.keep(0, b"abc", false).is_ok() && receiver.end().is_none());
+    /// assert!(receiver.keep(5, b"f", true).is_ok());
     /// assert_eq!(receiver.end(), Some(6));
     /// ```
     #[must_use]
@@ -290,11 +289,11 @@ impl<S: Storage<u8>, const N: usize> FiniteReceiverOver<S, N> {
     /// Returns whether all bytes and the end have arrived. Once it is so it stays so, until `reset_at`.
     ///
     /// ```
-    /// # use net_base::finite::{FiniteReceiver, Part};
+    /// # use net_base::finite::FiniteReceiver;
     /// # let mut storage = [0u8; 16];
     /// # let mut receiver = FiniteReceiver::<4>::new_at(&mut storage[..], 0);
-    /// assert!(receiver.keep(2, b"c", Part::Last).is_ok() && !receiver.is_complete());
-    /// assert!(receiver.keep(0, b"ab", Part::More).is_ok() && receiver.is_complete());
+    /// assert!(receiver.keep(2, b"c", true).is_ok() && !receiver.is_complete());
+    /// assert!(receiver.keep(0, b"ab", false).is_ok() && receiver.is_complete());
     /// ```
     #[must_use]
     pub fn is_complete(&self) -> bool {
@@ -305,10 +304,10 @@ impl<S: Storage<u8>, const N: usize> FiniteReceiverOver<S, N> {
     /// acknowledgement of TCP carries `acknowledged`.
     ///
     /// ```
-    /// # use net_base::finite::{FiniteReceiver, Part};
+    /// # use net_base::finite::FiniteReceiver;
     /// # let mut storage = [0u8; 16];
     /// # let mut receiver = FiniteReceiver::<4>::new_at(&mut storage[..], 0);
-    /// assert!(receiver.keep(0, b"abc", Part::Last).is_ok());
+    /// assert!(receiver.keep(0, b"abc", true).is_ok());
     /// assert_eq!((receiver.next(), receiver.acknowledged()), (3, 4));
     /// ```
     #[must_use]
@@ -320,11 +319,11 @@ impl<S: Storage<u8>, const N: usize> FiniteReceiverOver<S, N> {
     /// bytes and the end have arrived, the end plus 1, since the end has a number.
     ///
     /// ```
-    /// # use net_base::finite::{FiniteReceiver, Part};
+    /// # use net_base::finite::FiniteReceiver;
     /// # let mut storage = [0u8; 16];
     /// # let mut receiver = FiniteReceiver::<4>::new_at(&mut storage[..], 0);
-    /// assert!(receiver.keep(0, b"abc", Part::More).is_ok() && receiver.acknowledged() == 3);
-    /// assert!(receiver.keep(3, b"", Part::Last).is_ok() && receiver.acknowledged() == 4);
+    /// assert!(receiver.keep(0, b"abc", false).is_ok() && receiver.acknowledged() == 3);
+    /// assert!(receiver.keep(3, b"", true).is_ok() && receiver.acknowledged() == 4);
     /// ```
     #[must_use]
     pub fn acknowledged(&self) -> u64 {
@@ -334,10 +333,10 @@ impl<S: Storage<u8>, const N: usize> FiniteReceiverOver<S, N> {
     /// Returns whether all bytes were read, up to the end. Once it is so it stays so, until `reset_at`.
     ///
     /// ```
-    /// # use net_base::finite::{FiniteReceiver, Part};
+    /// # use net_base::finite::FiniteReceiver;
     /// # let mut storage = [0u8; 16];
     /// # let mut receiver = FiniteReceiver::<4>::new_at(&mut storage[..], 0);
-    /// assert!(receiver.keep(0, b"abc", Part::Last).is_ok() && !receiver.has_read_all());
+    /// assert!(receiver.keep(0, b"abc", true).is_ok() && !receiver.has_read_all());
     /// assert!(receiver.read(&mut [0; 3]) == 3 && receiver.has_read_all());
     /// ```
     #[must_use]
@@ -350,12 +349,12 @@ impl<S: Storage<u8>, const N: usize> FiniteReceiverOver<S, N> {
     /// doesn't fit 64 bits.
     ///
     /// ```
-    /// # use net_base::finite::{FiniteReceiver, Part};
+    /// # use net_base::finite::FiniteReceiver;
     /// # let mut storage = [0u8; 3];
     /// # let mut receiver = FiniteReceiver::<4>::new_at(&mut storage[..], 0);
-    /// assert!(receiver.keep(0, b"abc", Part::More).is_ok());
+    /// assert!(receiver.keep(0, b"abc", false).is_ok());
     /// assert_eq!((receiver.acknowledged(), receiver.window_end()), (3, Some(3)));
-    /// assert!(receiver.keep(3, b"", Part::Last).is_ok());
+    /// assert!(receiver.keep(3, b"", true).is_ok());
     /// assert_eq!((receiver.acknowledged(), receiver.window_end()), (4, Some(4)));
     /// ```
     #[must_use]
@@ -372,10 +371,10 @@ impl<S: Storage<u8>, const N: usize> FiniteReceiverOver<S, N> {
     /// QUIC's do, or past the free window.
     ///
     /// ```
-    /// # use net_base::finite::{FiniteReceiver, Part};
+    /// # use net_base::finite::FiniteReceiver;
     /// # let mut storage = [0u8; 8];
     /// # let mut receiver = FiniteReceiver::<4>::new_at(&mut storage[..], 0);
-    /// assert!(receiver.keep(3, b"d", Part::Last).is_ok());
+    /// assert!(receiver.keep(3, b"d", true).is_ok());
     /// let parts = receiver.parts_of(2, 9);
     /// assert_eq!((parts.in_window, parts.beyond, parts.past_end), (2, 0, 7));
     /// ```
@@ -394,10 +393,10 @@ impl<S: Storage<u8>, const N: usize> FiniteReceiverOver<S, N> {
     /// after them, which no stream has, aren't counted.
     ///
     /// ```
-    /// # use net_base::finite::{FiniteReceiver, Part};
+    /// # use net_base::finite::FiniteReceiver;
     /// # let mut storage = [0u8; 16];
     /// # let mut receiver = FiniteReceiver::<4>::new_at(&mut storage[..], 0);
-    /// assert!(receiver.keep(2, b"c", Part::More).is_ok());
+    /// assert!(receiver.keep(2, b"c", false).is_ok());
     /// assert_eq!((receiver.count_new(0, 4), receiver.count_new(2, 1)), (3, 0));
     /// ```
     #[must_use]

@@ -3,7 +3,7 @@
 
 use crate::storage::{ManagedSlice, Storage};
 use crate::stream::finite_sender_head::FiniteSenderHead;
-use crate::stream::part::{LentBytes, Part};
+use crate::stream::lent_bytes::LentBytes;
 use crate::stream::sent_numbers::SentNumbers;
 use core::mem::replace;
 
@@ -277,7 +277,7 @@ impl<S: Storage<u8>> FiniteSenderOver<S> {
     /// Lends the queued bytes of a segment from the one at `pos` on, without a copy: as many as are
     /// contiguous in the storage, which wraps. No byte is lent if the byte at `pos` isn't queued.
     ///
-    /// The part is the last one if the segment ends the stream (TCP's FIN): the sender is closed, the bytes
+    /// `fin` says that the segment ends the stream (TCP's FIN): the sender is closed, the bytes
     /// end where it does, and the end isn't acknowledged. A segment without bytes that ends the stream is the
     /// end alone.
     ///
@@ -288,24 +288,21 @@ impl<S: Storage<u8>> FiniteSenderOver<S> {
     /// which numbers it has.
     ///
     /// ```
-    /// # use net_base::finite::{FiniteSender, LentBytes, Part};
+    /// # use net_base::finite::{FiniteSender, LentBytes};
     /// # let mut storage = [0u8; 4];
     /// # let mut sender = FiniteSender::new_at(&mut storage[..], 100);
     /// assert!(sender.write(b"abcd") == 4 && sender.mark_sent(103) && sender.acknowledge(103));
     /// assert_eq!(sender.write(b"ef"), 2);
     /// sender.close();
     /// // The queue wraps in the storage: the segment from 103 on has one byte.
-    /// assert_eq!(sender.peek_at(103, 999), LentBytes { bytes: b"d", part: Part::More });
-    /// assert_eq!(sender.peek_at(104, 999), LentBytes { bytes: b"ef", part: Part::Last });
+    /// assert_eq!(sender.peek_at(103, 999), LentBytes { bytes: b"d", fin: false });
+    /// assert_eq!(sender.peek_at(104, 999), LentBytes { bytes: b"ef", fin: true });
     /// ```
     #[must_use]
     pub fn peek_at(&self, pos: u64, limit: u64) -> LentBytes<'_> {
         let lent = self.head.peek_at(self.storage.count(), pos, limit);
         let from = lent.0.from;
-        LentBytes {
-            bytes: self.storage.part(from, from + lent.0.contiguous),
-            part: Part::from(lent.1),
-        }
+        LentBytes { bytes: self.storage.part(from, from + lent.0.contiguous), fin: lent.1 }
     }
 
     /// Lends and returns what `peek_at` does, and notes that the segment was sent: `sent` becomes the
@@ -313,23 +310,20 @@ impl<S: Storage<u8>> FiniteSenderOver<S> {
     /// numbers changes nothing.
     ///
     /// ```
-    /// # use net_base::finite::{FiniteSender, LentBytes, Part};
+    /// # use net_base::finite::{FiniteSender, LentBytes};
     /// # let mut storage = [0u8; 8];
     /// # let mut sender = FiniteSender::new_at(&mut storage[..], 100);
     /// assert_eq!(sender.write(b"hello"), 5);
     /// sender.close();
     /// let bytes = sender.send_at(100, 105); // the end's number is 105
-    /// assert_eq!(bytes, LentBytes { bytes: b"hello", part: Part::More });
-    /// assert_eq!(sender.send_at(105, 106), LentBytes { bytes: b"", part: Part::Last });
+    /// assert_eq!(bytes, LentBytes { bytes: b"hello", fin: false });
+    /// assert_eq!(sender.send_at(105, 106), LentBytes { bytes: b"", fin: true });
     /// assert_eq!(sender.sent(), 106);
     /// ```
     pub fn send_at(&mut self, pos: u64, limit: u64) -> LentBytes<'_> {
         let lent = self.head.send_at(self.storage.count(), pos, limit);
         let from = lent.0.from;
-        LentBytes {
-            bytes: self.storage.part(from, from + lent.0.contiguous),
-            part: Part::from(lent.1),
-        }
+        LentBytes { bytes: self.storage.part(from, from + lent.0.contiguous), fin: lent.1 }
     }
 
     /// Notes that all numbers below `pos` were sent, the end's among them if `pos` is past it, and

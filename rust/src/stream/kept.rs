@@ -73,13 +73,13 @@ pub struct SegmentParts {
 /// Why a segment is refused. Nothing changes then.
 ///
 /// ```
-/// use net_base::finite::{FiniteError, FiniteReceiver, Part};
+/// use net_base::finite::{FiniteError, FiniteReceiver};
 ///
 /// let mut storage = [0u8; 16];
 /// let mut receiver = FiniteReceiver::<1>::new_at(&mut storage[..], 0);
-/// assert!(receiver.keep(2, b"cd", Part::More).is_ok());
-/// assert_eq!(receiver.keep(6, b"g", Part::More), Err(FiniteError::TooManyHoles));
-/// assert_eq!(receiver.keep(2, b"c", Part::Last), Err(FiniteError::OtherEnd));
+/// assert!(receiver.keep(2, b"cd", false).is_ok());
+/// assert_eq!(receiver.keep(6, b"g", false), Err(FiniteError::TooManyHoles));
+/// assert_eq!(receiver.keep(2, b"c", true), Err(FiniteError::OtherEnd));
 /// ```
 #[derive(Debug, Clone, Copy, PartialEq, Eq, Hash)]
 #[non_exhaustive]

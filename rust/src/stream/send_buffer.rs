@@ -18,7 +18,7 @@
 use crate::storage::{ManagedSlice, Storage};
 use crate::stream::finite_sender::FiniteSenderOver;
 use crate::stream::scoreboard::Scoreboard;
-use crate::stream::segment_bytes::{lend, SegmentBytes};
+use crate::stream::segment_bytes::SegmentBytes;
 use crate::stream::sent_numbers::SentNumbers;
 use core::ops::Range;
 
@@ -79,7 +79,7 @@ pub type SendBuffer<'a, const N: usize> = SendBufferOver<ManagedSlice<'a, u8>, N
 /// allocates.
 ///
 /// ```
-/// use net_base::finite::{Part, RangeAck, SendBuffer};
+/// use net_base::finite::{RangeAck, SendBuffer};
 ///
 /// // A stream of QUIC. Its peer's MAX_STREAM_DATA is 19, and a frame has room for 8 bytes.
 /// let mut storage = [0u8; 64];
@@ -89,11 +89,11 @@ pub type SendBuffer<'a, const N: usize> = SendBufferOver<ManagedSlice<'a, u8>, N
 /// let mut frames = Vec::new();
 /// while let Some(range) = stream.next(19, 8) {
 ///     let lent = stream.bytes(range.clone());
-///     frames.push((range.start, [lent.front, lent.back].concat(), lent.part));
+///     frames.push((range.start, [lent.front, lent.back].concat(), lent.fin));
 ///     assert!(stream.mark(range));
 /// }
-/// assert_eq!(frames[0], (0, b"nineteen".to_vec(), Part::More));
-/// assert_eq!(frames[2], (16, b"ere".to_vec(), Part::Last)); // range 16..20: the end has the number 19
+/// assert_eq!(frames[0], (0, b"nineteen".to_vec(), false));
+/// assert_eq!(frames[2], (16, b"ere".to_vec(), true)); // range 16..20: the end has the number 19
 /// assert_eq!(frames.len(), 3);
 /// // The packets of the first and the last frame are lost, and that of the second one is acknowledged.
 /// assert_eq!(stream.acknowledge(8..16), RangeAck::Taken);
@@ -280,18 +280,18 @@ impl<S: Storage<u8>, const N: usize> SendBufferOver<S, N> {
     /// `numbers().first_unacknowledged`, it lends none. Bytes that are acknowledged beyond that are lent too.
     ///
     /// ```
-    /// # use net_base::finite::{Part, SendBuffer};
+    /// # use net_base::finite::SendBuffer;
     /// # let mut storage = [0u8; 64];
     /// # let mut buffer = SendBuffer::<4>::new_at(&mut storage[..], 0);
     /// assert_eq!(buffer.write(b"abcdef"), 6);
     /// buffer.close();
-    /// assert_eq!((buffer.bytes(2..5).front, buffer.bytes(2..5).part), (&b"cde"[..], Part::More));
+    /// assert_eq!((buffer.bytes(2..5).front, buffer.bytes(2..5).fin), (&b"cde"[..], false));
     /// // The end has the number 6.
-    /// assert_eq!((buffer.bytes(2..7).front, buffer.bytes(2..7).part), (&b"cdef"[..], Part::Last));
+    /// assert_eq!((buffer.bytes(2..7).front, buffer.bytes(2..7).fin), (&b"cdef"[..], true));
     /// ```
     #[must_use]
     pub fn bytes(&self, range: Range<u64>) -> SegmentBytes<'_> {
-        lend(&self.sender, range)
+        self.sender.bytes(range)
     }
 
     /// Returns whether a number is acknowledged.

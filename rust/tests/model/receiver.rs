@@ -343,7 +343,7 @@ fn play_finite_over<S: Storage<u8>, const N: usize>(
         assert_eq!(it.count_new(pos, data.len()), new);
         match kind {
             0..=4 => {
-                let given = it.keep(pos, &data, is_last.into()).map(|it| (it.kept, it.queued));
+                let given = it.keep(pos, &data, is_last).map(|it| (it.kept, it.queued));
                 assert_eq!(given, model.keep(pos, &data, is_last));
             }
             5 => {
@@ -441,7 +441,7 @@ fn play_stream_over<S: Storage<u8>, R: Storage<Run>>(
         draw.call(format_args!("{kind}: at {pos} {data:?} {is_last}, {size}"));
         match kind {
             0..=4 => {
-                let given = it.keep(pos, &data, is_last.into()).map(|it| (it.kept, it.queued));
+                let given = it.keep(pos, &data, is_last).map(|it| (it.kept, it.queued));
                 assert_eq!(given, model.keep(pos, &data, is_last));
             }
             5 => {

@@ -111,7 +111,7 @@ fn play_over<S: Storage<u8>>(
             }
             4 | 5 => {
                 let given = it.send_at(pos, limit);
-                assert_eq!((given.bytes, given.part.is_last()), (&bytes[..], is_last));
+                assert_eq!((given.bytes, given.fin), (&bytes[..], is_last));
                 let count = bytes.len() as u64 + u64::from(is_last);
                 model.sent = if count > 0 { model.sent.max(pos + count) } else { model.sent };
             }
@@ -143,7 +143,7 @@ fn play_over<S: Storage<u8>>(
         }
         let given = it.peek_at(pos, limit);
         let (bytes, is_last) = model.peek(pos, limit);
-        assert_eq!((given.bytes, given.part.is_last()), (&bytes[..], is_last));
+        assert_eq!((given.bytes, given.fin), (&bytes[..], is_last));
         let first_number = model.first + u64::from(model.is_done);
         let numbers_end = model.end() + u64::from(model.is_closed);
         assert_eq!(

@@ -1,10 +1,10 @@
 //! The Internet checksum of a message in parts, such as a pseudo-header, a header and data.
 //!
 //! A head of zeros is new: no bytes were added.
-ghost use Rattle.net_tcp.specs.InternetChecksum.{Sums, internet_checksum, sum_with};
+ghost use Rattle.net_base.specs.InternetChecksum.{Sums, internet_checksum, sum_with};
 ghost use Rattle.std.specs.Prelude.{IsFalse, List, [], ℕ, ◌++◌, ◌-◌, ◌≡◌};
 
-use net_tcp::PartsSum;
+use net_base::checksum::PartsSum;
 
 /// Makes `sum` the sum of no bytes.
 #[unsafe(no_mangle)]

@@ -1,7 +1,6 @@
 //! One connection of TCP. Positions have 64 bits, and their low 32 bits are the sequence numbers;
 //! the first byte of each direction is at 2^32 or above. The SYN is before it, the FIN after the
 //! last one.
-use net_base::finite::Part;
 use net_base::sequence_number::{Numbering, SequenceNumber};
 use net_base::time::{Duration, Instant};
 use net_tcp::{scale_for, scaled, Announcement, AnswerLimit, Arrival, Sack, TimeoutBounds};
@@ -230,7 +229,7 @@ impl<const N: usize> Endpoint<N> {
                 let is_text = segment.flags & (SYN | RST) == 0;
                 let end = pos + segment.payload.len() as u64;
                 if is_text && end <= self.receiving.receiver().acknowledged() {
-                    let _nothing = self.receiving.arrived(pos, segment.payload, Part::More);
+                    let _nothing = self.receiving.arrived(pos, segment.payload, false);
                 }
                 return self.answer(placed, now);
             }
@@ -264,8 +263,8 @@ impl<const N: usize> Endpoint<N> {
         if arrival == Arrival::AcknowledgementOnly {
             return Some(self.acknowledgement());
         }
-        let part = Part::from(segment.flags & FIN != 0);
-        let kept = self.receiving.arrived(pos, segment.payload, part);
+        let fin = segment.flags & FIN != 0;
+        let kept = self.receiving.arrived(pos, segment.payload, fin);
         let held = self.receiving.receiver().receiver().held_count();
         self.counts.taken += u64::from(placed.len > 0);
         self.counts.refused += u64::from(kept.is_err());
@@ -400,8 +399,8 @@ impl<const N: usize> Endpoint<N> {
         let segment = self.sending.next_segment(self.window, now)?;
         self.flight = self.sending.flight_size();
         let header = self.header(segment.pos);
-        let SegmentBytes { front: payload, back: more, part } = self.sending.bytes(segment.range());
-        let flags = if part.is_last() { ACK | FIN } else { ACK };
+        let SegmentBytes { front: payload, back: more, fin } = self.sending.bytes(segment.range());
+        let flags = if fin { ACK | FIN } else { ACK };
         self.counts.sent += 1;
         self.counts.sent_again += u64::from(segment.is_again);
         if segment.is_again {

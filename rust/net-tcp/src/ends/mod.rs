@@ -85,10 +85,9 @@ impl<'a, const N: usize> ReceivingEnd<'a, N> {
     ///
     /// ```
     /// # use net_tcp::ReceivingEnd;
-    /// # use net_base::finite::Part;
     /// let mut storage = [0; 16];
     /// let mut end = ReceivingEnd::<4>::new_at(&mut storage[..], 1, 8);
-    /// assert!(end.arrived(1, b"hello", Part::More).is_ok());
+    /// assert!(end.arrived(1, b"hello", false).is_ok());
     /// let mut into = [0; 8];
     /// assert_eq!((end.read(&mut into), &into[..5]), (5, &b"hello"[..]));
     /// ```

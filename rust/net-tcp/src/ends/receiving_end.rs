@@ -3,19 +3,21 @@
 
 use crate::tcp::{AdvertisedWindow, Arrival, Segment};
 use core::ops::Range;
-use net_base::internal::{FiniteError, FiniteReceiverOver, HeldRun, KeptBytes, Part};
-use net_base::internal::{ManagedSlice, Storage};
+use net_base::finite::{FiniteError, FiniteReceiverOver};
+use net_base::internal::HeldRun;
+use net_base::managed::ManagedSlice;
+use net_base::receiver::KeptBytes;
+use net_base::storage::Storage;
 
 /// What a segment without bytes tells the peer.
 ///
 /// ```
 /// use net_tcp::ReceivingEnd;
-/// use net_base::finite::Part;
 ///
 /// let mut storage = [0u8; 64];
 /// let mut receiving = ReceivingEnd::<4>::new_at(&mut storage[..], 100, 8);
 /// let _window = receiving.open(100, 0);
-/// receiving.arrived(108, &[7; 8], Part::More).expect("one range may wait");
+/// receiving.arrived(108, &[7; 8], false).expect("one range may wait");
 /// let told = receiving.acknowledgement();
 /// assert_eq!((told.next, told.window, told.blocks.as_slice()), (100, 64, &[108..116][..]));
 /// ```
@@ -35,13 +37,12 @@ pub struct Acknowledgement {
 ///
 /// ```
 /// use net_tcp::ReceivingEnd;
-/// use net_base::finite::Part;
 ///
 /// let mut storage = [0u8; 64];
 /// let mut receiving = ReceivingEnd::<4>::new_at(&mut storage[..], 100, 8);
 /// let _window = receiving.open(100, 0);
-/// receiving.arrived(108, &[7; 8], Part::More).expect("one range may wait");
-/// receiving.arrived(124, &[7; 8], Part::More).expect("two ranges may wait");
+/// receiving.arrived(108, &[7; 8], false).expect("one range may wait");
+/// receiving.arrived(124, &[7; 8], false).expect("two ranges may wait");
 /// // The newest one is the first.
 /// let blocks = receiving.acknowledgement().blocks;
 /// assert_eq!(blocks.as_slice(), [124..132, 108..116]);
@@ -100,12 +101,11 @@ fn count_of(blocks: [Option<(u64, u64)>; 4]) -> usize {
 ///
 /// ```
 /// use net_tcp::{AckFields, ReceivingEnd};
-/// use net_base::finite::Part;
 ///
 /// let mut storage = [0u8; 64];
 /// let mut receiving = ReceivingEnd::<4>::new_at(&mut storage[..], 100, 8);
 /// let _window = receiving.open(100, 0);
-/// receiving.arrived(100, b"abc", Part::More).expect("it is in order");
+/// receiving.arrived(100, b"abc", false).expect("it is in order");
 /// assert_eq!(receiving.announce(), AckFields { next: 103, window: 61 });
 /// ```
 #[derive(Copy, Clone, Debug, PartialEq, Eq)]
@@ -298,16 +298,15 @@ pub type ReceivingEnd<'a, const N: usize> = ReceivingEndOver<ManagedSlice<'a, u8
 ///
 /// ```
 /// use net_tcp::ReceivingEnd;
-/// use net_base::finite::Part;
 ///
 /// let mut storage = [0u8; 64];
 /// let mut receiving = ReceivingEnd::<4>::new_at(&mut storage[..], 100, 8);
 /// assert_eq!(receiving.open(100, 0), 64);
 /// // The second segment comes first: it is answered at once, and reported.
-/// assert!(receiving.arrived(108, b"bytes ok", Part::Last).is_ok() && receiving.is_due());
+/// assert!(receiving.arrived(108, b"bytes ok", true).is_ok() && receiving.is_due());
 /// let ack = receiving.acknowledgement();
 /// assert_eq!((ack.next, ack.window, ack.blocks.as_slice()), (100, 64, &[108..116][..]));
-/// assert!(receiving.arrived(100, b"sixteen ", Part::More).is_ok());
+/// assert!(receiving.arrived(100, b"sixteen ", false).is_ok());
 /// let mut bytes = [0; 64];
 /// assert_eq!(receiving.read(&mut bytes), 16);
 /// assert!(receiving.receiver().has_read_all() && receiving.is_due());
@@ -385,7 +384,7 @@ impl<S: Storage<u8>, const N: usize> ReceivingEndOver<S, N> {
         )
     }
 
-    /// Takes the bytes of a segment, and the end if it is the last part. A segment out of order, one with the end, and
+    /// Takes the bytes of a segment, and the stream's end after them if `fin` says so. A segment out of order, one with the end, and
     /// one that is refused are answered at once; of the others each second one is. What of its bytes came before is
     /// reported by the next acknowledgement, as `Receiver::duplicate_of` tells it. One with neither bytes nor the end
     /// changes nothing.
@@ -396,33 +395,27 @@ impl<S: Storage<u8>, const N: usize> ReceivingEndOver<S, N> {
     ///
     /// ```
     /// # use net_tcp::ReceivingEnd;
-    /// # use net_base::finite::Part;
     /// # let mut storage = [0u8; 64];
     /// # let mut receiving = ReceivingEnd::<4>::new_at(&mut storage[..], 100, 8);
     /// let _window = receiving.open(100, 0);
-    /// let kept = receiving.arrived(103, b"def", Part::Last).expect("one range may wait");
+    /// let kept = receiving.arrived(103, b"def", true).expect("one range may wait");
     /// assert_eq!((kept.kept, kept.queued), (3, 0));
-    /// let kept = receiving.arrived(100, b"abc", Part::More).expect("it is in order");
+    /// let kept = receiving.arrived(100, b"abc", false).expect("it is in order");
     /// assert_eq!((kept.kept, kept.queued), (3, 6));
     /// ```
-    pub fn arrived(
-        &mut self,
-        pos: u64,
-        bytes: &[u8],
-        part: Part,
-    ) -> Result<KeptBytes, FiniteError> {
-        if bytes.is_empty() && !part.is_last() {
+    pub fn arrived(&mut self, pos: u64, bytes: &[u8], fin: bool) -> Result<KeptBytes, FiniteError> {
+        if bytes.is_empty() && !fin {
             return Ok(KeptBytes { kept: 0, queued: 0 });
         }
-        self.take(pos, bytes, part)
+        self.take(pos, bytes, fin)
     }
 
     /// Takes a segment that has a byte or the end. A function of its own: `arrived` says what one of neither does.
-    fn take(&mut self, pos: u64, bytes: &[u8], part: Part) -> Result<KeptBytes, FiniteError> {
+    fn take(&mut self, pos: u64, bytes: &[u8], fin: bool) -> Result<KeptBytes, FiniteError> {
         let came = pair_of(self.receiver.receiver().duplicate_of(pos, bytes.len()));
         let held = self.receiver.receiver().held_count();
-        let kept = self.receiver.keep(pos, bytes, part);
-        self.head.take(pos, part.is_last(), came, held, kept);
+        let kept = self.receiver.keep(pos, bytes, fin);
+        self.head.take(pos, fin, came, held, kept);
         kept
     }
 
@@ -444,14 +437,13 @@ impl<S: Storage<u8>, const N: usize> ReceivingEndOver<S, N> {
     ///
     /// ```
     /// # use net_tcp::ReceivingEnd;
-    /// # use net_base::finite::Part;
     /// # let mut storage = [0u8; 64];
     /// # let mut receiving = ReceivingEnd::<4>::new_at(&mut storage[..], 100, 8);
     /// let _window = receiving.open(100, 0);
     /// // One segment may wait for a second one.
-    /// receiving.arrived(100, &[7; 8], Part::More).expect("it is in order");
+    /// receiving.arrived(100, &[7; 8], false).expect("it is in order");
     /// assert!(!receiving.is_due() && receiving.is_wanted());
-    /// receiving.arrived(108, &[7; 8], Part::More).expect("it is in order");
+    /// receiving.arrived(108, &[7; 8], false).expect("it is in order");
     /// assert!(receiving.is_due());
     /// ```
     #[must_use]
@@ -465,12 +457,11 @@ impl<S: Storage<u8>, const N: usize> ReceivingEndOver<S, N> {
     ///
     /// ```
     /// # use net_tcp::ReceivingEnd;
-    /// # use net_base::finite::Part;
     /// # let mut storage = [0u8; 64];
     /// # let mut receiving = ReceivingEnd::<4>::new_at(&mut storage[..], 100, 8);
     /// let _window = receiving.open(100, 0);
     /// assert!(!receiving.is_wanted());
-    /// receiving.arrived(100, b"abc", Part::More).expect("it is in order");
+    /// receiving.arrived(100, b"abc", false).expect("it is in order");
     /// assert!(receiving.is_wanted());
     /// receiving.acknowledgement();
     /// assert!(!receiving.is_wanted());
@@ -486,11 +477,10 @@ impl<S: Storage<u8>, const N: usize> ReceivingEndOver<S, N> {
     ///
     /// ```
     /// # use net_tcp::ReceivingEnd;
-    /// # use net_base::finite::Part;
     /// # let mut storage = [0u8; 64];
     /// # let mut receiving = ReceivingEnd::<4>::new_at(&mut storage[..], 100, 8);
     /// let _window = receiving.open(100, 0);
-    /// receiving.arrived(100, b"abc", Part::More).expect("it is in order");
+    /// receiving.arrived(100, b"abc", false).expect("it is in order");
     /// let told = receiving.announce();
     /// assert_eq!((told.next, told.window), (103, 61));
     /// assert!(!receiving.is_wanted()); // the segment with bytes tells it
@@ -505,12 +495,11 @@ impl<S: Storage<u8>, const N: usize> ReceivingEndOver<S, N> {
     ///
     /// ```
     /// # use net_tcp::ReceivingEnd;
-    /// # use net_base::finite::Part;
     /// # let mut storage = [0u8; 64];
     /// # let mut receiving = ReceivingEnd::<4>::new_at(&mut storage[..], 100, 8);
     /// let _window = receiving.open(100, 0);
-    /// receiving.arrived(100, b"abc", Part::More).expect("it is in order");
-    /// receiving.arrived(100, b"abc", Part::More).expect("it came twice");
+    /// receiving.arrived(100, b"abc", false).expect("it is in order");
+    /// receiving.arrived(100, b"abc", false).expect("it came twice");
     /// let told = receiving.acknowledgement();
     /// assert_eq!((told.next, told.window, told.blocks.as_slice()), (103, 61, &[100..103][..]));
     /// assert!(receiving.acknowledgement().blocks.as_slice().is_empty());
@@ -535,11 +524,10 @@ impl<S: Storage<u8>, const N: usize> ReceivingEndOver<S, N> {
     ///
     /// ```
     /// # use net_tcp::ReceivingEnd;
-    /// # use net_base::finite::Part;
     /// # let mut storage = [0u8; 64];
     /// # let mut receiving = ReceivingEnd::<4>::new_at(&mut storage[..], 100, 8);
     /// let _window = receiving.open(100, 0);
-    /// receiving.arrived(100, b"abc", Part::More).expect("it is in order");
+    /// receiving.arrived(100, b"abc", false).expect("it is in order");
     /// let mut into = [0; 8];
     /// assert_eq!((receiving.read(&mut into), &into[..3]), (3, &b"abc"[..]));
     /// ```
@@ -573,11 +561,10 @@ impl<S: Storage<u8>, const N: usize> ReceivingEndOver<S, N> {
     ///
     /// ```
     /// # use net_tcp::ReceivingEnd;
-    /// # use net_base::finite::Part;
     /// # let mut storage = [0u8; 64];
     /// # let mut receiving = ReceivingEnd::<4>::new_at(&mut storage[..], 100, 8);
     /// let _window = receiving.open(100, 0);
-    /// receiving.arrived(100, b"abc", Part::Last).expect("it is in order");
+    /// receiving.arrived(100, b"abc", true).expect("it is in order");
     /// assert!(!receiving.receiver().has_read_all());
     /// assert_eq!(receiving.read(&mut [0; 8]), 3);
     /// assert!(receiving.receiver().has_read_all());

@@ -24,9 +24,10 @@ use crate::ends::sending_head::SendingHead;
 use crate::ends::tcp_buffer::{accept, mark, Queued};
 use crate::tcp::{Announcement, Expiry, Sack, TimeoutBounds};
 use core::ops::Range;
-use net_base::internal::Run;
-use net_base::internal::{lend, FiniteSenderOver, SegmentBytes, SentNumbers};
-use net_base::internal::{ManagedSlice, Storage};
+use net_base::finite::{FiniteSenderOver, SegmentBytes, SentNumbers};
+use net_base::managed::ManagedSlice;
+use net_base::storage::Run;
+use net_base::storage::Storage;
 use net_base::time::{Duration, Instant};
 
 /// What an acknowledgement was.
@@ -310,7 +311,6 @@ impl<S: Storage<u8>, const N: usize> SendingEndOver<S, N> {
     ///
     /// ```
     /// # use net_tcp::SendingEnd;
-    /// # use net_base::finite::Part;
     /// # use net_tcp::{Announcement, Sack, TimeoutBounds};
     /// # use net_base::time::{Duration, Instant};
     /// # let mut storage = [0u8; 64];
@@ -321,11 +321,11 @@ impl<S: Storage<u8>, const N: usize> SendingEndOver<S, N> {
     /// sending.close();
     /// let segment = sending.next_segment(1200, Instant::ZERO).expect("three bytes and the end");
     /// let bytes = sending.bytes(segment.range());
-    /// assert_eq!((bytes.front, bytes.back, bytes.part), (&b"abc"[..], &b""[..], Part::Last));
+    /// assert_eq!((bytes.front, bytes.back, bytes.fin), (&b"abc"[..], &b""[..], true));
     /// ```
     #[must_use]
     pub fn bytes(&self, range: Range<u64>) -> SegmentBytes<'_> {
-        lend(&self.sender, range)
+        self.sender.bytes(range)
     }
 
     /// Returns whether all that was written is acknowledged, and the end.

@@ -8,8 +8,8 @@ use crate::tcp::{
     is_acknowledgement, Announcement, PeerWindow, RetransmissionTimer, Sack, TimeoutBounds,
 };
 use core::ops::Range;
-use net_base::internal::Run;
-use net_base::internal::SentNumbers;
+use net_base::finite::SentNumbers;
+use net_base::storage::Run;
 use net_base::time::{Duration, Instant};
 
 /// All of a sending end but its sender and the times that were set: what was reported and what is lost, the timer, and

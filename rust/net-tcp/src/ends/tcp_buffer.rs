@@ -6,9 +6,10 @@ use crate::tcp::{
     is_duplicate_block, is_equal_acknowledgement, Answer, LentScoreboard, LossRecovery,
 };
 use core::ops::Range;
-use net_base::internal::Run;
-use net_base::internal::Storage;
-use net_base::internal::{FiniteSenderOver, ScoreboardHead, SentNumbers};
+use net_base::finite::{FiniteSenderOver, SentNumbers};
+use net_base::internal::ScoreboardHead;
+use net_base::storage::Run;
+use net_base::storage::Storage;
 
 /// What a sender has sent, and what is queued, in numbers.
 #[derive(Copy, Clone, Debug, PartialEq, Eq)]

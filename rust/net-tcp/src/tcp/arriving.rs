@@ -9,7 +9,7 @@
 // segment, and the check of what it acknowledges (RFC 5961, section 5) stays. The sender's number stays at the window's
 // end, as Linux has it, since other receivers take none beyond.
 
-use net_base::internal::SentNumbers;
+use net_base::finite::SentNumbers;
 
 /// The positions and the flags of an arriving segment.
 ///

@@ -1,7 +1,7 @@
 // Written by tools/erase.py from crates/net_tcp/src/equal_acknowledgement.rt: a change here would be lost.
 //! Equal acknowledgements.
 
-use net_base::internal::SentNumbers;
+use net_base::finite::SentNumbers;
 
 /// Returns whether an acknowledgement of all below `next` is an equal one (RFC 5681, section 2): it says again what was
 /// acknowledged, while something isn't; its segment `is_bare`, that is, it has no byte, no SYN, no FIN and no block;

@@ -21,7 +21,7 @@
 use crate::tcp::reported::Reported;
 use crate::tcp::sack::{is_permitted, Sack};
 use core::ops::Range;
-use net_base::internal::SentNumbers;
+use net_base::finite::SentNumbers;
 
 /// How many segments above a position tell that it is lost, as long as nothing came twice (RFC 6675's DupThresh).
 const DUPLICATES: usize = 3;

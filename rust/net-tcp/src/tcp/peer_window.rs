@@ -2,7 +2,7 @@
 //! The window that the peer announced.
 
 use crate::tcp::advertised_window::MAX_SCALE;
-use net_base::internal::SentNumbers;
+use net_base::finite::SentNumbers;
 
 /// What a segment announces: the window from the position that it acknowledges on, and the numbers by
 /// which its age is told.

@@ -1,8 +1,9 @@
 // Written by tools/erase.py from crates/net_tcp/src/reported.rt: a change here would be lost.
 //! What was reported, as a recovery reads it.
 
-use net_base::internal::Run;
-use net_base::internal::{Scoreboard, ScoreboardHead};
+use net_base::internal::ScoreboardHead;
+use net_base::scoreboard::Scoreboard;
+use net_base::storage::Run;
 
 /// Which positions a sender knows that the other end has: a `Scoreboard`, or a head and lent runs.
 ///

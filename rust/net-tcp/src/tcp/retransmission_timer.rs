@@ -8,7 +8,7 @@
 use crate::tcp::retransmission::{RetransmissionTimeout, RttEstimate, TimeoutBounds};
 use crate::tcp::sack::{is_permitted, Sack};
 use core::ops::Range;
-use net_base::internal::SentNumbers;
+use net_base::finite::SentNumbers;
 use net_base::time::{Duration, Instant};
 
 /// The least time without an answer after which a probe is sent, in microseconds.

@@ -1,5 +1,5 @@
 //! Receiving ends. What is seen is counted from the stream's first position.
-use net_base::finite::{FiniteError, Part};
+use net_base::finite::FiniteError;
 use net_tcp::ReceivingEnd;
 use net_tcp::{Arrival, Segment};
 
@@ -54,9 +54,9 @@ impl<const N: usize> Receiving<N> {
         &mut self,
         pos: u64,
         count: usize,
-        part: Part,
+        fin: bool,
     ) -> Result<(usize, usize), FiniteError> {
-        self.end.arrived(pos, &vec![7; count], part).map(|it| (it.kept, it.queued))
+        self.end.arrived(pos, &vec![7; count], fin).map(|it| (it.kept, it.queued))
     }
 
     fn answer(&mut self) {
@@ -86,23 +86,23 @@ impl<const N: usize> Receiving<N> {
 fn each_second_segment_is_answered() {
     let mut it = Receiving::<1>::new(40, 100, 8);
     step!(it.open(100, 0) => 40; is_wanted = false);
-    step!(it.arrived(100, 4, Part::More) => Ok((4, 4)); is_wanted = true, next = 4, queued = 4);
-    step!(it.arrived(104, 4, Part::More) => Ok((4, 4)); is_due = true, next = 8, queued = 8);
+    step!(it.arrived(100, 4, false) => Ok((4, 4)); is_wanted = true, next = 4, queued = 4);
+    step!(it.arrived(104, 4, false) => Ok((4, 4)); is_due = true, next = 8, queued = 8);
     step!(it.acknowledgement() => "8 32"; is_due = false, is_wanted = false);
-    step!(it.arrived(108, 4, Part::More) => Ok((4, 4)); is_wanted = true, next = 12, queued = 12);
+    step!(it.arrived(108, 4, false) => Ok((4, 4)); is_wanted = true, next = 12, queued = 12);
     step!(it.announce() => (12, 28); is_wanted = false);
-    step!(it.arrived(116, 4, Part::More) => Ok((4, 0)); is_due = true, is_wanted = true, held = 1);
+    step!(it.arrived(116, 4, false) => Ok((4, 0)); is_due = true, is_wanted = true, held = 1);
     step!(it.announce() => (12, 28));
     step!(it.acknowledgement() => "12 28 16-20"; is_due = false, is_wanted = false);
-    step!(it.arrived(112, 4, Part::More) => Ok((4, 8));
+    step!(it.arrived(112, 4, false) => Ok((4, 8));
         is_due = true, is_wanted = true, next = 20, queued = 20, held = 0);
     step!(it.acknowledgement() => "20 20"; is_due = false, is_wanted = false);
-    step!(it.arrived(120, 4, Part::More) => Ok((4, 4)); is_wanted = true, next = 24, queued = 24);
+    step!(it.arrived(120, 4, false) => Ok((4, 4)); is_wanted = true, next = 24, queued = 24);
     step!(it.answer(); is_due = true);
     step!(it.acknowledgement() => "24 16"; is_due = false, is_wanted = false);
-    step!(it.arrived(124, 1, Part::More) => Ok((1, 1)); is_wanted = true, next = 25, queued = 25);
-    step!(it.arrived(125, 1, Part::More) => Ok((1, 1)); is_due = true, next = 26, queued = 26);
-    step!(it.arrived(126, 1, Part::More) => Ok((1, 1)); next = 27, queued = 27);
+    step!(it.arrived(124, 1, false) => Ok((1, 1)); is_wanted = true, next = 25, queued = 25);
+    step!(it.arrived(125, 1, false) => Ok((1, 1)); is_due = true, next = 26, queued = 26);
+    step!(it.arrived(126, 1, false) => Ok((1, 1)); next = 27, queued = 27);
     step!(it.acknowledgement() => "27 13"; is_due = false, is_wanted = false);
 }
 
@@ -111,25 +111,25 @@ fn each_second_segment_is_answered() {
 fn what_came_twice_is_the_first_block() {
     let mut it = Receiving::<1>::new(40, 100, 8);
     step!(it.open(100, 0) => 40; is_wanted = false);
-    step!(it.arrived(100, 4, Part::More) => Ok((4, 4)); is_wanted = true, next = 4, queued = 4);
-    step!(it.arrived(102, 4, Part::More) => Ok((2, 2)); is_due = true, next = 6, queued = 6);
+    step!(it.arrived(100, 4, false) => Ok((4, 4)); is_wanted = true, next = 4, queued = 4);
+    step!(it.arrived(102, 4, false) => Ok((2, 2)); is_due = true, next = 6, queued = 6);
     step!(it.announce() => (6, 34));
     step!(it.acknowledgement() => "6 34 2-4"; is_due = false, is_wanted = false);
     step!(it.acknowledgement() => "6 34");
-    step!(it.arrived(90, 14, Part::More) => Ok((0, 0)); is_due = true, is_wanted = true);
+    step!(it.arrived(90, 14, false) => Ok((0, 0)); is_due = true, is_wanted = true);
     step!(it.acknowledgement() => "6 34 0-4"; is_due = false, is_wanted = false);
-    step!(it.arrived(100, 1, Part::More) => Ok((0, 0)); is_due = true, is_wanted = true);
-    step!(it.arrived(101, 2, Part::More) => Ok((0, 0)));
-    step!(it.arrived(106, 1, Part::More) => Ok((1, 1)); next = 7, queued = 7);
+    step!(it.arrived(100, 1, false) => Ok((0, 0)); is_due = true, is_wanted = true);
+    step!(it.arrived(101, 2, false) => Ok((0, 0)));
+    step!(it.arrived(106, 1, false) => Ok((1, 1)); next = 7, queued = 7);
     step!(it.acknowledgement() => "7 33 1-3"; is_due = false, is_wanted = false);
-    step!(it.arrived(90, 4, Part::More) => Ok((0, 0)); is_due = true, is_wanted = true);
+    step!(it.arrived(90, 4, false) => Ok((0, 0)); is_due = true, is_wanted = true);
     step!(it.acknowledgement() => "7 33"; is_due = false, is_wanted = false);
-    step!(it.arrived(110, 4, Part::More) => Ok((4, 0)); is_due = true, is_wanted = true, held = 1);
-    step!(it.arrived(108, 3, Part::More) => Ok((3, 0)));
+    step!(it.arrived(110, 4, false) => Ok((4, 0)); is_due = true, is_wanted = true, held = 1);
+    step!(it.arrived(108, 3, false) => Ok((3, 0)));
     step!(it.acknowledgement() => "7 33 10-11 8-14"; is_due = false, is_wanted = false);
     step!(it.acknowledgement() => "7 33 8-14");
-    step!(it.arrived(110, 1, Part::More) => Ok((1, 0)); is_due = true, is_wanted = true);
-    step!(it.arrived(107, 0, Part::Last) => Ok((0, 0)); held = 0, end = Some(7));
+    step!(it.arrived(110, 1, false) => Ok((1, 0)); is_due = true, is_wanted = true);
+    step!(it.arrived(107, 0, true) => Ok((0, 0)); held = 0, end = Some(7));
     step!(it.acknowledgement() => "8 32"; is_due = false, is_wanted = false);
 }
 
@@ -138,9 +138,9 @@ fn what_came_twice_is_the_first_block() {
 fn what_came_twice_waits_for_an_acknowledgement() {
     let mut it = Receiving::<1>::new(40, 100, 8);
     step!(it.open(100, 0) => 40; is_wanted = false);
-    step!(it.arrived(100, 4, Part::More) => Ok((4, 4)); is_wanted = true, next = 4, queued = 4);
+    step!(it.arrived(100, 4, false) => Ok((4, 4)); is_wanted = true, next = 4, queued = 4);
     step!(it.acknowledgement() => "4 36"; is_wanted = false);
-    step!(it.arrived(102, 4, Part::More) => Ok((2, 2)); is_wanted = true, next = 6, queued = 6);
+    step!(it.arrived(102, 4, false) => Ok((2, 2)); is_wanted = true, next = 6, queued = 6);
     step!(it.announce() => (6, 34); is_wanted = false);
     step!(it.acknowledgement() => "6 34 2-4");
 }
@@ -151,33 +151,33 @@ fn what_came_twice_waits_for_an_acknowledgement() {
 fn the_newest_run_is_listed_first() {
     let mut it = Receiving::<32>::new(40, 0, 4);
     step!(it.open(0, 0) => 40; is_wanted = false);
-    step!(it.arrived(2, 1, Part::More) => Ok((1, 0)); is_due = true, is_wanted = true, held = 1);
+    step!(it.arrived(2, 1, false) => Ok((1, 0)); is_due = true, is_wanted = true, held = 1);
     step!(it.acknowledgement() => "0 40 2-3"; is_due = false, is_wanted = false);
-    step!(it.arrived(6, 1, Part::More) => Ok((1, 0)); is_due = true, is_wanted = true, held = 2);
+    step!(it.arrived(6, 1, false) => Ok((1, 0)); is_due = true, is_wanted = true, held = 2);
     step!(it.acknowledgement() => "0 40 6-7 2-3"; is_due = false, is_wanted = false);
-    step!(it.arrived(4, 1, Part::More) => Ok((1, 0)); is_due = true, is_wanted = true, held = 3);
+    step!(it.arrived(4, 1, false) => Ok((1, 0)); is_due = true, is_wanted = true, held = 3);
     step!(it.acknowledgement() => "0 40 4-5 6-7 2-3"; is_due = false, is_wanted = false);
-    step!(it.arrived(10, 1, Part::More) => Ok((1, 0)); is_due = true, is_wanted = true, held = 4);
+    step!(it.arrived(10, 1, false) => Ok((1, 0)); is_due = true, is_wanted = true, held = 4);
     step!(it.acknowledgement() => "0 40 10-11 4-5 6-7 2-3"; is_due = false, is_wanted = false);
-    step!(it.arrived(8, 1, Part::More) => Ok((1, 0)); is_due = true, is_wanted = true, held = 5);
+    step!(it.arrived(8, 1, false) => Ok((1, 0)); is_due = true, is_wanted = true, held = 5);
     step!(it.acknowledgement() => "0 40 8-9 10-11 4-5 6-7"; is_due = false, is_wanted = false);
-    step!(it.arrived(6, 1, Part::More) => Ok((1, 0)); is_due = true, is_wanted = true);
+    step!(it.arrived(6, 1, false) => Ok((1, 0)); is_due = true, is_wanted = true);
     step!(it.acknowledgement() => "0 40 6-7 6-7 8-9 10-11"; is_due = false, is_wanted = false);
-    step!(it.arrived(0, 2, Part::More) => Ok((2, 3));
+    step!(it.arrived(0, 2, false) => Ok((2, 3));
         is_due = true, is_wanted = true, next = 3, queued = 3, held = 4);
     step!(it.acknowledgement() => "3 37 6-7 8-9 10-11 4-5"; is_due = false, is_wanted = false);
-    step!(it.arrived(12, 1, Part::More) => Ok((1, 0)); is_due = true, is_wanted = true, held = 5);
+    step!(it.arrived(12, 1, false) => Ok((1, 0)); is_due = true, is_wanted = true, held = 5);
     step!(it.acknowledgement() => "3 37 12-13 6-7 8-9 10-11"; is_due = false, is_wanted = false);
-    step!(it.arrived(14, 1, Part::More) => Ok((1, 0)); is_due = true, is_wanted = true, held = 6);
+    step!(it.arrived(14, 1, false) => Ok((1, 0)); is_due = true, is_wanted = true, held = 6);
     step!(it.acknowledgement() => "3 37 14-15 12-13 6-7 8-9"; is_due = false, is_wanted = false);
-    step!(it.arrived(7, 1, Part::More) => Ok((1, 0)); is_due = true, is_wanted = true, held = 5);
+    step!(it.arrived(7, 1, false) => Ok((1, 0)); is_due = true, is_wanted = true, held = 5);
     step!(it.acknowledgement() => "3 37 6-9 14-15 12-13 4-5"; is_due = false, is_wanted = false);
-    step!(it.arrived(0, 1, Part::More) => Ok((0, 0)); is_due = true, is_wanted = true);
+    step!(it.arrived(0, 1, false) => Ok((0, 0)); is_due = true, is_wanted = true);
     step!(it.open(0, 0) => 40; is_due = false, is_wanted = false, next = 0, queued = 0, held = 0);
-    step!(it.arrived(2, 1, Part::More) => Ok((1, 0)); is_due = true, is_wanted = true, held = 1);
-    step!(it.arrived(4, 1, Part::More) => Ok((1, 0)); held = 2);
-    step!(it.arrived(6, 1, Part::More) => Ok((1, 0)); held = 3);
-    step!(it.arrived(8, 1, Part::More) => Ok((1, 0)); held = 4);
+    step!(it.arrived(2, 1, false) => Ok((1, 0)); is_due = true, is_wanted = true, held = 1);
+    step!(it.arrived(4, 1, false) => Ok((1, 0)); held = 2);
+    step!(it.arrived(6, 1, false) => Ok((1, 0)); held = 3);
+    step!(it.arrived(8, 1, false) => Ok((1, 0)); held = 4);
     step!(it.acknowledgement() => "0 40 8-9 2-3 4-5 6-7"; is_due = false, is_wanted = false);
 }
 
@@ -186,10 +186,10 @@ fn the_newest_run_is_listed_first() {
 fn a_segment_of_which_nothing_is_kept() {
     let mut it = Receiving::<4>::new(40, 0, 8);
     step!(it.open(0, 0) => 40; is_wanted = false);
-    step!(it.arrived(2, 1, Part::More) => Ok((1, 0)); is_due = true, is_wanted = true, held = 1);
-    step!(it.arrived(6, 1, Part::Last) => Ok((1, 0)); held = 2, end = Some(7));
+    step!(it.arrived(2, 1, false) => Ok((1, 0)); is_due = true, is_wanted = true, held = 1);
+    step!(it.arrived(6, 1, true) => Ok((1, 0)); held = 2, end = Some(7));
     step!(it.acknowledgement() => "0 40 6-7 2-3"; is_due = false, is_wanted = false);
-    step!(it.arrived(2, 1, Part::Last) => Err(FiniteError::OtherEnd); is_due = true, is_wanted = true);
+    step!(it.arrived(2, 1, true) => Err(FiniteError::OtherEnd); is_due = true, is_wanted = true);
     step!(it.acknowledgement() => "0 40 2-3 2-3 6-7"; is_due = false, is_wanted = false);
 }
 
@@ -198,16 +198,16 @@ fn a_segment_of_which_nothing_is_kept() {
 fn a_forged_end_and_a_forged_byte() {
     let mut it = Receiving::<1>::new(40, 0, 8);
     step!(it.open(0, 0) => 40; is_wanted = false);
-    step!(it.arrived(9, 0, Part::Last) => Ok((0, 0)); is_due = true, is_wanted = true, end = Some(9));
+    step!(it.arrived(9, 0, true) => Ok((0, 0)); is_due = true, is_wanted = true, end = Some(9));
     step!(it.acknowledgement() => "0 40"; is_due = false, is_wanted = false);
-    step!(it.arrived(6, 1, Part::More) => Ok((1, 0)); is_due = true, is_wanted = true, held = 1);
+    step!(it.arrived(6, 1, false) => Ok((1, 0)); is_due = true, is_wanted = true, held = 1);
     step!(it.acknowledgement() => "0 40 6-7"; is_due = false, is_wanted = false);
-    step!(it.arrived(0, 4, Part::Last) => Ok((4, 4));
+    step!(it.arrived(0, 4, true) => Ok((4, 4));
         is_due = true, is_wanted = true, next = 4, queued = 4, held = 0, end = Some(4));
     step!(it.acknowledgement() => "5 35"; is_due = false, is_wanted = false);
-    step!(it.arrived(9, 0, Part::Last) => Err(FiniteError::OtherEnd); is_due = true, is_wanted = true);
+    step!(it.arrived(9, 0, true) => Err(FiniteError::OtherEnd); is_due = true, is_wanted = true);
     step!(it.classify(4, 0) => Arrival::AcknowledgementOnly);
-    step!(it.arrived(2, 1, Part::Last) => Err(FiniteError::OtherEnd));
+    step!(it.arrived(2, 1, true) => Err(FiniteError::OtherEnd));
     step!(it.acknowledgement() => "5 35 2-3"; is_due = false, is_wanted = false);
 }
 
@@ -219,20 +219,20 @@ fn the_windows_edge_moves_by_half_of_the_capacity() {
     step!(it.open(0, 0) => 12; is_wanted = false);
     step!(it.classify(11, 1) => Arrival::Take);
     step!(it.classify(12, 1) => Arrival::Answer);
-    step!(it.arrived(0, 12, Part::More) => Ok((12, 12)); is_wanted = true, next = 12, queued = 12);
+    step!(it.arrived(0, 12, false) => Ok((12, 12)); is_wanted = true, next = 12, queued = 12);
     step!(it.acknowledgement() => "12 0"; is_wanted = false);
     step!(it.read(4) => 4; queued = 8);
     step!(it.classify(12, 1) => Arrival::AcknowledgementOnly);
     step!(it.announce() => (12, 0));
     step!(it.read(1) => 1; is_wanted = true, queued = 7);
-    step!(it.arrived(0, 0, Part::More) => Ok((0, 0)));
+    step!(it.arrived(0, 0, false) => Ok((0, 0)));
     step!(it.announce() => (12, 5); is_wanted = false);
-    step!(it.arrived(12, 5, Part::Last) => Ok((5, 5));
+    step!(it.arrived(12, 5, true) => Ok((5, 5));
         is_due = true, is_wanted = true, next = 17, queued = 12, end = Some(17));
     step!(it.announce() => (18, 0));
     step!(it.acknowledgement() => "18 0"; is_due = false, is_wanted = false);
     step!(it.read(9) => 9; queued = 3);
-    step!(it.arrived(0, 0, Part::More) => Ok((0, 0)));
+    step!(it.arrived(0, 0, false) => Ok((0, 0)));
 }
 
 /// What came twice is of one stream, and so is an answer that is due. It isn't told once the true end drops its
@@ -241,17 +241,17 @@ fn the_windows_edge_moves_by_half_of_the_capacity() {
 fn what_came_twice_is_of_one_stream() {
     let mut it = Receiving::<1>::new(40, 100, 8);
     step!(it.open(100, 0) => 40; is_wanted = false);
-    step!(it.arrived(100, 4, Part::More) => Ok((4, 4)); is_wanted = true, next = 4, queued = 4);
-    step!(it.arrived(100, 4, Part::More) => Ok((0, 0)); is_due = true);
+    step!(it.arrived(100, 4, false) => Ok((4, 4)); is_wanted = true, next = 4, queued = 4);
+    step!(it.arrived(100, 4, false) => Ok((0, 0)); is_due = true);
     step!(it.open(200, 0) => 40; is_due = false, is_wanted = false, next = 0, queued = 0);
     step!(it.acknowledgement() => "0 40");
 
     let mut it = Receiving::<1>::new(40, 0, 8);
     step!(it.open(0, 0) => 40; is_wanted = false);
-    step!(it.arrived(0, 3, Part::More) => Ok((3, 3)); is_wanted = true, next = 3, queued = 3);
-    step!(it.arrived(4, 2, Part::More) => Ok((2, 0)); is_due = true, held = 1);
-    step!(it.arrived(4, 2, Part::More) => Ok((2, 0)));
-    step!(it.arrived(3, 1, Part::Last) => Ok((1, 1)); next = 4, queued = 4, held = 0, end = Some(4));
+    step!(it.arrived(0, 3, false) => Ok((3, 3)); is_wanted = true, next = 3, queued = 3);
+    step!(it.arrived(4, 2, false) => Ok((2, 0)); is_due = true, held = 1);
+    step!(it.arrived(4, 2, false) => Ok((2, 0)));
+    step!(it.arrived(3, 1, true) => Ok((1, 1)); next = 4, queued = 4, held = 0, end = Some(4));
     step!(it.acknowledgement() => "5 35"; is_due = false, is_wanted = false);
 
     let it = Receiving::<1>::new(40, u64::MAX - 10, 8);
@@ -264,7 +264,7 @@ fn windows_of_a_scale() {
     let mut it = Receiving::<1>::new(257, 0, 10);
     step!(it.open(0, 3) => 257; is_wanted = false);
     step!(it.announce() => (0, 32));
-    step!(it.arrived(0, 9, Part::More) => Ok((9, 9)); is_wanted = true, next = 9, queued = 9);
+    step!(it.arrived(0, 9, false) => Ok((9, 9)); is_wanted = true, next = 9, queued = 9);
     step!(it.acknowledgement() => "9 31"; is_wanted = false);
     step!(it.read(9) => 9; queued = 0);
     step!(it.announce() => (9, 31));

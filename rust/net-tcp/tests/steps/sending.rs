@@ -70,7 +70,7 @@ impl<const N: usize> Sending<N> {
             is_recovering: end.is_recovering(),
             is_done: end.is_done(),
             beyond: numbers.sent - end.acknowledgement_number(),
-            is_closed: queue.part.is_last(),
+            is_closed: queue.fin,
         }
     }
 
@@ -89,7 +89,7 @@ impl<const N: usize> Sending<N> {
 
     fn bytes(&mut self, range: Range<u64>) -> (usize, bool) {
         let it = self.end.bytes(range);
-        (it.front.len() + it.back.len(), it.part.is_last())
+        (it.front.len() + it.back.len(), it.fin)
     }
 
     /// The segment that is sent next, in a congestion window.

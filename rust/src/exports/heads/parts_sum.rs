@@ -1,5 +1,5 @@
 // Written by tools/erase.py from crates/net_ffi/src/heads/parts_sum.rt: a change here would be lost.
-use crate::exports::PartsSum;
+use crate::checksum::PartsSum;
 
 #[inline(always)]
 pub fn net_base_parts_sum_init(sum: &mut PartsSum) {

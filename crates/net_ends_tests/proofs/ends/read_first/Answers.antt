@@ -1,5 +1,4 @@
 use Rattle.std.proofs.Common.{◌∙◌, [], ◌∷◌, ap, sym, take, length, arith}
-use Rattle.net_receiver.specs.Finite.{is_last}
 use Rattle.net_ends.specs.Receiving.{Receiving, Event, Arrived, Took, after_events, is_empty}
 use Rattle.net_ends_tests.proofs.EndFacts.{bytes_come, matches, read_is_first}
 use Rattle.net_ends_tests.proofs.ends.read_first.Goals as goal
@@ -9,7 +8,7 @@ returns c = λ x is.
     let begun = c.over_at-end.result in
     let pos = c.args.pos in
     let bytes = c.args.bytes.now in
-    let last = is_last c.args.part in
+    let last = c.args.fin in
     let n = length c.args.into.now in
     let arrived : Event = Arrived pos bytes last c.arrived.new.self.duplicate in
     let took : Event = Took n in

@@ -1,12 +1,12 @@
 use Rattle.std.proofs.Common.{◌≤◌, ◌∙◌, [], ◌∷◌, ap, subst, sym}
-use Rattle.net_receiver.specs.Finite.{acknowledged, is_last}
+use Rattle.net_receiver.specs.Finite.{acknowledged}
 use Rattle.net_ends.specs.Receiving.{Receiving, Event, Arrived, Acknowledged, IsSoundReceiving, after_event}
 use Rattle.net_ends.specs.declared.receiving_end.Acknowledgement.{Acknowledgement}
 use Rattle.net_ends_tests.proofs.ends.take_segment.Goals as goal
 
 pub returns-clause-number : goal.returns-clause-number
 returns-clause-number g c = λ is.
-    let arrived : Event = Arrived c.args.pos c.args.bytes.now (is_last c.args.part) c.arrived.new.self.duplicate in
+    let arrived : Event = Arrived c.args.pos c.args.bytes.now c.args.fin c.arrived.new.self.duplicate in
     subst (λ n. acknowledged c.args.receiver.now.receiver ≤ n)
     (ap (λ (e : Receiving). acknowledged e.receiver) (sym c.arrived.ensures.step)
     ∙ sym (ap (λ (it : Acknowledgement). it.next) c.acknowledgement.ensures.value))
@@ -14,7 +14,7 @@ returns-clause-number g c = λ is.
 
 pub returns-clause-edge : goal.returns-clause-edge
 returns-clause-edge g c = λ is.
-    let arrived : Event = Arrived c.args.pos c.args.bytes.now (is_last c.args.part) c.arrived.new.self.duplicate in
+    let arrived : Event = Arrived c.args.pos c.args.bytes.now c.args.fin c.arrived.new.self.duplicate in
     subst (λ (e : Receiving). c.args.receiver.now.edge ≤ e.edge)
     (sym (c.acknowledgement.ensures.step
     ∙ ap (λ (e : Receiving). after_event g.row.N e Acknowledged) c.arrived.ensures.step))
@@ -22,7 +22,7 @@ returns-clause-edge g c = λ is.
 
 pub returns-clause-sound : goal.returns-clause-sound
 returns-clause-sound g c = λ is.
-    let arrived : Event = Arrived c.args.pos c.args.bytes.now (is_last c.args.part) c.arrived.new.self.duplicate in
+    let arrived : Event = Arrived c.args.pos c.args.bytes.now c.args.fin c.arrived.new.self.duplicate in
     subst (λ (e : Receiving). IsSoundReceiving e)
     (sym (c.acknowledgement.ensures.step
     ∙ ap (λ (e : Receiving). after_event g.row.N e Acknowledged) c.arrived.ensures.step))

@@ -8,8 +8,7 @@ pub returns-in_ok-bytes-clause-path : goal.returns-in_ok-bytes-clause-path
 returns-in_ok-bytes-clause-path g c = λ text n is before.
     subst (All (IsOfText text)) (sym c.push_reserved.ensures.items)
     (was_put text n c.args.sender.now _ _ is
-    (λ f w more s none. subst (λ xs. MatchesFinite f (w ++ more) c.args.pos xs c.is_last-is_last.result)
+    (λ f w more s none. subst (λ xs. MatchesFinite f (w ++ more) c.args.pos xs c.peek_at-lent.result.fin)
     (sym c.in_ok-bytes.ensures.items)
-    (subst (MatchesFinite f (w ++ more) c.args.pos _) (sym c.is_last-is_last.ensures)
-    (c.peek_at-lent.ensures.later f w more s (omega (arith, c.first_number.ensures)) none)))
+    (c.peek_at-lent.ensures.later f w more s (omega (arith, c.first_number.ensures)) none))
     (subst (All (IsOfText text)) (sym c.reserve.ensures.items) before))

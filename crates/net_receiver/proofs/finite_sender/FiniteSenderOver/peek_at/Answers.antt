@@ -18,6 +18,5 @@ returns g c =
     c.part.ensures in
     let there = subst (λ (ys : List ℕ). IsLent (finite_sender_of h xs) p l ys last) (sym shown.1)
     (met.lent xs (sym c.count.ensures)) in
-    let lent = subst (IsLent v p l c.part.result.now) (sym c.from.ensures)
-    (subst (λ (s : FiniteSenderState). IsLent s p l c.part.result.now last) c.self.view_is there) in
+    let lent = subst (λ (s : FiniteSenderState). IsLent s p l c.part.result.now last) c.self.view_is there in
     record { lent = lent; later = lent_later v p l c.part.result.now _ lent }

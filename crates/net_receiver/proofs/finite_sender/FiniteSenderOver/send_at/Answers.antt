@@ -19,8 +19,7 @@ returns g c =
     c.part.ensures in
     let there = subst (λ (ys : List ℕ). IsLent (finite_sender_of c.self.inside.head xs) p l ys last) (sym shown.1)
     (met.lent xs (sym c.count.ensures)) in
-    let lent = subst (IsLent v p l now) (sym c.from.ensures)
-    (subst (λ (s : FiniteSenderState). IsLent s p l now last) c.self.view_is there) in
+    let lent = subst (λ (s : FiniteSenderState). IsLent s p l now last) c.self.view_is there in
     let marked : FiniteSenderState → ℕ → FiniteSenderState =
     λ o n. record o { sent = sent_after o.sent p (n + from_bool last) } in (
       (
@@ -28,8 +27,7 @@ returns g c =
         λ _. tt,
         ap (λ (h : FiniteSenderHead). finite_sender_of h xs) c.send_at-lent.ensures.mark
             ∙ ap (λ o. marked o span.contiguous) c.self.view_is
-            ∙ ap (marked v) (sym shown.0)
-            ∙ ap (λ b. record v { sent = sent_after v.sent p (length now + from_bool b) }) (sym c.from.ensures),
+            ∙ ap (marked v) (sym shown.0),
       ),
       record {
         marks = tt;

@@ -1,5 +1,5 @@
 use Rattle.net_receiver.proofs.Words.{◌≡◌, ◌∙◌, ap, sym, subst, length, lent_whole, HasSoundFinite, finite_of}
-use Rattle.net_receiver.specs.{finite_after, is_last}
+use Rattle.net_receiver.specs.{finite_after}
 use Rattle.net_receiver.specs.StreamState.{StreamState}
 use Rattle.net_receiver.proofs.stream_receiver.StreamReceiverOver.keep.Given as given
 use Rattle.net_receiver.proofs.stream_receiver.StreamReceiverOver.keep.Goals as goal
@@ -51,5 +51,5 @@ returns-clause-state g c =
     (λ k. finite_of c.keep.new.self (bytes_left g c k) (runs_left g c k))
     ∙ c.keep.ensures.state
     ∙ (λ k. finite_after (length (runs_lent g c k)) (finite_of h (bytes_lent g c k) (runs_lent g c k)) pos xs
-    (c.is_last.ensures k))
-    ∙ ap (λ (s : StreamState). finite_after s.most_runs s.stream pos xs (is_last c.args.part)) c.self.view_is
+    c.args.fin)
+    ∙ ap (λ (s : StreamState). finite_after s.most_runs s.stream pos xs c.args.fin) c.self.view_is

@@ -8,7 +8,7 @@
 --     Sums s xs      the running sum s is that of the bytes xs
 use Rattle.std.specs.Prelude.{◌≡◌, ℕ, zero, suc, ◌+◌, ◌-◌, ◌*◌, ◌/◌, ◌%◌, ◌^◌, List, [], ◌∷◌, length, Bool}
 use Rattle.std.specs.Prelude.{nat_eq, if◌then◌else◌}
-use Rattle.net_tcp.specs.declared.internet_sum.PartsSum.{PartsSum}
+use Rattle.net_base.specs.declared.checksum.internet_sum.PartsSum.{PartsSum}
 
 -- the sum of the words of these bytes, the high byte first; a last odd byte is a high byte
 abbrev pub word_sum : List ℕ → ℕ

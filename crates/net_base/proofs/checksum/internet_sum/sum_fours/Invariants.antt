@@ -1,6 +1,6 @@
 use Rattle.std.proofs.Common.{◌≡◌, ◌+◌, ◌*◌, ◌^◌, ◌≤◌, length}
-use Rattle.net_tcp.specs.InternetChecksum.{folded, word_sum}
-use Rattle.net_tcp.proofs.internet_sum.sum_fours.Given as goal
+use Rattle.net_base.specs.InternetChecksum.{folded, word_sum}
+use Rattle.net_base.proofs.checksum.internet_sum.sum_fours.Given as goal
 
 abbrev pub invariant-loop-four : goal.invariant-loop-four
 invariant-loop-four l = record {

@@ -1,8 +1,8 @@
 use Rattle.std.proofs.Common.{◌∙◌, ◌+◌, ◌*◌, ◌%◌, ◌/◌, ap}
 use Rattle.std.proofs.lemmas.Bool.{not-false, not-true}
-use Rattle.net_tcp.specs.InternetChecksum.{folded, word_sum}
-use Rattle.net_tcp.proofs.WordSums.{low_first, high_first, with_sums, odd_start}
-use Rattle.net_tcp.proofs.internet_sum.PartsSum.with.Goals as goal
+use Rattle.net_base.specs.InternetChecksum.{folded, word_sum}
+use Rattle.net_base.proofs.WordSums.{low_first, high_first, with_sums, odd_start}
+use Rattle.net_base.proofs.checksum.internet_sum.PartsSum.with.Goals as goal
 
 pub returns-then-not-self-clause-bytes : goal.returns-then-not-self-clause-bytes
 returns-then-not-self-clause-bytes c xs sums =

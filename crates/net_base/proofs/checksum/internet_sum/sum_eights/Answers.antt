@@ -1,6 +1,6 @@
 use Rattle.std.proofs.Common.{arith, ◌∙◌}
-use Rattle.net_tcp.proofs.WordSums.{eight_more}
-use Rattle.net_tcp.proofs.internet_sum.sum_eights.Goals as goal
+use Rattle.net_base.proofs.WordSums.{eight_more}
+use Rattle.net_base.proofs.checksum.internet_sum.sum_eights.Goals as goal
 
 pub loop-eight-preserved : goal.loop-eight-preserved
 loop-eight-preserved c = let parts = c.in-Some.ensures.cases.2 in record {

@@ -1,6 +1,6 @@
 use Rattle.std.proofs.Common.{arith, ◌∙◌}
-use Rattle.net_tcp.proofs.WordSums.{four_more}
-use Rattle.net_tcp.proofs.internet_sum.sum_fours.Goals as goal
+use Rattle.net_base.proofs.WordSums.{four_more}
+use Rattle.net_base.proofs.checksum.internet_sum.sum_fours.Goals as goal
 
 pub loop-four-preserved : goal.loop-four-preserved
 loop-four-preserved c = let parts = c.in-Some.ensures.cases.2 in record {

@@ -1,6 +1,6 @@
 use Rattle.std.proofs.Common.{arith, rules, ◌∙◌}
-use Rattle.net_tcp.proofs.WordSums.{block_more, folded_le}
-use Rattle.net_tcp.proofs.internet_sum.sum_words.Goals as goal
+use Rattle.net_base.proofs.WordSums.{block_more, folded_le}
+use Rattle.net_base.proofs.checksum.internet_sum.sum_words.Goals as goal
 
 pub loop-rest-preserved : goal.loop-rest-preserved
 loop-rest-preserved c = record {

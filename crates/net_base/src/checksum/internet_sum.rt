@@ -7,8 +7,8 @@
 
 ghost use Rattle.std.specs.Prelude.{◌≡◌, ◌↔◌, ℕ, ◌+◌, ◌-◌, ◌*◌, ◌%◌, ◌^◌, ◌<◌, ◌≤◌, List, [], ◌++◌, ◌/◌};
 ghost use Rattle.std.specs.Prelude.{length, IsTrue, IsFalse};
-ghost use Rattle.net_tcp.specs.InternetChecksum.{folded, word_sum, internet_checksum, updated, Sums, is_odd};
-ghost use Rattle.net_tcp.specs.InternetChecksum.{sum_with, word_bytes};
+ghost use Rattle.net_base.specs.InternetChecksum.{folded, word_sum, internet_checksum, updated, Sums, is_odd};
+ghost use Rattle.net_base.specs.InternetChecksum.{sum_with, word_bytes};
 
 use net_ring::width::most;
 

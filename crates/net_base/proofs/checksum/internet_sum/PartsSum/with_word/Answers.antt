@@ -1,6 +1,6 @@
 use Rattle.std.proofs.Common.{rules}
-use Rattle.net_tcp.proofs.WordSums.{with_sums, word_joins}
-use Rattle.net_tcp.proofs.internet_sum.PartsSum.with_word.Goals as goal
+use Rattle.net_base.proofs.WordSums.{with_sums, word_joins}
+use Rattle.net_base.proofs.checksum.internet_sum.PartsSum.with_word.Goals as goal
 
 pub returns-clause-bytes : goal.returns-clause-bytes
 returns-clause-bytes c xs sums =

@@ -7,9 +7,9 @@ use Rattle.std.specs.List.{slice_get}
 use Rattle.std.specs.Int.{w16, w32, w64, from_le_bytes}
 use Rattle.std.proofs.lemmas.List.{take-append-drop}
 use Rattle.std.proofs.lemmas.Bool.{cases_lt, cond_both, eqb-true, eqb-false}
-use Rattle.net_tcp.specs.InternetChecksum.{word_sum, folded, internet_checksum, updated, word_bytes, IsEven}
-use Rattle.net_tcp.specs.InternetChecksum.{add_words, carried_sum, Sums, sum_with}
-use Rattle.net_tcp.specs.declared.internet_sum.PartsSum.{PartsSum}
+use Rattle.net_base.specs.InternetChecksum.{word_sum, folded, internet_checksum, updated, word_bytes, IsEven}
+use Rattle.net_base.specs.InternetChecksum.{add_words, carried_sum, Sums, sum_with}
+use Rattle.net_base.specs.declared.checksum.internet_sum.PartsSum.{PartsSum}
 
 -- ---- folding
 -- two positive numbers that differ by a multiple of 65535 fold to one
