@@ -21,6 +21,8 @@ and a file's name that of a file. Each name after the word "clause" has to be th
 where "of" and a function's name follow, of one of that name. Quotations of README.md and docs/PROVED.md, `> ..`, have
 to be in a doc comment of crates/*/src.
 
+On Rust's pages each word of a guarantee has to be a public item's, or on docs/CONTRACTS.md; a law has its page's name.
+
 No sentence has more than LONGEST words, and a page with a word of the guide's glossary leads to it.
 """
 
@@ -210,6 +212,19 @@ def counted(page, text):
         yield from ((at, f"{it}, which no file says: tools/parts/figures.py") for at, it in figures.strays(text))
 
 
+def shown(page, text):
+    """What Rust's pages name that no page explains: words of guarantees, paths that Rust hasn't, laws without a page."""
+    known = {*NAME.findall(texts("tools/public_items.txt")[0] + " ".join(re.findall(r"`[^`\n]+`", texts("docs/CONTRACTS.md")[0])))}
+    for block in re.finditer(r"\[Guarantees\].*\n *///\n((?: */// - .*\n)+)", text):
+        for name in NAME.findall(" ".join(re.findall("`([^`]+)`", block[1]))):
+            if name not in known and f".{name}()" not in block[1]:
+                yield block.start(), f"docs/CONTRACTS.md doesn't say what {name} is"
+    for comment in re.finditer(r"(?: *///.*\n)+", text):
+        said = re.sub(r"\s*/// ?", " ", comment[0])
+        for found in re.findall(r"`(?:tcp|ends|stream|net_(?!base|tcp)\w+)::\w+`|\b[Ll]aw `\w+`(?! \(`docs/laws.md`\))", said):
+            yield comment.start(), f"a page of Rust has {found}"
+
+
 def clear(page, text):
     """Long sentences, and words of the glossary without a link to it. A colon ends a sentence, in a table a semicolon
     too; what is between backquotes is a word."""
@@ -231,7 +246,7 @@ WRONG = [(quoted, "```rust\nfn no_such_call() {}\n```\n"), (exampled, "/// ```ru
          (linked, "[a](no/page.md)"), (linked, "[a](GUIDE.md#no-such-heading)"), (cited, "clause `no_such_clause`"),
          (cited, "clause `headline` of `has_room`"), (named, "`no_such_name`"), (named, "`tools/no_such_file.py`"),
          (said, "> No comment says so.\n"), (counted, "[999 functions](std-calls.md)"), (clear, "a " * 31 + ".\n"),
-         (clear, "A guard.\n")]
+         (clear, "A guard.\n"), (shown, "/// # [Guarantees](crate)\n///\n/// - `no_such_word(a)`\n"), (shown, "/// by law `sums`\n")]
 
 
 LAWS = """# Laws
@@ -296,6 +311,7 @@ def main():
     looked = {page: (quoted, linked, cited, named, said, counted, clear) for page in pages}
     looked |= {page: (linked,) for page in sorted(generated)}
     looked |= {path: (exampled,) for path in sorted(ROOT.glob("crates/*/src/**/*.rt"))}
+    looked |= {path: (shown,) for folder in PACKAGES.values() for path in sorted((ROOT / folder).glob("**/*.rs"))}
     wrong = []
     for path, checks in looked.items():
         text = path.read_text()

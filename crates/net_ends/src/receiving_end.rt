@@ -483,9 +483,9 @@ impl<S: Storage<u8>, const N: usize> ReceivingEndOver<S, N> {
         self.head.open(room, first, scale)
     }
 
-    /// Returns what to do with a segment, as `tcp::classify` says, in the window that was announced. Its
+    /// Returns what to do with a segment, as `classify` says, in the window that was announced. Its
     /// acknowledgement is taken if it is of a peer that hears of what is announced here, whatever the path does: law
-    /// `heard_ends`.
+    /// `heard_ends` (`docs/laws.md`).
     ///
     /// ```
     /// # use net_tcp::ReceivingEnd;

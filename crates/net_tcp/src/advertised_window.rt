@@ -63,7 +63,7 @@ impl AdvertisedWindow {
         self.edge
     }
 
-    /// Returns what to do with a segment, as `tcp::classify` says, in the window that was announced: from
+    /// Returns what to do with a segment, as `classify` says, in the window that was announced: from
     /// `next`, the first missing position, up to the edge, whatever is free now. No window is greater than the
     /// receiver's capacity.
     ///

@@ -284,8 +284,8 @@ impl<S: Storage<u8>> FiniteSenderOver<S> {
     /// All its numbers, the end's among them, are below `limit`: the end of the window is one, as
     /// `PeerWindow::send_limit` gives it, and `(pos + mss).min(send_limit)` keeps a segment size too.
     ///
-    /// Clause `later` says that the segment is one of the stream whatever is written later; law `lent_segments`,
-    /// which numbers it has.
+    /// Whatever is written later, the segment is one of the stream. Law `lent_segments` (`docs/laws.md`) says which
+    /// numbers it has.
     ///
     /// ```
     /// # use net_base::finite::{FiniteSender, LentBytes};

@@ -207,7 +207,7 @@ impl ScoreboardHead {
     /// bytes than `duplicates - 1` segments of `segment_size` bytes have. It is the start of a run,
     /// the last one of which this is so, or 0 if nothing is lost. A run counts as above a position
     /// if it begins above it; of a position that wasn't reported that is the RFC's rule exactly, by
-    /// law `losses` of `net_receiver`.
+    /// law `losses` (`docs/laws.md`).
     ///
     /// # Requires
     ///

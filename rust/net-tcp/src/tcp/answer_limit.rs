@@ -15,9 +15,9 @@ const PERIOD: u64 = 500_000;
 ///
 /// A segment without positions, which may be an answer itself, and a SYN are answered at most twice a second, as Linux
 /// does. A segment with bytes or a FIN is answered each time: no answer has any, and a peer that sends them again needs
-/// to know. What `AcknowledgementOnly` asks for isn't limited: by law `acknowledgements` the end that takes such
-/// an answer doesn't send such a segment again, unless something new comes; and each question whether this end is
-/// there is answered.
+/// to know. What `AcknowledgementOnly` asks for isn't limited: by law `acknowledgements` (`docs/laws.md`) the end that
+/// takes such an answer doesn't send such a segment again, unless something new comes; and each question whether this
+/// end is there is answered.
 ///
 /// ```
 /// use net_tcp::{classify, AnswerLimit, Arrival, Segment};

@@ -138,7 +138,7 @@ fn is_heard(next: u64, window: u64, greatest_window: u64, seq: u64, len: u64) ->
 /// `next`, by `greatest_window` at most, and by one if that is 0. No honest peer's number is below that: it
 /// is not below what was acknowledged to the peer, which has no more than such a window on the way, or a probe.
 /// If all of the window is on the way, and some of it is missing, its number is the one after the window:
-/// that is taken too. By law `acknowledgements` no other number is needed. Otherwise two ends whose
+/// that is taken too. By law `acknowledgements` (`docs/laws.md`) no other number is needed. Otherwise two ends whose
 /// acknowledgements were lost, or came in another order, may refuse one another's for ever, and answer each.
 ///
 /// Whether a segment may acknowledge what it does is tested afterwards, by `is_acknowledgement`.
