@@ -12,14 +12,15 @@ pub use crate::stream::{
 
 impl<'a, const N: usize> Receiver<'a, N> {
     /// Returns a receiver of a stream whose first byte has position 0, with room for `N` held runs. Where the type of
-    /// a variable or a field names no `N` it is 4.
+    /// a variable or a field names no `N` it is 4. An array by value is the storage of a [`ReceiverOver`].
     ///
     /// ```
-    /// # use net_base::receiver::Receiver;
+    /// # use net_base::receiver::{Receiver, ReceiverOver};
     /// let (mut storage, mut other) = ([0u8; 16], [0u8; 16]);
     /// assert_eq!(Receiver::<32>::new(&mut storage).next(), 0);
     /// let receiver: Receiver = Receiver::new(&mut other);
     /// assert_eq!(receiver.window(), 16);
+    /// assert_eq!(ReceiverOver::<_, 32>::over([0u8; 16]).window(), 16);
     /// ```
     #[must_use]
     pub fn new<S: Into<ManagedSlice<'a, u8>>>(storage: S) -> Self {

@@ -15,13 +15,15 @@ use crate::managed::ManagedSlice;
 use crate::time::Instant;
 
 impl<'a, T> RingBuffer<'a, T> {
-    /// Returns an empty ring over the storage, whose elements stay as they are.
+    /// Returns an empty ring over the storage, whose elements stay as they are. An array by value is the storage of a
+    /// [`RingOver`].
     ///
     /// ```
-    /// # use net_base::storage::RingBuffer;
+    /// # use net_base::storage::{RingBuffer, RingOver};
     /// let mut storage = [0; 4];
-    /// let mut ring = RingBuffer::new(&mut storage[..]);
+    /// let mut ring = RingBuffer::new(&mut storage);
     /// assert_eq!((ring.enqueue_slice(b"abcde"), ring.window()), (4, 0));
+    /// assert_eq!(RingOver::over([0u8; 4]).enqueue_slice(b"abcde"), 4);
     /// ```
     pub fn new<S: Into<ManagedSlice<'a, T>>>(storage: S) -> Self {
         RingOver::over(storage.into())

@@ -3,6 +3,19 @@
 //! A [`RingBuffer`] is a queue of elements, a [`PacketBuffer`] one of whole packets, and a [`SplitRing`] one of bytes
 //! that an interrupt fills. An [`Assembler`] is a set of ranges, and a [`FragmentBuffer`] puts a packet together.
 //!
+//! ```
+//! use net_base::storage::{Assembler, RingBuffer, RingOver, SplitRing};
+//!
+//! let mut storage = [0u8; 16];
+//! let lent = RingBuffer::new(&mut storage); // or over a slice or a `Vec`
+//! let owned = RingOver::over([0u8; 16]); // an array by value
+//! assert_eq!((lent.window(), owned.window()), (16, 16));
+//! let eight = Assembler::<8>::empty(); // `Assembler::new()` has room for 4 ranges
+//! assert!(eight.is_empty());
+//! static SHARED: SplitRing<64> = SplitRing::new(); // what nobody borrows isn't split: both sides call it
+//! assert_eq!((SHARED.write(b"abc"), SHARED.read(&mut [0; 8])), (3, 3));
+//! ```
+//!
 //! Not proved, but tested: `Debug`, conversions of storage, arrays and boxes as storage, and impls of std's traits.
 mod by_hand;
 #[cfg(feature = "std")]
