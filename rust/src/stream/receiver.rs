@@ -642,9 +642,8 @@ impl<S: Storage<u8>, const N: usize> ReceiverOver<S, N> {
     /// Returns whether first position, count of bytes read, queued bytes and held runs are equal.
     /// The held bytes are not compared, nor are the capacities.
     ///
-    /// `states` says which states of a schedule differ by it. `converges` says that two receivers
-    /// of one stream are found equal if the same number of bytes was read from both and the same
-    /// positions were kept, in whatever order the segments arrived.
+    /// Two receivers of one stream are found equal if the same number of bytes was read from both and
+    /// the same positions were kept, in whatever order the segments arrived.
     ///
     /// ```
     /// # use net_base::receiver::Receiver;

@@ -217,7 +217,7 @@ impl Duration {
         self.micros
     }
 
-    /// Returns whether the value fits; precondition of `from_core`.
+    /// Returns whether a value of `core` fits: its whole microseconds are below 2^64.
     ///
     /// ```
     /// # use net_base::time::Duration;
