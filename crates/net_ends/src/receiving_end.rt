@@ -81,7 +81,7 @@ impl Model for SackBlocks {
 }
 
 impl SackBlocks {
-    /// Lends them, as `SendingEndOver::acknowledged` takes them.
+    /// Lends them, as `SendingEnd::acknowledged` takes them.
     #[must_use]
     pub fn as_slice(&self) -> &[Range<u64>]
         ensures { result.now ≡ self.now }
@@ -519,7 +519,7 @@ impl<S: Storage<u8>, const N: usize> ReceivingEndOver<S, N> {
     ///
     /// # Errors
     ///
-    /// As `FiniteReceiverOver::keep`.
+    /// As `FiniteReceiver::keep`.
     ///
     /// ```
     /// # use net_tcp::ReceivingEnd;

@@ -125,7 +125,7 @@ impl<S: Storage<u8>, const N: usize> FiniteReceiverOver<S, N> {
         self.after_end = 0;
     }
 
-    /// Moves what is stored to a larger storage, and returns the one from before, as `ReceiverOver::grow` does. The end
+    /// Moves what is stored to a larger storage, and returns the one from before, as `Receiver::grow` does. The end
     /// stays as it is.
     ///
     /// ```
@@ -168,7 +168,7 @@ impl<S: Storage<u8>, const N: usize> FiniteReceiverOver<S, N> {
     }
 
     /// Keeps the bytes of a segment that are in the free window and below the end, as
-    /// `ReceiverOver::keep` does. `fin` says whether the stream ends after the segment. Any segment may
+    /// `Receiver::keep` does. `fin` says whether the stream ends after the segment. Any segment may
     /// arrive: bytes after which an end has no number, which no stream has, are left out.
     ///
     /// The end is taken if it is at most the end of the free window. An end beyond that is left out, as
@@ -225,7 +225,7 @@ impl<S: Storage<u8>, const N: usize> FiniteReceiverOver<S, N> {
         self.receiver.read(into)
     }
 
-    /// Calls `f` on the first part of the queue, as `ReceiverOver::as_slices` shows it, takes as many
+    /// Calls `f` on the first part of the queue, as `Receiver::as_slices` shows it, takes as many
     /// bytes off the queue as `f` counts, and returns what `f` returned. The part is empty only if the
     /// queue is.
     ///
@@ -251,7 +251,7 @@ impl<S: Storage<u8>, const N: usize> FiniteReceiverOver<S, N> {
         answer
     }
 
-    /// Takes the first `count` bytes off the queue and copies none, as `ReceiverOver::remove` does.
+    /// Takes the first `count` bytes off the queue and copies none, as `Receiver::remove` does.
     ///
     /// ```
     /// # use net_base::finite::FiniteReceiver;
@@ -363,7 +363,7 @@ impl<S: Storage<u8>, const N: usize> FiniteReceiverOver<S, N> {
         Some(end.max(self.acknowledged()))
     }
 
-    /// Returns where the bytes of a segment of `len` bytes at `pos` are, as `ReceiverOver::parts_of` does. Bytes at
+    /// Returns where the bytes of a segment of `len` bytes at `pos` are, as `Receiver::parts_of` does. Bytes at
     /// the end or above it are counted as `past_end` alone. While no end is known, that counts bytes which leave no
     /// number for an end after them: no stream has such.
     ///

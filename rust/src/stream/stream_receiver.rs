@@ -100,7 +100,7 @@ impl<S: Storage<u8>, R: Storage<Run>> StreamReceiverOver<S, R> {
         self.head = FiniteReceiverHead::new(first);
     }
 
-    /// Moves what is stored to a larger storage, and returns the one from before, as `ReceiverOver::grow` does.
+    /// Moves what is stored to a larger storage, and returns the one from before, as `Receiver::grow` does.
     ///
     /// ```
     /// # use net_base::finite::StreamReceiver;
@@ -146,7 +146,7 @@ impl<S: Storage<u8>, R: Storage<Run>> StreamReceiverOver<S, R> {
         replace(&mut self.runs, more)
     }
 
-    /// Keeps the bytes of a segment that are in the free window and below the end, as `FiniteReceiverOver::keep` does.
+    /// Keeps the bytes of a segment that are in the free window and below the end, as `FiniteReceiver::keep` does.
     ///
     /// ```
     /// # use net_base::finite::{FiniteError, StreamReceiver};
@@ -218,7 +218,7 @@ impl<S: Storage<u8>, R: Storage<Run>> StreamReceiverOver<S, R> {
         self.head.receiver.as_slices(whole(&self.storage))
     }
 
-    /// Returns whether the stream can end at a position, as `FiniteReceiverOver::can_end` does.
+    /// Returns whether the stream can end at a position, as `FiniteReceiver::can_end` does.
     ///
     /// ```
     /// # use net_base::finite::StreamReceiver;
@@ -342,7 +342,7 @@ impl<S: Storage<u8>, R: Storage<Run>> StreamReceiverOver<S, R> {
         self.head.receiver.held(every(&self.runs))
     }
 
-    /// Returns where the bytes of a segment of `len` bytes at `pos` are, as `FiniteReceiverOver::parts_of` does. A
+    /// Returns where the bytes of a segment of `len` bytes at `pos` are, as `FiniteReceiver::parts_of` does. A
     /// receiver of QUIC asks before it keeps a frame: bytes `beyond` the free window, or `past_end`, are its peer's error.
     ///
     /// ```

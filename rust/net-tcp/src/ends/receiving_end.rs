@@ -54,7 +54,7 @@ pub struct SackBlocks {
 }
 
 impl SackBlocks {
-    /// Lends them, as `SendingEndOver::acknowledged` takes them.
+    /// Lends them, as `SendingEnd::acknowledged` takes them.
     #[must_use]
     pub fn as_slice(&self) -> &[Range<u64>] {
         &self.blocks[..self.count]
@@ -391,7 +391,7 @@ impl<S: Storage<u8>, const N: usize> ReceivingEndOver<S, N> {
     ///
     /// # Errors
     ///
-    /// As `FiniteReceiverOver::keep`.
+    /// As `FiniteReceiver::keep`.
     ///
     /// ```
     /// # use net_tcp::ReceivingEnd;
