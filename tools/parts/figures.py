@@ -83,7 +83,7 @@ def measured():
     quinn = cells("compare/results/quinn.md")
     tests, transfers = (next(row for row in quinn if row[0] == name) for name in ("pass", "256"))
     yield "passes {} of its {} tests", "compare/results/quinn.md", re.findall(r"\d+", tests[2])
-    yield "In {} of {} lossy transfers", "compare/results/quinn.md", re.findall(r"\d+", transfers[1])
+    yield "In {} of {} transfers", "compare/results/quinn.md", re.findall(r"\d+", transfers[1])
     times_of = {row[0]: value(row[3]) for row in quinn if len(row) == 4 and re.fullmatch(r"[\d,]+", row[1])}
     small = {name: ratio for name, ratio in times_of.items() if "of one byte" in name}
     sent = {name: ratio for name, ratio in times_of.items() if " by " in name}
@@ -127,9 +127,9 @@ def counted():
         tens(count(r"#\[test\]", *(f"{Path(folder).parent}/{it}/**/*.rs" for folder in PACKAGES.values()
                                    for it in ("src", "tests"))) + kinds)]
     seeds = first(r"unwrap_or.([0-9]+)", "rust/tests/model/beside.rs")
-    yield "random calls of each type, also on ARMv7 | a plain model of the type | {} runs", models, [
+    yield "random calls of most types, also on ARMv7 | a plain model of the type | {} runs", models, [
         f"{kinds * int(seeds):,}"]
-    yield "here and by an emulator | a second compiler's build | {}", "c/targets/run.py", [f'{int(first(r"^CALLS.*? = ([0-9_]+)", "c/targets/run.py")):,}']
+    yield "here and by an emulator | the build of the kit's compiler | {}", "c/targets/run.py", [f'{int(first(r"^CALLS.*? = ([0-9_]+)", "c/targets/run.py")):,}']
     seeds, kinds = first(r"SEEDS: u64 = (\d+)", calls), first(r"KINDS: [^=]*; (\d+)\]", calls)
     for text in ("with its faults mended | {}", "{} sequences of [random calls]"):
         yield text, calls, [f"{int(seeds) * int(kinds):,}"]

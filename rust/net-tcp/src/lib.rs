@@ -1,7 +1,7 @@
 //! Both ends of a TCP connection, [`SendingEnd`] and [`ReceivingEnd`], over the buffers of [`net_base`], and the parts of
 //! which they are made: what to do with an arriving segment, the windows of both sides, the time until a
-//! retransmission, its timer, and loss recovery. All is proved for every input, but for conversions of storage, and
-//! `Debug`, as the [crate `net_base`](net_base#what-is-proved) says. No call needs a heap.
+//! retransmission, its timer, and loss recovery. All is proved for every input, but for conversions, `Debug` and
+//! defaults, as the [crate `net_base`](net_base#what-is-proved) says. No call needs a heap.
 //!
 //! They know positions, times and bytes, but no headers, no states of a connection and no clock. How much may be in
 //! flight is the caller's choice. `docs/GUIDE.md` of the repository has the order of their calls. In QUIC the

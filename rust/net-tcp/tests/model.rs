@@ -1,5 +1,5 @@
-//! Windows, segments and timeouts beside the formulas of RFC 5961, 6298, 7323 and 9293, in numbers without a bound, as
-//! net-base's test `model` says.
+//! Windows, segments and timeouts beside the formulas of RFC 5961, 6298, 7323 and 9293, most of them in numbers of 128
+//! bits. Net-base's test `model` says how seeds are played.
 #[path = "../../tests/model/beside.rs"]
 mod beside;
 #[allow(dead_code)] // net-base's test calls all

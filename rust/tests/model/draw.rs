@@ -1,7 +1,7 @@
 //! What is drawn.
 use std::fmt::Arguments;
 
-/// A generator of draws, Marsaglia's xorshift, and the calls so far where they are wanted.
+/// A generator of draws, xorshift64*, and the calls so far where they are wanted.
 pub struct Draw {
     state: u64,
     pub calls: Option<Vec<String>>,
