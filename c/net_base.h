@@ -120,7 +120,8 @@
  * - the window of a header: `(uint64_t)window << scale`, and of a SYN without `scale`, which is at
  *   most 14; the smallest one for a storage: `while (capacity >> scale > 65535 && scale < 14)
  *   scale++`
- * - room to write in a sending end: the capacity less `sender.sender.place.length`
+ * - room to write in a sending end that isn't closed: the capacity less
+ *   `sender.sender.place.length`
  * - the payload of each fragment but the last: `(mtu - header) & ~7`; whether a packet has waited
  *   too long: `fragments.expires_at < now`; whether a sum with its checksum is right:
  *   `net_base_parts_sum_checksum` is 0
