@@ -38,11 +38,14 @@ def prepare(sources, crate):
         count += tests.count("#[test]")
         with (crate / f"src/{name}.rs").open("a") as file:
             file.write(RUNS * name.endswith("assembler") + tests)
-    root, manifest = crate / "src/lib.rs", crate / "Cargo.toml"
+    root = crate / "src/lib.rs"
     # The crate has no std, whose macros the tests call.
     root.write_text(root.read_text().replace("\nextern crate std;", "\n#[macro_use]\nextern crate std;"))
-    text = re.sub(r"^\[\[example\]\]\n(?:.+\n)*", "", manifest.read_text(), flags=re.M)
-    manifest.write_text(f'{text}\n[dev-dependencies]\nrand = {{ path = "{OVERLAY / "checkout/rand"}" }}\n')
+    manifest = crate / "Cargo.toml"
+    for it in (manifest, crate / "net-tcp/Cargo.toml"):
+        it.write_text(re.sub(r"^\[\[example\]\]\n(?:.+\n)*", "", it.read_text(), flags=re.M))
+    with manifest.open("a") as file:
+        file.write(f'\n[dev-dependencies]\nrand = {{ path = "{OVERLAY / "checkout/rand"}" }}\n')
     return count
 
 
@@ -50,7 +53,7 @@ def run(crate, count):
     """Runs the tests, of which so many are to pass."""
     # The crate's lints are about its own text.
     environment = {"CARGO_TARGET_DIR": str(crate / "target"), "RUSTFLAGS": "--cap-lints allow"} | os.environ
-    words = ["cargo", "test", "--offline", "--quiet", "--lib", "--", "::test::"]
+    words = ["cargo", "test", "--package", "net-base", "--offline", "--quiet", "--lib", "--", "::test::"]
     done = subprocess.run(words, cwd=crate, env=environment, stdout=subprocess.PIPE, text=True)
     passed = re.search(r"(\d+) passed; (\d+) failed", done.stdout)
     if done.returncode or not passed or int(passed[1]) != count:
