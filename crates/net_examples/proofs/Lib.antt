@@ -1,3 +1,2 @@
 pub mod AnyPathFacts
 pub mod FrameFacts
-pub mod SocketFacts
