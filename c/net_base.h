@@ -58,8 +58,7 @@
  * its kind says. Storage, runs and slots need no particular values. Lengths are in elements; a
  * length of 0 is allowed, of runs too: then no run is held. A length, an index or a count is a
  * `size_t`, a position or a time a `uint64_t` or an `int64_t` on every processor. A time is in
- * microseconds. A flag of a slot, or of a packet in fragments, is as wide as the number beside it;
- * others are a `bool`.
+ * microseconds. A flag of a slot is as wide as the number beside it; others are a `bool`.
  *
  * Fields of a head may be read: `length` is how many elements are queued, `used` how many runs are
  * stored. `start` and `end` of a stored run are offsets from `first_start` of the head, so the
@@ -567,7 +566,7 @@ struct net_base_assembler {
  * byte is that of the last fragment there. `present` is an assembler. */
 struct net_base_fragments {
     struct net_base_assembler present; /**< The positions that arrived: the head of an assembler. */
-    size_t has_total; /**< Not 0 once the packet's size is known; this library writes 1 then. */
+    bool has_total; /**< Whether the packet's size is known. */
     size_t total; /**< The packet's size in bytes, once it is known. */
     int64_t expires_at; /**< The last moment at which the packet is waited for, in microseconds. */
 };
@@ -991,27 +990,45 @@ struct net_base_scoreboard {
     struct net_base_assembler reported;
 };
 
+/** What is sent again in a pass, which begins at the lowest position that is lost. */
+struct net_base_recovery_pass {
+    uint64_t again; /**< What is lost below this position was sent again in this pass. */
+    /** What is lost from this position on and below the mark was sent again before this pass, which
+     * leaves it out. */
+    uint64_t turn;
+};
+
+/** A moment of a recovery: what is sent after it tells that what was sent before it is lost. */
+struct net_base_recovery_mark {
+    uint64_t resume; /**< All that was sent again below this position was sent before it. */
+    uint64_t sent; /**< The number after the last one that was sent before it. */
+    uint64_t later; /**< How many positions were sent again from `resume` on after it. */
+};
+
+/** A probe for an answer. */
+struct net_base_recovery_probe {
+    uint64_t first; /**< Its first position. */
+    uint64_t asked; /**< All that is below this position was sent before it. */
+};
+
+/** What was sent again in a recovery, which may have been for nothing. */
+struct net_base_recovery_copies {
+    uint64_t since; /**< The first position that wasn't acknowledged when it began. */
+    /** How many positions were sent again since then, less those that came twice. */
+    uint64_t count;
+};
+
 /** What a sender of TCP sends next where segments are lost: first what is lost, then what was never
  * sent. */
 struct net_base_loss_recovery {
     uint64_t until; /**< The recovery lasts until all positions below this one are acknowledged. */
     uint64_t lost; /**< What is below this position and isn't reported is lost. */
-    uint64_t again; /**< What is lost below this position was sent again in this pass. */
-    /** What is lost from this position on and below `resume` was sent again before this pass, which
-     * leaves it out. */
-    uint64_t turn;
-    /** All that was sent again below this position was sent before what was sent again from there
-     * on. */
-    uint64_t resume;
-    uint64_t sent; /**< The number after the last one that was sent when `resume` was set. */
-    uint64_t later; /**< How many positions were sent again from `resume` on since then. */
-    uint64_t probe; /**< Where the probe begins that wasn't answered, if there is one. */
-    uint64_t asked; /**< The number after the last one that was sent when the probe was. */
-    uint64_t unknown; /**< How many positions have arrived that it doesn't report. */
+    struct net_base_recovery_pass pass; /**< What was sent again. */
+    struct net_base_recovery_mark mark; /**< When it was. */
+    struct net_base_recovery_probe probe; /**< The probe that wasn't answered, if there is one. */
+    uint64_t unknown; /**< How many positions have arrived that the peer doesn't report. */
     uint64_t round; /**< Until all positions below this one are acknowledged, `duplicates` stays. */
-    uint64_t since; /**< The first position that wasn't acknowledged when the recovery began. */
-    /** How many positions were sent again since then, less those that came twice. */
-    uint64_t copies;
+    struct net_base_recovery_copies copies; /**< What may have been sent again for nothing. */
     /** How many segments above a position tell that it is lost. Fewer than 3 count as 3. */
     size_t duplicates;
     bool has_probe; /**< Whether a probe wasn't answered. */

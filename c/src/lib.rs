@@ -73,6 +73,39 @@ macro_rules! export {
     };
 }
 
+/// Declares structs with the layout of those that C passes, whose fields are private in Rust: with numbers beside each other
+/// as an array, and with bytes in place of flags. C's memory is one of these.
+macro_rules! raw {
+    ($($name:ident { $($field:ident: $of:ty),* })*) => {
+        #[allow(dead_code)]
+        mod raw {
+            $(#[repr(C)]
+            pub struct $name { $(pub $field: $of),* })*
+        }
+    };
+}
+
+/// Says of types that C passes a pointer to that they have no flags; or, after a type's name, where these are in the
+/// struct of that name in `raw`.
+macro_rules! passed {
+    ($($of:ident),*) => { $(impl Passed for $of {})* };
+    ($of:ident: $($($at:ident).+),+) => {
+        const _: () = assert!(size_of::<raw::$of>() == size_of::<$of>());
+        impl Passed for $of {
+            unsafe fn flags(it: *const Self) -> u32 {
+                let it = it.cast::<raw::$of>();
+                // SAFETY: the caller's duty.
+                unsafe { 0 $(| crate::joined(&raw const (*it).$($at).+))+ }
+            }
+            unsafe fn mask(it: *mut Self) {
+                let it = it.cast::<raw::$of>();
+                // SAFETY: the caller's duty.
+                unsafe { $(crate::mask(&raw mut (*it).$($at).+);)+ }
+            }
+        }
+    };
+}
+
 #[rustfmt::skip]
 mod shim;
 
@@ -126,36 +159,37 @@ trait Passed {
     unsafe fn mask(_: *mut Self) {}
 }
 
-/// Four flags, as a word; and two, and one.
+/// So many flags, joined in the bytes of one word.
 ///
 /// # Safety
 ///
 /// The duties of `net_base.h` on memory.
 #[inline(always)]
-unsafe fn four(at: *const u8) -> u32 {
+unsafe fn joined<const N: usize>(flags: *const [u8; N]) -> u32 {
+    const { assert!(matches!(N, 1..=4 | 6)) };
+    let at = flags.cast::<u8>();
     // SAFETY: the caller's duty.
-    unsafe { at.cast::<u32>().read_unaligned() }
-}
-
-#[inline(always)]
-unsafe fn two(at: *const u8) -> u32 {
-    // SAFETY: the caller's duty.
-    u32::from(unsafe { at.cast::<u16>().read_unaligned() })
-}
-
-#[inline(always)]
-unsafe fn one(at: *const u8) -> u32 {
-    // SAFETY: the caller's duty.
-    u32::from(unsafe { at.read() })
+    let one = |k| u32::from(unsafe { at.add(k).read() });
+    let two = |k| u32::from(unsafe { at.add(k).cast::<u16>().read_unaligned() });
+    let four = || unsafe { at.cast::<u32>().read_unaligned() };
+    match N {
+        1 => one(0),
+        2 => two(0),
+        3 => two(0) | one(2),
+        4 => four(),
+        _ => four() | two(4),
+    }
 }
 
 /// Makes each of so many flags 0 or 1.
+///
+/// # Safety
+///
+/// The duties of `net_base.h` on memory.
 #[inline(always)]
-unsafe fn mask(at: *mut u8, count: usize) {
-    for it in 0..count {
-        // SAFETY: the caller's duty.
-        unsafe { *at.add(it) &= 1 };
-    }
+unsafe fn mask<const N: usize>(flags: *mut [u8; N]) {
+    // SAFETY: the caller's duty.
+    unsafe { (*flags).iter_mut().for_each(|it| *it &= 1) };
 }
 
 /// The value that C passes a pointer to: none if that is null, or if a flag of it is neither 0 nor 1, so that no `bool`

@@ -1,5 +1,5 @@
 //! The exports with C's convention. Written by tools/ffi.py.
-use crate::{four, new_mut, one, slice, slice_mut, two, value, value_mut, Passed};
+use crate::{new_mut, slice, slice_mut, value, value_mut, Passed};
 use proved::exports::*;
 use proved::exports::answer_limit::*;
 use proved::exports::finite_receiver::*;
@@ -17,247 +17,31 @@ use proved::exports::retransmission::*;
 use proved::exports::sending_end::*;
 use proved::exports::sequence_number::*;
 
-/// The same structs with all fields public, and bytes in place of flags: C's memory is one of these.
-#[allow(dead_code)]
-mod raw {
-    #[repr(C)]
-    pub struct PartsSum {
-        pub sum: u16,
-        pub odd: u8,
-    }
-    #[repr(C)]
-    pub struct RingHead {
-        pub read_at: usize,
-        pub length: usize,
-    }
-    #[repr(C)]
-    pub struct AssemblerHead {
-        pub used: usize,
-        pub first_start: usize,
-    }
-    #[repr(C)]
-    pub struct ReceiverHead {
-        pub first: u64,
-        pub count_read: u64,
-        pub place: RingHead,
-        pub held: AssemblerHead,
-    }
-    #[repr(C)]
-    pub struct FiniteReceiverHead {
-        pub receiver: ReceiverHead,
-        pub after_end: u64,
-    }
-    #[repr(C)]
-    pub struct Run {
-        pub start: usize,
-        pub end: usize,
-    }
-    #[repr(C)]
-    pub struct AdvertisedWindow {
-        pub edge: u64,
-    }
-    #[repr(C)]
-    pub struct HeldRun {
-        pub start: u64,
-        pub end: u64,
-    }
-    #[repr(C)]
-    pub struct ReceivingHead {
-        pub advertised: AdvertisedWindow,
-        pub newest: u64,
-        pub recent: [u64; 4],
-        pub duplicate: HeldRun,
-        pub segment_size: u16,
-        pub scale: u8,
-        pub unanswered: u8,
-        pub has_duplicate: u8,
-    }
-    #[repr(C)]
-    pub struct ReceivingEnd {
-        pub receiver: FiniteReceiverHead,
-        pub runs: [Run; 16],
-        pub head: ReceivingHead,
-    }
-    #[repr(C)]
-    pub struct Segment {
-        pub seq: u64,
-        pub len: u64,
-        pub syn: u8,
-        pub ack: u8,
-        pub rst: u8,
-    }
-    #[repr(C)]
-    pub struct SenderHead {
-        pub first_unacknowledged: u64,
-        pub place: RingHead,
-    }
-    #[repr(C)]
-    pub struct FiniteSenderHead {
-        pub sender: SenderHead,
-        pub closed: u64,
-        pub finished: u64,
-        pub sent: u64,
-    }
-    #[repr(C)]
-    pub struct ScoreboardHead {
-        pub base: u64,
-        pub reported: AssemblerHead,
-    }
-    #[repr(C)]
-    pub struct LossRecovery {
-        pub until: u64,
-        pub lost: u64,
-        pub again: u64,
-        pub turn: u64,
-        pub resume: u64,
-        pub sent: u64,
-        pub later: u64,
-        pub probe: u64,
-        pub asked: u64,
-        pub unknown: u64,
-        pub round: u64,
-        pub since: u64,
-        pub copies: u64,
-        pub duplicates: usize,
-        pub has_probe: u8,
-        pub is_blind: u8,
-    }
-    #[repr(C)]
-    pub struct BufferHead {
-        pub scoreboard: ScoreboardHead,
-        pub recovery: LossRecovery,
-    }
-    #[repr(C)]
-    pub struct RetransmissionTimer {
-        pub srtt_8: u64,
-        pub rttvar_4: u64,
-        pub timeout: u64,
-        pub ends_at: i64,
-        pub probe_at: i64,
-        pub wait: u64,
-        pub timed: u64,
-        pub timed_since: i64,
-        pub last: u64,
-        pub timeouts: u64,
-        pub prompt: u64,
-        pub has_estimate: u8,
-        pub has_timeout: u8,
-        pub is_running: u8,
-        pub is_alone: u8,
-        pub is_timing: u8,
-        pub reports: u8,
-    }
-    #[repr(C)]
-    pub struct PeerWindow {
-        pub edge: u64,
-        pub seq: u64,
-        pub ack: u64,
-    }
-    #[repr(C)]
-    pub struct SendingHead {
-        pub buffer: BufferHead,
-        pub timer: RetransmissionTimer,
-        pub peer_window: PeerWindow,
-        pub greatest_window: u64,
-        pub last_window: u64,
-        pub segment_size: usize,
-        pub no_delay: u8,
-        pub is_open: u8,
-        pub is_window_probe_due: u8,
-        pub is_overdue: u8,
-    }
-    #[repr(C)]
-    pub struct TimeoutBounds {
-        pub least: u64,
-        pub most: u64,
-        pub tick: u64,
-        pub ack_delay: u64,
-    }
-    #[repr(C)]
-    pub struct SendingEnd {
-        pub sender: FiniteSenderHead,
-        pub runs: [Run; 16],
-        pub head: SendingHead,
-        pub first_timeout: u64,
-        pub bounds: TimeoutBounds,
-    }
+raw! {
+    FragmentsHead { present: [usize; 2], has_total: [u8; 1], total: usize, expires_at: u64 }
+    PartsSum { sum: u16, odd: [u8; 1] }
+    ReceiverHead { first: [u64; 2], place: [usize; 4] }
+    FiniteReceiverHead { receiver: ReceiverHead, after_end: u64 }
+    ReceivingHead { advertised: [u64; 8], segment_size: u16, scale: [u8; 2], has_duplicate: [u8; 1] }
+    ReceivingEnd { receiver: FiniteReceiverHead, runs: [usize; 32], head: ReceivingHead }
+    Segment { seq: [u64; 2], syn: [u8; 3] }
+    SenderHead { first_unacknowledged: u64, place: [usize; 2] }
+    FiniteSenderHead { sender: SenderHead, closed: [u64; 3] }
+    ScoreboardHead { base: u64, reported: [usize; 2] }
+    LossRecovery { until: [u64; 13], duplicates: usize, has_probe: [u8; 2] }
+    BufferHead { scoreboard: ScoreboardHead, recovery: LossRecovery }
+    RetransmissionTimer { srtt_8: [u64; 11], has_estimate: [u8; 6] }
+    SendingHead { buffer: BufferHead, timer: RetransmissionTimer, peer_window: [u64; 5], segment_size: usize, no_delay:
+        [u8; 4] }
+    SendingEnd { sender: FiniteSenderHead, runs: [usize; 32], head: SendingHead, first_timeout: [u64; 5] }
 }
-
-impl Passed for Acknowledgement {}
-impl Passed for Announcement {}
-impl Passed for AnswerLimit {}
-impl Passed for FiniteReceiverHead {}
-impl Passed for FragmentsHead {}
-impl Passed for KeptCounts {}
-impl Passed for PacketsHead {}
-const _: () = assert!(size_of::<raw::PartsSum>() == size_of::<PartsSum>());
-impl Passed for PartsSum {
-    unsafe fn flags(it: *const Self) -> u32 {
-        let it = it.cast::<raw::PartsSum>();
-        // SAFETY: the caller's duty.
-        unsafe { one(&raw const (*it).odd) }
-    }
-    unsafe fn mask(it: *mut Self) {
-        let it = it.cast::<raw::PartsSum>();
-        // SAFETY: the caller's duty.
-        unsafe {
-            crate::mask(&raw mut (*it).odd, 1);
-        }
-    }
-}
-const _: () = assert!(size_of::<raw::ReceivingEnd>() == size_of::<ReceivingEnd>());
-impl Passed for ReceivingEnd {
-    unsafe fn flags(it: *const Self) -> u32 {
-        let it = it.cast::<raw::ReceivingEnd>();
-        // SAFETY: the caller's duty.
-        unsafe { one(&raw const (*it).head.has_duplicate) }
-    }
-    unsafe fn mask(it: *mut Self) {
-        let it = it.cast::<raw::ReceivingEnd>();
-        // SAFETY: the caller's duty.
-        unsafe {
-            crate::mask(&raw mut (*it).head.has_duplicate, 1);
-        }
-    }
-}
-impl Passed for RingHead {}
-const _: () = assert!(size_of::<raw::Segment>() == size_of::<Segment>());
-impl Passed for Segment {
-    unsafe fn flags(it: *const Self) -> u32 {
-        let it = it.cast::<raw::Segment>();
-        // SAFETY: the caller's duty.
-        unsafe { two(&raw const (*it).syn) | one((&raw const (*it).syn).byte_add(2)) }
-    }
-    unsafe fn mask(it: *mut Self) {
-        let it = it.cast::<raw::Segment>();
-        // SAFETY: the caller's duty.
-        unsafe {
-            crate::mask(&raw mut (*it).syn, 3);
-        }
-    }
-}
-const _: () = assert!(size_of::<raw::SendingEnd>() == size_of::<SendingEnd>());
-impl Passed for SendingEnd {
-    unsafe fn flags(it: *const Self) -> u32 {
-        let it = it.cast::<raw::SendingEnd>();
-        // SAFETY: the caller's duty.
-        unsafe { two(&raw const (*it).head.buffer.recovery.has_probe) | four(&raw const (*it).head.timer.has_estimate) | two((&raw const (*it).head.timer.has_estimate).byte_add(4)) | four(&raw const (*it).head.no_delay) }
-    }
-    unsafe fn mask(it: *mut Self) {
-        let it = it.cast::<raw::SendingEnd>();
-        // SAFETY: the caller's duty.
-        unsafe {
-            crate::mask(&raw mut (*it).head.buffer.recovery.has_probe, 2);
-            crate::mask(&raw mut (*it).head.timer.has_estimate, 6);
-            crate::mask(&raw mut (*it).head.no_delay, 4);
-        }
-    }
-}
-impl Passed for TimeoutBounds {}
-impl Passed for i64 {}
-impl Passed for u16 {}
-impl Passed for u64 {}
-impl Passed for usize {}
+passed! { FragmentsHead: has_total }
+passed! { PartsSum: odd }
+passed! { ReceivingEnd: head.has_duplicate }
+passed! { Segment: syn }
+passed! { SendingEnd: head.buffer.recovery.has_probe, head.timer.has_estimate, head.no_delay }
+passed! { Acknowledgement, Announcement, AnswerLimit, FiniteReceiverHead, KeptCounts, PacketsHead, RingHead,
+        TimeoutBounds, i64, u16, u64, usize }
 
 export! { "net_base_7_ring_init" = net_base_ring_init, (place: new &mut RingHead); }
 export! { "net_base_7_ring_unallocated" = net_base_ring_unallocated, (place: &RingHead, capacity: usize, offset: usize,

@@ -51,5 +51,6 @@ pub use crate::stream::receiver_head::ReceiverHead;
 pub use crate::stream::scoreboard_head::ScoreboardHead;
 pub use crate::stream::sender_head::SenderHead;
 pub use crate::stream::sent_numbers::SentNumbers;
+pub use crate::tcp::loss_recovery::{RecoveryCopies, RecoveryMark, RecoveryPass, RecoveryProbe};
 pub use crate::tcp::{AdvertisedWindow, Announcement, LossRecovery, PeerWindow};
 pub use crate::tcp::{RetransmissionTimer, Segment};

@@ -140,6 +140,20 @@ ATTRIBUTES = [
     ('    pub segmentation_off', '    #[cfg(feature = "segmentation-offload")]\n    pub segmentation_off', {PHY: 1}),
 ]
 
+# What clippy says of functions that are proved in the form that they have.
+FORMS = [
+    ('    pub const fn fits_', 'redundant_pattern_matching', '`is_some` is no `const fn` of Rattle',
+     {'net_base/time/duration': 2, 'net_base/time/instant': 2}),
+    ('fn find<', 'manual_find, clippy::needless_range_loop', 'its proof counts', {f'{FRAGMENTS}/table': 1}),
+    ('fn find_free<', 'manual_find, clippy::needless_range_loop', 'its proof counts', {f'{FRAGMENTS}/table': 1}),
+    ('    fn take_first(', 'question_mark', 'its proof has a return of its own', {PACKETS: 1}),
+    ('    fn list_runs(', 'needless_range_loop', 'its proof counts', {'net_receiver/receiver_head': 1}),
+    ('    pub fn next_segment(', 'question_mark', '`?` takes four instructions more', {'net_ends/sending_end': 1}),
+    ('    pub fn duplicate_of(', 'manual_map', 'its proof has two cases', {RECEIVER: 1}),
+]
+ATTRIBUTES += [(item, f'{" " * item.find(item.strip())}#[allow(clippy::{name})] // {why}\n{item}', files)
+               for item, name, why, files in FORMS]
+
 # The types to which a version may add fields or variants: what smoltcp's are, settings, answers and errors. What
 # programs make of fields of a header, or of numbers that they keep, is open.
 GROWING = {

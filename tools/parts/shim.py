@@ -7,11 +7,9 @@ import ffi
 
 OUT = ffi.ROOT / "c/src/shim.rs"
 HEAD = """//! The exports with C's convention. Written by tools/ffi.py.
-use crate::{four, new_mut, one, slice, slice_mut, two, value, value_mut, Passed};
+use crate::{new_mut, slice, slice_mut, value, value_mut, Passed};
 use proved::exports::*;
 """
-# What C passes as bytes, of which each is 0 or 1, by how many are read at once.
-READS = {4: "four", 2: "two", 1: "one"}
 
 
 def modules():
@@ -40,76 +38,61 @@ def soundness(item, library):
     return f", sound {said[1]}({', '.join(words)})"
 
 
-def flags_of(name, library, path=""):
-    """Where a struct has flags, one beside the other: the path of the first of each group, and how many there are."""
-    last = None
+def layout(name, library):
+    """The fields of a struct, as numbers and structs in memory, of which neighbours of one kind are one: their name, their
+    kind, and how many they are. A flag is a byte, and so many neighbours are read at once."""
+    found = []
     for member in library.structs[name].members:
-        if member.type in library.structs:
-            yield from flags_of(member.type, library, f"{path}{member.name}.")
-        if member.type == "bool" and last is None:
-            last = [f"{path}{member.name}", 0]
-        if member.type == "bool":
-            last[1] += 1
-        elif last:
-            yield tuple(last)
-            last = None
-    if last:
-        yield tuple(last)
+        kind, count = member.type, 1
+        while kind.startswith("["):
+            kind, count = re.fullmatch(r"\[(.+); (\d+)\]", kind)[1], count * int(re.fullmatch(r"\[(.+); (\d+)\]", kind)[2])
+        if kind in library.structs:
+            inner = layout(kind, library)
+            kind, count = (inner[0][1], count * inner[0][2]) if len(inner) == 1 and inner[0][1] != "bool" else (kind, count)
+        kind = {"i64": "u64"}.get(kind, kind)
+        if found and found[-1][1] == kind and kind not in library.structs:
+            found[-1] = (found[-1][0], kind, found[-1][2] + count)
+        else:
+            found.append((member.name, kind, count))
+    return found
 
 
-def read(path, count):
-    """What reads the flags of a group."""
-    at = 0
-    while at < count:
-        size = next(size for size in READS if size <= count - at)
-        yield f"{READS[size]}((&raw const (*it).{path}).byte_add({at}))" if at else f"{READS[size]}(&raw const (*it).{path})"
-        at += size
+def flags_of(name, library, path=""):
+    """Where a struct has flags: the path of each group."""
+    for field, kind, _ in layout(name, library):
+        if kind in library.structs:
+            yield from flags_of(kind, library, f"{path}{field}.")
+        elif kind == "bool":
+            yield f"{path}{field}"
 
 
 def mirrors(names, library):
-    """For each struct, and for those in it, one with the same fields, all public, and bytes in place of flags."""
-    found = []
-    for name in names:
-        for member in library.structs[name].members:
-            kind = ffi.structs_of(member.type)
-            found += mirrors([kind], library) if kind in library.structs else []
-        found.append(name)
-    return list(dict.fromkeys(found))
+    """These structs and those in them, inner ones first."""
+    inner = lambda name: [kind for _, kind, _ in layout(name, library) if kind in library.structs]
+    return list(dict.fromkeys(it for name in names for it in [*mirrors(inner(name), library), name]))
 
 
 def mirror(name, library):
-    """The lines of such a struct."""
-    def kind_of(text):
-        kind = ffi.structs_of(text)
-        return "u8" if text == "bool" else text
-    fields = [f"    pub {it.name}: {kind_of(it.type)}," for it in library.structs[name].members]
-    return ["#[repr(C)]", f"pub struct {name} {{", *fields, "}"]
+    """The lines of a struct with the same layout."""
+    plain = lambda kind, count: kind if count == 1 else f"[{kind}; {count}]"
+    fields = [f"{field}: " + (f"[u8; {count}]" if kind == "bool" else plain(kind, count))
+              for field, kind, count in layout(name, library)]
+    return wrapped(f"    {name} {{ {', '.join(fields)} }}")
+
+
+def wrapped(text):
+    return textwrap.wrap(text, 120, subsequent_indent="        ", break_long_words=False, break_on_hyphens=False)
 
 
 def passed(library):
-    """What the shim knows of each type that C passes a pointer to: whether all its flags are."""
+    """What the shim knows of each type that C passes a pointer to: where its flags are."""
     kinds = sorted({it.type.split()[-1].lstrip("&") for item in library.exports() for it in item.members
                     if it.type.startswith("&") and "[" not in it.type})
     flags = {kind: list(flags_of(kind, library)) if kind in library.structs else [] for kind in kinds}
-    lines = ["/// The same structs with all fields public, and bytes in place of flags: C's memory is one of these.",
-             "#[allow(dead_code)]", "mod raw {"]
-    for name in mirrors([kind for kind in kinds if flags[kind]], library):
-        lines += [f"    {line}" for line in mirror(name, library)]
-    lines += ["}", ""]
-    for kind in kinds:
-        if not flags[kind]:
-            lines.append(f"impl Passed for {kind} {{}}")
-            continue
-        words = [word for path, count in flags[kind] for word in read(path, count)]
-        lines += [f"const _: () = assert!(size_of::<raw::{kind}>() == size_of::<{kind}>());",
-                  f"impl Passed for {kind} {{", "    unsafe fn flags(it: *const Self) -> u32 {",
-                  f"        let it = it.cast::<raw::{kind}>();", "        // SAFETY: the caller's duty.",
-                  "        unsafe { " + " | ".join(words) + " }", "    }",
-                  "    unsafe fn mask(it: *mut Self) {", f"        let it = it.cast::<raw::{kind}>();",
-                  "        // SAFETY: the caller's duty.", "        unsafe {",
-                  *[f"            crate::mask(&raw mut (*it).{path}, {count});" for path, count in flags[kind]],
-                  "        }", "    }", "}"]
-    return lines
+    with_flags = [kind for kind in kinds if flags[kind]]
+    return ["raw! {", *[line for name in mirrors(with_flags, library) for line in mirror(name, library)], "}",
+            *[f"passed! {{ {kind}: {', '.join(flags[kind])} }}" for kind in with_flags],
+            *wrapped(f"passed! {{ {', '.join(kind for kind in kinds if not flags[kind])} }}")]
 
 
 def rows(item, library):

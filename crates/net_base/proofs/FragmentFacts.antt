@@ -55,7 +55,7 @@ below_nothing s n empty p is =
 -- a head without a run or a size is that of an empty buffer, whatever its bytes
 pub no_parts : (h : FragmentsHead) (bytes : List ℕ) (runs : List (ℕ × ℕ)) → HasSoundRuns h.present runs →
     set_of h.present runs ≡ nothing →
-    h.has_total ≡ 0 → HasSoundParts h bytes runs
+    IsFalse h.has_total → HasSoundParts h bytes runs
 no_parts h bytes runs sound none unknown = record {
   runs_sound = sound;
   room =

@@ -29,7 +29,7 @@
 --     is_in_writes p writes, newest_element writes p x      what the writes have at a position
 --     Reassembles writes buffer present      a buffer and a set of positions are what the writes make
 use Rattle.std.specs.Prelude.{◌≡◌, ◌≢◌, ◌+◌, ◌-◌, ◌<◌, ◌≤◌, ℕ, ℤ, List, Option, length, slice_index_or, unwrap_or}
-use Rattle.std.specs.Prelude.{◌⊎◌, IsTrue, IsFalse, Bool, if◌then◌else◌, refl, ◌&&◌, false, [], ◌∷◌, nat_eq}
+use Rattle.std.specs.Prelude.{◌⊎◌, IsTrue, IsFalse, Bool, if◌then◌else◌, refl, ◌&&◌, false, [], ◌∷◌, true}
 use Rattle.std.specs.Prelude.{nat_lt, nat_le, ◌↔◌, ◌<ℤ◌, ◌≤ℤ◌, is_none, Result, Ok, Err, OnOk, IsErr}
 use Rattle.std.specs.Coded.{Coded, code_by, coded×, coded_ℕ, coded_ℤ, coded_list, coded_option}
 use Rattle.std.specs.declared.option.Option.TheVariants.{Some, None}
@@ -145,7 +145,7 @@ Differs b offset data' = (p : ℕ) × IsTrue (contains b.present p) × HasOther 
 -- ---- a buffer in parts: a head, and bytes and runs that are kept elsewhere
 -- the packet's size, once it is known
 abbrev pub total_of : FragmentsHead → Option ℕ
-total_of h = if nat_eq h.has_total 0 then None else Some h.total
+total_of h = if h.has_total then Some h.total else None
 
 abbrev pub fragments_of : FragmentsHead → List ℕ → List (ℕ × ℕ) → FragmentsState
 fragments_of h bytes runs = record {
@@ -157,7 +157,7 @@ fragments_of h bytes runs = record {
 
 -- there are as many runs as are used, and a known size is at most that of the buffer
 abbrev pub IsPlausible : ℕ → ℕ → FragmentsHead → Type 0
-IsPlausible c n h = (h.present.used ≤ n) × ((h.has_total ≡ 0) ⊎ (h.total ≤ c))
+IsPlausible c n h = (h.present.used ≤ n) × (IsFalse h.has_total ⊎ (h.total ≤ c))
 
 -- the runs are sound, and end at the limit or below, which is within the bytes
 pub record HasSoundParts (h : FragmentsHead) (bytes : List ℕ) (runs : List (ℕ × ℕ)) : Type 0 where
@@ -165,16 +165,15 @@ pub record HasSoundParts (h : FragmentsHead) (bytes : List ℕ) (runs : List (�
   pub room : unwrap_or (total_of h) (length bytes) ≤ length bytes
   pub below : IsBelow (set_of h.present runs) (unwrap_or (total_of h) (length bytes))
 
--- where no run is used, both numbers of `present` are 0; `has_total` is 0 or 1, and `total` is 0 where
--- it is 0: two exact heads of one buffer that have the same runs are equal
+-- where no run is used, both numbers of `present` are 0; `total` is 0 while the size isn't known: two exact heads of one
+-- buffer that have the same runs are equal
 pub record IsExact (h : FragmentsHead) : Type 0 where
   pub present : IsCanonical h.present
-  pub flag : h.has_total ≤ 1
-  pub no_total : h.has_total ≡ 0 → h.total ≡ 0
+  pub no_total : IsFalse h.has_total → h.total ≡ 0
 
 -- the head whose numbers are 0, but for the last moment at which a packet is waited for
 abbrev pub zero_fragments : ℤ → FragmentsHead
-zero_fragments at = record { present = zero_head; has_total = 0; total = 0; expires_at = at }
+zero_fragments at = record { present = zero_head; has_total = false; total = 0; expires_at = at }
 
 -- ---- many fragments
 -- the buffer after fragments (offset, bytes), the first one first

@@ -8,5 +8,6 @@ pub mod Blocks
 pub mod Receiving
 pub mod ReceivingLaws
 pub mod RoundLaws
+pub mod Senders
 pub mod Small
 pub mod Steps

@@ -80,10 +80,9 @@ unsent_of sender s r = unsent_at (first_number sender) s r
 -- byte and no FIN, and announces the window that was announced last
 abbrev pub answer_of : SentNumbers → ℕ → ℕ → List (Range ℕ) → Bool → Bool → Answer
 answer_of at unsent ack bs says repeats = record {
-  first = at.first_unacknowledged;
-  unsent = unsent;
+  before = record { first = at.first_unacknowledged; unsent = unsent };
   reports = says;
-  is_equal = is_equal_acknowledgement at.first_unacknowledged at.sent ack (repeats && not (has_block bs)) true;
+  is_equal = is_equal_acknowledgement at.first_unacknowledged at.sent ack (repeats && not (has_block bs));
 }
 
 -- the first block came twice
@@ -95,11 +94,12 @@ abbrev pub doubted : SentNumbers → ℕ → List (Range ℕ) → LossRecovery �
 doubted at ack bs r = if is_duplicated ack bs then with_twice at bs r else r
 
 abbrev pub answered : ℕ → ℕ → ℕ → Answer → Positions → LossRecovery → LossRecovery
-answered size ack sent a s r = after_answer size a.first ack sent a.reports a.is_equal a.unsent s r
+answered size ack sent a s r =
+    after_answer size a.before.first ack sent a.reports a.is_equal a.before.unsent s r
 
 -- by the scoreboard's bound, or by what is heard of a peer that reports nothing
 abbrev pub lost_by : ℕ → ℕ → ℕ → Answer → ℕ → LossRecovery → ℕ
-lost_by size ack sent a lost r = max lost (blind_lost size a.first ack sent r)
+lost_by size ack sent a lost r = max lost (blind_lost size a.before.first ack sent r)
 
 -- where the peer has dropped what it reported, all below the highest reported position is lost; else what is found
 pub record IsLeft (size ack sent : ℕ) (a : Answer) (s : Positions) (r left : LossRecovery) (begins : Bool) : Type 0

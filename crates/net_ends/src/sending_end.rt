@@ -63,7 +63,7 @@ ghost use Rattle.std.specs.Option.{option_or};
 ghost use Rattle.net_tcp.specs.Windows.{after_update, acknowledgement_number};
 
 use crate::sending_head::SendingHead;
-use crate::tcp_buffer::{Queued, accept, mark};
+use crate::tcp_buffer::Queued;
 use net_assembler::Run;
 use net_base::time::{Duration, Instant};
 use net_receiver::{FiniteSenderOver, SegmentBytes, SentNumbers};
@@ -127,6 +127,15 @@ pub enum AckSegment {
     Pure,
     /// Bytes, or a FIN.
     WithData,
+}
+
+impl AckSegment {
+    /// Returns whether it has neither a byte nor a FIN.
+    fn is_pure(self) -> bool
+        ensures { result ≡ is_pure self }
+    {
+        matches!(self, AckSegment::Pure)
+    }
 }
 
 /// What the timer's end means.
@@ -194,13 +203,6 @@ impl Outgoing {
     {
         self.pos..self.end
     }
-}
-
-/// Returns whether a segment has neither a byte nor a FIN.
-fn is_pure(segment: AckSegment) -> bool
-    ensures { result ≡ is_pure segment }
-{
-    matches!(segment, AckSegment::Pure)
 }
 
 /// The sending half of a TCP connection: its bytes, the peer's window, the retransmission timer, and what is lost. It
@@ -562,10 +564,10 @@ impl<S: Storage<u8>, const N: usize> SendingEndOver<S, N> {
             self.bounds,
             it,
             blocks,
-            is_pure(segment),
+            segment.is_pure(),
             now,
         );
-        let _is_taken = accept(&mut self.sender, it.ack);
+        let _is_taken = self.sender.acknowledge(it.ack);
         said
     }
 
@@ -721,7 +723,7 @@ impl<S: Storage<u8>, const N: usize> SendingEndOver<S, N> {
         else {
             return None;
         };
-        let _is_written = mark(&mut self.sender, it.end);
+        let _is_written = self.sender.mark_sent(it.end);
         Some(it)
     }
 

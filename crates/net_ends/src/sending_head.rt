@@ -153,7 +153,7 @@ impl SendingHead {
             ≡ record (recovery_of self.old.buffer.recovery) { is_blind = not (is_permitted sack); unknown = 0 } }
         ensures timer { timer_of self.new.timer ≡ renewed_by numbers first_timeout (is_permitted sack) now }
     {
-        self.buffer.recovery.expect_reports(sack);
+        self.buffer.recovery.opened(sack);
         self.renew(numbers, first_timeout, sack, now);
         self.peer_window = PeerWindow::of(it);
         self.greatest_window = it.window;
@@ -384,7 +384,7 @@ impl SendingHead {
         }
         self.is_overdue = true;
         Expired::Overdue {
-            begins: self.buffer.find_overdue(runs, queued.numbers),
+            begins: self.buffer.fell_silent(runs, queued.numbers),
         }
     }
 
@@ -402,7 +402,7 @@ impl SendingHead {
             queued_of s ≡ queued →
             TimesOut (end_of s self.old runs timeout bounds) result (end_of s self.new runs timeout bounds) }
     {
-        self.buffer.recovery.lose_all(queued.numbers);
+        self.buffer.recovery.timed_out(queued.numbers);
         self.is_window_probe_due = true;
         self.is_overdue = false;
         if self.is_shut(queued) || queued.numbers.flight_size() == 0 {
@@ -511,16 +511,13 @@ impl SendingHead {
             IsFalse (is_active k.recovery (low k)) → low k ≡ high k → low k < limit →
             IsTrue (is_some result) }
     {
-        let Some(range) = self.buffer.next(
+        let range = self.buffer.next(
             runs,
             queued.numbers,
             limit,
             congestion_window,
             self.segment_size(),
-        )
-        else {
-            return None;
-        };
+        )?;
         if self.is_due(queued, range.start, range.end) {
             Some(range)
         } else {
@@ -604,10 +601,7 @@ impl SendingHead {
     pub fn round_trip(&self) -> Option<Duration>
         ensures { result ≡ round_trip (timer_of self.now.timer).timeout.estimate }
     {
-        match self.timer.rtt() {
-            Some(estimate) => Some(estimate.srtt()),
-            None => None,
-        }
+        self.timer.rtt().map(|estimate| estimate.srtt())
     }
 
     /// Returns whether Nagle's rule is enabled.

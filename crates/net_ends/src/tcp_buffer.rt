@@ -1,14 +1,12 @@
 //! What a sending end of TCP has sent, without a clock: what was reported of it, and what is lost by TCP's rules. (A
 //! stream of QUIC has `net_receiver`'s `SendBuffer`, which is told of each loss.)
 ghost use Rattle.std.specs.Prelude.{◌≡◌, ◌-◌, ◌+◌, ◌<◌, ◌≤◌, ◌&&◌, ◌==◌, ℕ, Option, Some, IsTrue, IsFalse, min, max};
-ghost use Rattle.std.specs.Prelude.{IfSome, IfNone, is_some, ◌++◌, not, true, false, length, nat_le};
+ghost use Rattle.std.specs.Prelude.{IfSome, IfNone, is_some, ◌++◌, not, true, false, length};
 ghost use Rattle.net_assembler.specs.Positions.{contains};
 ghost use Rattle.net_tcp.specs.LossRecovery.{is_wrong, taken_back, was_sent_again};
 ghost use Rattle.net_tcp.specs.LossRecovery.{is_active, in_flight, begun, forgotten, next_segment, next_range};
 ghost use Rattle.net_tcp.specs.LossRecovery.{resumed, recovery_of, as_range};
 ghost use Rattle.net_tcp.specs.LossRecovery.{gone_on, begins_at, next_probe};
-ghost use Rattle.net_receiver.specs.FiniteSender.{sender_after_command, Marks, Acknowledges, accepts};
-ghost use Rattle.net_receiver.specs.FiniteSender.{first_number, numbers_end};
 ghost use Rattle.net_receiver.specs.Scoreboards.{IsEnd, IsHole, IsSoundBoard};
 ghost use Rattle.net_receiver.specs.Scoreboards.{reported_by as reported_to};
 ghost use Rattle.net_assembler.specs.Positions.{with_range, nothing};
@@ -25,8 +23,7 @@ ghost use Rattle.net_ends.specs.Acknowledgements.{numbers_of, unsent_of, unsent_
 ghost use Rattle.net_ends.specs.Acknowledgements.{after_segment, after_wait};
 
 use net_assembler::Run;
-use net_receiver::{FiniteSenderOver, ScoreboardHead, SentNumbers};
-use net_ring::Storage;
+use net_receiver::{ScoreboardHead, SentNumbers};
 use net_tcp::{Answer, LentScoreboard, LossRecovery, is_duplicate_block, is_equal_acknowledgement};
 use std::ops::Range;
 
@@ -62,6 +59,15 @@ pub enum AckKind {
     Repeat,
     /// Any other: it has bytes or a FIN, or announces another window.
     Other,
+}
+
+impl AckKind {
+    /// Returns whether it only repeats the last.
+    fn is_repeat(self) -> bool
+        ensures { result ≡ is_repeat self }
+    {
+        matches!(self, AckKind::Repeat)
+    }
 }
 
 /// What an acknowledgement said that was taken.
@@ -152,15 +158,14 @@ impl BufferHead {
             (board_of self.old runs.old) (recovery_of self.old.recovery) ack blocks.now (is_repeat kind) result.reports
             (recovery_of self.new.recovery) result.begins }
     {
-        let unsent = self.recovery.unsent(numbers, &self.board(runs));
+        let before = self.recovery.before(numbers, &self.board(runs));
         self.scoreboard.acknowledge(runs, ack);
         let reports = report_blocks(&mut self.scoreboard, runs, blocks, numbers.sent);
-        let is_bare = is_repeat(kind) && !has_block(blocks);
+        let is_bare = kind.is_repeat() && !has_block(blocks);
         let answer = Answer {
-            first: numbers.first_unacknowledged,
-            unsent,
+            before,
             reports,
-            is_equal: is_equal_acknowledgement(numbers, ack, is_bare, true),
+            is_equal: is_equal_acknowledgement(numbers, ack, is_bare),
         };
         let begins = self.find_losses(runs, numbers, ack, blocks, segment_size, answer);
         TakenAck {
@@ -229,7 +234,7 @@ impl BufferHead {
     }
 
     /// Finds what is overdue, where nothing was reported for two round trips, and returns whether a recovery begins.
-    pub fn find_overdue(&mut self, runs: &[Run], numbers: SentNumbers) -> bool
+    pub fn fell_silent(&mut self, runs: &[Run], numbers: SentNumbers) -> bool
         requires { IsSoundBoard self.old.scoreboard runs.now }
         ensures rest { self.new.scoreboard ≡ self.old.scoreboard }
         ensures recovery { (highest : ℕ) → IsEnd (board_of self.old runs.now) highest →
@@ -239,7 +244,7 @@ impl BufferHead {
             result ≡ begins_by numbers highest (recovery_of self.old.recovery) }
     {
         let board = self.board(runs);
-        self.recovery.find_overdue(numbers, &board)
+        self.recovery.fell_silent(numbers, &board)
     }
 
     /// Returns the range to send next below `limit`, at most a segment: what is lost, else what was never sent. `None` if
@@ -320,40 +325,14 @@ impl BufferHead {
     {
         match sending {
             Sending::Segment => self.recovery.sent(numbers, range),
-            Sending::TailProbe => self.recovery.probed(numbers, range),
+            Sending::TailProbe => self.recovery.probe_sent(numbers, range),
             // The peer drops it.
-            Sending::WindowProbe => self.recovery.lose_all(SentNumbers {
+            Sending::WindowProbe => self.recovery.timed_out(SentNumbers {
                 first_unacknowledged: numbers.first_unacknowledged,
                 sent: numbers.sent.max(range.end),
             }),
         }
     }
-}
-
-/// Has a sender take an acknowledgement of all below `ack`, and returns whether it does.
-pub(crate) fn accept<S: Storage<u8>>(sender: &mut FiniteSenderOver<S>, ack: u64) -> bool
-    ensures value { result ≡ accepts sender.old ack }
-    ensures within { IsTrue result → (first_number sender.old ≤ ack) × (ack ≤ sender.old.sent) }
-    ensures unchanged { IsFalse result → sender.new ≡ sender.old }
-    ensures step { sender.new ≡ sender_after_command sender.old (Acknowledges ack) }
-{
-    sender.acknowledge(ack)
-}
-
-/// Has a sender take notice that all below `to` is sent, and returns whether it was written.
-pub(crate) fn mark<S: Storage<u8>>(sender: &mut FiniteSenderOver<S>, to: u64) -> bool
-    ensures value { result ≡ nat_le to (numbers_end sender.old) }
-    ensures state { sender.new ≡ sender_after_command sender.old (Marks to) }
-    ensures refused { IsFalse result → sender.new ≡ sender.old }
-{
-    sender.mark_sent(to)
-}
-
-/// Returns whether an acknowledgement is of a kind that only repeats the last.
-fn is_repeat(kind: AckKind) -> bool
-    ensures { result ≡ is_repeat kind }
-{
-    matches!(kind, AckKind::Repeat)
 }
 
 /// Finds what is lost by an acknowledgement, and returns whether a recovery begins. If the peer has dropped what it had
@@ -376,11 +355,11 @@ fn find_losses(
 {
     let seen = LentScoreboard::new(*board, runs);
     if has_dropped(board, runs, after) {
-        let begins = recovery.lose_dropped(after, &seen);
+        let begins = recovery.reports_dropped(after, &seen);
         *board = ScoreboardHead::new_at(after.first_unacknowledged);
         return begins;
     }
-    recovery.find_losses(after, &seen, segment_size, answer)
+    recovery.acknowledged(after, &seen, segment_size, answer)
 }
 
 /// Returns whether the peer has dropped what it had reported: it acknowledges up to such a number.

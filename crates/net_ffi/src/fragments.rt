@@ -11,7 +11,7 @@ use net_base::storage::FragmentsHead;
 pub(crate) fn is_plausible(fragments: &FragmentsHead, capacity: usize, run_count: usize) -> bool
     ensures { IsTrue result ↔ IsPlausible capacity run_count fragments.now }
 {
-    fragments.present.used <= run_count && (fragments.has_total == 0 || fragments.total <= capacity)
+    fragments.present.used <= run_count && (!fragments.has_total || fragments.total <= capacity)
 }
 
 /// Returns whether the packet's size is known and all its bytes have arrived, and if so writes the size to `size`. Its

@@ -7,8 +7,7 @@
 //! whose name ends in `_init` makes it; one of zeros is new too, as the comment of its kind says. Storage, runs and
 //! slots need no particular values. Lengths are in elements; a length of 0 is allowed, of runs too: then no run is
 //! held. A length, an index or a count is a `size_t`, a position or a time a `uint64_t` or an `int64_t` on every
-//! processor. A time is in microseconds. A flag of a slot, or of a packet in fragments, is as wide as the number beside
-//! it; others are a `bool`.
+//! processor. A time is in microseconds. A flag of a slot is as wide as the number beside it; others are a `bool`.
 //!
 //! Fields of a head may be read: `length` is how many elements are queued, `used` how many runs are stored. `start`
 //! and `end` of a stored run are offsets from `first_start` of the head, so the first one starts at 0. A block has

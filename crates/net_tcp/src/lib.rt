@@ -22,7 +22,7 @@ pub use answer_limit::AnswerLimit;
 pub use arriving::{Arrival, Segment, classify, is_acceptable, is_acknowledgement};
 pub use duplicate_block::is_duplicate_block;
 pub use equal_acknowledgement::is_equal_acknowledgement;
-pub use loss_recovery::{Answer, LossRecovery};
+pub use loss_recovery::{Answer, Before, LossRecovery};
 pub use peer_window::{Announcement, PeerWindow, scaled};
 pub use reported::{LentScoreboard, Reported};
 pub use retransmission::{RetransmissionTimeout, RttEstimate, TimeoutBounds, Transmission};

@@ -16,7 +16,7 @@ ghost use Rattle.net_tcp.specs.Retransmission.{prompt_after};
 ghost use Rattle.net_tcp.specs.Sack.{is_permitted};
 
 use crate::retransmission::{RetransmissionTimeout, RttEstimate, TimeoutBounds};
-use crate::sack::{Sack, is_permitted};
+use crate::sack::Sack;
 use net_base::time::{Duration, Instant};
 use net_receiver::SentNumbers;
 use std::ops::Range;
@@ -168,7 +168,7 @@ impl RetransmissionTimer {
             is_running: false,
             is_alone: false,
             is_timing: false,
-            reports: is_permitted(sack),
+            reports: sack.is_permitted(),
         }
     }
 

@@ -1,7 +1,7 @@
-//! Both ends of a TCP connection, [`SendingEnd`] and [`ReceivingEnd`], over the buffers of [`net_base`], and the parts of
-//! which they are made: what to do with an arriving segment, the windows of both sides, the time until a
-//! retransmission, its timer, and loss recovery. All is proved for every input, but for conversions, `Debug` and
-//! defaults, as the [crate `net_base`](net_base#what-is-proved) says. No call needs a heap.
+//! Both ends of a TCP connection, [`SendingEnd`] with its loss recovery and [`ReceivingEnd`], over the buffers of
+//! [`net_base`], and parts of them: what to do with an arriving segment, the windows of both sides, the time until a
+//! retransmission, and its timer. All is proved for every input, but for conversions, `Debug` and defaults, as the
+//! [crate `net_base`](net_base#what-is-proved) says. No call needs a heap.
 //!
 //! They know positions, times and bytes, but no headers, no states of a connection and no clock. How much may be in
 //! flight is the caller's choice. `docs/GUIDE.md` of the repository has the order of their calls. In QUIC the
@@ -107,7 +107,9 @@ pub use ends::{
 pub use net_base::finite::{SegmentBytes, SentNumbers};
 pub use tcp::{
     classify, is_acceptable, is_acknowledgement, scale_for, scaled, AdvertisedWindow, Announcement,
-    Answer, AnswerLimit, Arrival, Expiry, LossRecovery, PeerWindow, Reported,
-    RetransmissionTimeout, RetransmissionTimer, RttEstimate, Sack, Segment, TimedSegment,
-    TimeoutBounds, Transmission, MAX_SCALE,
+    AnswerLimit, Arrival, Expiry, PeerWindow, RetransmissionTimeout, RetransmissionTimer,
+    RttEstimate, Sack, Segment, TimedSegment, TimeoutBounds, Transmission, MAX_SCALE,
 };
+// A part of `SendingEnd`, for tests of its steps alone: it may change in any version.
+#[doc(hidden)]
+pub use tcp::{Answer, Before, LossRecovery, Reported};

@@ -8,7 +8,7 @@ use net_base::scoreboard::Scoreboard;
 use net_base::time::{Duration, Instant};
 use net_tcp::{
     classify, is_acceptable, is_acknowledgement, scaled, AckSegment, Acknowledged,
-    AdvertisedWindow, Announcement, Answer, Expired, Expiry, LossRecovery, PeerWindow,
+    AdvertisedWindow, Announcement, Answer, Before, Expired, Expiry, LossRecovery, PeerWindow,
     ReceivingEndOver, RetransmissionTimer, Sack, Segment, SendingEndOver, SentNumbers,
     TimeoutBounds, Transmission,
 };
@@ -184,26 +184,26 @@ fn recovery() {
             }
             1 => assert!(board.report(start..end, sent).is_err() || start < end),
             2 => {
-                let (first, unsent) = (draw.number(), draw.number());
+                let before = Before { first: draw.number(), unsent: draw.number() };
                 let (reports, is_equal) = (draw.below(2) == 0, draw.below(2) == 0);
-                let answer = Answer { first, unsent, reports, is_equal };
-                let _begins = recovery.find_losses(numbers, &board, size, answer);
-                let _unsent = recovery.unsent(numbers, &board);
+                let answer = Answer { before, reports, is_equal };
+                let _begins = recovery.acknowledged(numbers, &board, size, answer);
+                let _before = recovery.before(numbers, &board);
             }
-            3 => recovery.lose_all(numbers),
+            3 => recovery.timed_out(numbers),
             4 => recovery.sent(numbers, start..end),
-            5 => recovery.probed(numbers, start..end),
+            5 => recovery.probe_sent(numbers, start..end),
             6 => recovery.duplicated(numbers),
             7 => {
                 let sack = if draw.below(2) == 0 { Sack::Permitted } else { Sack::Absent };
-                recovery.expect_reports(sack);
+                recovery.opened(sack);
                 assert_eq!(recovery.is_blind(), sack == Sack::Absent);
             }
             8 => {
-                let _begins = recovery.lose_dropped(numbers, &board);
+                let _begins = recovery.reports_dropped(numbers, &board);
             }
             9 => {
-                let _begins = recovery.find_overdue(numbers, &board);
+                let _begins = recovery.fell_silent(numbers, &board);
                 let probe = recovery.next_probe(numbers, &board, end, size);
                 assert!(probe.is_none_or(|it| !it.is_empty() && it.end <= sent.max(end)));
             }

@@ -5,9 +5,9 @@ use std::fmt::Debug;
 use net_base::scoreboard::Scoreboard;
 use net_base::time::{Duration, Instant};
 use net_tcp::{
-    AdvertisedWindow, Announcement, Answer, Arrival, LossRecovery, PeerWindow, ReceivingEndOver,
-    Reported, RetransmissionTimeout, RetransmissionTimer, RttEstimate, Sack, Segment,
-    SendingEndOver, SentNumbers, TimeoutBounds, Transmission,
+    AdvertisedWindow, Announcement, Answer, Arrival, Before, LossRecovery, PeerWindow,
+    ReceivingEndOver, Reported, RetransmissionTimeout, RetransmissionTimer, RttEstimate, Sack,
+    Segment, SendingEndOver, SentNumbers, TimeoutBounds, Transmission,
 };
 
 fn debug(value: impl Debug) -> String {
@@ -151,9 +151,9 @@ fn recovery_over_a_record_of_the_callers() {
     assert_eq!((record.missing_between(10, 30), record.next_hole(0, 60)), (10, Some((0, 20))));
     assert_eq!(record.lost_below(3, 10), 20);
     let numbers = SentNumbers { first_unacknowledged: 0, sent: 60 };
-    let answer = Answer { first: 0, unsent: 0, reports: true, is_equal: true };
-    let mut recovery = LossRecovery::new();
-    assert!(recovery.find_losses(numbers, &record, 10, answer));
+    let (mut recovery, before) = (LossRecovery::new(), Before { first: 0, unsent: 0 });
+    let answer = Answer { before, reports: true, is_equal: true };
+    assert!(recovery.acknowledged(numbers, &record, 10, answer));
     assert_eq!(recovery.next_segment(numbers, &record, 60, 100, 10), Some(0..10));
     recovery.sent(numbers, 0..10);
     assert_eq!(recovery.next_segment(numbers, &record, 60, 100, 10), Some(10..20));

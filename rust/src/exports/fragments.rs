@@ -4,7 +4,7 @@ use crate::storage::fragments::FragmentsHead;
 
 #[inline(always)]
 pub(crate) fn is_plausible(fragments: &FragmentsHead, capacity: usize, run_count: usize) -> bool {
-    fragments.present.used <= run_count && (fragments.has_total == 0 || fragments.total <= capacity)
+    fragments.present.used <= run_count && (!fragments.has_total || fragments.total <= capacity)
 }
 
 #[inline(always)]

@@ -560,6 +560,7 @@ impl<H: Sized, M: Storage<PacketMetadata<H>>, B: Storage<u8>> PacketsOver<H, M, 
     }
 
     /// Takes the first packet, which has no gap before it, off, and returns its header and size.
+    #[allow(clippy::question_mark)] // its proof has a return of its own
     fn take_first(&mut self) -> Option<(H, usize)> {
         if self.head.slots.length == 0 {
             return None;

@@ -593,6 +593,7 @@ impl<S: Storage<u8>, const N: usize> ReceiverOver<S, N> {
     /// assert_eq!((receiver.duplicate_of(4, 3), receiver.duplicate_of(3, 3)), (Some(6..7), None));
     /// ```
     #[must_use]
+    #[allow(clippy::manual_map)] // its proof has two cases
     pub fn duplicate_of(&self, pos: u64, len: usize) -> Option<Range<u64>> {
         let count = count_existing(pos, len);
         match self.head.duplicate_of(&self.runs, pos, pos + count as u64) {

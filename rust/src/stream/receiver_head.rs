@@ -297,6 +297,7 @@ impl ReceiverHead {
     }
 
     /// Lists the runs as `newest_runs` does, and leaves `recent` as it is.
+    #[allow(clippy::needless_range_loop)] // its proof counts
     fn list_runs(
         &self,
         runs: &[Run],

@@ -61,6 +61,7 @@ impl Duration {
     /// ```
     #[inline]
     #[must_use]
+    #[allow(clippy::redundant_pattern_matching)] // `is_some` is no `const fn` of Rattle
     pub const fn fits_millis(millis: u64) -> bool {
         matches!(millis.checked_mul(1_000), Some(_))
     }
@@ -91,6 +92,7 @@ impl Duration {
     /// ```
     #[inline]
     #[must_use]
+    #[allow(clippy::redundant_pattern_matching)] // `is_some` is no `const fn` of Rattle
     pub const fn fits_secs(secs: u64) -> bool {
         matches!(secs.checked_mul(1_000_000), Some(_))
     }

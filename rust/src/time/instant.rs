@@ -54,6 +54,7 @@ impl Instant {
     /// ```
     #[inline]
     #[must_use]
+    #[allow(clippy::redundant_pattern_matching)] // `is_some` is no `const fn` of Rattle
     pub const fn fits_millis(millis: i64) -> bool {
         matches!(millis.checked_mul(1_000), Some(_))
     }
@@ -85,6 +86,7 @@ impl Instant {
     /// ```
     #[inline]
     #[must_use]
+    #[allow(clippy::redundant_pattern_matching)] // `is_some` is no `const fn` of Rattle
     pub const fn fits_secs(secs: i64) -> bool {
         matches!(secs.checked_mul(1_000_000), Some(_))
     }
@@ -204,10 +206,7 @@ impl Instant {
     #[inline]
     #[must_use]
     pub fn checked_add(&self, duration: Duration) -> Option<Instant> {
-        match self.micros.checked_add_unsigned(duration.total_micros()) {
-            Some(micros) => Some(Instant { micros }),
-            None => None,
-        }
+        self.micros.checked_add_unsigned(duration.total_micros()).map(|micros| Instant { micros })
     }
 
     /// Returns `self - duration`, or `None` exactly if that is before the first moment.
@@ -220,10 +219,7 @@ impl Instant {
     #[inline]
     #[must_use]
     pub fn checked_sub(&self, duration: Duration) -> Option<Instant> {
-        match self.micros.checked_sub_unsigned(duration.total_micros()) {
-            Some(micros) => Some(Instant { micros }),
-            None => None,
-        }
+        self.micros.checked_sub_unsigned(duration.total_micros()).map(|micros| Instant { micros })
     }
 
     /// Returns the moment `duration` later, or the last moment if that is after it.

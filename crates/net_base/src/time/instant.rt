@@ -256,10 +256,9 @@ impl Instant {
     pub fn checked_add(&self, duration: Duration) -> Option<Instant>
         ensures { SomeIff result (IsMoment (self.now +ℤ pos duration)) (self.now +ℤ pos duration) }
     {
-        match self.micros.checked_add_unsigned(duration.total_micros()) {
-            Some(micros) => Some(Instant { micros }),
-            None => None,
-        }
+        self.micros
+            .checked_add_unsigned(duration.total_micros())
+            .map(|micros| Instant { micros })
     }
 
     /// Returns `self - duration`, or `None` exactly if that is before the first moment.
@@ -274,10 +273,9 @@ impl Instant {
     pub fn checked_sub(&self, duration: Duration) -> Option<Instant>
         ensures { SomeIff result (IsMoment (self.now -ℤ pos duration)) (self.now -ℤ pos duration) }
     {
-        match self.micros.checked_sub_unsigned(duration.total_micros()) {
-            Some(micros) => Some(Instant { micros }),
-            None => None,
-        }
+        self.micros
+            .checked_sub_unsigned(duration.total_micros())
+            .map(|micros| Instant { micros })
     }
 
     /// Returns the moment `duration` later, or the last moment if that is after it.

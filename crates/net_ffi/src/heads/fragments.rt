@@ -9,7 +9,7 @@ ghost use Rattle.net_assembler.specs.RunLists.{HasSoundRuns, set_of};
 ghost use Rattle.net_base.specs.Fragments.{Adds, Differs, HasSoundParts, IsExact, IsPlausible, TakesSize};
 ghost use Rattle.net_base.specs.Fragments.{fragments_of, total_of, zero_fragments};
 ghost use Rattle.net_ffi.specs.Results.{IsStatus, done_or_error};
-ghost use Rattle.std.specs.Prelude.{IsTrue, List, OnErr, OnOk, false, length, ℕ, ◌↔◌, ◌≡◌, ◌≤◌};
+ghost use Rattle.std.specs.Prelude.{IsTrue, List, OnErr, OnOk, false, length, true, ℕ, ◌↔◌, ◌≡◌, ◌≤◌};
 ghost use Rattle.std.specs.declared.option.Option.TheVariants.{Some};
 
 use crate::fragments::is_plausible;
@@ -61,7 +61,7 @@ pub extern "C" fn net_base_fragments_set_total_size(
     size: usize,
 ) -> SizeStatus
     requires sound { fragments.old.present.used ≤ length runs.now → HasSoundRuns fragments.old.present runs.now }
-    ensures ok { fragments.old.present.used ≤ length runs.now → OnOk (done_or_error result) (fragments.new ≡ record fragments.old { has_total = 1; total = size }) }
+    ensures ok { fragments.old.present.used ≤ length runs.now → OnOk (done_or_error result) (fragments.new ≡ record fragments.old { has_total = true; total = size }) }
     ensures total { fragments.old.present.used ≤ length runs.now → OnOk (done_or_error result) (total_of fragments.new ≡ Some size) }
     ensures sound { fragments.old.present.used ≤ length runs.now → OnOk (done_or_error result) ((storage : List ℕ) → length storage ≡ capacity → HasSoundParts fragments.old storage runs.now → HasSoundParts fragments.new storage runs.now) }
     ensures unchanged { fragments.old.present.used ≤ length runs.now → OnErr (done_or_error result) (fragments.new ≡ fragments.old) }

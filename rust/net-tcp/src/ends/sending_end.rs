@@ -21,7 +21,7 @@
 // `acknowledged`), and a timeout sends it again.
 
 use crate::ends::sending_head::SendingHead;
-use crate::ends::tcp_buffer::{accept, mark, Queued};
+use crate::ends::tcp_buffer::Queued;
 use crate::tcp::{Announcement, Expiry, Sack, TimeoutBounds};
 use core::ops::Range;
 use net_base::finite::{FiniteSenderOver, SegmentBytes, SentNumbers};
@@ -86,6 +86,13 @@ pub enum AckSegment {
     Pure,
     /// Bytes, or a FIN.
     WithData,
+}
+
+impl AckSegment {
+    /// Returns whether it has neither a byte nor a FIN.
+    fn is_pure(self) -> bool {
+        matches!(self, AckSegment::Pure)
+    }
 }
 
 /// What the timer's end means.
@@ -153,11 +160,6 @@ impl Outgoing {
     pub fn range(&self) -> Range<u64> {
         self.pos..self.end
     }
-}
-
-/// Returns whether a segment has neither a byte nor a FIN.
-fn is_pure(segment: AckSegment) -> bool {
-    matches!(segment, AckSegment::Pure)
 }
 
 /// The sending half of a TCP connection: its bytes, the peer's window, the retransmission timer, and what is lost. It
@@ -444,10 +446,10 @@ impl<S: Storage<u8>, const N: usize> SendingEndOver<S, N> {
             self.bounds,
             it,
             blocks,
-            is_pure(segment),
+            segment.is_pure(),
             now,
         );
-        let _is_taken = accept(&mut self.sender, it.ack);
+        let _is_taken = self.sender.acknowledge(it.ack);
         said
     }
 
@@ -535,6 +537,7 @@ impl<S: Storage<u8>, const N: usize> SendingEndOver<S, N> {
     /// }
     /// assert_eq!(sent, [(100, 108), (108, 116)]);
     /// ```
+    #[allow(clippy::question_mark)] // `?` takes four instructions more
     pub fn next_segment(&mut self, congestion_window: u64, now: Instant) -> Option<Outgoing> {
         let queued = self.queued();
         let Some(it) =
@@ -542,7 +545,7 @@ impl<S: Storage<u8>, const N: usize> SendingEndOver<S, N> {
         else {
             return None;
         };
-        let _is_written = mark(&mut self.sender, it.end);
+        let _is_written = self.sender.mark_sent(it.end);
         Some(it)
     }
 

@@ -74,7 +74,7 @@ impl SendingHead {
         sack: Sack,
         now: Instant,
     ) {
-        self.buffer.recovery.expect_reports(sack);
+        self.buffer.recovery.opened(sack);
         self.renew(numbers, first_timeout, sack, now);
         self.peer_window = PeerWindow::of(it);
         self.greatest_window = it.window;
@@ -216,14 +216,14 @@ impl SendingHead {
             return Expired::Overdue { begins: false };
         }
         self.is_overdue = true;
-        Expired::Overdue { begins: self.buffer.find_overdue(runs, queued.numbers) }
+        Expired::Overdue { begins: self.buffer.fell_silent(runs, queued.numbers) }
     }
 
     /// Takes notice that the timeout has passed, and returns what that means. Loses all that was sent and isn't
     /// reported.
     #[inline]
     pub(crate) fn take_timeout(&mut self, queued: Queued) -> Expired {
-        self.buffer.recovery.lose_all(queued.numbers);
+        self.buffer.recovery.timed_out(queued.numbers);
         self.is_window_probe_due = true;
         self.is_overdue = false;
         if self.is_shut(queued) || queued.numbers.flight_size() == 0 {
@@ -271,11 +271,13 @@ impl SendingHead {
         limit: u64,
         congestion_window: u64,
     ) -> Option<Range<u64>> {
-        let Some(range) =
-            self.buffer.next(runs, queued.numbers, limit, congestion_window, self.segment_size())
-        else {
-            return None;
-        };
+        let range = self.buffer.next(
+            runs,
+            queued.numbers,
+            limit,
+            congestion_window,
+            self.segment_size(),
+        )?;
         if self.is_due(queued, range.start, range.end) {
             Some(range)
         } else {
@@ -340,10 +342,7 @@ impl SendingHead {
     #[inline]
     #[must_use]
     pub(crate) fn round_trip(&self) -> Option<Duration> {
-        match self.timer.rtt() {
-            Some(estimate) => Some(estimate.srtt()),
-            None => None,
-        }
+        self.timer.rtt().map(|estimate| estimate.srtt())
     }
 
     /// Returns whether Nagle's rule is enabled.

@@ -6,10 +6,9 @@ use crate::tcp::{
     is_duplicate_block, is_equal_acknowledgement, Answer, LentScoreboard, LossRecovery,
 };
 use core::ops::Range;
-use net_base::finite::{FiniteSenderOver, SentNumbers};
+use net_base::finite::SentNumbers;
 use net_base::internal::ScoreboardHead;
 use net_base::storage::Run;
-use net_base::storage::Storage;
 
 /// What a sender has sent, and what is queued, in numbers.
 #[derive(Copy, Clone, Debug, PartialEq, Eq)]
@@ -43,6 +42,13 @@ pub(crate) enum AckKind {
     Repeat,
     /// Any other: it has bytes or a FIN, or announces another window.
     Other,
+}
+
+impl AckKind {
+    /// Returns whether it only repeats the last.
+    fn is_repeat(self) -> bool {
+        matches!(self, AckKind::Repeat)
+    }
 }
 
 /// What an acknowledgement said that was taken.
@@ -94,16 +100,12 @@ impl BufferHead {
         segment_size: usize,
         kind: AckKind,
     ) -> TakenAck {
-        let unsent = self.recovery.unsent(numbers, &self.board(runs));
+        let before = self.recovery.before(numbers, &self.board(runs));
         self.scoreboard.acknowledge(runs, ack);
         let reports = report_blocks(&mut self.scoreboard, runs, blocks, numbers.sent);
-        let is_bare = is_repeat(kind) && !has_block(blocks);
-        let answer = Answer {
-            first: numbers.first_unacknowledged,
-            unsent,
-            reports,
-            is_equal: is_equal_acknowledgement(numbers, ack, is_bare, true),
-        };
+        let is_bare = kind.is_repeat() && !has_block(blocks);
+        let answer =
+            Answer { before, reports, is_equal: is_equal_acknowledgement(numbers, ack, is_bare) };
         let begins = self.find_losses(runs, numbers, ack, blocks, segment_size, answer);
         TakenAck { new: ack.saturating_sub(numbers.first_unacknowledged), reports, begins }
     }
@@ -138,9 +140,9 @@ impl BufferHead {
     }
 
     /// Finds what is overdue, where nothing was reported for two round trips, and returns whether a recovery begins.
-    pub(crate) fn find_overdue(&mut self, runs: &[Run], numbers: SentNumbers) -> bool {
+    pub(crate) fn fell_silent(&mut self, runs: &[Run], numbers: SentNumbers) -> bool {
         let board = self.board(runs);
-        self.recovery.find_overdue(numbers, &board)
+        self.recovery.fell_silent(numbers, &board)
     }
 
     /// Returns the range to send next below `limit`, at most a segment: what is lost, else what was never sent. `None` if
@@ -179,29 +181,14 @@ impl BufferHead {
     pub(crate) fn sent(&mut self, numbers: SentNumbers, range: Range<u64>, sending: Sending) {
         match sending {
             Sending::Segment => self.recovery.sent(numbers, range),
-            Sending::TailProbe => self.recovery.probed(numbers, range),
+            Sending::TailProbe => self.recovery.probe_sent(numbers, range),
             // The peer drops it.
-            Sending::WindowProbe => self.recovery.lose_all(SentNumbers {
+            Sending::WindowProbe => self.recovery.timed_out(SentNumbers {
                 first_unacknowledged: numbers.first_unacknowledged,
                 sent: numbers.sent.max(range.end),
             }),
         }
     }
-}
-
-/// Has a sender take an acknowledgement of all below `ack`, and returns whether it does.
-pub(crate) fn accept<S: Storage<u8>>(sender: &mut FiniteSenderOver<S>, ack: u64) -> bool {
-    sender.acknowledge(ack)
-}
-
-/// Has a sender take notice that all below `to` is sent, and returns whether it was written.
-pub(crate) fn mark<S: Storage<u8>>(sender: &mut FiniteSenderOver<S>, to: u64) -> bool {
-    sender.mark_sent(to)
-}
-
-/// Returns whether an acknowledgement is of a kind that only repeats the last.
-fn is_repeat(kind: AckKind) -> bool {
-    matches!(kind, AckKind::Repeat)
 }
 
 /// Finds what is lost by an acknowledgement, and returns whether a recovery begins. If the peer has dropped what it had
@@ -217,11 +204,11 @@ fn find_losses(
 ) -> bool {
     let seen = LentScoreboard::new(*board, runs);
     if has_dropped(board, runs, after) {
-        let begins = recovery.lose_dropped(after, &seen);
+        let begins = recovery.reports_dropped(after, &seen);
         *board = ScoreboardHead::new_at(after.first_unacknowledged);
         return begins;
     }
-    recovery.find_losses(after, &seen, segment_size, answer)
+    recovery.acknowledged(after, &seen, segment_size, answer)
 }
 
 /// Returns whether the peer has dropped what it had reported: it acknowledges up to such a number.

@@ -48,10 +48,10 @@ impl Segment {
     pub const fn new(seq: u64, bytes: usize, flags: u8) -> Self {
         Segment {
             seq,
-            len: (bytes as u64).saturating_add((flags / 2 % 2 + flags % 2) as u64),
-            syn: flags / 2 % 2 == 1,
-            ack: flags / 16 % 2 == 1,
-            rst: flags / 4 % 2 == 1,
+            len: (bytes as u64).saturating_add((flags >> 1 & 1) as u64 + (flags & 1) as u64),
+            syn: flags >> 1 & 1 == 1,
+            ack: flags >> 4 & 1 == 1,
+            rst: flags >> 2 & 1 == 1,
         }
     }
 }

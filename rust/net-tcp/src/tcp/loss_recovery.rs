@@ -11,15 +11,15 @@
 //!
 //! Each of these may be at or above the next one, where that part has no number. `first` is SND.UNA, `sent` HighData +
 //! 1, and `again` HighRxt + 1. The recovery lasts while `first` is below `until`, the RecoveryPoint. `duplicates` is
-//! DupThresh, and `round` RACK.dsack_round, up to which it stays. `probe` is a tail loss probe's first number, and
-//! `asked` TLP.end_seq. Only what isn't reported is sent again: the parts above are of the numbers that the scoreboard
-//! lacks.
+//! DupThresh, and `round` RACK.dsack_round, up to which it stays. `probe.first` is a tail loss probe's first number, and
+//! `probe.asked` TLP.end_seq. Only what isn't reported is sent again: the parts above are of the numbers that the
+//! scoreboard lacks.
 
 // Why: A range can't be lost while one before it isn't. Whether a probe repaired a loss itself (RFC 8985, section
 // 7.4) isn't decided: peers that report no copies answer alike where it did and where it didn't.
 
 use crate::tcp::reported::Reported;
-use crate::tcp::sack::{is_permitted, Sack};
+use crate::tcp::sack::Sack;
 use core::ops::Range;
 use net_base::finite::SentNumbers;
 
@@ -29,32 +29,67 @@ const DUPLICATES: usize = 3;
 /// The most that `duplicated` makes of it.
 const MOST_DUPLICATES: usize = 1024;
 
-/// What an acknowledgement answers, for `LossRecovery::find_losses`.
-///
-/// ```
-/// use net_base::scoreboard::Scoreboard;
-/// use net_tcp::{Answer, LossRecovery, SentNumbers};
-///
-/// let (mut recovery, mut scoreboard) = (LossRecovery::new(), Scoreboard::<4>::empty());
-/// let before = SentNumbers { first_unacknowledged: 0, sent: 800 };
-/// let unsent = recovery.unsent(before, &scoreboard);
-/// // All below 100 is acknowledged, and no block reports anything.
-/// scoreboard.acknowledge(100);
-/// let answer = Answer { first: 0, unsent, reports: false, is_equal: false };
-/// let numbers = SentNumbers { first_unacknowledged: 100, sent: 800 };
-/// assert!(!recovery.find_losses(numbers, &scoreboard, 100, answer));
-/// ```
+/// What was so before an acknowledgement, as `LossRecovery::before` returns it.
+#[derive(Copy, Clone, Debug, PartialEq, Eq)]
+pub struct Before {
+    /// The first number that wasn't acknowledged.
+    pub first: u64,
+    /// How many positions were lost and weren't sent again.
+    pub unsent: u64,
+}
+
+/// What an acknowledgement answers, for `LossRecovery::acknowledged`.
 #[derive(Copy, Clone, Debug, PartialEq, Eq)]
 pub struct Answer {
-    /// The first number that wasn't acknowledged before it.
-    pub first: u64,
-    /// What `LossRecovery::unsent` said before it.
-    pub unsent: u64,
+    /// What was so before it.
+    pub before: Before,
     /// Whether a block of it reports what wasn't known.
     pub reports: bool,
     /// Whether it is an equal one, as `is_equal_acknowledgement` says: something has arrived, it doesn't say where.
     /// That counts only of a peer that reports nothing.
     pub is_equal: bool,
+}
+
+/// What is sent again in a pass, which begins at the lowest position that is lost.
+#[repr(C)]
+#[derive(Copy, Clone, Debug, PartialEq, Eq, Hash)]
+pub struct RecoveryPass {
+    /// What is lost below this position was sent again in this pass.
+    again: u64,
+    /// What is lost from this position on and below the mark was sent again before this pass, which leaves it out.
+    turn: u64,
+}
+
+/// A moment of a recovery: what is sent after it tells that what was sent before it is lost.
+#[repr(C)]
+#[derive(Copy, Clone, Debug, PartialEq, Eq, Hash)]
+pub struct RecoveryMark {
+    /// All that was sent again below this position was sent before it.
+    resume: u64,
+    /// The number after the last one that was sent before it.
+    sent: u64,
+    /// How many positions were sent again from `resume` on after it.
+    later: u64,
+}
+
+/// A probe for an answer.
+#[repr(C)]
+#[derive(Copy, Clone, Debug, PartialEq, Eq, Hash)]
+pub struct RecoveryProbe {
+    /// Its first position.
+    first: u64,
+    /// All that is below this position was sent before it.
+    asked: u64,
+}
+
+/// What was sent again in a recovery, which may have been for nothing.
+#[repr(C)]
+#[derive(Copy, Clone, Debug, PartialEq, Eq, Hash)]
+pub struct RecoveryCopies {
+    /// The first position that wasn't acknowledged when it began.
+    since: u64,
+    /// How many positions were sent again since then, less those that came twice.
+    count: u64,
 }
 
 /// What a sender of TCP sends next where segments are lost: first what is lost, then what was never sent.
@@ -81,13 +116,13 @@ pub struct Answer {
 /// use net_base::scoreboard::Scoreboard;
 /// use net_tcp::{Answer, LossRecovery, SentNumbers};
 ///
-/// // Of 800 bytes in segments of 100, all sent, those from 100 to 399 were reported.
+/// // Of 800 bytes in segments of 100, all sent, those from 100 to 399 are reported.
 /// let numbers = SentNumbers { first_unacknowledged: 0, sent: 800 };
-/// let mut scoreboard = Scoreboard::<4>::empty();
+/// let (mut recovery, mut scoreboard) = (LossRecovery::new(), Scoreboard::<4>::empty());
+/// let before = recovery.before(numbers, &scoreboard);
 /// assert_eq!(scoreboard.report(100..400, 800), Ok(()));
-/// let mut recovery = LossRecovery::new();
-/// let answer = Answer { first: 0, unsent: 0, reports: true, is_equal: false };
-/// assert!(recovery.find_losses(numbers, &scoreboard, 100, answer));
+/// let answer = Answer { before, reports: true, is_equal: false };
+/// assert!(recovery.acknowledged(numbers, &scoreboard, 100, answer));
 /// // The first segment is lost. The peer's window ends at 1000, and 500 bytes may be in flight.
 /// let next = recovery.next_segment(numbers, &scoreboard, 1000, 500, 100);
 /// assert_eq!(next, Some(0..100));
@@ -97,9 +132,12 @@ pub struct Answer {
 /// assert_eq!(recovery.next_segment(numbers, &scoreboard, 1000, 500, 100), None);
 /// assert_eq!(recovery.next_segment(numbers, &scoreboard, 1000, 600, 100), Some(800..900));
 /// // No answer comes: a probe asks for one, and when it is answered, the first segment is lost again.
-/// assert!(!recovery.find_overdue(numbers, &scoreboard));
+/// assert!(!recovery.fell_silent(numbers, &scoreboard));
 /// assert_eq!(recovery.next_probe(numbers, &scoreboard, 800, 100), Some(0..100));
 /// ```
+///
+/// Each of its calls is named by what happened or by what it returns. These are in an order: `before`, then the
+/// scoreboard takes the acknowledgement, then `acknowledged`.
 ///
 /// It is numbers and flags alone, so that C has it as it is: what there may be has a flag that says so. One of zeros is
 /// new.
@@ -110,28 +148,18 @@ pub struct LossRecovery {
     until: u64,
     /// What is below this position and isn't reported is lost.
     lost: u64,
-    /// What is lost below this position was sent again in this pass.
-    again: u64,
-    /// What is lost from this position on and below `resume` was sent again before this pass, which leaves it out.
-    turn: u64,
-    /// All that was sent again below this position was sent before what was sent again from there on.
-    resume: u64,
-    /// The number after the last one that was sent when `resume` was set.
-    sent: u64,
-    /// How many positions were sent again from `resume` on since then.
-    later: u64,
-    /// Where the probe begins that wasn't answered, if there is one.
-    probe: u64,
-    /// The number after the last one that was sent when the probe was.
-    asked: u64,
-    /// How many positions have arrived that it doesn't report.
+    /// What was sent again.
+    pass: RecoveryPass,
+    /// When it was.
+    mark: RecoveryMark,
+    /// The probe that wasn't answered, if there is one.
+    probe: RecoveryProbe,
+    /// How many positions have arrived that the peer doesn't report.
     unknown: u64,
     /// Until all positions below this one are acknowledged, `duplicates` stays.
     round: u64,
-    /// The first position that wasn't acknowledged when the recovery began.
-    since: u64,
-    /// How many positions were sent again since then, less those that came twice.
-    copies: u64,
+    /// What may have been sent again for nothing.
+    copies: RecoveryCopies,
     /// How many segments above a position tell that it is lost. Fewer than 3 count as 3.
     duplicates: usize,
     /// Whether a probe wasn't answered.
@@ -155,17 +183,12 @@ impl LossRecovery {
         LossRecovery {
             until: 0,
             lost: 0,
-            again: 0,
-            turn: 0,
-            resume: 0,
-            sent: 0,
-            later: 0,
-            probe: 0,
-            asked: 0,
+            pass: RecoveryPass { again: 0, turn: 0 },
+            mark: RecoveryMark { resume: 0, sent: 0, later: 0 },
+            probe: RecoveryProbe { first: 0, asked: 0 },
             unknown: 0,
             round: 0,
-            since: 0,
-            copies: 0,
+            copies: RecoveryCopies { since: 0, count: 0 },
             duplicates: DUPLICATES,
             has_probe: false,
             is_blind: false,
@@ -214,15 +237,17 @@ impl LossRecovery {
     /// # use net_tcp::{LossRecovery, SentNumbers};
     /// # let numbers = SentNumbers { first_unacknowledged: 0, sent: 800 };
     /// # let mut recovery = LossRecovery::new();
-    /// recovery.lose_all(numbers);
+    /// recovery.timed_out(numbers);
     /// recovery.sent(numbers, 0..100);
     /// recovery.came_twice(numbers, 0..100); // the copy was for nothing
     /// assert_eq!(recovery.duplicates(), 12);
     /// ```
     pub fn came_twice(&mut self, numbers: SentNumbers, positions: Range<u64>) {
-        if self.since <= positions.start && positions.end <= self.again.max(self.resume) {
+        if self.copies.since <= positions.start
+            && positions.end <= self.pass.again.max(self.mark.resume)
+        {
             let count = positions.end.saturating_sub(positions.start);
-            self.copies = self.copies.saturating_sub(count);
+            self.copies.count = self.copies.count.saturating_sub(count);
             self.duplicated(numbers);
         }
     }
@@ -230,12 +255,12 @@ impl LossRecovery {
     /// Counts what is sent again.
     fn copy(&mut self, numbers: SentNumbers, positions: Range<u64>) {
         let count = positions.end.min(numbers.sent).saturating_sub(positions.start);
-        self.copies = self.copies.saturating_add(count);
+        self.copies.count = self.copies.count.saturating_add(count);
     }
 
     /// Returns whether the last recovery was for nothing, and ends it then: nothing that it found lost is missing but
     /// what was sent again, and all that was sent again came twice (RFC 3708). Then the congestion window may be what
-    /// it was when the recovery began. Ask it after each acknowledgement, an old one too, once `find_losses` has it.
+    /// it was when the recovery began. Ask it after each acknowledgement, an old one too, once `acknowledged` has it.
     /// It is true once: not before another recovery begins.
     ///
     /// ```
@@ -244,7 +269,7 @@ impl LossRecovery {
     /// # let numbers = SentNumbers { first_unacknowledged: 0, sent: 800 };
     /// # let mut scoreboard = Scoreboard::<4>::empty();
     /// # let mut recovery = LossRecovery::new();
-    /// recovery.lose_all(numbers);
+    /// recovery.timed_out(numbers);
     /// recovery.sent(numbers, 0..100);
     /// assert!(!recovery.take_back(numbers, &scoreboard));
     /// // All has arrived, and the copy came twice.
@@ -254,7 +279,8 @@ impl LossRecovery {
     /// ```
     #[must_use]
     pub fn take_back<B: Reported>(&mut self, numbers: SentNumbers, scoreboard: &B) -> bool {
-        let is_wrong = self.until > 0 && self.copies == 0 && self.unsent(numbers, scoreboard) == 0;
+        let is_wrong =
+            self.until > 0 && self.copies.count == 0 && self.unsent(numbers, scoreboard) == 0;
         if is_wrong {
             self.until = 0;
         }
@@ -270,14 +296,15 @@ impl LossRecovery {
     /// # let numbers = SentNumbers { first_unacknowledged: 0, sent: 800 };
     /// # let scoreboard = Scoreboard::<4>::empty();
     /// # let mut recovery = LossRecovery::new();
-    /// recovery.expect_reports(Sack::Absent);
-    /// let answer = Answer { first: 0, unsent: 0, reports: false, is_equal: true };
+    /// recovery.opened(Sack::Absent);
+    /// let before = recovery.before(numbers, &scoreboard);
+    /// let answer = Answer { before, reports: false, is_equal: true };
     /// // The third equal acknowledgement tells of a loss.
-    /// let begins = [(); 3].map(|()| recovery.find_losses(numbers, &scoreboard, 100, answer));
+    /// let begins = [(); 3].map(|()| recovery.acknowledged(numbers, &scoreboard, 100, answer));
     /// assert_eq!(begins, [false, false, true]);
     /// ```
-    pub fn expect_reports(&mut self, sack: Sack) {
-        self.is_blind = !is_permitted(sack);
+    pub fn opened(&mut self, sack: Sack) {
+        self.is_blind = !sack.is_permitted();
         self.unknown = 0;
     }
 
@@ -287,8 +314,8 @@ impl LossRecovery {
         self.is_blind
     }
 
-    /// Returns how many positions are lost and weren't sent again. `find_losses` wants it as it was before the
-    /// acknowledgement.
+    /// Returns what `acknowledged` wants to know of the moment before an acknowledgement. Call it before the scoreboard
+    /// has that.
     ///
     /// ```
     /// # use net_base::scoreboard::Scoreboard;
@@ -296,12 +323,18 @@ impl LossRecovery {
     /// # let numbers = SentNumbers { first_unacknowledged: 0, sent: 800 };
     /// # let scoreboard = Scoreboard::<4>::empty();
     /// # let mut recovery = LossRecovery::new();
-    /// recovery.lose_all(numbers);
+    /// recovery.timed_out(numbers);
     /// recovery.sent(numbers, 0..100);
-    /// assert_eq!(recovery.unsent(numbers, &scoreboard), 700);
+    /// let before = recovery.before(numbers, &scoreboard);
+    /// assert_eq!((before.first, before.unsent), (0, 700));
     /// ```
     #[must_use]
-    pub fn unsent<B: Reported>(&self, numbers: SentNumbers, scoreboard: &B) -> u64 {
+    pub fn before<B: Reported>(&self, numbers: SentNumbers, scoreboard: &B) -> Before {
+        Before { first: numbers.first_unacknowledged, unsent: self.unsent(numbers, scoreboard) }
+    }
+
+    /// Returns how many positions are lost and weren't sent again, in a recovery that lasts.
+    fn unsent<B: Reported>(&self, numbers: SentNumbers, scoreboard: &B) -> u64 {
         if self.is_active(numbers) {
             self.unsent_lost(numbers, scoreboard)
         } else {
@@ -309,25 +342,34 @@ impl LossRecovery {
         }
     }
 
+    /// Returns how many positions are lost and weren't sent again, of this pass and above the mark.
     fn unsent_lost<B: Reported>(&self, numbers: SentNumbers, scoreboard: &B) -> u64 {
-        let from = self.again.max(numbers.first_unacknowledged);
-        let of_pass = scoreboard.missing_between(from, self.turn.min(self.lost));
-        let others = scoreboard.missing_between(from.max(self.resume), self.lost);
+        let from = self.pass.again.max(numbers.first_unacknowledged);
+        let of_pass = scoreboard.missing_between(from, self.pass.turn.min(self.lost));
+        let others = scoreboard.missing_between(from.max(self.mark.resume), self.lost);
         of_pass.saturating_add(others)
     }
 
-    /// Finds what is lost. Call it after each acknowledgement, with the sender's numbers after it, once the scoreboard
-    /// has it, and with what it answers.
+    /// Takes an acknowledgement, once the scoreboard has it: finds what is lost. `numbers` are the sender's after it, and
+    /// `answer` is what it answers.
     ///
-    /// Lost is
+    /// | This is lost | as soon as |
+    /// |---|---|
+    /// | what was sent once | `duplicates` segments above it are reported: `Scoreboard::lost_below` |
+    /// | what was sent, once or again, before a mark | more than `duplicates - 1` segments sent after it are reported |
+    /// | all that was sent before a probe | the probe is answered, if it doesn't repeat what was sent again |
+    /// | what was sent once before the mark | a probe that repeats this is answered, maybe its earlier copy |
+    /// | the first segment, outside of a recovery | the peer reports nothing, but acknowledges the same `duplicates` times |
+    /// | the first segment, in a recovery | such a peer acknowledges something new |
     ///
-    /// - what was sent once, as `Scoreboard::lost_below` says for as many segments as `duplicates` has;
-    /// - what was sent before a pass, and what was sent again in it, once more than `duplicates() - 1` segments are
-    ///   reported of what was sent after it;
-    /// - all that was sent before a probe and isn't reported, once that is answered; if it repeats what was sent again
-    ///   before, only what was sent before the pass, since the answer may be that to the earlier copy;
-    /// - the first segment, if the peer reports nothing, as `expect_reports` says: after `duplicates` equal
-    ///   acknowledgements, and in a recovery where something new is acknowledged.
+    /// Two of these, of segments that are numbered:
+    ///
+    /// ```text
+    ///   sent once     0 1 2 3 4 5 6 7               1, 2 and 3 are reported: 0 is lost, and 4 to 7 are in flight
+    ///                 x # # # . . . .
+    ///   sent again    0               8 9 10 11     8, 9 and 10 are reported, which were sent after the copy of 0:
+    ///                 x # # # x x x x # # #  .      that is lost, and 4 to 7, which were sent before it
+    /// ```
     ///
     /// If more than one position has arrived that was lost and wasn't sent again, finding it lost was wrong: nothing
     /// that wasn't sent again is lost then, and it is as if something came twice, as `duplicated` says. One position
@@ -340,16 +382,18 @@ impl LossRecovery {
     /// ```
     /// # use net_base::scoreboard::Scoreboard;
     /// # use net_tcp::{Answer, LossRecovery, SentNumbers};
-    /// # let numbers = SentNumbers { first_unacknowledged: 0, sent: 800 };
-    /// # let mut scoreboard = Scoreboard::<4>::empty();
-    /// # let mut recovery = LossRecovery::new();
-    /// assert_eq!(scoreboard.report(100..400, 800), Ok(()));
-    /// let answer = Answer { first: 0, unsent: 0, reports: true, is_equal: false };
-    /// // Three segments above the first one arrived: it is lost.
-    /// assert!(recovery.find_losses(numbers, &scoreboard, 100, answer));
+    /// # let mut numbers = SentNumbers { first_unacknowledged: 0, sent: 800 };
+    /// # let (mut recovery, mut scoreboard) = (LossRecovery::new(), Scoreboard::<4>::empty());
+    /// let before = recovery.before(numbers, &scoreboard);
+    /// // All below 100 is acknowledged, and three segments above the next one are reported: that is lost.
+    /// numbers.first_unacknowledged = 100;
+    /// scoreboard.acknowledge(100);
+    /// assert_eq!(scoreboard.report(200..500, 800), Ok(()));
+    /// let answer = Answer { before, reports: true, is_equal: false };
+    /// assert!(recovery.acknowledged(numbers, &scoreboard, 100, answer));
     /// assert!(recovery.is_active(numbers));
     /// ```
-    pub fn find_losses<B: Reported>(
+    pub fn acknowledged<B: Reported>(
         &mut self,
         numbers: SentNumbers,
         scoreboard: &B,
@@ -357,7 +401,7 @@ impl LossRecovery {
         answer: Answer,
     ) -> bool {
         self.note_answer(numbers, scoreboard, segment_size, answer);
-        self.find(numbers, scoreboard, segment_size, answer.first)
+        self.find(numbers, scoreboard, segment_size, answer.before.first)
     }
 
     /// Takes notice of what an acknowledgement answers.
@@ -373,15 +417,15 @@ impl LossRecovery {
             self.duplicated(numbers);
         }
         self.count_unreported(numbers, segment_size, Answer { is_equal, ..answer });
-        self.withdraw(numbers, scoreboard, answer.unsent);
+        self.withdraw(numbers, scoreboard, answer.before.unsent);
     }
 
     /// Finds that nothing is lost which wasn't sent again, if such a thing has arrived: more than the byte of a
     /// window's probe. There were `before` of these.
     fn withdraw<B: Reported>(&mut self, numbers: SentNumbers, scoreboard: &B, before: u64) {
         if before > 1 && !self.is_blind() && self.unsent_lost(numbers, scoreboard) < before - 1 {
-            self.turn = self.again;
-            self.lost = self.lost.min(self.again.max(self.resume));
+            self.pass.turn = self.pass.again;
+            self.lost = self.lost.min(self.pass.again.max(self.mark.resume));
             self.duplicated(numbers);
         }
     }
@@ -402,7 +446,7 @@ impl LossRecovery {
         let size = segment_size as u64;
         let first = numbers.first_unacknowledged;
         let end = if self.is_active(numbers) { self.until } else { numbers.sent };
-        let known = first.saturating_sub(answer.first).saturating_sub(size);
+        let known = first.saturating_sub(answer.before.first).saturating_sub(size);
         let most = end.saturating_sub(first).saturating_sub(size);
         let unknown = self.unreported_after(
             size,
@@ -467,10 +511,10 @@ impl LossRecovery {
         lost: u64,
         highest: u64,
     ) -> bool {
-        if self.has_probe && scoreboard.contains(self.probe) {
-            self.probe = 0;
+        if self.has_probe && scoreboard.contains(self.probe.first) {
+            self.probe.first = 0;
             self.has_probe = false;
-            let asked = if self.is_blind() { 0 } else { self.asked };
+            let asked = if self.is_blind() { 0 } else { self.probe.asked };
             return self.lose(
                 numbers,
                 scoreboard,
@@ -512,38 +556,40 @@ impl LossRecovery {
         is_answered: bool,
     ) {
         if is_answered {
-            self.pass(numbers, self.again.max(self.resume));
-        } else if scoreboard.missing_between(numbers.first_unacknowledged, self.resume) == 0 {
+            self.pass(numbers, self.pass.again.max(self.mark.resume));
+        } else if scoreboard.missing_between(numbers.first_unacknowledged, self.mark.resume) == 0 {
             self.mark(numbers);
         } else if self.most_later(segment_size) < self.reported_later(numbers, scoreboard) {
             // What was sent before the pass is lost, if the peer would have reported it.
             if !self.is_blind() {
-                self.lost = self.lost.max(self.sent);
+                self.lost = self.lost.max(self.mark.sent);
             }
-            self.pass(numbers, self.resume);
+            self.pass(numbers, self.mark.resume);
         }
     }
 
     /// Returns how many positions are reported of what was sent after a pass.
     fn reported_later<B: Reported>(&self, numbers: SentNumbers, scoreboard: &B) -> u64 {
-        let again = scoreboard.missing_between(self.resume, self.again);
-        let first = scoreboard.missing_between(self.sent, numbers.sent);
-        let all = self.later.saturating_add(numbers.sent.saturating_sub(self.sent));
+        let again = scoreboard.missing_between(self.mark.resume, self.pass.again);
+        let first = scoreboard.missing_between(self.mark.sent, numbers.sent);
+        let all = self.mark.later.saturating_add(numbers.sent.saturating_sub(self.mark.sent));
         all.saturating_sub(again).saturating_sub(first)
     }
 
     /// Begins a pass up to a position: what was sent again from there on stays sent again.
     fn pass(&mut self, numbers: SentNumbers, turn: u64) {
-        self.turn = turn;
+        self.pass.turn = turn;
         self.mark(numbers);
-        self.again = numbers.first_unacknowledged;
+        self.pass.again = numbers.first_unacknowledged;
     }
 
     /// Counts what is sent from now on as sent later than all that was sent again.
     fn mark(&mut self, numbers: SentNumbers) {
-        self.resume = self.again.max(self.resume);
-        self.sent = numbers.sent;
-        self.later = 0;
+        self.mark = RecoveryMark {
+            resume: self.pass.again.max(self.mark.resume),
+            sent: numbers.sent,
+            later: 0,
+        };
     }
 
     /// Finds what is lost where the timer's probe is due: all below the highest position that was reported, since
@@ -558,10 +604,10 @@ impl LossRecovery {
     /// # let mut scoreboard = Scoreboard::<4>::empty();
     /// # let mut recovery = LossRecovery::new();
     /// assert_eq!(scoreboard.report(100..200, 800), Ok(()));
-    /// assert!(recovery.find_overdue(numbers, &scoreboard));
+    /// assert!(recovery.fell_silent(numbers, &scoreboard));
     /// assert_eq!(recovery.next_segment(numbers, &scoreboard, 800, 800, 100), Some(0..100));
     /// ```
-    pub fn find_overdue<B: Reported>(&mut self, numbers: SentNumbers, scoreboard: &B) -> bool {
+    pub fn fell_silent<B: Reported>(&mut self, numbers: SentNumbers, scoreboard: &B) -> bool {
         let lost = scoreboard.highest_reported();
         if self.is_active(numbers) {
             self.lost = self.lost.max(lost);
@@ -577,7 +623,7 @@ impl LossRecovery {
     /// Returns what a probe sends below `limit`, whatever is in flight. Outside of a recovery that is a new segment,
     /// or, if the limit allows none, the last one that was sent above all that was reported. If there is neither, in a
     /// recovery, or if the last position that was sent is reported, it is the first segment that isn't reported. A
-    /// `segment_size` of 0 counts as 1. Call `probed` once it is sent.
+    /// `segment_size` of 0 counts as 1. Call `probe_sent` once it is sent.
     ///
     /// ```
     /// # use net_base::scoreboard::Scoreboard;
@@ -609,10 +655,8 @@ impl LossRecovery {
                 return Some(start..end);
             }
         }
-        match scoreboard.next_hole(first, end) {
-            Some((start, end)) => Some(start..end.min(start.saturating_add(size))),
-            None => None,
-        }
+        let (start, end) = scoreboard.next_hole(first, end)?;
+        Some(start..end.min(start.saturating_add(size)))
     }
 
     /// Takes notice that a probe of these positions is sent. `numbers` are the sender's before that.
@@ -623,18 +667,22 @@ impl LossRecovery {
     /// # let numbers = SentNumbers { first_unacknowledged: 0, sent: 800 };
     /// # let mut scoreboard = Scoreboard::<4>::empty();
     /// # let mut recovery = LossRecovery::new();
-    /// recovery.probed(numbers, 700..800);
+    /// recovery.probe_sent(numbers, 700..800);
+    /// let before = recovery.before(numbers, &scoreboard);
     /// // Its answer tells that all before is lost.
     /// assert_eq!(scoreboard.report(700..800, 800), Ok(()));
-    /// let answer = Answer { first: 0, unsent: 0, reports: true, is_equal: false };
-    /// assert!(recovery.find_losses(numbers, &scoreboard, 100, answer));
-    /// assert_eq!(recovery.unsent(numbers, &scoreboard), 700);
+    /// let answer = Answer { before, reports: true, is_equal: false };
+    /// assert!(recovery.acknowledged(numbers, &scoreboard, 100, answer));
+    /// assert_eq!(recovery.in_flight(numbers, &scoreboard), 0);
     /// ```
-    pub fn probed(&mut self, numbers: SentNumbers, positions: Range<u64>) {
-        let is_again = self.is_active(numbers) && positions.start < self.again.max(self.resume);
-        self.probe = positions.start;
+    pub fn probe_sent(&mut self, numbers: SentNumbers, positions: Range<u64>) {
+        let is_again =
+            self.is_active(numbers) && positions.start < self.pass.again.max(self.mark.resume);
+        self.probe = RecoveryProbe {
+            first: positions.start,
+            asked: if is_again { self.mark.sent } else { numbers.sent },
+        };
         self.has_probe = true;
-        self.asked = if is_again { self.sent } else { numbers.sent };
         self.copy(numbers, positions);
     }
 
@@ -653,10 +701,10 @@ impl LossRecovery {
     /// assert_eq!(scoreboard.report(100..400, 800), Ok(()));
     /// // The peer acknowledges up to 100, which it had reported.
     /// numbers.first_unacknowledged = 100;
-    /// assert!(recovery.lose_dropped(numbers, &scoreboard));
+    /// assert!(recovery.reports_dropped(numbers, &scoreboard));
     /// scoreboard.reset_at(100);
     /// ```
-    pub fn lose_dropped<B: Reported>(&mut self, numbers: SentNumbers, scoreboard: &B) -> bool {
+    pub fn reports_dropped<B: Reported>(&mut self, numbers: SentNumbers, scoreboard: &B) -> bool {
         let begins = !self.is_active(numbers);
         let lost = self.lost.max(scoreboard.highest_reported());
         self.begin(numbers, lost);
@@ -672,31 +720,27 @@ impl LossRecovery {
     /// # let numbers = SentNumbers { first_unacknowledged: 0, sent: 800 };
     /// # let scoreboard = Scoreboard::<4>::empty();
     /// # let mut recovery = LossRecovery::new();
-    /// recovery.lose_all(numbers);
+    /// recovery.timed_out(numbers);
     /// assert_eq!(recovery.in_flight(numbers, &scoreboard), 0);
     /// assert_eq!(recovery.next_segment(numbers, &scoreboard, 800, 100, 100), Some(0..100));
     /// ```
-    pub fn lose_all(&mut self, numbers: SentNumbers) {
+    pub fn timed_out(&mut self, numbers: SentNumbers) {
         self.duplicates = DUPLICATES;
         self.unknown = 0;
         self.begin(numbers, numbers.sent);
     }
 
     fn begin(&mut self, numbers: SentNumbers, lost: u64) {
+        let first = numbers.first_unacknowledged;
         if !self.is_active(numbers) {
-            self.since = numbers.first_unacknowledged;
-            self.copies = 0;
+            self.copies = RecoveryCopies { since: first, count: 0 };
         }
         self.until = numbers.sent;
         self.lost = lost;
-        self.again = numbers.first_unacknowledged;
-        self.turn = numbers.first_unacknowledged;
-        self.resume = numbers.first_unacknowledged;
-        self.sent = numbers.sent;
-        self.later = 0;
-        self.probe = 0;
+        self.pass = RecoveryPass { again: first, turn: first };
+        self.mark = RecoveryMark { resume: first, sent: numbers.sent, later: 0 };
+        self.probe = RecoveryProbe { first: 0, asked: 0 };
         self.has_probe = false;
-        self.asked = 0;
     }
 
     /// Returns how many positions may be in flight: of those which were sent and aren't reported, the ones that
@@ -719,9 +763,9 @@ impl LossRecovery {
             let all = scoreboard.missing_between(first, numbers.sent);
             return all.saturating_sub(self.unknown);
         }
-        let from = self.again.max(first);
-        let turn = self.turn.min(self.lost).max(from);
-        let resume = self.resume.max(from);
+        let from = self.pass.again.max(first);
+        let turn = self.pass.turn.min(self.lost).max(from);
+        let resume = self.mark.resume.max(from);
         let lost = self.lost.max(resume);
         // Lost and not sent again is what is missing from `from` to `turn`, and from `resume` to `lost`.
         if turn <= resume && lost <= numbers.sent {
@@ -766,9 +810,7 @@ impl LossRecovery {
         window: u64,
         segment_size: usize,
     ) -> Option<Range<u64>> {
-        let Some((start, end)) = self.next_range(numbers, scoreboard, limit) else {
-            return None;
-        };
+        let (start, end) = self.next_range(numbers, scoreboard, limit)?;
         let size = segment_size.max(1) as u64;
         if start > numbers.first_unacknowledged {
             let in_flight = self.in_flight(numbers, scoreboard);
@@ -789,11 +831,11 @@ impl LossRecovery {
         if !self.is_active(numbers) {
             return unsent(numbers.sent, limit);
         }
-        let from = self.again.max(numbers.first_unacknowledged);
-        if let Some(hole) = scoreboard.next_hole(from, self.turn.min(self.lost).min(limit)) {
+        let from = self.pass.again.max(numbers.first_unacknowledged);
+        if let Some(hole) = scoreboard.next_hole(from, self.pass.turn.min(self.lost).min(limit)) {
             return Some(hole);
         }
-        if let Some(hole) = scoreboard.next_hole(from.max(self.resume), self.lost.min(limit)) {
+        if let Some(hole) = scoreboard.next_hole(from.max(self.mark.resume), self.lost.min(limit)) {
             return Some(hole);
         }
         unsent(numbers.sent, limit)
@@ -809,7 +851,7 @@ impl LossRecovery {
     /// # let numbers = SentNumbers { first_unacknowledged: 0, sent: 800 };
     /// # let scoreboard = Scoreboard::<4>::empty();
     /// # let mut recovery = LossRecovery::new();
-    /// recovery.lose_all(numbers);
+    /// recovery.timed_out(numbers);
     /// recovery.sent(numbers, 0..100);
     /// assert_eq!(recovery.next_segment(numbers, &scoreboard, 800, 200, 100), Some(100..200));
     /// ```
@@ -817,11 +859,11 @@ impl LossRecovery {
         if self.is_active(numbers) && positions.start < positions.end.min(numbers.sent) {
             let Range { start, end } = positions;
             self.copy(numbers, start..end);
-            self.again = self.again.max(end);
-            if self.resume <= numbers.first_unacknowledged {
+            self.pass.again = self.pass.again.max(end);
+            if self.mark.resume <= numbers.first_unacknowledged {
                 self.mark(numbers);
-            } else if self.resume <= start {
-                self.later = self.later.saturating_add(end - start);
+            } else if self.mark.resume <= start {
+                self.mark.later = self.mark.later.saturating_add(end - start);
             }
         }
     }
@@ -829,9 +871,5 @@ impl LossRecovery {
 
 /// Returns what was never sent, up to a limit.
 fn unsent(sent: u64, limit: u64) -> Option<(u64, u64)> {
-    if sent < limit {
-        Some((sent, limit))
-    } else {
-        None
-    }
+    (sent < limit).then_some((sent, limit))
 }

@@ -15,7 +15,7 @@ pub(crate) mod sack;
 pub use advertised_window::{scale_for, AdvertisedWindow, MAX_SCALE};
 pub use answer_limit::AnswerLimit;
 pub use arriving::{classify, is_acceptable, is_acknowledgement, Arrival, Segment};
-pub use loss_recovery::{Answer, LossRecovery};
+pub use loss_recovery::{Answer, Before, LossRecovery};
 pub use peer_window::{scaled, Announcement, PeerWindow};
 pub use reported::Reported;
 pub use retransmission::{RetransmissionTimeout, RttEstimate, TimeoutBounds, Transmission};

@@ -50,10 +50,7 @@ impl<const N: usize> Reported for Scoreboard<N> {
     }
 
     fn next_hole(&self, pos: u64, limit: u64) -> Option<(u64, u64)> {
-        match self.next_hole(pos, limit) {
-            Some(hole) => Some((hole.start, hole.end)),
-            None => None,
-        }
+        self.next_hole(pos, limit).map(|hole| (hole.start, hole.end))
     }
 
     fn lost_below(&self, duplicates: usize, segment_size: usize) -> u64 {

@@ -6,7 +6,7 @@
 // or two were on a busy machine. With all of it always, the timeout comes before the probe.
 
 use crate::tcp::retransmission::{RetransmissionTimeout, RttEstimate, TimeoutBounds};
-use crate::tcp::sack::{is_permitted, Sack};
+use crate::tcp::sack::Sack;
 use core::ops::Range;
 use net_base::finite::SentNumbers;
 use net_base::time::{Duration, Instant};
@@ -157,7 +157,7 @@ impl RetransmissionTimer {
             is_running: false,
             is_alone: false,
             is_timing: false,
-            reports: is_permitted(sack),
+            reports: sack.is_permitted(),
         }
     }
 

@@ -4,11 +4,11 @@
 /// Whether both ends have agreed to selective acknowledgements: the option SACK-permitted of RFC 2018, in both SYNs.
 ///
 /// ```
-/// use net_tcp::{LossRecovery, Sack};
+/// use net_base::time::Duration;
+/// use net_tcp::{RetransmissionTimer, Sack};
 ///
-/// let mut recovery = LossRecovery::new();
-/// recovery.expect_reports(Sack::Absent);
-/// assert!(recovery.is_blind());
+/// let timer = RetransmissionTimer::new(Duration::from_secs(1), Sack::Permitted);
+/// assert_eq!(timer.expires_at(), None);
 /// ```
 #[derive(Copy, Clone, Debug, PartialEq, Eq, Hash)]
 pub enum Sack {
@@ -18,10 +18,9 @@ pub enum Sack {
     Absent,
 }
 
-/// Returns whether both ends have agreed.
-pub(crate) const fn is_permitted(sack: Sack) -> bool {
-    match sack {
-        Sack::Permitted => true,
-        Sack::Absent => false,
+impl Sack {
+    /// Returns whether both ends have agreed.
+    pub(crate) const fn is_permitted(self) -> bool {
+        matches!(self, Sack::Permitted)
     }
 }

@@ -1,6 +1,6 @@
 //! Loss recovery, with the sender's numbers and its scoreboard.
 use net_base::scoreboard::{ReportError, Scoreboard};
-use net_tcp::{Answer, LossRecovery, Sack, SentNumbers};
+use net_tcp::{Answer, Before, LossRecovery, Sack, SentNumbers};
 use std::ops::Range;
 
 #[derive(Clone, PartialEq, Debug)]
@@ -52,17 +52,17 @@ impl<const N: usize> Sender<N> {
 
     /// An acknowledgement came, before which `first` wasn't acknowledged, and of `unsent` the one that arrived wasn't sent
     /// again.
-    fn find_losses(&mut self, first: u64, unsent: u64, reports: bool, is_equal: bool) -> bool {
-        let answer = Answer { first, unsent, reports, is_equal };
-        self.recovery.find_losses(self.numbers, &self.board, self.segment_size, answer)
+    fn acknowledged(&mut self, first: u64, unsent: u64, reports: bool, is_equal: bool) -> bool {
+        let answer = Answer { before: Before { first, unsent }, reports, is_equal };
+        self.recovery.acknowledged(self.numbers, &self.board, self.segment_size, answer)
     }
 
-    fn lose_all(&mut self) {
-        self.recovery.lose_all(self.numbers);
+    fn timed_out(&mut self) {
+        self.recovery.timed_out(self.numbers);
     }
 
-    fn probed(&mut self, range: Range<u64>) {
-        self.recovery.probed(self.numbers, range);
+    fn probe_sent(&mut self, range: Range<u64>) {
+        self.recovery.probe_sent(self.numbers, range);
     }
 
     fn came_twice(&mut self, range: Range<u64>) {
@@ -73,26 +73,26 @@ impl<const N: usize> Sender<N> {
         self.recovery.duplicated(self.numbers);
     }
 
-    fn expect_reports(&mut self, sack: Sack) {
-        self.recovery.expect_reports(sack);
+    fn opened(&mut self, sack: Sack) {
+        self.recovery.opened(sack);
     }
 
     fn take_back(&mut self) -> bool {
         self.recovery.take_back(self.numbers, &self.board)
     }
 
-    fn lose_dropped(&mut self) -> bool {
-        let begins = self.recovery.lose_dropped(self.numbers, &self.board);
+    fn reports_dropped(&mut self) -> bool {
+        let begins = self.recovery.reports_dropped(self.numbers, &self.board);
         self.board.reset_at(self.numbers.first_unacknowledged);
         begins
     }
 
-    fn find_overdue(&mut self) -> bool {
-        self.recovery.find_overdue(self.numbers, &self.board)
+    fn fell_silent(&mut self) -> bool {
+        self.recovery.fell_silent(self.numbers, &self.board)
     }
 
     fn unsent(&mut self) -> u64 {
-        self.recovery.unsent(self.numbers, &self.board)
+        self.recovery.before(self.numbers, &self.board).unsent
     }
 
     fn next_probe(&mut self, end: u64) -> Option<Range<u64>> {
@@ -108,63 +108,63 @@ impl<const N: usize> Sender<N> {
 fn equal_acknowledgements_tell_what_has_left() {
     let mut it = Sender::<4>::new(9, 10);
     step!(it.send(9..89); in_flight = 80);
-    step!(it.expect_reports(Sack::Absent));
-    step!(it.find_losses(9, 0, false, true) => false; in_flight = 70);
-    step!(it.find_losses(9, 0, true, false) => false; in_flight = 80);
-    step!(it.find_losses(9, 0, false, true) => false; in_flight = 70);
-    step!(it.expect_reports(Sack::Permitted); in_flight = 80);
-    step!(it.find_losses(9, 0, false, true) => false);
+    step!(it.opened(Sack::Absent));
+    step!(it.acknowledged(9, 0, false, true) => false; in_flight = 70);
+    step!(it.acknowledged(9, 0, true, false) => false; in_flight = 80);
+    step!(it.acknowledged(9, 0, false, true) => false; in_flight = 70);
+    step!(it.opened(Sack::Permitted); in_flight = 80);
+    step!(it.acknowledged(9, 0, false, true) => false);
     step!(it.duplicated(); duplicates = 12);
-    step!(it.lose_all(); is_active = true, in_flight = 0, duplicates = 3);
+    step!(it.timed_out(); is_active = true, in_flight = 0, duplicates = 3);
     step!(it.send(9..19); in_flight = 10);
 
     let mut it = Sender::<4>::new(9, 10);
     step!(it.send(9..89); in_flight = 80);
-    step!(it.expect_reports(Sack::Absent));
-    step!(it.find_losses(9, 0, false, true) => false; in_flight = 70);
-    step!(it.find_losses(9, 0, false, true) => false; in_flight = 60);
+    step!(it.opened(Sack::Absent));
+    step!(it.acknowledged(9, 0, false, true) => false; in_flight = 70);
+    step!(it.acknowledged(9, 0, false, true) => false; in_flight = 60);
     step!(it.acknowledge(29); in_flight = 40);
-    step!(it.find_losses(9, 0, false, false) => false; in_flight = 50);
+    step!(it.acknowledged(9, 0, false, false) => false; in_flight = 50);
 
     let mut it = Sender::<4>::new(0, 10);
     step!(it.send(0..80); in_flight = 80);
     step!(it.report(40..70) => Ok(()); in_flight = 50);
-    step!(it.find_losses(0, 0, true, false) => true; is_active = true, in_flight = 10);
+    step!(it.acknowledged(0, 0, true, false) => true; is_active = true, in_flight = 10);
     step!(it.send(0..40); in_flight = 50);
     step!(it.send(80..120); in_flight = 90);
     step!(it.report(80..110) => Ok(()); in_flight = 60);
-    step!(it.find_losses(0, 0, true, false) => false; in_flight = 10);
+    step!(it.acknowledged(0, 0, true, false) => false; in_flight = 10);
     step!(it.acknowledge(10));
-    step!(it.find_losses(0, 50, false, false) => false; in_flight = 50, duplicates = 12);
-    step!(it.probed(10..20));
+    step!(it.acknowledged(0, 50, false, false) => false; in_flight = 50, duplicates = 12);
+    step!(it.probe_sent(10..20));
     step!(it.acknowledge(20); in_flight = 40);
-    step!(it.find_losses(10, 0, false, false) => false; in_flight = 0);
+    step!(it.acknowledged(10, 0, false, false) => false; in_flight = 0);
 
     let mut it = Sender::<4>::new(0, 10);
     step!(it.send(0..80); in_flight = 80);
     step!(it.report(10..20) => Ok(()); in_flight = 70);
     step!(it.report(30..60) => Ok(()); in_flight = 40);
-    step!(it.find_losses(0, 0, true, false) => true; is_active = true, in_flight = 20);
+    step!(it.acknowledged(0, 0, true, false) => true; is_active = true, in_flight = 20);
     step!(it.send(0..10); in_flight = 30);
     step!(it.send(20..30); in_flight = 40);
     step!(it.send(80..120); in_flight = 80);
     step!(it.report(80..110) => Ok(()); in_flight = 50);
-    step!(it.find_losses(0, 0, true, false) => false; in_flight = 20);
+    step!(it.acknowledged(0, 0, true, false) => false; in_flight = 20);
     step!(it.send(0..10); in_flight = 30);
     step!(it.next_segment(120, 1000) => Some(60..70));
 
     let mut it = Sender::<4>::new(0, 10);
     step!(it.send(0..40); in_flight = 40);
-    step!(it.find_losses(0, 0, true, true) => false);
+    step!(it.acknowledged(0, 0, true, true) => false);
     step!(it.report(25..35) => Ok(()); in_flight = 30);
     step!(it.next_probe(40) => Some(35..40));
     step!(it.report(35..40) => Ok(()); in_flight = 25);
     step!(it.next_probe(50) => Some(0..10));
     step!(it.send(40..50); in_flight = 35);
-    step!(it.lose_all(); is_active = true, in_flight = 0);
-    step!(it.find_overdue() => false);
+    step!(it.timed_out(); is_active = true, in_flight = 0);
+    step!(it.fell_silent() => false);
     step!(it.unsent() => 35);
-    step!(it.lose_dropped() => false);
+    step!(it.reports_dropped() => false);
 }
 
 /// A recovery was for nothing once all that was sent again came twice (RFC 3708), or what wasn't sent again has
@@ -174,12 +174,12 @@ fn a_recovery_was_for_nothing() {
     let mut it = Sender::<4>::new(0, 10);
     step!(it.send(0..80); in_flight = 80);
     step!(it.report(10..40) => Ok(()); in_flight = 50);
-    step!(it.find_losses(0, 0, true, false) => true; is_active = true, in_flight = 40);
+    step!(it.acknowledged(0, 0, true, false) => true; is_active = true, in_flight = 40);
     step!(it.take_back() => false);
     step!(it.send(0..10); in_flight = 50);
     step!(it.take_back() => false);
     step!(it.acknowledge(40); in_flight = 40);
-    step!(it.find_losses(0, 0, false, false) => false);
+    step!(it.acknowledged(0, 0, false, false) => false);
     step!(it.came_twice(50..60));
     step!(it.take_back() => false);
     step!(it.came_twice(0..10); duplicates = 12);
@@ -191,9 +191,9 @@ fn a_recovery_was_for_nothing() {
     let mut it = Sender::<4>::new(0, 10);
     step!(it.send(0..80); in_flight = 80);
     step!(it.report(10..40) => Ok(()); in_flight = 50);
-    step!(it.find_losses(0, 0, true, false) => true; is_active = true, in_flight = 40);
+    step!(it.acknowledged(0, 0, true, false) => true; is_active = true, in_flight = 40);
     step!(it.acknowledge(40));
-    step!(it.find_losses(0, 10, false, false) => false; duplicates = 12);
+    step!(it.acknowledged(0, 10, false, false) => false; duplicates = 12);
 }
 
 /// One position that has arrived teaches nothing: it may be the byte that asks for a window.
@@ -201,18 +201,18 @@ fn a_recovery_was_for_nothing() {
 fn one_position_teaches_nothing() {
     let mut it = Sender::<4>::new(0, 10);
     step!(it.send(0..80); in_flight = 80);
-    step!(it.lose_all(); is_active = true, in_flight = 0);
+    step!(it.timed_out(); is_active = true, in_flight = 0);
     step!(it.acknowledge(1));
-    step!(it.find_losses(0, 80, false, false) => false);
+    step!(it.acknowledged(0, 80, false, false) => false);
     step!(it.acknowledge(3));
-    step!(it.find_losses(1, 79, false, false) => false; in_flight = 77, duplicates = 12);
+    step!(it.acknowledged(1, 79, false, false) => false; in_flight = 77, duplicates = 12);
 
     let mut it = Sender::<4>::new(0, 10);
     step!(it.send(0..80); in_flight = 80);
     step!(it.report(10..40) => Ok(()); in_flight = 50);
-    step!(it.find_losses(0, 0, true, false) => true; is_active = true, in_flight = 40);
+    step!(it.acknowledged(0, 0, true, false) => true; is_active = true, in_flight = 40);
     step!(it.send(0..10); in_flight = 50);
-    step!(it.probed(0..10));
+    step!(it.probe_sent(0..10));
     step!(it.came_twice(0..10); duplicates = 12);
     step!(it.take_back() => false);
     step!(it.came_twice(0..10));
@@ -237,13 +237,13 @@ fn a_copy_is_lost() {
     let mut it = Sender::<4>::new(u64::MAX - 118, 6);
     step!(it.send(u64::MAX - 118..u64::MAX - 70); in_flight = 48);
     step!(it.report(u64::MAX - 112..u64::MAX - 94) => Ok(()); in_flight = 30);
-    step!(it.find_losses(u64::MAX - 118, 0, true, false) => true; is_active = true, in_flight = 24);
+    step!(it.acknowledged(u64::MAX - 118, 0, true, false) => true; is_active = true, in_flight = 24);
     step!(it.send(u64::MAX - 118..u64::MAX - 112); in_flight = 30);
     step!(it.send(u64::MAX - 70..u64::MAX - 46); in_flight = 54);
     step!(it.report(u64::MAX - 70..u64::MAX - 57) => Ok(()); in_flight = 41);
-    step!(it.find_losses(u64::MAX - 118, 0, true, false) => false; in_flight = 11);
+    step!(it.acknowledged(u64::MAX - 118, 0, true, false) => false; in_flight = 11);
     step!(it.send(u64::MAX - 118..u64::MAX - 112); in_flight = 17);
-    step!(it.find_losses(u64::MAX - 118, 24, true, true) => false);
+    step!(it.acknowledged(u64::MAX - 118, 24, true, true) => false);
 }
 
 /// Of segments of 4 bytes. A probe that is due in a recovery tells that all below the highest report is lost. A
@@ -253,13 +253,13 @@ fn a_probe_in_a_recovery() {
     let mut it = Sender::<32>::new(4_294_967_296, 4);
     step!(it.send(4_294_967_296..4_294_967_328); in_flight = 32);
     step!(it.report(4_294_967_300..4_294_967_312) => Ok(()); in_flight = 20);
-    step!(it.find_losses(4_294_967_296, 0, true, false) => true; is_active = true, in_flight = 16);
+    step!(it.acknowledged(4_294_967_296, 0, true, false) => true; is_active = true, in_flight = 16);
     step!(it.send(4_294_967_296..4_294_967_300); in_flight = 20);
     step!(it.send(4_294_967_328..4_294_967_344); in_flight = 36);
     step!(it.report(4_294_967_328..4_294_967_336) => Ok(()); in_flight = 28);
-    step!(it.find_overdue() => false; in_flight = 12);
+    step!(it.fell_silent() => false; in_flight = 12);
     step!(it.send(4_294_967_312..4_294_967_316); in_flight = 16);
-    step!(it.find_losses(4_294_967_296, 12, false, true) => false);
+    step!(it.acknowledged(4_294_967_296, 12, false, true) => false);
 }
 
 /// A peer that reports nothing acknowledges again all that was sent before a recovery: it answers a copy, which
@@ -267,12 +267,12 @@ fn a_probe_in_a_recovery() {
 #[test]
 fn all_is_acknowledged_again() {
     let mut it = Sender::<32>::new(0, 1);
-    step!(it.expect_reports(Sack::Absent));
+    step!(it.opened(Sack::Absent));
     step!(it.send(0..10); in_flight = 10);
-    step!(it.lose_all(); is_active = true, in_flight = 0);
+    step!(it.timed_out(); is_active = true, in_flight = 0);
     step!(it.acknowledge(10); is_active = false);
     step!(it.send(10..20); in_flight = 10);
-    step!(it.find_losses(10, 0, false, true) => false; duplicates = 12);
+    step!(it.acknowledged(10, 0, false, true) => false; duplicates = 12);
 }
 
 /// One of a peer that reports tells nothing: the path may have doubled it (RFC 6675, section 2).
@@ -280,12 +280,12 @@ fn all_is_acknowledged_again() {
 fn a_peer_that_reports_doubles_nothing() {
     let mut it = Sender::<32>::new(0, 1);
     step!(it.send(0..10); in_flight = 10);
-    step!(it.lose_all(); is_active = true, in_flight = 0);
+    step!(it.timed_out(); is_active = true, in_flight = 0);
     step!(it.acknowledge(10); is_active = false);
     step!(it.send(10..20); in_flight = 10);
-    step!(it.find_losses(10, 0, false, true) => false);
-    step!(it.find_losses(10, 0, false, true) => false);
-    step!(it.find_losses(10, 0, false, true) => false);
+    step!(it.acknowledged(10, 0, false, true) => false);
+    step!(it.acknowledged(10, 0, false, true) => false);
+    step!(it.acknowledged(10, 0, false, true) => false);
 }
 
 /// Before any recovery nothing answers a copy, at position 0 either: the third one tells that the first segment is
@@ -293,10 +293,10 @@ fn a_peer_that_reports_doubles_nothing() {
 #[test]
 fn nothing_answers_a_copy_before_a_recovery() {
     let mut it = Sender::<32>::new(0, 10);
-    step!(it.expect_reports(Sack::Absent));
+    step!(it.opened(Sack::Absent));
     step!(it.send(0..40); in_flight = 40);
-    step!(it.find_losses(0, 0, false, true) => false; in_flight = 30);
-    step!(it.find_losses(0, 0, false, true) => false; in_flight = 20);
-    step!(it.find_losses(0, 0, false, true) => true; is_active = true, in_flight = 0);
+    step!(it.acknowledged(0, 0, false, true) => false; in_flight = 30);
+    step!(it.acknowledged(0, 0, false, true) => false; in_flight = 20);
+    step!(it.acknowledged(0, 0, false, true) => true; is_active = true, in_flight = 0);
     step!(it.next_segment(40, 1000) => Some(0..10));
 }

@@ -12,8 +12,8 @@ use crate::storage::{AssemblerHead, Run};
 /// buffer. smoltcp has no such type: its buffer is one value.
 ///
 /// A head is exact (`IsExact`) if no number says nothing: both of `present` are 0 where there is no
-/// run, `has_total` is 0 or 1, and `total` is 0 while the size isn't known. `new` and `reset` make it
-/// so, and each call leaves it so.
+/// run, and `total` is 0 while the size isn't known. `new` and `reset` make it so, and each call leaves
+/// it so.
 ///
 /// Head, bytes and runs are those of a buffer if the runs are those of an assembler and end within the bytes, and
 /// within a known size, which is at most that of the bytes: `HasSoundParts` in contracts.
@@ -22,8 +22,8 @@ use crate::storage::{AssemblerHead, Run};
 pub struct FragmentsHead {
     /// The positions that arrived: the head of an assembler.
     pub present: AssemblerHead,
-    /// Not 0 once the packet's size is known; this library writes 1 then.
-    pub has_total: usize,
+    /// Whether the packet's size is known.
+    pub has_total: bool,
     /// The packet's size in bytes, once it is known.
     pub total: usize,
     /// The last moment at which the packet is waited for, in microseconds.
@@ -34,7 +34,7 @@ impl FragmentsHead {
     /// Returns the head of an empty buffer, whose packet is waited for up to `expires_at`, in
     /// microseconds. It is sound for any memory.
     pub(crate) const fn new(expires_at: i64) -> Self {
-        FragmentsHead { present: AssemblerHead::new(), has_total: 0, total: 0, expires_at }
+        FragmentsHead { present: AssemblerHead::new(), has_total: false, total: 0, expires_at }
     }
 
     /// Begins again, for a packet that expires after `expires_at`.
@@ -44,10 +44,10 @@ impl FragmentsHead {
 
     /// Returns where fragments must end: at a known size, or else at `capacity`.
     pub(crate) fn limit(&self, capacity: usize) -> usize {
-        if self.has_total == 0 {
-            capacity
-        } else {
+        if self.has_total {
             self.total
+        } else {
+            capacity
         }
     }
 
@@ -162,23 +162,18 @@ impl FragmentsHead {
         if size > capacity {
             return Err(FragmentError::TooLong);
         }
-        let can_be =
-            if self.has_total == 0 { self.is_below(runs, size) } else { self.total == size };
+        let can_be = if self.has_total { self.total == size } else { self.is_below(runs, size) };
         if !can_be {
             return Err(FragmentError::OtherSize);
         }
-        self.has_total = 1;
+        self.has_total = true;
         self.total = size;
         Ok(())
     }
 
     /// Returns the packet's size, once it is known.
     pub(crate) fn total_size(&self) -> Option<usize> {
-        if self.has_total == 0 {
-            None
-        } else {
-            Some(self.total)
-        }
+        self.has_total.then_some(self.total)
     }
 
     /// Returns whether one of the `len` positions from `offset` on has arrived: whether a fragment there
@@ -231,7 +226,7 @@ impl FragmentsHead {
     ///
     /// The runs are sound.
     pub(crate) fn complete(&self, runs: &[Run]) -> Option<usize> {
-        if self.has_total == 0 || self.present.peek_front(runs) < self.total {
+        if !self.has_total || self.present.peek_front(runs) < self.total {
             return None;
         }
         Some(self.total)

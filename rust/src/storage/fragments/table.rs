@@ -142,6 +142,7 @@ impl<K: Copy + Eq, B: Storage<u8>, const N: usize> FragmentSlot<K, B, N> {
 }
 
 /// Returns the first slot for the packet of this key.
+#[allow(clippy::manual_find, clippy::needless_range_loop)] // its proof counts
 fn find<K: Copy + Eq, B: Storage<u8>, const N: usize>(
     slots: &[FragmentSlot<K, B, N>],
     key: K,
@@ -155,6 +156,7 @@ fn find<K: Copy + Eq, B: Storage<u8>, const N: usize>(
 }
 
 /// Returns the first slot without a key.
+#[allow(clippy::manual_find, clippy::needless_range_loop)] // its proof counts
 fn find_free<K: Copy + Eq, B: Storage<u8>, const N: usize>(
     slots: &[FragmentSlot<K, B, N>],
 ) -> Option<usize> {
@@ -285,9 +287,7 @@ pub fn take_complete<K: Copy + Eq, B: Storage<u8>, const N: usize>(
     key: K,
 ) -> Option<usize> {
     let at = find(slots, key)?;
-    if slots[at].buffer.assemble().is_none() {
-        return None;
-    }
+    slots[at].buffer.assemble()?;
     slots[at].key = None;
     Some(at)
 }

@@ -2,7 +2,7 @@
 #![tactic(auto, using(crate::proofs::FragmentFacts::refused_adds))]
 
 ghost use Rattle.std.specs.Prelude.{◌≡◌, ◌↔◌, ◌+◌, ◌<◌, ◌≤◌, ◌<ℤ◌, ℕ, List, length, IsTrue, IsSome, IfSome, OnOk};
-ghost use Rattle.std.specs.Prelude.{OnErr, unwrap_or, false};
+ghost use Rattle.std.specs.Prelude.{OnErr, unwrap_or, false, true};
 ghost use Rattle.std.specs.declared.option.Option.TheVariants.{Some};
 ghost use Rattle.net_assembler.specs.Positions.{nothing};
 ghost use Rattle.net_assembler.specs.RunLists.{set_of, HasSoundRuns};
@@ -20,8 +20,8 @@ use net_assembler::{AssemblerHead, Run, Turns, assembler};
 /// buffer. smoltcp has no such type: its buffer is one value.
 ///
 /// A head is exact (`IsExact`) if no number says nothing: both of `present` are 0 where there is no
-/// run, `has_total` is 0 or 1, and `total` is 0 while the size isn't known. `new` and `reset` make it
-/// so, and each call leaves it so.
+/// run, and `total` is 0 while the size isn't known. `new` and `reset` make it so, and each call leaves
+/// it so.
 ///
 /// Head, bytes and runs are those of a buffer if the runs are those of an assembler and end within the bytes, and
 /// within a known size, which is at most that of the bytes: `HasSoundParts` in contracts. `is_sound` tests it.
@@ -30,8 +30,8 @@ use net_assembler::{AssemblerHead, Run, Turns, assembler};
 pub struct FragmentsHead {
     /// The positions that arrived: the head of an assembler.
     pub present: AssemblerHead,
-    /// Not 0 once the packet's size is known; this library writes 1 then.
-    pub has_total: usize,
+    /// Whether the packet's size is known.
+    pub has_total: bool,
     /// The packet's size in bytes, once it is known.
     pub total: usize,
     /// The last moment at which the packet is waited for, in microseconds.
@@ -49,7 +49,7 @@ impl FragmentsHead {
     {
         FragmentsHead {
             present: AssemblerHead::new(),
-            has_total: 0,
+            has_total: false,
             total: 0,
             expires_at,
         }
@@ -84,11 +84,7 @@ impl FragmentsHead {
     fn limit(&self, capacity: usize) -> usize
         ensures { result ≡ unwrap_or (total_of self.now) capacity }
     {
-        if self.has_total == 0 {
-            capacity
-        } else {
-            self.total
-        }
+        if self.has_total { self.total } else { capacity }
     }
 
     /// Returns whether all bytes that arrived are below `limit`.
@@ -235,7 +231,7 @@ impl FragmentsHead {
         size: usize,
     ) -> Result<(), FragmentError>
         requires sound { HasSoundRuns self.old.present runs.now }
-        ensures ok { OnOk result (self.new ≡ record self.old { has_total = 1; total = size }) }
+        ensures ok { OnOk result (self.new ≡ record self.old { has_total = true; total = size }) }
         ensures total { OnOk result (total_of self.new ≡ Some size) }
         ensures sound { OnOk result ((bytes : List ℕ) → length bytes ≡ capacity →
             HasSoundParts self.old bytes runs.now → HasSoundParts self.new bytes runs.now) }
@@ -247,15 +243,15 @@ impl FragmentsHead {
         if size > capacity {
             return Err(FragmentError::TooLong);
         }
-        let can_be = if self.has_total == 0 {
-            self.is_below(runs, size)
-        } else {
+        let can_be = if self.has_total {
             self.total == size
+        } else {
+            self.is_below(runs, size)
         };
         if !can_be {
             return Err(FragmentError::OtherSize);
         }
-        self.has_total = 1;
+        self.has_total = true;
         self.total = size;
         Ok(())
     }
@@ -265,11 +261,7 @@ impl FragmentsHead {
     pub(crate) fn total_size(&self) -> Option<usize>
         ensures { result ≡ total_of self.now }
     {
-        if self.has_total == 0 {
-            None
-        } else {
-            Some(self.total)
-        }
+        self.has_total.then_some(self.total)
     }
 
     /// Returns whether one of the `len` positions from `offset` on has arrived: whether a fragment there
@@ -342,7 +334,7 @@ impl FragmentsHead {
             HasSoundParts self.now bytes runs.now → size ≤ length bytes) }
     {
         assembler::laws::front();
-        if self.has_total == 0 || self.present.peek_front(runs) < self.total {
+        if !self.has_total || self.present.peek_front(runs) < self.total {
             return None;
         }
         Some(self.total)

@@ -358,9 +358,7 @@ pub fn take_complete<K: Copy + Eq, B: Storage<u8>, const N: usize>(
     ensures unchanged { IsNone result → slots.new ≡ slots.old }
 {
     let at = find(slots, key)?;
-    if slots[at].buffer.assemble().is_none() {
-        return None;
-    }
+    slots[at].buffer.assemble()?;
     slots[at].key = None;
     Some(at)
 }

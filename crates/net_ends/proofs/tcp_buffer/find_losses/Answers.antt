@@ -29,7 +29,7 @@ returns-clause-recovery c =
       dropped = λ some highest end. cc (some, none);
       dropped_begins = λ some. cc (some, none);
       searched = λ _. subst (Leaves c.args.segment_size c.args.after.first_unacknowledged c.args.after.sent c.args.answer
-          r (recovery_of c.find_losses.new.self)) c.new-seen.ensures c.find_losses.ensures.state;
+          r (recovery_of c.acknowledged.new.self)) c.new-seen.ensures c.acknowledged.ensures.state;
       searched_begins = λ _. subst (Begins c.args.segment_size c.args.after.first_unacknowledged c.args.after.sent
-          c.args.answer r c.find_losses.result) c.new-seen.ensures c.find_losses.ensures.begins;
+          c.args.answer r c.acknowledged.result) c.new-seen.ensures c.acknowledged.ensures.begins;
     }

@@ -7,6 +7,7 @@ use Rattle.net_ends.specs.Calls.{Hears}
 use Rattle.net_ends.specs.Ends.{End}
 use Rattle.net_ends.specs.Parts.{end_of}
 use Rattle.net_ends.specs.declared.sending_end.Acknowledged.{Acknowledged}
+use Rattle.net_ends.proofs.Senders.{acknowledges}
 use Rattle.net_ends.proofs.sending_end.SendingEndOver.acknowledged.Goals as goal
 
 hears_of : (n m : ℕ) (d e left f : End) (seq ack window : ℕ) (bs : List (Range ℕ)) (empty pure : Bool) (now : ℤ)
@@ -25,7 +26,9 @@ returns g c =
     let all = hears_of _ g.row.N _ c.args.self.now _ _ c.args.it.seq c.args.it.ack c.args.it.window c.args.blocks.now
     c.is_pure.result _ c.args.now c.acknowledged-said.result c.self.told c.self.view_is
     (ap (λ (x : FiniteSenderState). end_of x c.acknowledged-said.new.self c.acknowledged-said.new.runs
-    c.self.inside.first_timeout c.self.inside.bounds) c.accept-is_taken.ensures.step) c.is_pure.ensures
+    c.self.inside.first_timeout c.self.inside.bounds) (acknowledges _ _ c.args.it.ack
+    c.acknowledge-is_taken.result c.acknowledge-is_taken.ensures.accepted c.acknowledge-is_taken.ensures.state
+    c.acknowledge-is_taken.ensures.refused)) c.is_pure.ensures
     (c.acknowledged-said.ensures.hears c.self.inside.sender c.self.inside.first_timeout is) in
     record {
       refused = all.refused;

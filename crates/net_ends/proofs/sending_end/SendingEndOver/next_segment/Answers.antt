@@ -6,6 +6,7 @@ use Rattle.net_ends.specs.Ends.{End}
 use Rattle.net_ends.specs.Parts.{end_of, marked}
 use Rattle.net_ends.specs.Rules.{queued_of}
 use Rattle.net_ends.specs.declared.sending_end.Outgoing.{Outgoing}
+use Rattle.net_ends.proofs.Senders.{marks}
 use Rattle.net_ends.proofs.sending_end.SendingEndOver.next_segment.Goals as goal
 
 chooses_of : (d e left f : End) (window : ℕ) (now : ℤ) (said : Option Outgoing) → d ≡ e → f ≡ left →
@@ -51,7 +52,9 @@ returns g c =
     c.in-Some.is (c.next_segment.ensures.chooses s c.self.inside.first_timeout is) in
     let all = chooses_of _ c.args.self.now _ _ c.args.congestion_window c.args.now _ c.self.view_is
     (ap (λ (x : FiniteSenderState). end_of x c.next_segment.new.self c.self.inside.runs c.self.inside.first_timeout
-    c.self.inside.bounds) c.mark-is_written.ensures.state) chosen in
+    c.self.inside.bounds) (marks _ _ c.in-Some.it.end
+    c.mark_sent-is_written.result c.mark_sent-is_written.ensures.accepted c.mark_sent-is_written.ensures.mark
+    c.mark_sent-is_written.ensures.refused)) chosen in
     record {
       within = all.within;
       probe = all.probe;

@@ -59,8 +59,8 @@ returns-clause-silent c = λ s timeout bounds is.
     let shut : window_shut (known_by c.args.self.now c.args.queued) ≡ false = sym c.is_shut.ensures ∙ c.if-is_shut.false in
     let on : is_sought f ≡ true = neither _ _ says (subst (λ (q : Queued). window_shut (known_by c.args.self.now q) ≡ false)
     (sym is) shut) in
-    let said = rw (← is) at c.find_overdue.ensures in
-    let left = recovery_of c.find_overdue.new.self.recovery in
+    let said = rw (← is) at c.fell_silent.ensures in
+    let left = recovery_of c.fell_silent.new.self.recovery in
     record {
       no = (λ p. cc, λ blind. cc (says, blind));
       state = ap (λ (h : ScoreboardHead). record f { reported = reported_by h c.args.runs.now; recovery = left; probes = false; overdue = true })
