@@ -32,8 +32,8 @@ use crate::storage::{Listed, Run, Storage, TooManyHolesError};
 
 pub use crate::stream::{
     FiniteError, FiniteReceiver, FiniteReceiverOver, FiniteSender, FiniteSenderOver, LentBytes,
-    RangeAck, SegmentBytes, SendBuffer, SendBufferOver, SentNumbers, StreamReceiver,
-    StreamReceiverOver,
+    RangeAck, SegmentBytes, SendBuffer, SendBufferOver, SentNumbers, StreamRanges,
+    StreamRangesOver, StreamReceiver, StreamReceiverOver,
 };
 
 impl From<TooManyHolesError> for FiniteError {
@@ -118,6 +118,38 @@ impl<'a> StreamReceiver<'a> {
     }
 }
 
+impl<'a> StreamRanges<'a> {
+    /// Returns the ranges of a stream that begins at position 0, as a stream of QUIC does; nothing has arrived.
+    ///
+    /// ```
+    /// # use net_base::finite::StreamRanges;
+    /// assert_eq!(StreamRanges::new(Vec::new(), 16).keep(0..3, false), Ok(Some(0..3)));
+    /// ```
+    #[must_use]
+    pub fn new<R: Into<ManagedSlice<'a, Run>>>(runs: R, capacity: usize) -> Self {
+        StreamRanges::new_at(runs, 0, capacity)
+    }
+
+    /// Returns the ranges of a stream that begins at position `first`; nothing has arrived.
+    ///
+    /// ```
+    /// # use net_base::finite::StreamRanges;
+    /// # use net_base::storage::Run;
+    /// let mut runs = [Run::EMPTY; 2];
+    /// let mut ranges = StreamRanges::new_at(&mut runs, 1, 16);
+    /// assert!(ranges.keep(1..4, true).is_ok() && ranges.end() == Some(4));
+    /// ```
+    ///
+    /// # Panics
+    ///
+    /// Panics if `first` is `u64::MAX`: no number is left for the end.
+    #[must_use]
+    #[track_caller]
+    pub fn new_at<R: Into<ManagedSlice<'a, Run>>>(runs: R, first: u64, capacity: usize) -> Self {
+        StreamRanges::over_at(runs.into(), first, capacity)
+    }
+}
+
 impl<'a, const N: usize> SendBuffer<'a, N> {
     /// Returns a buffer of a stream that begins at position 0, as a stream of QUIC does, to which nothing was written.
     ///
@@ -199,6 +231,18 @@ impl<S: Storage<u8>, const N: usize> fmt::Debug for FiniteReceiverOver<S, N> {
 impl<S: Storage<u8>, R: Storage<Run>> fmt::Debug for StreamReceiverOver<S, R> {
     fn fmt(&self, f: &mut fmt::Formatter) -> fmt::Result {
         f.debug_struct("StreamReceiver")
+            .field("next", &self.next())
+            .field("len", &self.queued())
+            .field("window", &self.window())
+            .field("held", &Listed(|| self.held()))
+            .field("end", &self.end())
+            .finish()
+    }
+}
+
+impl<R: Storage<Run>> fmt::Debug for StreamRangesOver<R> {
+    fn fmt(&self, f: &mut fmt::Formatter) -> fmt::Result {
+        f.debug_struct("StreamRanges")
             .field("next", &self.next())
             .field("len", &self.queued())
             .field("window", &self.window())

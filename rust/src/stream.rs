@@ -17,6 +17,7 @@ pub(crate) mod send_buffer;
 pub(crate) mod sender_head;
 pub(crate) mod sent_numbers;
 pub(crate) mod sequence_number;
+pub(crate) mod stream_ranges;
 pub(crate) mod stream_receiver;
 
 pub use finite_receiver::{FiniteReceiver, FiniteReceiverOver};
@@ -32,6 +33,7 @@ pub use segment_bytes::SegmentBytes;
 pub use send_buffer::{RangeAck, SendBuffer, SendBufferOver};
 pub use sent_numbers::SentNumbers;
 pub use sequence_number::SequenceNumber;
+pub use stream_ranges::{StreamRanges, StreamRangesOver};
 pub use stream_receiver::{StreamReceiver, StreamReceiverOver};
 
 // Names for other modules.

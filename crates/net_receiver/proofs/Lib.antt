@@ -19,3 +19,4 @@ pub mod HeldSearches
 pub mod Duplicates
 pub mod PartsOf
 pub mod Growth
+pub mod StreamRanges

@@ -68,13 +68,21 @@ pub(crate) fn is_reached(next: u64, window: usize, end: u64) -> bool
     end.saturating_sub(next) <= window as u64
 }
 
+/// Returns the end, or while that isn't known the greatest number that an end can have.
+#[inline(always)]
+pub(crate) fn bytes_end(after_end: u64) -> u64
+    ensures { result ≡ min (end_with after_end) (no_end - 1) }
+{
+    end_or_max(after_end).min(NO_END - 1)
+}
+
 /// Returns how many of `len` bytes at `pos` are below the end, or while that isn't known below the
 /// greatest number that an end can have.
 #[inline(always)]
 pub(crate) fn count_below(after_end: u64, pos: u64, len: usize) -> usize
     ensures { result ≡ min len (min (end_with after_end) (no_end - 1) - pos) }
 {
-    let end = end_or_max(after_end).min(NO_END - 1);
+    let end = bytes_end(after_end);
     (len as u64).min(end.saturating_sub(pos)) as usize
 }
 
@@ -110,7 +118,7 @@ fn can_end(receiver: &ReceiverHead, after_end: u64, runs: &[Run], pos: u64) -> b
 
 /// Returns `after_end` after a segment that ends at `last`, where the storage has `capacity` bytes.
 #[inline]
-fn after_end_with(
+pub(crate) fn after_end_with(
     receiver: &ReceiverHead,
     after_end: u64,
     capacity: usize,
@@ -271,7 +279,7 @@ impl FiniteReceiverHead {
     pub fn is_sound(&self, capacity: usize, runs: &[Run]) -> bool
         ensures { IsTrue result ↔ HasSoundFinite self.now capacity runs.now }
     {
-        let end = end_or_max(self.after_end).min(NO_END - 1);
+        let end = bytes_end(self.after_end);
         self.receiver.is_sound(capacity, runs) && self.receiver.has_all_below(runs, end)
     }
 
@@ -320,6 +328,8 @@ impl FiniteReceiverHead {
             HasSoundFinite self.now capacity more.new }
         ensures state { (storage : List ℕ) →
             finite_of self.now storage more.new ≡ finite_of self.now storage runs.now }
+        ensures moved { take self.now.receiver.held.used more.new
+            ≡ take self.now.receiver.held.used runs.now }
     {
         let used = self.receiver.held.used;
         more[..used].copy_from_slice(&runs[..used]);

@@ -505,7 +505,7 @@ impl<S: Storage<u8>, R: Storage<Run>> StreamReceiverOver<S, R> {
 }
 
 /// Shows all runs of a storage.
-fn every<R: Storage<Run>>(runs: &R) -> &[Run]
+pub(crate) fn every<R: Storage<Run>>(runs: &R) -> &[Run]
     ensures { result.now ≡ R.elements runs.now }
 {
     runs.part(0, runs.count())

@@ -48,11 +48,17 @@ pub(crate) fn is_reached(next: u64, window: usize, end: u64) -> bool {
     end.saturating_sub(next) <= window as u64
 }
 
+/// Returns the end, or while that isn't known the greatest number that an end can have.
+#[inline(always)]
+pub(crate) fn bytes_end(after_end: u64) -> u64 {
+    end_or_max(after_end).min(NO_END - 1)
+}
+
 /// Returns how many of `len` bytes at `pos` are below the end, or while that isn't known below the
 /// greatest number that an end can have.
 #[inline(always)]
 pub(crate) fn count_below(after_end: u64, pos: u64, len: usize) -> usize {
-    let end = end_or_max(after_end).min(NO_END - 1);
+    let end = bytes_end(after_end);
     (len as u64).min(end.saturating_sub(pos)) as usize
 }
 
@@ -83,7 +89,7 @@ fn can_end(receiver: &ReceiverHead, after_end: u64, runs: &[Run], pos: u64) -> b
 
 /// Returns `after_end` after a segment that ends at `last`, where the storage has `capacity` bytes.
 #[inline]
-fn after_end_with(
+pub(crate) fn after_end_with(
     receiver: &ReceiverHead,
     after_end: u64,
     capacity: usize,

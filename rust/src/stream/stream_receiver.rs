@@ -388,6 +388,6 @@ impl<S: Storage<u8>, R: Storage<Run>> StreamReceiverOver<S, R> {
 }
 
 /// Shows all runs of a storage.
-fn every<R: Storage<Run>>(runs: &R) -> &[Run] {
+pub(crate) fn every<R: Storage<Run>>(runs: &R) -> &[Run] {
     runs.part(0, runs.count())
 }

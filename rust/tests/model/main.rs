@@ -8,6 +8,7 @@ mod beside;
 mod draw;
 mod fragments;
 mod packets;
+mod ranges;
 mod receiver;
 mod ring;
 mod scoreboard;
@@ -27,6 +28,7 @@ beside_models! {
     receivers: receiver::play,
     receivers_of_streams_that_end: receiver::play_finite,
     receivers_with_runs_in_storage: receiver::play_stream,
+    ranges_of_streams: ranges::play,
     senders: sender::play,
     scoreboards: scoreboard::play,
     buffers_of_fragments: fragments::play,

@@ -7,7 +7,7 @@ impl FiniteReceiverHead {
     /// a receiver, and the position after its last byte, held ones too, is at most the end, if that
     /// is known, and below 2^64 - 1. It looks at each held run, and at no byte.
     pub(crate) fn is_sound(&self, capacity: usize, runs: &[Run]) -> bool {
-        let end = end_or_max(self.after_end).min(NO_END - 1);
+        let end = bytes_end(self.after_end);
         self.receiver.is_sound(capacity, runs) && self.receiver.has_all_below(runs, end)
     }
 
