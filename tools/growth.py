@@ -27,7 +27,7 @@ FEW, MANY = 32, 1024
 MOST = {"looks": 1.1, "searches": 2.2, "passes": 36}
 # How many times more it has to take, since its class would else be a better one; and calls whose case isn't their
 # worst.
-LEAST, BETTER = {"looks": 0, "searches": 1, "passes": 2.2}, {"sending_end_next_segment", "send_buffer_next"}
+LEAST, BETTER = {"looks": 0, "searches": 1, "passes": 2.2}, {"sending_end_next_segment", "send_buffer_next", "send_ranges_next"}
 # How many instructions an export may take besides; one of an acknowledgement, which copies its runs as ranges. The copy
 # takes 10 of these, and 14 with two runs. The exports are compiled as one crate, where rustc inlines otherwise than in
 # Rust's two.
@@ -39,7 +39,7 @@ TYPES = {
     "finite_receiver": "FiniteReceiverOver", "stream_receiver": "StreamReceiverOver",
     "stream_ranges": "StreamRangesOver",
     "finite_sender": "FiniteSenderOver", "fragments": "FragmentsOver",
-    "table": "fragment_table", "send_buffer": "SendBufferOver", "sending_end": "SendingEndOver",
+    "table": "fragment_table", "send_ranges": "SendRangesOver", "send_buffer": "SendBufferOver", "sending_end": "SendingEndOver",
     "receiving_end": "ReceivingEndOver",
 }
 # Types whose `N` is a capacity, and one that has no call but that which makes it.
@@ -57,7 +57,7 @@ LEFT_OUT = {
     "only a program makes it, and it gives bytes, or ends the stream": "close set_nagle_enabled write",
     "only a program makes it: it compares two values": "same_state",
     "only a program makes it: it copies the storage from before": "grow grow_runs",
-    "it passes once and searches at each run, so it grows 47 times with 32 times as many runs": "lose",
+    "only a program makes it: it passes once and searches at each run": "in_flight",
 }
 HERE = Path(__file__).resolve().parent
 PAGE = HERE.parent / "compare/results/growth.md"

@@ -29,7 +29,7 @@ use net_base::time::{Duration, Instant};
 use net_base::storage::FragmentsOver;
 use net_base::storage::fragments::table::FragmentSlot;
 use net_ends::{ReceivingEndOver, SendingEndOver};
-use net_receiver::{FiniteReceiverOver, FiniteSenderOver, ReceiverOver, Scoreboard, SendBufferOver};
+use net_receiver::{FiniteReceiverOver, FiniteSenderOver, ReceiverOver, Scoreboard, SendBufferOver, SendRangesOver};
 use net_receiver::{StreamRangesOver, StreamReceiverOver};
 use net_ring::laws::is_usize;
 use net_ring::{RingOver, SplitCounts, Storage};

@@ -1,8 +1,8 @@
 //! The tasks of docs/GUIDE.md of the repository, whose page quotes them: `cargo run --example guide -- TASK`, where
 //! TASK is ring, packets, receiver, quic, fragments, interrupt or sizes.
-use net_base::finite::{FiniteReceiver, RangeAck, SegmentBytes, SendBuffer};
+use net_base::finite::{FiniteReceiver, SegmentBytes, SendBuffer};
 use net_base::receiver::Receiver;
-use net_base::storage::{FragmentBuffer, PacketBuffer, PacketMetadata, RingBuffer, SplitRing};
+use net_base::storage::{FragmentBuffer, PacketBuffer, PacketMetadata, RingBuffer, Run, SplitRing};
 use net_base::time::{Duration, Instant};
 
 fn text(bytes: &[u8]) -> &str {
@@ -52,7 +52,8 @@ fn receiver() {
 
 fn quic() {
     let (mut out, mut into) = ([0u8; 32], [0u8; 32]);
-    let mut sending = SendBuffer::<8>::new_at(&mut out[..], 0);
+    let (mut acknowledged, mut settled) = ([Run::EMPTY; 8], [Run::EMPTY; 8]);
+    let mut sending = SendBuffer::new(&mut out, &mut acknowledged, &mut settled);
     let mut receiving = FiniteReceiver::<8>::new_at(&mut into[..], 0);
     let max_stream_data = 32; // what the receiving side announced
     assert_eq!(sending.write(b"the quick brown fox"), 19);
@@ -81,7 +82,7 @@ fn quic() {
             acknowledged.push(range); // an ACK frame names the packet
         }
         for range in acknowledged {
-            assert_eq!(sending.acknowledge(range), RangeAck::Taken);
+            sending.acknowledge(range).expect("it was sent");
         }
         sending.lose_all(); // your loss detection: here all that isn't acknowledged
     }
@@ -124,11 +125,7 @@ fn sizes() {
     println!("Receiver {} and {}", size_of::<Receiver<'_, 4>>(), size_of::<Receiver<'_, 32>>());
     let finite = (size_of::<FiniteReceiver<'_, 4>>(), size_of::<FiniteReceiver<'_, 32>>());
     println!("FiniteReceiver {} and {}", finite.0, finite.1);
-    println!(
-        "SendBuffer {} and {}",
-        size_of::<SendBuffer<'_, 4>>(),
-        size_of::<SendBuffer<'_, 32>>()
-    );
+    println!("SendBuffer {}", size_of::<SendBuffer<'_>>());
 }
 
 fn main() {

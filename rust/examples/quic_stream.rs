@@ -5,7 +5,7 @@
 use std::collections::{BTreeMap, VecDeque};
 use std::ops::Range;
 
-use net_base::finite::{RangeAck, SegmentBytes, SendBuffer, StreamReceiver};
+use net_base::finite::{SegmentBytes, SendBuffer, StreamReceiver};
 use net_base::rand::Rand;
 use net_base::storage::Run;
 
@@ -47,7 +47,7 @@ impl Path {
 
 /// The side that sends: the stream, and the range of each packet that is in flight.
 struct Sender {
-    stream: SendBuffer<'static, 16>,
+    stream: SendBuffer<'static>,
     ranges: BTreeMap<u64, Range<u64>>,
     next_number: u64,
     max_stream_data: u64,
@@ -72,7 +72,12 @@ impl Sender {
     fn acknowledged(&mut self, packets: &[u64], now: u64) {
         for &number in packets {
             let Some(range) = self.ranges.remove(&number) else { continue };
-            assert_ne!(self.stream.acknowledge(range), RangeAck::Refused, "it was sent");
+            let said = self.stream.acknowledge(range).expect("it was sent");
+            if said.sent_again {
+                // Too many ranges wait. With room for more, the next one isn't sent again.
+                let runs = vec![Run::EMPTY; 2 * self.stream.most_runs() + 1];
+                self.stream.grow_runs(runs.clone().into(), runs.into());
+            }
             self.heard = now;
             let in_flight = self.ranges.split_off(&(number + 1).saturating_sub(OVERTAKING));
             for lost in std::mem::replace(&mut self.ranges, in_flight).into_values() {
@@ -129,7 +134,7 @@ fn main() {
     let mut receiver =
         Receiver { stream: StreamReceiver::new(vec![0; BEGIN], vec![]), announced: BEGIN as u64 };
     let mut sender = Sender {
-        stream: SendBuffer::new(vec![0; BEGIN]),
+        stream: SendBuffer::new(vec![0; BEGIN], vec![], vec![]),
         ranges: BTreeMap::new(),
         next_number: 0,
         max_stream_data: BEGIN as u64,

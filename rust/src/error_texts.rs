@@ -1,7 +1,7 @@
 //! What errors print.
 use std::{error::Error, format, string::ToString};
 
-use crate::finite::FiniteError;
+use crate::finite::{FiniteError, NotSent};
 use crate::scoreboard::ReportError;
 use crate::storage::fragment_table::AcceptError;
 use crate::storage::{Empty, FragmentError, Full, TooManyHolesError};
@@ -21,6 +21,7 @@ macro_rules! errors {
             all(Full, "buffer full", "Full");
             all(Empty, "buffer empty", "Empty");
             all(TooManyHolesError, "too many holes", "TooManyHolesError");
+            all(NotSent, "the range ends above what was sent", "NotSent");
             $(for (error, text) in [$(($type::$variant, $text)),*] {
                 all(error, text, match error { $($type::$variant => stringify!($variant)),* });
             })*

@@ -1,7 +1,8 @@
 //! Streams that end, by TCP's FIN or QUIC's final size. (Not in smoltcp.)
 //!
 //! A [`FiniteReceiver`] receives one, and a [`FiniteSender`] keeps its bytes until they are acknowledged in order. A
-//! [`SendBuffer`] also knows which ranges are acknowledged and lost, as the sending side of QUIC needs.
+//! [`SendBuffer`] also knows which ranges are acknowledged and lost, as the sending side of QUIC needs; a [`SendRanges`] is
+//! that without the bytes.
 //!
 //! ```
 //! use net_base::finite::{FiniteReceiver, FiniteSender};
@@ -31,9 +32,9 @@ use crate::managed::ManagedSlice;
 use crate::storage::{Listed, Run, Storage, TooManyHolesError};
 
 pub use crate::stream::{
-    FiniteError, FiniteReceiver, FiniteReceiverOver, FiniteSender, FiniteSenderOver, LentBytes,
-    RangeAck, SegmentBytes, SendBuffer, SendBufferOver, SentNumbers, StreamRanges,
-    StreamRangesOver, StreamReceiver, StreamReceiverOver,
+    Acknowledged, FiniteError, FiniteReceiver, FiniteReceiverOver, FiniteSender, FiniteSenderOver,
+    LentBytes, NotSent, SegmentBytes, SendBuffer, SendBufferOver, SendRanges, SendRangesOver,
+    SentNumbers, StreamRanges, StreamRangesOver, StreamReceiver, StreamReceiverOver,
 };
 
 impl From<TooManyHolesError> for FiniteError {
@@ -150,35 +151,98 @@ impl<'a> StreamRanges<'a> {
     }
 }
 
-impl<'a, const N: usize> SendBuffer<'a, N> {
+impl<'a> SendRanges<'a> {
+    /// Returns what is known of a stream that begins at position 0, as a stream of QUIC does, to which nothing was
+    /// written.
+    ///
+    /// ```
+    /// # use net_base::finite::SendRanges;
+    /// # use net_base::storage::Run;
+    /// let (mut acknowledged, mut settled) = ([Run::EMPTY; 2], [Run::EMPTY; 2]);
+    /// assert_eq!(SendRanges::new(&mut acknowledged, &mut settled).numbers_end(), 0);
+    /// ```
+    ///
+    /// # Panics
+    ///
+    /// If one storage has more runs than the other.
+    #[must_use]
+    #[track_caller]
+    pub fn new<A, D>(acknowledged: A, settled: D) -> Self
+    where
+        A: Into<ManagedSlice<'a, Run>>,
+        D: Into<ManagedSlice<'a, Run>>,
+    {
+        SendRanges::new_at(acknowledged, settled, 0)
+    }
+
+    /// Returns what is known of a stream that begins at position `first`, to which nothing was written.
+    ///
+    /// ```
+    /// # use net_base::finite::SendRanges;
+    /// // Empty vectors allocate nothing.
+    /// let mut ranges = SendRanges::new_at(vec![], vec![], 1);
+    /// assert_eq!((ranges.write(5), ranges.numbers_end()), (5, 6));
+    /// ```
+    ///
+    /// # Panics
+    ///
+    /// If one storage has more runs than the other, or `first` is `u64::MAX`: no number is left for the end.
+    #[must_use]
+    #[track_caller]
+    pub fn new_at<A, D>(acknowledged: A, settled: D, first: u64) -> Self
+    where
+        A: Into<ManagedSlice<'a, Run>>,
+        D: Into<ManagedSlice<'a, Run>>,
+    {
+        SendRanges::over_at(acknowledged.into(), settled.into(), first)
+    }
+}
+
+impl<'a> SendBuffer<'a> {
     /// Returns a buffer of a stream that begins at position 0, as a stream of QUIC does, to which nothing was written.
     ///
     /// ```
     /// # use net_base::finite::SendBuffer;
     /// let mut storage = [0; 16];
-    /// assert_eq!(SendBuffer::<8>::new(&mut storage).window(), 16);
+    /// assert_eq!(SendBuffer::new(&mut storage, vec![], vec![]).window(), 16);
     /// ```
+    ///
+    /// # Panics
+    ///
+    /// If one storage of runs has more than the other.
     #[must_use]
-    pub fn new<S: Into<ManagedSlice<'a, u8>>>(storage: S) -> Self {
-        SendBufferOver::over_at(storage.into(), 0)
+    #[track_caller]
+    pub fn new<S, A, D>(storage: S, acknowledged: A, settled: D) -> Self
+    where
+        S: Into<ManagedSlice<'a, u8>>,
+        A: Into<ManagedSlice<'a, Run>>,
+        D: Into<ManagedSlice<'a, Run>>,
+    {
+        SendBuffer::new_at(storage, acknowledged, settled, 0)
     }
 
     /// Returns a buffer of a stream that begins at position `first`, to which nothing was written.
     ///
     /// ```
     /// # use net_base::finite::SendBuffer;
+    /// # use net_base::storage::Run;
     /// let mut storage = [0; 16];
-    /// let mut buffer = SendBuffer::<4>::new_at(&mut storage[..], 1);
+    /// let mut buffer = SendBuffer::new_at(&mut storage, vec![Run::EMPTY; 4], vec![Run::EMPTY; 4], 1);
     /// assert_eq!((buffer.write(b"hello"), buffer.window()), (5, 11));
     /// ```
     ///
     /// # Panics
     ///
-    /// If `first` is `u64::MAX`: no number is left for the end.
+    /// If one storage of runs has more than the other, or `first` is `u64::MAX`: no number is left for the end.
     #[must_use]
     #[track_caller]
-    pub fn new_at<S: Into<ManagedSlice<'a, u8>>>(storage: S, first: u64) -> Self {
-        SendBufferOver::over_at(storage.into(), first)
+    pub fn new_at<S, A, D>(storage: S, acknowledged: A, settled: D, first: u64) -> Self
+    where
+        S: Into<ManagedSlice<'a, u8>>,
+        A: Into<ManagedSlice<'a, Run>>,
+        D: Into<ManagedSlice<'a, Run>>,
+    {
+        SendBuffer::over_at(storage.into(), acknowledged.into(), settled.into(), first)
     }
 }
 
@@ -264,7 +328,16 @@ impl<S: Storage<u8>> fmt::Debug for FiniteSenderOver<S> {
     }
 }
 
-impl<S: Storage<u8>, const N: usize> fmt::Debug for SendBufferOver<S, N> {
+impl<R: Storage<Run>> fmt::Debug for SendRangesOver<R> {
+    fn fmt(&self, f: &mut fmt::Formatter) -> fmt::Result {
+        f.debug_struct("SendRanges")
+            .field("numbers", &self.numbers())
+            .field("numbers_end", &self.numbers_end())
+            .finish_non_exhaustive()
+    }
+}
+
+impl<S: Storage<u8>, R: Storage<Run>> fmt::Debug for SendBufferOver<S, R> {
     fn fmt(&self, f: &mut fmt::Formatter) -> fmt::Result {
         f.debug_struct("SendBuffer")
             .field("numbers", &self.numbers())

@@ -1,5 +1,6 @@
 //! A stream of bytes: what receives it, and what sends it. Public are [`crate::receiver`], [`crate::finite`],
 //! [`crate::scoreboard`] and [`crate::sequence_number`].
+pub(crate) mod board;
 pub(crate) mod finite_receiver;
 pub(crate) mod finite_receiver_head;
 pub(crate) mod finite_sender;
@@ -14,6 +15,7 @@ pub(crate) mod scoreboard;
 pub(crate) mod scoreboard_head;
 pub(crate) mod segment_bytes;
 pub(crate) mod send_buffer;
+pub(crate) mod send_ranges;
 pub(crate) mod sender_head;
 pub(crate) mod sent_numbers;
 pub(crate) mod sequence_number;
@@ -30,7 +32,8 @@ pub use receiver::{Receiver, ReceiverOver};
 pub use scoreboard::Scoreboard;
 pub use scoreboard_head::ReportError;
 pub use segment_bytes::SegmentBytes;
-pub use send_buffer::{RangeAck, SendBuffer, SendBufferOver};
+pub use send_buffer::{SendBuffer, SendBufferOver};
+pub use send_ranges::{Acknowledged, NotSent, SendRanges, SendRangesOver};
 pub use sent_numbers::SentNumbers;
 pub use sequence_number::SequenceNumber;
 pub use stream_ranges::{StreamRanges, StreamRangesOver};

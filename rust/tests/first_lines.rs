@@ -57,7 +57,7 @@ fn streams() {
     let mut receiver = StreamReceiver::new(vec![0; 16], vec![Run::EMPTY; 8]);
     assert!(receiver.keep(0, b"a", true).is_ok());
     // SendBuffer::new(&mut storage)
-    assert_eq!(SendBuffer::<8>::new(&mut storage).write(b"abc"), 3);
+    assert_eq!(SendBuffer::new(&mut storage, vec![], vec![]).write(b"abc"), 3);
     assert_eq!(FiniteSender::new(vec![0; 16]).write(b"abc"), 3);
 }
 

@@ -5,8 +5,9 @@ mod draws;
 
 use draws::{calls, Draw, BYTES};
 use net_base::checksum::{checksum, is_valid, updated_checksum, PartsSum};
-use net_base::finite::{RangeAck, SendBufferOver, SentNumbers};
+use net_base::finite::{SendBufferOver, SentNumbers};
 use net_base::storage::fragment_table::{accept, take_complete, FragmentSlot};
+use net_base::storage::Run;
 use net_base::time::Instant;
 
 #[test]
@@ -25,7 +26,8 @@ fn sums() {
 #[test]
 fn send_buffers() {
     let mut draw = Draw(0xd1b5_4a32_d192_ed03, 0);
-    let mut buffer = SendBufferOver::<_, 2>::over_at([0; 16], 0);
+    let runs = [Run::EMPTY; 2];
+    let mut buffer = SendBufferOver::over_at([0; 16], runs, runs, 0);
     for _ in 0..calls() {
         let before = buffer.numbers();
         if draw.bit() {
@@ -33,13 +35,14 @@ fn send_buffers() {
         }
         let ([from, to, limit], size) = (draw.numbers(), draw.number() as usize);
         match draw.below(16) {
-            0 => buffer = SendBufferOver::over_at([0; 16], from.min(u64::MAX - 1)),
+            0 => buffer = SendBufferOver::over_at([0; 16], runs, runs, from.min(u64::MAX - 1)),
             1..=4 => assert!(buffer.write(draw.bytes(BYTES)) <= 16),
             5 => buffer.close(),
             6..=8 => {
-                let taken = buffer.acknowledge(from..to);
-                assert_eq!(taken == RangeAck::Refused, before.sent < to);
-                assert!(taken != RangeAck::Taken || from >= to || buffer.is_acknowledged(to - 1));
+                let reply = buffer.acknowledge(from..to);
+                assert_eq!(reply.is_err(), before.sent < to);
+                let is_taken = reply.is_ok_and(|it| !it.sent_again);
+                assert!(!is_taken || from >= to || buffer.is_acknowledged(to - 1));
             }
             9 => buffer.lose_all(),
             10 => assert!(buffer.bytes(from..to).front.len() <= 16),
@@ -58,6 +61,7 @@ fn send_buffers() {
         }
         let SentNumbers { first_unacknowledged, sent } = buffer.numbers();
         assert!(first_unacknowledged <= sent && sent <= buffer.numbers_end());
+        assert!(buffer.in_flight() <= sent - first_unacknowledged);
         assert!(buffer.window() <= 16 && (!buffer.is_done() || buffer.is_closed()));
     }
 }

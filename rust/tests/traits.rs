@@ -17,7 +17,7 @@ use net_base::sequence_number::SequenceNumber;
 use net_base::storage::fragment_table::{accept, FragmentSlot};
 use net_base::storage::{
     Assembler, Empty, FragmentError, FragmentsOver, Full, PacketMetadata, PacketsOver, RingBuffer,
-    RingOver, Storage, TooManyHolesError,
+    RingOver, Run, Storage, TooManyHolesError,
 };
 use net_base::time::{Duration, Instant};
 
@@ -184,7 +184,7 @@ fn clones() {
     assert_eq!((slots[0].key, other[0].key), (None, Some(7)));
     let mut newest = finite.receiver().newest_runs(0, &mut [0; 2]);
     assert_eq!((newest.clone().count(), newest.next()), (0, None));
-    let mut buffer = SendBufferOver::<_, 2>::over_at([0u8; 4], 0);
+    let mut buffer = SendBufferOver::over_at([0u8; 4], [Run::EMPTY; 2], [Run::EMPTY; 2], 0);
     assert_eq!((buffer.clone().write(b"ab"), buffer.write(b"abc")), (2, 3));
 }
 
@@ -407,7 +407,7 @@ fn nothing_is_cut() {
     use net_base::finite::SendBuffer;
     use net_base::managed::ManagedSlice;
     assert_eq!(ManagedSlice::from(vec![0u8; 70_000]).iter().count(), 70_000);
-    assert_eq!(SendBuffer::<4>::new_at(vec![0; 4], 1 << 63).numbers_end(), 1 << 63);
+    assert_eq!(SendBuffer::new_at(vec![0; 4], vec![], vec![], 1 << 63).numbers_end(), 1 << 63);
 }
 
 /// A part of a vector that isn't there is refused.

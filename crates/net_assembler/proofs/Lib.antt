@@ -7,3 +7,4 @@ pub mod Holes
 pub mod Moves
 pub mod Calls
 pub mod Searches
+pub mod Cuts

@@ -1,5 +1,6 @@
 -- What the contracts of an assembler's calls say of sets, and laws that proofs of other crates name.
---     Adds, RemovesFront, AddsThenRemovesFront, Compares      what a call's contract says of it
+--     Adds, RemovesFront, Removes, AddsThenRemovesFront, Compares      what a call's contract says of it
+--     CutsRun s o n      a range that would leave a run in two parts
 --     CallsNext rest results last      what calls of `next`, one after another, return and leave
 --     results_of_next rest n       what n of them return
 --     with_ranges s ranges, lies_in_some p ranges      a set with ranges (offset, size), and whether p is in one
@@ -8,7 +9,8 @@ use Rattle.std.specs.Prelude.{None, Result, IsTrue, IsFalse, IsErr, OnOk, OnErr,
 use Rattle.std.specs.List.{list_any}
 use Rattle.std.specs.Iterator.{YieldsFirst}
 use Rattle.net_assembler.specs.declared.assembler.error.TooManyHolesError.{TooManyHolesError}
-use Rattle.net_assembler.specs.Positions.{Positions, contains, nothing, with_range, runs, front, shift_down, lies_in}
+use Rattle.net_assembler.specs.Positions.{Positions, contains, nothing, with_range, without_range, runs, front}
+use Rattle.net_assembler.specs.Positions.{shift_down, lies_in}
 use Rattle.net_assembler.specs.Positions.{maximal_runs, are_same, AreMaximalRuns}
 use Rattle.net_assembler.specs.Assembler.{MakesTooManyRuns}
 
@@ -25,6 +27,20 @@ pub record RemovesFront (most_runs : ℕ) (old : Positions) (result : ℕ) (new 
     Type 0 where
   pub length : result ≡ front old
   pub rest : new ≡ shift_down old (front old)
+  pub bound : runs new ≤ most_runs
+
+-- the range (o, n) isn't empty, and s has it and a position on each side of it: without it a run is two
+pub record CutsRun (s : Positions) (o n : ℕ) : Type 0 where
+  pub some : 0 < n
+  pub after_first : 0 < o
+  pub inside : (q : ℕ) → o ≤ q + 1 → q ≤ o + n → IsTrue (contains s q)
+
+-- the contract of `remove_range`, of one call
+pub record Removes (most_runs : ℕ) (old : Positions) (offset size : ℕ)
+    (result : Result (Unit {0}) TooManyHolesError) (new : Positions) : Type 0 where
+  pub ok : OnOk result (new ≡ without_range old offset size)
+  pub unchanged : OnErr result (new ≡ old)
+  pub refused : IsErr result ↔ (CutsRun old offset size × (most_runs ≤ runs old))
   pub bound : runs new ≤ most_runs
 
 -- the contract of `add_then_remove_front`, of one call

@@ -3,13 +3,14 @@
 --     StartsInRuns h rs o n      the range (o, n) starts before the last run, and isn't empty
 --     StartsLast h rs o n      it doesn't, or is
 --     FrontEnds h rs o n g ts end      where the front ends, once the range (o, n) is there
+--     IsCut rs lo hi ts      runs without the positions from lo on and below hi
 use Rattle.std.specs.Prelude.{◌≡◌, ℕ, ◌+◌, ◌-◌, ◌*◌, ◌<◌, ◌≤◌, List, drop, length, Result, OnErr}
 use Rattle.net_assembler.specs.declared.assembler.error.TooManyHolesError.{TooManyHolesError}
 use Rattle.net_assembler.specs.declared.assembler.head.AssemblerHead.{AssemblerHead}
 use Rattle.net_assembler.specs.AssemblerLaws.{Adds}
-use Rattle.net_assembler.specs.Positions.{front, runs, shift_down, with_range}
-use Rattle.net_assembler.specs.RunLists.{HasSoundRuns, IsCanonical, runs_of, runs_shifted_down, set_of, set_of_runs}
-use Rattle.net_assembler.specs.RunLists.{start_at}
+use Rattle.net_assembler.specs.Positions.{front, runs, shift_down, with_range, without_range}
+use Rattle.net_assembler.specs.RunLists.{AreRuns, FitsFrom, HasSoundRuns, IsCanonical, StartsAtZero, runs_of}
+use Rattle.net_assembler.specs.RunLists.{runs_shifted_down, set_of, set_of_runs, start_at}
 use Rattle.net_assembler.specs.Turns.{TurnsWithin, binary_digits}
 use Rattle.net_ring.specs.Width.{IsUsize}
 
@@ -46,3 +47,10 @@ pub record FrontEnds (head : AssemblerHead) (rs : List (ℕ × ℕ)) (offset siz
   pub front : let all = with_range (set_of head rs) offset size in 0 < end → new_head.first_start + end ≡ front all
   pub rest : let all = with_range (set_of head rs) offset size in let n = new_head.first_start + end in
       0 < end → set_of_runs (runs_shifted_down n (drop 1 (runs_of new_head new_rs))) ≡ shift_down all n
+
+-- runs ts are runs rs without the positions from lo on and below hi; the first of these starts before lo
+pub record IsCut (rs : List (ℕ × ℕ)) (lo hi : ℕ) (ts : List (ℕ × ℕ)) : Type 0 where
+  pub runs : AreRuns ts
+  pub first : StartsAtZero rs → StartsAtZero ts
+  pub fits : (n : ℕ) → FitsFrom n rs → FitsFrom n ts
+  pub set : set_of_runs ts ≡ without_range (set_of_runs rs) lo (hi - lo)

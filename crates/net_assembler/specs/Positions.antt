@@ -1,6 +1,6 @@
 -- Finite sets of positions, ranges of positions, and the maximal runs of a set.
 --     Positions, contains s p, positions s, set_of_list ks, nothing      sets, and what is in them
---     RangeFits o n, with_range s o n      a range, and a set with one
+--     RangeFits o n, with_range s o n, without_range s o n      a range, and a set with one and without one
 --     runs s, maximal_runs s, IsMaximalRun s run, AreMaximalRuns s list      how many maximal runs there
 --         are, and which
 --     holes s      the missing ranges below the end of the last run
@@ -49,6 +49,10 @@ RangeFits o n = IsUsize (o + n)
 -- s with the range (o, n): with the positions from o to o + n - 1
 unfoldable pub with_range : Positions → ℕ → ℕ → Positions
 with_range s o n = set_of_list (positions s ++ range_with_len o n)
+
+-- s without the range (o, n)
+unfoldable pub without_range : Positions → ℕ → ℕ → Positions
+without_range s o n = set_of_list (filter (λ p. not (nat_le o p && nat_lt p (o + n))) (positions s))
 
 -- p is 0, or p - 1 is not in s: where p is in s, a maximal run begins at p
 unfoldable pub begins_run : Positions → ℕ → Bool

@@ -402,7 +402,7 @@ impl<S: Storage<u8>, const N: usize> SendingEndOver<S, N> {
         ensures { IsSegment self.now.sender range.start range.end
             (result.front.now ++ result.back.now) result.fin }
     {
-        self.sender.bytes(range)
+        self.sender.segment_bytes(range)
     }
 
     /// Returns whether all that was written is acknowledged, and the end.

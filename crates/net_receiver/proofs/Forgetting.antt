@@ -1,80 +1,181 @@
--- How many runs a set has beyond its front: with a range one more at most, and one less beyond each run.
-use Rattle.std.specs.List.{count_by}
-use Rattle.net_receiver.proofs.Words.{ℕ, ◌≡◌, ◌<◌, ◌≤◌, ◌+◌, true, false, List, [], ◌∷◌, length, All, arith}
-use Rattle.net_receiver.proofs.Words.{Positions, contains, front, with_range, maximal_runs, beyond, IsMaximalRun, lies_in}
-use Rattle.net_receiver.proofs.Words.{contains-with_range, contains-shift_up, contains-shift_down, nat_tests, All-head, nothing}
-use Rattle.net_receiver.proofs.Words.{contains-nothing, runs-nothing, All-tail, same_positions, too_many, nat_le, ◌&&◌, ap}
-use Rattle.net_receiver.proofs.Scoreboards.{front_misses, front_has}
-use Rattle.net_receiver.specs.{runs_above, HasNoRoom}
-use Rattle.net_receiver.specs.SendBuffers.{runs_beyond, left_above}
-use Rattle.net_assembler.proofs.Sets.{front-is, front-with_range, runs-maximal_runs}
-use Rattle.net_assembler.proofs.Runs.{one_run_more, are_maximal_runs}
+-- What is left of a scoreboard once a range is forgotten.
+use Rattle.std.specs.Prelude.{IsFalse, Ok, Err, Result, IsOk}
+use Rattle.net_assembler.proofs.Cuts.{contains-without_range}
+use Rattle.net_assembler.proofs.SoundHeads.{added_accepted, runs-set_of}
+use Rattle.net_assembler.specs.AssemblerLaws.{Adds, CutsRun, Removes}
+use Rattle.net_assembler.specs.Positions.{IsEnd, without_range}
+use Rattle.net_receiver.proofs.Scoreboards.{board_below, added_within, contains-board, front_board}
+use Rattle.net_receiver.proofs.Words.{◌≡◌, ℕ, ◌+◌, ◌-◌, ◌<◌, ◌≤◌, ◌^◌, ◌&&◌, ◌∙◌, ◌||◌, ◌⊎◌, min, not, nat_le, nat_lt, true, false, ap, arith}
+use Rattle.net_receiver.proofs.Words.{sym, subst, refl, IsTrue, Positions, contains, front, nothing, runs, shift_up, with_range}
+use Rattle.net_receiver.proofs.Words.{board, both_ways, cases_lt, contains-nothing, contains-shift_up, contains-with_range}
+use Rattle.net_receiver.proofs.Words.{either, false_from_ne_true, first_missing, first_missing-misses, nat_tests}
+use Rattle.net_receiver.proofs.Words.{TooManyHolesError, List, [], ◌∷◌, All, All-head, All-tail, IsMaximalRun, Option, None}
+use Rattle.net_receiver.proofs.Words.{Some, zero, suc, slice_get, maximal_runs, first_missing-le, is_ok}
+use Rattle.net_assembler.proofs.Runs.{are_maximal_runs}
+use Rattle.std.specs.Prelude.{◌↔◌}
+use Rattle.net_receiver.specs.Scoreboards.{Forgets}
+use Rattle.net_ring.specs.Width.{shortfall}
 
--- ---- A range beyond the front.
-contains-beyond : (s : Positions) (q : ℕ) → contains (beyond s) q ≡ (nat_le (front s) q && contains s q)
-contains-beyond s q = grind (arith, nat_tests, contains-shift_up, contains-shift_down)
+ruleset sets = (contains-without_range, contains-shift_up, contains-with_range, contains-nothing, contains-board, nat_tests)
 
-pub front_stays : (s : Positions) (o n : ℕ) → front s < o → front (with_range s o n) ≡ front s
-front_stays s o n after =
-    front-is (with_range s o n) (front s) (grind (arith, nat_tests, contains-with_range, front_misses))
-    (λ q below. grind (arith, nat_tests, contains-with_range, front_has))
+-- a number of 32 bits is one of any `usize`
+pub narrow : 2 ^ 32 + shortfall ≤ 2 ^ 64
+unfolding shortfall
+narrow = omega arith
 
-beyond_stays : (s : Positions) (o n : ℕ) → front s < o → beyond (with_range s o n) ≡ with_range (beyond s) o n
-beyond_stays s o n after =
-    let same = front_stays s o n after in
-    same_positions _ _ (λ q. grind (arith, nat_tests, contains-beyond, contains-with_range))
+module _ (b : ℕ) (s : Positions) (begins : contains s 0 ≡ false) (start end : ℕ) (some : start < end) where
+  at_front : front (board b s) ≡ b
+  at_front = front_board b s begins
 
-pub one_more_beyond : (s : Positions) (o n : ℕ) → front s < o → runs_beyond (with_range s o n) ≤ runs_beyond s + 1
-one_more_beyond s o n after =
-    let same = ap (λ t. length (maximal_runs t)) (beyond_stays s o n after) in
-    let more = one_run_more (beyond s) o n in
-    let was = runs-maximal_runs (beyond s) in
-    let is = runs-maximal_runs (with_range (beyond s) o n) in
-    omega (arith, same, more, was, is)
+  -- ---- a range at the base or beyond it
+  pub beyond_forgotten : (used most : ℕ) (t : Positions) (lo hi : ℕ) → b ≤ start → t ≡ without_range s lo (hi - lo) →
+      lo ≤ start - b → ((q : ℕ) → contains s q ≡ true → q < end - b → q < hi) →
+      (used < most → (q : ℕ) → contains s q ≡ true → lo ≤ q → q < hi → (start - b ≤ q) × (q < end - b)) →
+      Forgets used most (board b s) start end (board b t)
+  beyond_forgotten used most t lo hi low is from to exact =
+      let left : (q : ℕ) → contains t q ≡ (contains s q && not (nat_le lo q && nat_lt q (lo + (hi - lo)))) =
+      λ q. ap (λ u. contains u q) is ∙ contains-without_range s lo (hi - lo) q in
+      record {
+        less = λ p has. let l = left (p - b) in grind (arith, sets, l);
+        gone = λ p a c. let l = left (p - b) in let last = to (p - b) in grind (arith, sets, l, last, from, low, a, c);
+        none = λ e. absurd (omega arith);
+        below = λ p l. board_below b t p (omega (arith, l, at_front));
+        room = λ few near p out. let l = left (p - b) in let in_range = exact few (p - b) in grind (arith, sets, l, in_range, low, out);
+      }
 
--- nothing is beyond all below a position
-pub none_beyond : (k : ℕ) → runs_beyond (with_range nothing 0 k) ≡ 0
-none_beyond k =
-    let at = front-with_range nothing k (contains-nothing k) in
-    let same : beyond (with_range nothing 0 k) ≡ nothing =
-    same_positions _ _ (λ q. grind (arith, nat_tests, contains-beyond, contains-with_range, contains-nothing)) in
-    let none = runs-maximal_runs nothing in
-    let is = ap (λ t. length (maximal_runs t)) same in
-    omega (arith, is, none, runs-nothing)
+  pub beyond_begins : (t : Positions) (lo n : ℕ) → t ≡ without_range s lo n → contains t 0 ≡ false
+  beyond_begins t lo n is = ap (λ u. contains u 0) is ∙ contains-without_range s lo n 0 ∙ grind (arith, nat_tests, begins)
 
-pub room_for_one : (most : ℕ) (s : Positions) (o n : ℕ) → runs_beyond s < most → HasNoRoom most s o n → ⊥
-room_for_one most s o n few none =
-    let many = (too_many most (beyond s) o n).0 none.1 in
-    let more = one_run_more (beyond s) o n in
-    let was = runs-maximal_runs (beyond s) in
-    absurd (omega (arith, many, more, was))
+  pub beyond_fits : (t : Positions) (lo n : ℕ) → t ≡ without_range s lo n →
+      ((p : ℕ) → IsTrue (contains s p) → b + p + 1 < 2 ^ 64) → (p : ℕ) → IsTrue (contains t p) → b + p + 1 < 2 ^ 64
+  beyond_fits t lo n is fits p has =
+      let l = ap (λ u. contains u p) is ∙ contains-without_range s lo n p in let m = fits p in
+      grind (arith, nat_tests, l, m, has)
 
--- ---- The runs above a position.
-fewer_above : (rs : List (ℕ × ℕ)) (p q : ℕ) → p ≤ q → length (runs_above rs q) ≤ length (runs_above rs p)
-fewer_above [] p q le = omega arith
-fewer_above (r ∷ rs) p q le = let rest = fewer_above rs p q le in grind (arith, nat_tests)
+  -- ---- a range that begins below the base: t is left beyond it
+  module _ (low : start < b) (t : Positions) (last : ℕ)
+      (is : (q : ℕ) → contains t q ≡ (contains s q && not (nat_lt q (end - b)))) (top : IsEnd t last) where
+    -- too far
+    pub far_forgotten : (used most : ℕ) (u : Positions) → u ≡ with_range nothing 0 start → 2 ^ 32 ≤ b - start + last →
+        Forgets used most (board b s) start end u
+    far_forgotten used most u e far =
+        let left : (q : ℕ) → contains u q ≡ nat_lt q start = λ q. ap (λ v. contains v q) e ∙ grind (arith, sets) in
+        record {
+          less = λ p has. let l = left p in grind (arith, sets, l, low);
+          gone = λ p a c. let l = left p in grind (arith, sets, l, a);
+          none = λ e. absurd (omega arith);
+          below = λ p l. let m = left p in grind (arith, sets, l, m);
+          room = λ few near p out. absurd (
+              either (cases_lt 0 last)
+              (λ more.
+              let has = top.reached more in
+              let old = is (last - 1) in
+              let at : b + (last - 1) - b ≡ last - 1 = omega arith in
+              let l = near (b + (last - 1)) (grind (arith, sets, has, old, at)) in
+              omega (arith, l, far, at_front, low, more))
+              (λ none.
+              let l = near (b - 1) (board_below b s (b - 1) (omega (arith, low))) in
+              omega (arith, l, far, none, at_front, low)));
+        }
 
-one_fewer : (s : Positions) (rs : List (ℕ × ℕ)) (p q x : ℕ) → All (IsMaximalRun s) rs → contains s p ≡ false → p < x →
-    x ≤ q → 0 < count_by (lies_in x) rs → length (runs_above rs q) + 1 ≤ length (runs_above rs p)
-one_fewer s [] p q x all missing after by some = absurd (omega arith)
-one_fewer s (r ∷ rs) p q x all missing after by some =
-    let inside = (All-head (IsMaximalRun s) r rs all).inside p in
-    let rest = one_fewer s rs p q x (All-tail (IsMaximalRun s) r rs all) missing after by in
-    let fewer = fewer_above rs p q (omega arith) in
-    grind (arith, nat_tests)
+    pub raised_begins : contains (shift_up t (b - start)) 0 ≡ false
+    raised_begins = grind (arith, sets, low)
 
-all_above : (rs : List (ℕ × ℕ)) (p : ℕ) → length (runs_above rs p) ≤ length rs
-all_above [] p = omega arith
-all_above (r ∷ rs) p = let rest = all_above rs p in grind (arith, nat_tests)
+    pub raised_fits : ((p : ℕ) → IsTrue (contains s p) → b + p + 1 < 2 ^ 64) → (p : ℕ) →
+        IsTrue (contains (shift_up t (b - start)) p) → start + p + 1 < 2 ^ 64
+    raised_fits fits p has =
+        let old = is (p - (b - start)) in let m = fits (p - (b - start)) in grind (arith, sets, old, m, has, low)
 
-pub all_left : (s : Positions) (p : ℕ) → left_above s p ≤ runs_beyond s
-all_left s p = all_above (maximal_runs (beyond s)) p
+    -- the range ends at the base or beyond it
+    pub cut_forgotten : (used most : ℕ) (u : Positions) → u ≡ shift_up t (b - start) → b ≤ end →
+        Forgets used most (board b s) start end (board start u)
+    cut_forgotten used most u e high =
+        let left : (q : ℕ) → contains u q ≡ (nat_le (b - start) q && contains t (q - (b - start))) =
+        λ q. ap (λ v. contains v q) e ∙ contains-shift_up t (b - start) q in
+        let at : (p : ℕ) → b ≤ p → p - start - (b - start) ≡ p - b = λ p l. omega (arith, low, l) in
+        record {
+          less = λ p has. let l = left (p - start) in let o = is (p - b) in let z = at p in grind (arith, sets, l, o, z, low, has);
+          gone = λ p a c. let l = left (p - start) in let o = is (p - b) in let z = at p in grind (arith, sets, l, o, z, low, a, c);
+          none = λ e. absurd (omega arith);
+          below = λ p l. board_below start u p (omega (arith, l));
+          room = λ few near p out.
+              let l = left (p - start) in let o = is (p - b) in let z = at p in grind (arith, sets, l, o, z, low, high, out);
+        }
 
--- a run between a missing position and another
-pub run_passed : (s : Positions) (p q x : ℕ) → front s ≤ p → contains s p ≡ false → p < x → x ≤ q →
-    contains s x ≡ true → left_above s q + 1 ≤ left_above s p
-run_passed s p q x low missing after by has =
-    let is = are_maximal_runs (beyond s) in
-    let one = is.complete x (grind (arith, nat_tests, contains-beyond)) in
-    one_fewer (beyond s) (maximal_runs (beyond s)) p q x is.maximal (grind (arith, nat_tests, contains-beyond)) after by
-    (omega (arith, one))
+    -- it ends below it
+    pub kept_forgotten : (used most : ℕ) (r : Result (Unit {0}) TooManyHolesError) (u v : Positions) →
+        u ≡ shift_up t (b - start) → end < b → Adds most u (end - start) (b - end) r v → runs u ≤ used →
+        Forgets used most (board b s) start end (board start v)
+    kept_forgotten used most r u v e high added few_runs =
+        let left : (q : ℕ) → contains u q ≡ (nat_le (b - start) q && contains t (q - (b - start))) =
+        λ q. ap (λ w. contains w q) e ∙ contains-shift_up t (b - start) q in
+        let at : (p : ℕ) → b ≤ p → p - start - (b - start) ≡ p - b = λ p l. omega (arith, low, l) in
+        let both : (q : ℕ) → contains v q ≡ true → contains u q ≡ true ⊎ ((end - start ≤ q) × (q < end - start + (b - end))) =
+        added_within most u (end - start) (b - end) r v added in
+        record {
+          less = λ p has.
+              let l = left (p - start) in let o = is (p - b) in let z = at p in let w = both (p - start) in
+              grind (arith, sets, l, o, z, w, low, has);
+          gone = λ p a c.
+              false_from_ne_true _ (λ has.
+              let l = left (p - start) in let o = is (p - b) in let z = at p in
+              let here = contains-board start v p in
+              let in_v : contains v (p - start) ≡ true = grind (arith, nat_tests, here, a, has) in
+              either (both (p - start) in_v)
+              (λ old. both_ways _ (grind (arith, nat_tests, l, o, z, low, a, c)) old)
+              (λ new. absurd (omega (arith, new.0, a, c))));
+          none = λ e. absurd (omega arith);
+          below = λ p l. board_below start v p (omega (arith, l));
+          room = λ few near p out.
+              let ok = added_accepted most u (end - start) (b - end) r v added (omega (arith, few_runs, few)) in
+              let all = all_of r v ok added in
+              let m = all (p - start) in
+              let l = left (p - start) in let o = is (p - b) in let z = at p in
+              grind (arith, sets, m, l, o, z, low, high, out);
+        }
+      where
+        all_of : (r : Result (Unit {0}) TooManyHolesError) (v : Positions) → IsOk r → Adds most u (end - start) (b - end) r v →
+            (q : ℕ) → contains v q ≡ (contains u q || (nat_le (end - start) q && nat_lt q (end - start + (b - end))))
+        all_of (Ok x) v ok added q = ap (λ w. contains w q) added.ok ∙ contains-with_range u (end - start) (b - end) q
+        all_of (Err x) v ok added q = absurd (cc)
+
+-- ---- What a call that removes a range says: it does so, or the range cuts a run.
+pub removed_left : (n : ℕ) (s : Positions) (o k : ℕ) (r : Result (Unit {0}) TooManyHolesError) (t : Positions) →
+    Removes n s o k r t → (CutsRun s o k → ⊥) → t ≡ without_range s o k
+removed_left n s o k (Ok u) t removes whole = removes.ok
+removed_left n s o k (Err e) t removes whole = absurd (whole (removes.refused.0 refl).0)
+
+pub removed_ok : (n : ℕ) (s : Positions) (o k : ℕ) (r : Result (Unit {0}) TooManyHolesError) (t : Positions) →
+    Removes n s o k r t → is_ok r ≡ true → t ≡ without_range s o k
+removed_ok n s o k (Ok u) t removes ok = removes.ok
+removed_ok n s o k (Err e) t removes ok = absurd (cc)
+
+pub removed_err : (n : ℕ) (s : Positions) (o k : ℕ) (r : Result (Unit {0}) TooManyHolesError) (t : Positions) →
+    Removes n s o k r t → is_ok r ≡ false → (t ≡ s) × (n ≤ runs s)
+removed_err n s o k (Ok u) t removes ok = absurd (cc)
+removed_err n s o k (Err e) t removes ok = (removes.unchanged, (removes.refused.0 refl).1)
+
+pub whole_to_missing : (s : Positions) (from to last : ℕ) → from ≤ to → last ≡ first_missing s to →
+    CutsRun s from (last - from) → ⊥
+whole_to_missing s from to last order is cuts =
+    let le = first_missing-le s to in
+    both_ways _ (ap (contains s) is ∙ first_missing-misses s to)
+    (cuts.inside last (omega (arith, order, le, is)) (omega (arith, order, le, is)))
+
+abbrev from_some : ℕ × ℕ → Option (ℕ × ℕ) → ℕ × ℕ
+from_some d None = d
+from_some d (Some r) = r
+
+all_at : (s : Positions) (rs : List (ℕ × ℕ)) (k : ℕ) (r : ℕ × ℕ) → All (IsMaximalRun s) rs → slice_get rs k ≡ Some r →
+    IsMaximalRun s r
+all_at s [] zero r all e = absurd (cc)
+all_at s [] (suc k) r all e = absurd (cc)
+all_at s (x ∷ rs) zero r all e = subst (IsMaximalRun s) (ap (from_some x) e) (All-head (IsMaximalRun s) x rs all)
+all_at s (x ∷ rs) (suc k) r all e = all_at s rs k r (All-tail (IsMaximalRun s) x rs all) e
+
+pub whole_from_run : (s : Positions) (k to : ℕ) (r : ℕ × ℕ) → Some r ≡ slice_get (maximal_runs s) k →
+    CutsRun s r.0 (to - r.0) → ⊥
+whole_from_run s k to r is cuts =
+    let run = all_at s (maximal_runs s) k r (are_maximal_runs s).maximal (sym is) in
+    both_ways _ (run.begun cuts.after_first)
+    (cuts.inside (r.0 - 1) (omega (arith, cuts.after_first)) (omega (arith, cuts.after_first)))

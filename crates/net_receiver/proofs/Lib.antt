@@ -9,9 +9,9 @@ pub mod KeptLists
 pub mod OneStream
 pub mod NewestRuns
 pub mod Scoreboards
-pub mod FiniteReceivers
 pub mod Forgetting
-pub mod SendBuffers
+pub mod FiniteReceivers
+pub mod SendRanges
 pub mod Segments
 pub mod Senders
 pub mod BoardSearches

@@ -4,6 +4,7 @@
 --     HasNoRoom most s o n      a range isn't stored, since there would be too many runs
 --     IsReport first sent start end      a block that can be: of positions that were sent, and not too far above the
 --         first missing one
+--     Forgets used most s start end left      what is left once a range is forgotten
 --     IsSoundBoard h runs      what is true of the parts of a scoreboard
 --     IsSoundScoreboard n s      what is true of its positions, if n runs have room
 --     IsEnd s n      n is the position after the last one
@@ -16,7 +17,7 @@
 --     LossesCountAll      which runs are above a position that isn't reported
 --     IsHole s p limit hole      the first range of positions from p on, below the limit, that s lacks, if there is one
 use Rattle.std.specs.Prelude.{◌≡◌, ℕ, ◌+◌, ◌-◌, ◌<◌, ◌≤◌, ◌^◌, min, List, [], ◌∷◌, length, IsTrue, IsFalse, ◌*◌, ◌↔◌}
-use Rattle.std.specs.Prelude.{◌||◌, max, nat_le, nat_lt, Bool, if◌then◌else◌, count_by, Option, Some, None}
+use Rattle.std.specs.Prelude.{◌||◌, ◌&&◌, max, nat_le, nat_lt, Bool, if◌then◌else◌, count_by, Option, Some, None}
 use Rattle.net_assembler.specs.Assembler.{MakesTooManyRuns}
 use Rattle.net_assembler.specs.Positions.{Positions, contains, first_missing, front, maximal_runs, with_range}
 use Rattle.net_assembler.specs.Positions.{shift_up, shift_down, lies_in}
@@ -52,6 +53,16 @@ pub record IsReport (first sent start end : ℕ) : Type 0 where
   pub some : start < end
   pub was_sent : end ≤ sent
   pub near : first < start → end < first + 2 ^ 32
+
+-- nothing of the range is left, and nothing is new; what is below the range and the front stays; and if of the most runs
+-- some have room, and each position ends less than 2 ^ 32 above the range's start and the front, all else stays
+pub record Forgets (used most : ℕ) (s : Positions) (start end : ℕ) (left : Positions) : Type 0 where
+  pub less : (p : ℕ) → IsTrue (contains left p) → IsTrue (contains s p)
+  pub gone : (p : ℕ) → start ≤ p → p < end → IsFalse (contains left p)
+  pub none : end ≤ start → left ≡ s
+  pub below : (p : ℕ) → p < min start (front s) → IsTrue (contains left p)
+  pub room : used < most → ((p : ℕ) → IsTrue (contains s p) → p + 1 < min start (front s) + 2 ^ 32) → (p : ℕ) →
+      IsFalse (nat_le start p && nat_lt p end) → contains left p ≡ contains s p
 
 -- a head and runs are those of a scoreboard: the runs are sound, the base is missing, and each reported
 -- position and its end are numbers of 64 bits

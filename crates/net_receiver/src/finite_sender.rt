@@ -9,14 +9,17 @@ ghost use Rattle.net_receiver.specs.{end_of, Sends, no_end, MatchesFinite, IsLen
 ghost use Rattle.net_receiver.specs.{IsSoundFiniteSender, fresh_finite_sender, first_number, numbers_end, finite_room};
 ghost use Rattle.net_receiver.specs.{with_bytes, closed_sender, acknowledged_below, sent_after};
 ghost use Rattle.net_receiver.specs.FiniteSender.{moved_finite_sender};
+ghost use Rattle.net_receiver.specs.Segments.{IsSegment};
 
 use crate::finite_sender_head::FiniteSenderHead;
 use crate::laws;
 use crate::lent_bytes::LentBytes;
+use crate::segment_bytes::SegmentBytes;
 use crate::sent_numbers::SentNumbers;
 use net_ring::{ManagedSlice, Storage};
 use std::marker::Model;
 use std::mem::replace;
+use std::ops::Range;
 
 /// A [`FiniteSender`] over any storage.
 ///
@@ -551,5 +554,34 @@ impl<S: Storage<u8>> FiniteSenderOver<S> {
         ensures room { length self.now.sender.queue ≤ self.now.sender.capacity }
     {
         let _ = &self.head;
+    }
+
+    /// Lends the bytes of a range, in two parts, and returns whether the stream ends after them, as `peek_at` does for
+    /// those that are contiguous in the storage. If the range begins below `first_number`, it lends none.
+    ///
+    /// ```
+    /// # use net_base::finite::FiniteSender;
+    /// # let mut storage = [0u8; 64];
+    /// # let mut sender = FiniteSender::new_at(&mut storage[..], 0);
+    /// assert_eq!(sender.write(b"abcdef"), 6);
+    /// sender.close();
+    /// assert_eq!((sender.segment_bytes(2..5).front, sender.segment_bytes(2..5).fin), (&b"cde"[..], false));
+    /// // The end has the number 6.
+    /// assert_eq!((sender.segment_bytes(2..7).front, sender.segment_bytes(2..7).fin), (&b"cdef"[..], true));
+    /// ```
+    #[must_use]
+    #[tactic(auto, using(crate::proofs::Segments::segments))]
+    pub fn segment_bytes(&self, range: Range<u64>) -> SegmentBytes<'_>
+        ensures { IsSegment self.now range.start range.end
+            (result.front.now ++ result.back.now) result.fin }
+    {
+        let front = self.peek_at(range.start, range.end).bytes;
+        let after = range.start + front.len() as u64;
+        let back = self.peek_at(after, range.end);
+        SegmentBytes {
+            front,
+            back: back.bytes,
+            fin: back.fin,
+        }
     }
 }

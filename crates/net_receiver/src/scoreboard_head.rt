@@ -5,12 +5,13 @@
 
 #![tactic(auto, using(crate::proofs::Scoreboards::heads))]
 
-ghost use Rattle.std.specs.Prelude.{◌≡◌, ◌↔◌, ◌-◌, ◌≤◌, ◌^◌, List, ℕ, length, min, IsTrue, Err, OnOk, OnErr};
+ghost use Rattle.std.specs.Prelude.{◌≡◌, ◌↔◌, ◌-◌, ◌<◌, ◌≤◌, ◌^◌, List, ℕ, length, min, IsTrue, Err, OnOk, OnErr};
 ghost use Rattle.net_assembler.specs.Positions.{contains, first_missing, front, maximal_runs, missing_count};
 ghost use Rattle.net_assembler.specs.Positions.{nothing, with_range};
-ghost use Rattle.net_assembler.specs.RunLists.{IsCanonical};
+ghost use Rattle.net_assembler.specs.AssemblerLaws.{CutsRun};
+ghost use Rattle.net_assembler.specs.RunLists.{IsCanonical, set_of};
 ghost use Rattle.net_ring.specs.Width.{shortfall};
-ghost use Rattle.net_receiver.specs.Scoreboards.{HasNoRoom, IsEnd, IsNextHole, IsReport, IsSoundBoard, beyond};
+ghost use Rattle.net_receiver.specs.Scoreboards.{Forgets, HasNoRoom, IsEnd, IsNextHole, IsReport, IsSoundBoard, beyond};
 ghost use Rattle.net_receiver.specs.Scoreboards.{reported_by, IsLossBound};
 ghost use Rattle.net_receiver.specs.NewHeads.{scoreboard_head};
 
@@ -185,6 +186,120 @@ impl ScoreboardHead {
         self.reported.shift(runs, count);
         let front = self.reported.remove_front(runs);
         self.base = next + front as u64;
+    }
+
+    /// Copies the runs to the beginning of others, with which the head then is sound as it was with these.
+    ///
+    /// # Requires
+    ///
+    /// The scoreboard is sound with the runs, and the others are no fewer.
+    pub(crate) fn move_runs(&self, runs: &[Run], more: &mut [Run])
+        requires sound { IsSoundBoard self.now runs.now }
+        requires more { length runs.now ≤ length more.old }
+        ensures sound { IsSoundBoard self.now more.new }
+        ensures set { reported_by self.now more.new ≡ reported_by self.now runs.now }
+    {
+        let used = self.reported.used;
+        more[..used].copy_from_slice(&runs[..used]);
+    }
+
+    /// Forgets the positions from `start` on and below `end`.
+    ///
+    /// If that would cut a run in two, and there are as many runs as the slice has elements, the shorter part of it is
+    /// forgotten too; of the positions below `base`, those at or after `end`. If `start` is below `base`, and a position
+    /// 2^32 or more above it was reported, all from `start` on are forgotten.
+    ///
+    /// # Requires
+    ///
+    /// The scoreboard is sound with the runs.
+    pub(crate) fn forget(&mut self, runs: &mut [Run], start: u64, end: u64)
+        requires { IsSoundBoard self.old runs.old }
+        ensures sound { IsSoundBoard self.new runs.new }
+        ensures forgets { Forgets self.old.reported.used (length runs.old) (reported_by self.old runs.old) start end
+            (reported_by self.new runs.new) }
+        ensures none { end ≤ start → (self.new ≡ self.old) × (runs.new ≡ runs.old) }
+        ensures canonical { IsCanonical self.old.reported → IsCanonical self.new.reported }
+    {
+        if start >= end {
+            return;
+        }
+        if start < self.base {
+            self.forget_below(runs, start, end);
+        } else {
+            self.forget_beyond(runs, start, end);
+        }
+    }
+
+    /// Forgets a range that begins below `base`.
+    fn forget_below(&mut self, runs: &mut [Run], start: u64, end: u64)
+        requires sound { IsSoundBoard self.old runs.old }
+        requires some { start < end }
+        requires below { start < self.old.base }
+        ensures sound { IsSoundBoard self.new runs.new }
+        ensures forgets { Forgets self.old.reported.used (length runs.old) (reported_by self.old runs.old) start end
+            (reported_by self.new runs.new) }
+        ensures canonical { IsCanonical self.old.reported → IsCanonical self.new.reported }
+    {
+        let base = self.base;
+        let to = self.offset_of(end);
+        self.reported.remove_below(runs, to);
+        if base - start + self.reported.end(runs) as u64 > u64::from(u32::MAX) {
+            *self = ScoreboardHead::new_at(start);
+            return;
+        }
+        self.base = start;
+        prove!(base - start <= most() as u64, "in any `usize`");
+        self.reported.raise(runs, (base - start) as usize);
+        if end < base {
+            prove!(end - start <= most() as u64, "in any `usize`");
+            prove!(base - end <= most() as u64, "in any `usize`");
+            // Without room for one more run these are forgotten too.
+            let _ = self
+                .reported
+                .add(runs, (end - start) as usize, (base - end) as usize);
+        }
+    }
+
+    /// Forgets a range that begins at `base` or beyond it.
+    fn forget_beyond(&mut self, runs: &mut [Run], start: u64, end: u64)
+        requires sound { IsSoundBoard self.old runs.old }
+        requires some { start < end }
+        requires beyond { self.old.base ≤ start }
+        ensures sound { IsSoundBoard self.new runs.new }
+        ensures forgets { Forgets self.old.reported.used (length runs.old) (reported_by self.old runs.old) start end
+            (reported_by self.new runs.new) }
+        ensures canonical { IsCanonical self.old.reported → IsCanonical self.new.reported }
+    {
+        let from = self.offset_of(start);
+        let to = self.offset_of(end);
+        if self.reported.remove_range(runs, from, to).is_ok() {
+            return;
+        }
+        // It is within a run, and there is no room for another: one part of the run goes with it.
+        let (low, high) = self.part_of_run(runs, from, to);
+        let _ = self.reported.remove_range(runs, low, high);
+    }
+
+    /// Returns a range of offsets with what is before it in its run, or with what is after it, whichever is less. Without
+    /// that the run isn't cut in two.
+    fn part_of_run(&self, runs: &[Run], from: usize, to: usize) -> (usize, usize)
+        requires sound { IsSoundBoard self.now runs.now }
+        requires order { from ≤ to }
+        ensures low { result.0 ≤ from }
+        ensures high { to ≤ result.1 }
+        ensures whole { CutsRun (set_of self.now.reported runs.now) result.0 (result.1 - result.0) → ⊥ }
+    {
+        let last = self.reported.first_missing(runs, to);
+        let by = self.reported.runs_by(runs, from);
+        match self.reported.run_at(runs, by.saturating_sub(1)) {
+            Some((first, _)) => {
+                if first > from || from - first >= last - to {
+                    return (from, last);
+                }
+                (first, to)
+            }
+            None => (from, last),
+        }
     }
 
     /// Returns the first position that wasn't reported.

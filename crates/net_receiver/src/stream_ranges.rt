@@ -175,7 +175,7 @@ impl<R: Storage<Run>> StreamRangesOver<R> {
         requires { self.old.capacity ≤ larger }
         ensures { self.new ≡ record self.old { capacity = larger } }
     {
-        prove!(larger >= self.capacity, "a smaller capacity");
+        prove!(larger >= self.capacity(), "a smaller capacity");
         self.capacity = larger;
     }
 

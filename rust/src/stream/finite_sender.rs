@@ -4,8 +4,10 @@
 use crate::storage::{ManagedSlice, Storage};
 use crate::stream::finite_sender_head::FiniteSenderHead;
 use crate::stream::lent_bytes::LentBytes;
+use crate::stream::segment_bytes::SegmentBytes;
 use crate::stream::sent_numbers::SentNumbers;
 use core::mem::replace;
+use core::ops::Range;
 
 /// A [`FiniteSender`] over any storage.
 ///
@@ -392,5 +394,26 @@ impl<S: Storage<u8>> FiniteSenderOver<S> {
     #[must_use]
     pub fn is_closed_and_acknowledged(&self) -> bool {
         self.head.is_closed_and_acknowledged()
+    }
+
+    /// Lends the bytes of a range, in two parts, and returns whether the stream ends after them, as `peek_at` does for
+    /// those that are contiguous in the storage. If the range begins below `first_number`, it lends none.
+    ///
+    /// ```
+    /// # use net_base::finite::FiniteSender;
+    /// # let mut storage = [0u8; 64];
+    /// # let mut sender = FiniteSender::new_at(&mut storage[..], 0);
+    /// assert_eq!(sender.write(b"abcdef"), 6);
+    /// sender.close();
+    /// assert_eq!((sender.segment_bytes(2..5).front, sender.segment_bytes(2..5).fin), (&b"cde"[..], false));
+    /// // The end has the number 6.
+    /// assert_eq!((sender.segment_bytes(2..7).front, sender.segment_bytes(2..7).fin), (&b"cdef"[..], true));
+    /// ```
+    #[must_use]
+    pub fn segment_bytes(&self, range: Range<u64>) -> SegmentBytes<'_> {
+        let front = self.peek_at(range.start, range.end).bytes;
+        let after = range.start + front.len() as u64;
+        let back = self.peek_at(after, range.end);
+        SegmentBytes { front, back: back.bytes, fin: back.fin }
     }
 }

@@ -122,6 +122,84 @@ impl ScoreboardHead {
         self.base = next + front as u64;
     }
 
+    /// Copies the runs to the beginning of others, with which the head then is sound as it was with these.
+    ///
+    /// # Requires
+    ///
+    /// The scoreboard is sound with the runs, and the others are no fewer.
+    pub(crate) fn move_runs(&self, runs: &[Run], more: &mut [Run]) {
+        let used = self.reported.used;
+        more[..used].copy_from_slice(&runs[..used]);
+    }
+
+    /// Forgets the positions from `start` on and below `end`.
+    ///
+    /// If that would cut a run in two, and there are as many runs as the slice has elements, the shorter part of it is
+    /// forgotten too; of the positions below `base`, those at or after `end`. If `start` is below `base`, and a position
+    /// 2^32 or more above it was reported, all from `start` on are forgotten.
+    ///
+    /// # Requires
+    ///
+    /// The scoreboard is sound with the runs.
+    pub(crate) fn forget(&mut self, runs: &mut [Run], start: u64, end: u64) {
+        if start >= end {
+            return;
+        }
+        if start < self.base {
+            self.forget_below(runs, start, end);
+        } else {
+            self.forget_beyond(runs, start, end);
+        }
+    }
+
+    /// Forgets a range that begins below `base`.
+    fn forget_below(&mut self, runs: &mut [Run], start: u64, end: u64) {
+        let base = self.base;
+        let to = self.offset_of(end);
+        self.reported.remove_below(runs, to);
+        if base - start + self.reported.end(runs) as u64 > u64::from(u32::MAX) {
+            *self = ScoreboardHead::new_at(start);
+            return;
+        }
+        self.base = start;
+        debug_assert!(base - start <= usize::MAX as u64);
+        self.reported.raise(runs, (base - start) as usize);
+        if end < base {
+            debug_assert!(end - start <= usize::MAX as u64);
+            debug_assert!(base - end <= usize::MAX as u64);
+            // Without room for one more run these are forgotten too.
+            let _ = self.reported.add(runs, (end - start) as usize, (base - end) as usize);
+        }
+    }
+
+    /// Forgets a range that begins at `base` or beyond it.
+    fn forget_beyond(&mut self, runs: &mut [Run], start: u64, end: u64) {
+        let from = self.offset_of(start);
+        let to = self.offset_of(end);
+        if self.reported.remove_range(runs, from, to).is_ok() {
+            return;
+        }
+        // It is within a run, and there is no room for another: one part of the run goes with it.
+        let (low, high) = self.part_of_run(runs, from, to);
+        let _ = self.reported.remove_range(runs, low, high);
+    }
+
+    /// Returns a range of offsets with what is before it in its run, or with what is after it, whichever is less. Without
+    /// that the run isn't cut in two.
+    fn part_of_run(&self, runs: &[Run], from: usize, to: usize) -> (usize, usize) {
+        let last = self.reported.first_missing(runs, to);
+        let by = self.reported.runs_by(runs, from);
+        match self.reported.run_at(runs, by.saturating_sub(1)) {
+            Some((first, _)) => {
+                if first > from || from - first >= last - to {
+                    return (from, last);
+                }
+                (first, to)
+            }
+            None => (from, last),
+        }
+    }
+
     /// Returns the first position that wasn't reported.
     #[must_use]
     pub fn first_unreported(&self) -> u64 {

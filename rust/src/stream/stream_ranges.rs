@@ -124,7 +124,7 @@ impl<R: Storage<Run>> StreamRangesOver<R> {
     /// Panics unless it is no smaller than `capacity`.
     #[track_caller]
     pub fn grow(&mut self, larger: usize) {
-        assert!(larger >= self.capacity, "a smaller capacity");
+        assert!(larger >= self.capacity(), "a smaller capacity");
         self.capacity = larger;
     }
 

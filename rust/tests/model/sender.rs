@@ -145,7 +145,7 @@ fn play_over<S: Storage<u8>>(
         let (bytes, is_last) = model.peek(pos, limit);
         assert_eq!((given.bytes, given.fin), (&bytes[..], is_last));
         let (given, (back, fin)) =
-            (it.bytes(pos..limit), model.peek(pos + bytes.len() as u64, limit));
+            (it.segment_bytes(pos..limit), model.peek(pos + bytes.len() as u64, limit));
         assert_eq!((given.front, given.back, given.fin), (&bytes[..], &back[..], fin));
         let first_number = model.first + u64::from(model.is_done);
         let numbers_end = model.end() + u64::from(model.is_closed);

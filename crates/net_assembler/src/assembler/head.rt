@@ -20,18 +20,18 @@
 #![tactic(auto, using(crate::proofs::SoundHeads::heads))]
 
 ghost use Rattle.std.specs.Prelude.{◌≡◌, ℕ, List, ◌+◌, ◌-◌, ◌*◌, ◌<◌, ◌≤◌, ◌++◌, ◌∷◌, ◌^◌, ◌↔◌, drop, get_or, max};
-ghost use Rattle.std.specs.Prelude.{length, take, IsFalse, IsTrue, IfSome, MatchOption, MatchResult, OnErr};
+ghost use Rattle.std.specs.Prelude.{length, take, IsFalse, IsTrue, IfSome, MatchOption, MatchResult, None, OnErr};
 ghost use Rattle.net_assembler.specs.Assembler.{MakesTooManyRuns};
 ghost use Rattle.std.specs.List.{slice_get};
-ghost use Rattle.net_assembler.specs.AssemblerLaws.{Adds, AddsThenRemovesFront, RemovesFront};
-ghost use Rattle.net_assembler.specs.Heads.{AddsInPlace, FrontEnds, StartsInRuns, StartsLast};
+ghost use Rattle.net_assembler.specs.AssemblerLaws.{Adds, AddsThenRemovesFront, CutsRun, Removes, RemovesFront};
+ghost use Rattle.net_assembler.specs.Heads.{AddsInPlace, FrontEnds, IsCut, StartsInRuns, StartsLast};
 ghost use Rattle.net_assembler.specs.Positions.{EndsHole, IsEnd, RangeFits, are_same, contains, first_missing, front};
 ghost use Rattle.net_assembler.specs.Positions.{holes, holes_before, maximal_runs, nothing, present_count};
-ghost use Rattle.net_assembler.specs.Positions.{runs as run_count, shift_down};
+ghost use Rattle.net_assembler.specs.Positions.{runs as run_count, shift_down, shift_up, without_range};
 ghost use Rattle.net_assembler.specs.RunLists.{AreRuns, AreUsize, FitsFrom, HasSoundRuns, IsCanonical, IsRising};
 ghost use Rattle.net_assembler.specs.RunLists.{SplitsRuns};
 ghost use Rattle.net_assembler.specs.RunLists.{end_at, runs_of, runs_shifted_down, runs_wrapped};
-ghost use Rattle.net_assembler.specs.RunLists.{set_of, start_at, used_runs, wrapped_run};
+ghost use Rattle.net_assembler.specs.RunLists.{set_of, set_of_runs, start_at, used_runs, wrapped_run};
 ghost use Rattle.net_assembler.specs.Turns.{TurnsWithin, binary_digits};
 ghost use Rattle.net_ring.specs.Width.{IsUsize};
 
@@ -269,6 +269,83 @@ impl AssemblerHead {
         }
         runs[last] = Run { start: by, end };
         self.drop_front(runs, last, by);
+    }
+
+    /// Counts all positions from `by` positions before: position p becomes `by + p`.
+    ///
+    /// # Requires
+    ///
+    /// The head is sound with the runs, as `is_sound` tests, and each run ends at a `usize` then.
+    pub fn raise(&mut self, runs: &[Run], by: usize)
+        requires sound { HasSoundRuns self.old runs.now }
+        requires fits { (p : ℕ) → IsTrue (contains (set_of self.old runs.now) p) → IsUsize (by + p + 1) }
+        ensures sound { HasSoundRuns self.new runs.now }
+        ensures set { set_of self.new runs.now ≡ shift_up (set_of self.old runs.now) by }
+        ensures used { self.new.used ≡ self.old.used }
+        ensures canonical { IsCanonical self.old → IsCanonical self.new }
+    {
+        if self.used > 0 {
+            let start = self.first_start + by;
+            prove!(start <= most(), "in any `usize`");
+            self.first_start = start;
+        }
+    }
+
+    /// Removes the positions below `end`.
+    ///
+    /// # Requires
+    ///
+    /// The head is sound with the runs, as `is_sound` tests.
+    pub fn remove_below(&mut self, runs: &mut [Run], end: usize)
+        requires { HasSoundRuns self.old runs.old }
+        ensures sound { HasSoundRuns self.new runs.new }
+        ensures set { set_of self.new runs.new ≡ without_range (set_of self.old runs.old) 0 end }
+        ensures fewer { self.new.used ≤ self.old.used }
+        ensures canonical { IsCanonical self.old → IsCanonical self.new }
+    {
+        self.shift(runs, end);
+        self.raise(runs, end);
+    }
+
+    /// Removes the positions from `start` on and below `end`, which cuts one run in two, or cuts the runs at both
+    /// ends, and takes out those between them. It searches once, and moves the later runs once.
+    ///
+    /// Returns `TooManyHolesError`, and changes nothing, if one run is cut in two and there are as many runs as the
+    /// slice has elements.
+    ///
+    /// # Requires
+    ///
+    /// The head is sound with the runs, as `is_sound` tests.
+    pub fn remove_range(
+        &mut self,
+        runs: &mut [Run],
+        start: usize,
+        end: usize,
+    ) -> Result<(), TooManyHolesError>
+        requires { HasSoundRuns self.old runs.old }
+        ensures sound { HasSoundRuns self.new runs.new }
+        ensures removed { Removes (length runs.old) (set_of self.old runs.old) start (end - start)
+            result (set_of self.new runs.new) }
+        ensures unchanged { OnErr result ((self.new ≡ self.old) × (runs.new ≡ runs.old)) }
+        ensures canonical { IsCanonical self.old → IsCanonical self.new }
+    {
+        if start >= end {
+            return Ok(());
+        }
+        if self.used == 0 {
+            return Ok(());
+        }
+        if start <= self.first_start {
+            self.remove_below(runs, end);
+            return Ok(());
+        }
+        let from = start - self.first_start;
+        let to = end - self.first_start;
+        let Some(used) = cut(runs, self.used, from, to) else {
+            return Err(TooManyHolesError);
+        };
+        self.used = used;
+        Ok(())
     }
 
     /// Adds the positions from `offset` to `offset + size - 1`, and then removes the run at
@@ -1000,6 +1077,59 @@ fn insert_run(runs: &mut [Run], used: usize, at: usize, entry: Run, by: usize, t
         turns.step();
     }
     runs[at] = entry;
+}
+
+/// Takes the positions from `from` on and below `to` out of the runs, after whose first position they start. Returns how
+/// many runs there are then, or `None`, and changes nothing, if there is no room for one more.
+fn cut(runs: &mut [Run], used: usize, from: usize, to: usize) -> Option<usize>
+    requires used { used ≤ length runs.old }
+    requires runs { AreRuns (take used runs.old) }
+    requires fits { FitsFrom 0 (take used runs.old) }
+    requires some { 0 < used }
+    requires first { start_at runs.old 0 < from }
+    requires order { from < to }
+    ensures room { IfSome result (λ n. (0 < n) × (n ≤ length runs.new)) }
+    ensures cut { IfSome result (λ n. IsCut (take used runs.old) from to (take n runs.new)) }
+    ensures unchanged { result ≡ None → runs.new ≡ runs.old }
+    ensures refused { (result ≡ None) ↔ (CutsRun (set_of_runs (take used runs.old)) from (to - from)
+        × (length runs.old ≤ used)) }
+{
+    let mut turns = Turns::new();
+    let met = runs_starting_by(runs, used, from - 1, &mut turns);
+    let next = runs_met(runs, used, met, to - 1, &mut turns);
+    let last_end = end_of(runs, next - 1);
+    if last_end > to && next == met {
+        //  |------------ met - 1 ------------|
+        //         |=== range ===|                         one run becomes two
+        if used >= runs.len() {
+            return None;
+        }
+        runs[met - 1] = Run {
+            start: start_of(runs, met - 1),
+            end: from,
+        };
+        let rest = Run {
+            start: to,
+            end: last_end,
+        };
+        insert_run(runs, used, met, rest, 0, &mut turns);
+        prove!(used + 1 <= runs.len(), "in any `usize`");
+        return Some(used + 1);
+    }
+    //  |--- met - 1 ---|    ..    |--- next - 1 ---|
+    //              |====== range ======|               those at its ends are cut, those between go
+    runs[met - 1] = Run {
+        start: start_of(runs, met - 1),
+        end: end_of(runs, met - 1).min(from),
+    };
+    if last_end <= to {
+        return Some(take_out(runs, used, met, next, 0, &mut turns));
+    }
+    runs[next - 1] = Run {
+        start: to,
+        end: last_end,
+    };
+    Some(take_out(runs, used, met, next - 1, 0, &mut turns))
 }
 
 /// Takes out the runs from `at` up to `from`, and moves the later ones down, each counted `by`

@@ -327,7 +327,7 @@ impl<S: Storage<u8>, const N: usize> SendingEndOver<S, N> {
     /// ```
     #[must_use]
     pub fn bytes(&self, range: Range<u64>) -> SegmentBytes<'_> {
-        self.sender.bytes(range)
+        self.sender.segment_bytes(range)
     }
 
     /// Returns whether all that was written is acknowledged, and the end.

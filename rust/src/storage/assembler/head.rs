@@ -174,6 +174,62 @@ impl AssemblerHead {
         self.drop_front(runs, last, by);
     }
 
+    /// Counts all positions from `by` positions before: position p becomes `by + p`.
+    ///
+    /// # Requires
+    ///
+    /// The head is sound with the runs, and each run ends at a `usize` then.
+    pub(crate) fn raise(&mut self, _runs: &[Run], by: usize) {
+        if self.used > 0 {
+            let start = self.first_start + by;
+            self.first_start = start;
+        }
+    }
+
+    /// Removes the positions below `end`.
+    ///
+    /// # Requires
+    ///
+    /// The head is sound with the runs.
+    pub(crate) fn remove_below(&mut self, runs: &mut [Run], end: usize) {
+        self.shift(runs, end);
+        self.raise(runs, end);
+    }
+
+    /// Removes the positions from `start` on and below `end`, which cuts one run in two, or cuts the runs at both
+    /// ends, and takes out those between them. It searches once, and moves the later runs once.
+    ///
+    /// Returns `TooManyHolesError`, and changes nothing, if one run is cut in two and there are as many runs as the
+    /// slice has elements.
+    ///
+    /// # Requires
+    ///
+    /// The head is sound with the runs.
+    pub(crate) fn remove_range(
+        &mut self,
+        runs: &mut [Run],
+        start: usize,
+        end: usize,
+    ) -> Result<(), TooManyHolesError> {
+        if start >= end {
+            return Ok(());
+        }
+        if self.used == 0 {
+            return Ok(());
+        }
+        if start <= self.first_start {
+            self.remove_below(runs, end);
+            return Ok(());
+        }
+        let from = start - self.first_start;
+        let to = end - self.first_start;
+        let Some(used) = cut(runs, self.used, from, to) else {
+            return Err(TooManyHolesError);
+        };
+        self.used = used;
+        Ok(())
+    }
+
     /// Adds the positions from `offset` to `offset + size - 1`, and then removes the run at
     /// position 0, returns its length, and counts all later positions from its end. If position 0
     /// is missing, it removes nothing, and the length is 0.
@@ -658,6 +714,34 @@ fn insert_run(runs: &mut [Run], used: usize, at: usize, entry: Run, by: usize) {
         k -= 1;
     }
     runs[at] = entry;
+}
+
+/// Takes the positions from `from` on and below `to` out of the runs, after whose first position they start. Returns how
+/// many runs there are then, or `None`, and changes nothing, if there is no room for one more.
+fn cut(runs: &mut [Run], used: usize, from: usize, to: usize) -> Option<usize> {
+    let met = runs_starting_by(runs, used, from - 1);
+    let next = runs_met(runs, used, met, to - 1);
+    let last_end = end_of(runs, next - 1);
+    if last_end > to && next == met {
+        //  |------------ met - 1 ------------|
+        //         |=== range ===|                         one run becomes two
+        if used >= runs.len() {
+            return None;
+        }
+        runs[met - 1] = Run { start: start_of(runs, met - 1), end: from };
+        let rest = Run { start: to, end: last_end };
+        insert_run(runs, used, met, rest, 0);
+        debug_assert!(used < runs.len());
+        return Some(used + 1);
+    }
+    //  |--- met - 1 ---|    ..    |--- next - 1 ---|
+    //              |====== range ======|               those at its ends are cut, those between go
+    runs[met - 1] = Run { start: start_of(runs, met - 1), end: end_of(runs, met - 1).min(from) };
+    if last_end <= to {
+        return Some(take_out(runs, used, met, next, 0));
+    }
+    runs[next - 1] = Run { start: to, end: last_end };
+    Some(take_out(runs, used, met, next - 1, 0))
 }
 
 /// Takes out the runs from `at` up to `from`, and moves the later ones down, each counted `by`

@@ -1,5 +1,5 @@
 use Rattle.net_receiver.proofs.Segments.{two_parts}
-use Rattle.net_receiver.proofs.finite_sender.FiniteSenderOver.bytes.Goals as goal
+use Rattle.net_receiver.proofs.finite_sender.FiniteSenderOver.segment_bytes.Goals as goal
 
 pub returns : goal.returns
 returns g c =

@@ -1,7 +1,7 @@
 use Rattle.std.proofs.Common.{ℕ, ◌<◌, ◌-◌}
 use Rattle.std.specs.Prelude.{IsFalse}
-use Rattle.net_receiver.specs.SendBuffers.{is_open}
-use Rattle.net_receiver.proofs.send_buffer.SendBufferOver.first_open.Given as goal
+use Rattle.net_receiver.specs.SendRanges.{is_open}
+use Rattle.net_receiver.proofs.send_ranges.SendRangesOver.first_open.Given as goal
 
 -- no number below is open
 abbrev pub invariant-loop-pos : goal.invariant-loop-pos
