@@ -92,8 +92,8 @@ def names_of_sources():
         if {"out", "target", "__pycache__"} & set(path.parts):
             continue
         known.update([path.name, path.stem])
-        # This script names what no other source does.
-        if path.is_file() and path.suffix != ".md" and path.stem != "check_quotes":
+        # These name what no other source does.
+        if path.is_file() and path.suffix != ".md" and path.stem not in ("check_quotes", "plants"):
             text = path.read_text(errors="replace")
             known.update(NAME.findall(text))
             if path.suffix == ".rt":
@@ -241,14 +241,6 @@ def clear(page, text):
         yield 0, f"no link to docs/GUIDE.md#words, which explains: {', '.join(words)}"
 
 
-# A wrong text for each of these: what yields nothing of it sees nothing.
-WRONG = [(quoted, "```rust\nfn no_such_call() {}\n```\n"), (exampled, "/// ```rust\n/// no_such_call();\n/// ```\nfn f() {}\n"),
-         (linked, "[a](no/page.md)"), (linked, "[a](GUIDE.md#no-such-heading)"), (cited, "clause `no_such_clause`"),
-         (cited, "clause `headline` of `has_room`"), (named, "`no_such_name`"), (named, "`tools/no_such_file.py`"),
-         (said, "> No comment says so.\n"), (counted, "[999 functions](std-calls.md)"), (clear, "a " * 31 + ".\n"),
-         (clear, "A guard.\n"), (shown, "/// # [Guarantees](crate)\n///\n/// - `no_such_word(a)`\n"), (shown, "/// by law `sums`\n")]
-
-
 LAWS = """# Laws
 
 <!-- Written by tools/check_quotes.py --write, from the comments of the laws. -->
@@ -317,8 +309,6 @@ def main():
         text = path.read_text()
         wrong += [f"{path.relative_to(ROOT)}:{text.count(chr(10), 0, at) + 1}: {what}"
                   for check in checks for at, what in check(path, text)]
-    wrong += [f"{check.__name__} lets a wrong text through: {text}" for check, text in WRONG
-              if not [*check(ROOT / "docs/PROVED.md", text)]]
     wrong += [f"{page.relative_to(ROOT)}: tools/check_quotes.py --write has other lines"
               for page, made in WRITTEN.items() if page.read_text() != made()]
     every = [page.read_text() for page in pages]

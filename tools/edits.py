@@ -40,6 +40,12 @@ ROW = re.compile(r"^\| ([^|]+) \| `(\w+)/(\w+)` \| (?:`([\w:]+)` (\w+)|a test) \
 OPEN_GOAL = re.compile(r"(src/\S+?):(\d+):\d+: .*?\(`([^`]*)(`?)")
 FAILED_ANSWER = re.compile(r"proofs/(\S+)/\w+\.antt:\d+:\d+: error: (?:\d+ declarations that depend on )?`([^`]*)`")
 
+# What may be told of an edit, with a function and a clause, and whether that is what refuses it.
+GOAL = "src/a.rt:1:4: error: open (`returns-clause-room`)"
+TOLD = [(GOAL, "m::f", "room", True), (GOAL, "m::g", "room", False), (GOAL, "m::f", "full", False),
+        ("src/a.rt:1:4: error: open (`take-requires`)", "m::f", "ensures", False),
+        ("proofs/a/f/Answers.antt:3:1: error: `returns-clause-room`", "m::f", "room", True)]
+
 
 def table():
     """The function and the clause of each edit that the page names, and the tests that it names."""
@@ -70,6 +76,8 @@ def differing():
         texts = "".join(path.read_text() for path in files)
         if not re.search(rf"#\[test\]\nfn {name}\(", texts):
             wrong.append(f"{crate}/{name}: {PAGE.name} names this test, and there is none")
+    wrong += [f"edits: `{function}` and `{clause}` are wrongly compared with: {told}" for told, function, clause, fits in TOLD
+              if is_refused_by(told, {"src/a.rt": "fn f() {\n}\nfn g() {\n}\n"}, function, clause) != fits]
     print("\n".join([*wrong, f"{len(clauses)} edits and {len(tests)} tests in rows, {len(wrong)} differ"]))
     return len(wrong)
 

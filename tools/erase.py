@@ -569,6 +569,8 @@ def erased(said):
                  for name in names if f'{file} {name}' not in gone]
         said += [f'tools/parts/erase_list.py: {name} is also the name of a function of a trait'
                  for name in names if name in of_traits]
+    left |= {name for names in given.UNERASED.values() for name in names
+             if not (REPOSITORY / 'crates' / name.replace('/', '/src/', 1)).with_suffix('.rt').is_file()}
     said += [f'tools/parts/erase_list.py: no such file: {file}' for file in sorted(left)]
     others = ''.join(text for path, text in files.items() if not {OUT, EXAMPLE} & {*path.parents})
     said += [f'tools/parts/erase_list.py: no other package than net-base calls {name} of {file}'
@@ -638,6 +640,9 @@ def by_hand_root(out, file):
 
 def formatted(files, said):
     """The files as rustfmt leaves them. It may add and take commas and braces, and order imports: no other token."""
+    if not shutil.which('rustfmt'):
+        print('erase: not run: no rustfmt', file=sys.stderr)
+        sys.exit(2)
     with tempfile.TemporaryDirectory() as folder:
         there = {path: Path(folder, *path.relative_to(REPOSITORY).parts) for path in files}
         for path, text in files.items():
@@ -659,9 +664,6 @@ def essence(text):
 
 
 def main(arguments):
-    if not shutil.which('rustfmt'):
-        print('erase: not run: no rustfmt', file=sys.stderr)
-        return 2
     said = []
     files = formatted(erased(said), said)
     old = {file: file.read_text() for out in (*OUTS.values(), EXAMPLE) for file in out.rglob('*.rs')}

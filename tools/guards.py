@@ -4,6 +4,7 @@
     python3 tools/guards.py                proves the checked calls; status 1 if one isn't proved
     python3 tools/guards.py --faults       tries those in which one guard is weaker; status 1 if one is proved
     python3 tools/guards.py --print        prints the checked calls
+    python3 tools/guards.py --rows         looks that tests break each guard of a public call: status 1 if one isn't broken
 
 A function that can be called from outside and requires something begins with guards, `prove!(..)`, and is marked
 `#[track_caller]`, but for a list. It has a checked call, with its parameters and without preconditions: that returns if
@@ -99,6 +100,19 @@ def guarded():
         raise SystemExit(f'tools/guards.py: there are no such functions: {left}')
 
 
+def unbroken():
+    """The guards of public calls that no row of a test `panics.rs` breaks, with their messages. That `N` is something is
+    tested when a program is compiled, by src/refused.txt."""
+    rows = {row for path in given.PACKAGES.values() for row in re.findall(
+        r'panics\(\s*"([\w:]+)"', (erase.REPOSITORY / path).parent.joinpath('tests/panics.rs').read_text())}
+    listed = (erase.REPOSITORY / 'tools/public_items.txt').read_text()
+    public = {f'{owner}::{call}' for owner, call in re.findall(r'(\w+): pub (?:const )?fn (\w+)', listed)}
+    wanted = {name for name, header, _, tests in guarded()
+              if {*tests} - {'N >= 1'} and (name in public or ' for ' in header)} | {*' '.join(TESTED.values()).split()} & public
+    return [f'{name}: no row of a test panics.rs breaks it' for name in sorted(wanted - rows)] + \
+        [f'{name}: a row of a test panics.rs has it, and it has no guard' for name in sorted(rows - wanted)]
+
+
 def weaker(test):
     """Tests that are true of more than this one."""
     found = [test.replace(a, b) for a, b in ((' < ', ' <= '), (' > ', ' >= '), (' == ', ' >= ')) if a in test]
@@ -157,6 +171,10 @@ def check(text):
 
 
 def main(arguments):
+    if arguments == ['--rows']:
+        wrong = unbroken()
+        print(*wrong, f'{len(wrong)} guards differ from the rows of tests', sep='\n')
+        return bool(wrong)
     is_faulty = arguments == ['--faults']
     functions = [*(faulty() if is_faulty else guarded())]
     names = [f'call_{k}_{re.sub("[^a-z]+", "_", function[0].lower())}' for k, function in enumerate(functions)]

@@ -6,7 +6,9 @@
 What is checked stays in FOLDER for a next time. The functions here build and check over these libraries. `rt lib` and
 `rt check` would prove them again: `rt ci` keeps of a library what crates above it read, and not its proofs.
 """
+import json
 import re
+import shutil
 import subprocess
 import sys
 import tempfile
@@ -27,12 +29,23 @@ def kit():
     """The kit's folder; ends the script if it is another kit than docs/CONTRACTS.md names: what that one keeps of a
     proof is read here."""
     named = re.search(r'`rt version` prints\s+`(.*?)`', (REPOSITORY / 'docs/CONTRACTS.md').read_text())[1]
+    if not shutil.which('rt'):
+        print(f'{Path(sys.argv[0]).stem}: not run: no rt, the prover kit', file=sys.stderr)
+        sys.exit(2)
     this, page = (subprocess.run(['rt', word], check=True, capture_output=True, text=True).stdout.strip()
                   for word in ('version', 'doc'))
     if named not in this:
         sys.exit(f'{Path(sys.argv[0]).stem}: it reads what the kit with {named} keeps of a proof, which '
                  f'docs/CONTRACTS.md names; this is {this}: name that one there once every step passes with it')
     return Path(page).parent
+
+
+def program(path):
+    """The prover's program that a file has; ends the script if that is none."""
+    try:
+        return json.loads(path.read_text())
+    except (OSError, ValueError) as error:
+        sys.exit(f'{Path(sys.argv[0]).stem}: {path} is no whole program ({error}): rt ci proves its crate again')
 
 
 def over(uses, verb, crate, source, kept, *words):

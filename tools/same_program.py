@@ -6,7 +6,7 @@ in which order, under which condition, and with what:
 
 The prover keeps its program beside each library that is proved, `out/rlib/NAME.rlib/toolchain/mir.json`, but for a
 static one, so the exports for C are built as another library too, in FOLDER. Rustc's is its MIR of the erased crate,
-and of the example net_bench, by the compiler that is, or is unpacked, in KIT. Both are run side by side with symbols
+and of the example net_bench, by the compiler that is, or is unpacked, in KIT, and by the one on PATH. Both are run side by side with symbols
 for numbers, from a function's start. What one does between two events it does by itself. An event is a call, a store
 through a reference, a branch, a panic, or the return, and both have to come to the same one: the same function with
 equal arguments, the same place with an equal value, the same condition with the same ends. Equal means the same
@@ -20,8 +20,8 @@ of idle functions: these give nothing, write to their own places, and call none 
 that Rust lacks, gives what nothing of Rust's is equal to. Nor is compared what is derived, but for orders and defaults;
 the text of a panic; types that a callee is given; and the functions of `LEFT`, which parts/same_names.txt has with
 reasons, beside names that the two have otherwise. What one side has alone is in `ALONE`. A form that isn't known is an
-error, and so is another compiler or kit, and an exception of this script, whatever it reads. The status is 1 if a
-function differs or isn't understood, 2 if there is no compiler.
+error, and so is another compiler or kit, an exception of this script, whatever it reads, and an entry of a list that
+lets nothing through. The status is 1 if a function differs or isn't understood, or there is no compiler.
 
 What is compared is all packages of Rust as one crate, with the exports for C and each feature. In other builds,
 `BUILDS`, of the packages as they are published each function has the same text in rustc's program, but for what parts/same_names.txt has with reasons, and for debug
@@ -42,28 +42,24 @@ sys.dont_write_bytecode = True
 import libraries
 import widths
 from parts import erase_list as given
-from parts.mir_text import tables
+from parts import same_pair
+from parts.mir_text import Listed, tables
 from parts.same_body import CompiledSide
 from parts.same_compiled import Compiled
 from parts.same_pair import Pair
 from parts.same_proved import Proved, ProvedSide, is_own
 from parts.same_terms import Broken, Differ, Unknown, reading
 
+OTHER = ': if the kit or rustc is another one, CONTRIBUTING.md has the steps'
 REPOSITORY, SCHEDULE, PROGRAM = widths.REPOSITORY, given.SCHEDULE.replace('/', '::'), 'toolchain/mir.json'
-# What one side has alone: what is printed by hand, or by a macro, in Rust; a default of std's; modules that aren't
-# erased; what makes a variant; and what the eraser leaves out: of a law, an idle function, and one of its list, rustc
-# refuses a call.
-ALONE = re.compile('|'.join([
-    r'.*::(?:(?:RingOver|PacketsOver|Assembler|SackBlocks)Debug|\w*(?:Empty|Full|Error)Display)::fmt: .*',
-    r'.*::(?:Assembler::new|Instant::from_(?:micros|millis|secs)): .*',
-    r'.*::(?:Iter|NewestRunIter)Iterator::size_hint: not compiled',
-    r'.*::[A-Z]\w*: not proved', r'(?:\w+::)+laws::\w+: not compiled',
-    *(f'{name.replace("/", "::")}::.*' for names in given.UNERASED.values()
-      for name in names if name != given.SCHEDULE),
-    *(rf'{file.replace("/", "::")}::(?:\w+::)?{name}(?:Debug::fmt)?: not compiled' for file, names in given.UNCALLED.items()
-      for name in names)]))
-# What isn't understood, and was read: the digest of both texts as they were read. same_names.txt also says why.
-LEFT = {name: read for name, _, read in (row.split(' ~~ ') for row in tables('same_names.txt')['left'])}
+# What one side has alone, each entry with a reason there: rustc refuses a call of what the eraser leaves out. What isn't
+# erased at all is by hand, or not there.
+ALONE = Listed([*tables('same_names.txt')['alone'],
+                *(rf'{file.replace("/", "::")}::(?:\w+::)?{name}(?:Debug::fmt)?: not compiled'
+                  for file, names in given.UNCALLED.items() for name in names)])
+UNERASED = tuple(f'{name.replace("/", "::")}::' for names in given.UNERASED.values() for name in names if name != given.SCHEDULE)
+# What isn't understood, and was read: the digests of both texts as they were read. same_names.txt also says why.
+LEFT = {name: read.split() for name, _, read in (row.split(' ~~ ') for row in tables('same_names.txt')['left'])}
 # Other builds of the packages than the one that is compared, which has the exports and every feature: the words of cargo,
 # and those of rustc; and what another build has otherwise. An example has no exports, and wants the feature `std`. Other
 # words than debug assertions are added to the build that has none.
@@ -88,7 +84,7 @@ def digest(proved, rust, name):
 
 def is_left(proved, rust, name):
     """Whether a function is one that was read, and still has the texts that were read."""
-    return name in LEFT and digest(proved, rust, name) == LEFT[name]
+    return name in LEFT and digest(proved, rust, name) in LEFT[name]
 
 
 def why(proved, rust, name, there, side=ProvedSide):
@@ -126,30 +122,32 @@ def compared(proved, rust, within):
     for name in sorted(proved.functions):
         there = place(proved, rust, name)
         if not name.startswith(f'{within}::') or within != SCHEDULE and name.startswith(f'{SCHEDULE}::') or \
-                there in rust.derived - rust.twice and not re.search(DERIVED, there) or ALONE.fullmatch(f'{name}: '):
+                there in rust.derived - rust.twice and not re.search(DERIVED, there) or \
+                name.startswith(UNERASED) or ALONE.has(f'{name}: '):
             continue
         if there in rust.functions or there in rust.constants:
             how, reason = why(proved, rust, name, there)
             found[how].append((name, reason))
         # a drop that only drops isn't erased, nor what does nothing
-        elif name not in proved.trivial | proved.idle and not ALONE.fullmatch(f'{name}: not compiled'):
+        elif name not in proved.trivial | proved.idle and not ALONE.has(f'{name}: not compiled'):
             found['differ'].append((name, 'not compiled'))
     own = {name for name in rust.functions if name.startswith(f'{within}::') and '{' not in name} - rust.derived
     found['differ'] += [(name, 'not proved')
-                        for name in sorted(own - proved.functions.keys()) if not ALONE.fullmatch(f'{name}: not proved')]
+                        for name in sorted(own - proved.functions.keys())
+                        if not name.startswith(UNERASED) and not ALONE.has(f'{name}: not proved')]
     return found
 
 
-def wrong(proved, rust, found):
-    """What is wrong of these functions, but for those that were read: each name with its reason."""
+def wrong(proved, rust, found, is_first=True):
+    """What is wrong of these functions, but for those that were read, by the first compiler: each name with its reason."""
     for name, reason in found['broken']:
         yield name, reason
-    for name, reason in found['same']:
+    for name, reason in found['same'] if is_first else ():
         if name in LEFT:
             yield name, 'is the same, so it is to leave the list LEFT'
     for how in ('differ', 'unknown'):
         for name, reason in found[how]:
-            if not is_left(proved, rust, name):
+            if not is_left(proved, rust, name) and (is_first or name not in LEFT):
                 again = f'; read it again: {digest(proved, rust, name)} is its digest' if name in LEFT else ''
                 yield name, f'{"not understood: " if how == "unknown" else ""}{reason}{again}'
 
@@ -198,8 +196,8 @@ def compiled(root, kit, target):
 
 
 def programs(arguments, temporary):
-    """The prover's programs by crate; and of each crate or module that is compared its name and rustc's program. Where
-    these can't be had a line says why, and the status is what ends this."""
+    """The prover's programs by crate; and by compiler what each crate or module is compared with: its name, and rustc's
+    program. Where these can't be had a line says why, and the status is what ends this."""
     folders = [Path(word).resolve() for word in arguments]
     folder = [*folders, *[temporary] * 2][1]
     folder.mkdir(parents=True, exist_ok=True)
@@ -208,37 +206,43 @@ def programs(arguments, temporary):
                and not kept(crate).is_file()]
     if missing:
         sys.exit(f'{Path(sys.argv[0]).stem}: not compared: no proved library of {", ".join(missing)}: rt ci')
-    kit = widths.kit_of(folders, temporary)
-    library, example = compiled(REPOSITORY / 'rust', kit, temporary / 'target')
+    sides = {}
+    for kit, version in widths.kits_of(folders, temporary).items():
+        library, example = compiled(REPOSITORY / 'rust', kit, temporary / version)
+        sides[kit, version] = [(crate, library) for crate in given.CRATES] + \
+            [(within, example) for within in (SCHEDULE, *given.PROGRAM)]
     made = folder / f'{given.EXPORTS}.rlib'
     libraries.build_exports(folder, made)
     mirs = {crate: kept(crate) for crate in (*given.CRATES, *given.PROGRAM)} | {given.EXPORTS: made / PROGRAM}
-    of_example = [(within, example) for within in (SCHEDULE, *given.PROGRAM)]
-    of_crates = [(crate, library) for crate in given.CRATES]
     proved = {}
     for crate, mir in mirs.items():                # each after those that it is over
-        proved[crate] = Proved(json.loads(mir.read_text()), [*proved.values()])
-    return proved, of_crates + of_example
+        proved[crate] = Proved(libraries.program(mir), [*proved.values()])
+    return proved, sides
 
 
 def main(arguments):
     try:
         with tempfile.TemporaryDirectory() as temporary, reading('the programs'):
             proved, sides = programs(arguments, Path(temporary))
-            kit, both = widths.kit_of(arguments, Path(temporary)), (sides[0][1], sides[-1][1])
-            bad = [f'{name}: {reason}' for name, reason in builds(REPOSITORY / 'rust', kit, Path(temporary), both)]
+            (kit, _), first = next(iter(sides.items()))
+            bad = [f'{name}: {reason}' for name, reason in builds(REPOSITORY / 'rust', kit, Path(temporary),
+                                                                  (first[0][1], first[-1][1]))]
     except (Broken, Unknown) as reason:
-        sys.exit(f'{Path(sys.argv[0]).stem}: {reason}')
+        sys.exit(f'{Path(sys.argv[0]).stem}: {reason}{OTHER}')
     left = {*LEFT}
-    for within, rust in sides:
+    for version, within, rust in ((version, *pair) for (_, version), pairs in sides.items() for pair in pairs):
         program = proved[within.split('::')[0]]
         found = compared(program, rust, within)
-        bad += [f'{name}: {reason}' for name, reason in wrong(program, rust, found)]
+        bad += [f'{name}: {reason} (rustc {version})' for name, reason in wrong(program, rust, found, rust in (of for _, of in first))]
         left -= {name for some in found.values() for name, _ in some}
         read = sum(is_left(program, rust, name) for name, _ in found['differ'])
-        print(f'{within}: {len(found["same"])} functions are the same, {len(found["differ"]) - read} differ, '
+        print(f'rustc {version}, {within}: {len(found["same"])} functions are the same, {len(found["differ"]) - read} differ, '
               f'{len(found["unknown"]) + read} are not understood')
     bad += [f'{name}: it is in the list LEFT, and in no program' for name in sorted(left)]
+    unused = [*ALONE.unused(), *(of.pattern for of, _ in same_pair.SAME if of.pattern not in same_pair.USED)]
+    bad += [f'{name}: a list has it, and nothing is let through by it: tools/parts/same_names.txt or erase_list.py'
+            for name in unused]
+    bad += [f'{Path(sys.argv[0]).stem}: a form is not known{OTHER}'] * any('not understood: ' in it or ' fails: ' in it for it in bad)
     print(*bad, sep='\n', end='\n' * bool(bad))
     return int(bool(bad))
 

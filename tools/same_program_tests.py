@@ -18,19 +18,19 @@ import subprocess
 import sys
 import tempfile
 from pathlib import Path
-from unittest import TestCase, mock
+from unittest import mock
 
 sys.dont_write_bytecode = True
 import erase
+import libraries
 import same_program
 import widths
 from parts import erase_list as given
-from parts import same_pair
-from parts.mir_text import tables
+from parts.mir_text import Listed, cells, tables
 from parts.same_body import CompiledSide
 from parts.same_compiled import Compiled
-from parts.same_proved import SNAPSHOT, ProvedSide, tree_of
-from parts.same_terms import cast, integer, negated, operation, put, sliced, take, term
+from parts.same_proved import SNAPSHOT, Proved, ProvedSide, tree_of
+from parts.same_terms import Broken, cast, integer, negated, operation, put, sliced, take, term
 
 X, Y, LAST = term('par', 1), term('par', 2), term('f', 1)
 # Terms that are one, and terms that aren't.
@@ -39,7 +39,8 @@ EQUAL = [
     (take(put(X, [LAST], Y), LAST), Y), (take(put(X, [LAST], Y), term('f', 0)), take(X, term('f', 0))),
     (put(put(X, [LAST], Y), [term('f', 0)], X), put(put(X, [term('f', 0)], X), [LAST], Y)),
     (sliced(term('sp', X), term('len', X)), X), (operation('+', integer(3), integer(4)), integer(7)),
-    (cast(64, 8, integer(255)), integer(255)),
+    (cast(64, 8, integer(255)), integer(255)), (operation('<=', integer(1), X), operation('<', integer(0), X)),
+    (operation('<=', operation('+', X, integer(1)), Y), operation('<', X, Y)),
 ]
 UNEQUAL = [
     (negated(X), X), (operation('-', X, Y), operation('-', Y, X)), (operation('<', X, Y), operation('<=', X, Y)),
@@ -47,7 +48,7 @@ UNEQUAL = [
     (operation('wrapping_add', X, Y, 8), operation('wrapping_add', X, Y, 64)),
     (operation('<<', X, Y, 8), operation('<<', X, Y, 64)), (operation('-', integer(3), integer(4)), integer(1)),
     (cast(8, 64, X), cast(16, 64, X)), (cast(64, 32, X), cast(64, 32, X, True)),
-    (cast(8, 64, integer(256)), integer(0)),
+    (cast(8, 64, integer(256)), integer(0)), (cast(8, 64, integer(256)), integer(256)),
     (put(X, [term('i', Y)], X), put(X, [term('i', X)], X)), (sliced(term('sp', X), term('len', Y)), X),
     (take(X, term('v', (0, 0))), take(X, term('v', (1, 0)))),
     (take(term('agg', 1, X), term('v', (0, 0))), X), (take(put(X, [term('i', Y)], Y), LAST), take(X, LAST)),
@@ -55,15 +56,20 @@ UNEQUAL = [
 # What bodies call; pairs of bodies that mean the same, and that don't or aren't understood. In the erased text: a file,
 # a part of it, what is there in its place, and the function that is then another, here or in another build.
 HEAD, *ROWS = tables('same_bodies.txt').values()
-MEAN_ONE, MEAN_TWO, PLANTS, OTHERWISE = ([row.split(' ~~ ') for row in rows] for rows in ROWS)
+MEAN_ONE, MEAN_TWO, PLANTS, OTHERWISE = ([*map(cells, rows)] for rows in (
+    *ROWS, *(tables('plants.txt')[name] for name in ('same', 'builds'))))
 TEXTS = [(name, how, f'//! A text.\nghost use Rattle.std.specs.Prelude.{{◌≡◌, ◌+◌, ◌*◌, ◌<◌, ◌↔◌, IsTrue, IsFalse, IsOk, IfOk, '
           f'min}};\n\n{text.strip()}\n') for name, how, text in re.findall(
               r'^== (\w+) \| (\w+)\n((?:(?!== |# ).*\n)*)', (Path(__file__).parent / 'parts/planted_texts.txt').read_text(), re.M)]
 
 
 class AsProved(CompiledSide):
-    """Rustc's function in the place of the prover's."""
+    """Rustc's function in the place of the prover's, which has a place in the place of the name of a number."""
     word, gives_unit = 'A', False
+
+    def constant(self, text):
+        made = super().constant(text)
+        return term('N', ord(text)) if made[0] == 'N' else made
 
 
 def bodies(folder, kit):
@@ -72,7 +78,7 @@ def bodies(folder, kit):
     source = folder / 'src/pairs.rs'
     source.parent.mkdir(parents=True)
     source.write_text(erase.HEADER.format('crates/pairs/src/lib.rt') + '\n'.join(HEAD) + '\n' +
-                      ''.join(f'pub fn f{k}{word}(a: u64, b: u64, xs: &mut [u8], s: &mut S) -> u64 {{\n    {body}\n}}\n'
+                      ''.join(f'pub fn f{k}{word}<const N: usize>(a: u64, b: u64, xs: &mut [u8], s: &mut S) -> u64 {{\n    {body}\n}}\n'
                                      for k, pair in enumerate(pairs) for word, body in zip('ab', pair)))
     (folder / 'src/lib.rs').write_text('#![no_std]\npub mod pairs;\npub mod mem {\n'
                                        '    pub fn replace<K>(_: &mut K, new: K) -> K {\n        new\n    }\n}\n')
@@ -80,12 +86,14 @@ def bodies(folder, kit):
                     'src/lib.rs'], cwd=folder, check=True,
                    env=dict(os.environ, RUSTC_BOOTSTRAP='1'))
     rust = Compiled(folder, (folder / 'out.mir').read_text())
+    proved = mock.Mock(functions={name: name for name in rust.functions})
     for k, (one, two, is_one) in enumerate(pairs):
         names = [f'pairs::f{k}{word}' for word in 'ab']
         for a, b in (names, names[::-1], names[:1] * 2):
-            how = same_program.why(None, rust, a, b, lambda _, name: AsProved(rust, rust.functions[name], name))
+            how = same_program.why(proved, rust, a, b, lambda _, name: AsProved(rust, rust.functions[name], name))
             assert how[0] in (('same',) if is_one or a == b else ('differ', 'unknown')), (one, two, how)
     check_faults(rust, names[0], kit)
+    check_kit(rust, folder)
     return len(pairs)
 
 
@@ -102,12 +110,52 @@ def check_faults(rust, name, kit):
     found = {'same': [(one, 1)], 'differ': [(name, 'not proved'), (one, 'another digest')], 'unknown': [(name, 'a form')],
              'broken': [(one, 'it fails')]}
     assert [pair[0] for pair in same_program.wrong(proved, rust, found)] == [one, one, name, one, name]
-    for found in ([], [(name, 'default: this build has another text')]):
+    for found, alone in (([], []), ([(name, 'default: this build has another text')], []), ([], [f'{name}: '])):
         with contextlib.redirect_stdout(io.StringIO()) as told, mock.patch.multiple(
-                same_program, programs=lambda *_: ({'pairs': 0}, [('pairs', rust)]), builds=lambda *_: found, LEFT={},
+                same_program, programs=lambda *_: ({'pairs': 0}, {(kit, '1.85'): [('pairs', rust)]}),
+                builds=lambda *_: found, LEFT={}, ALONE=Listed(alone), same_pair=mock.Mock(SAME=[]),
                 compared=lambda *_: dict.fromkeys(('same', 'differ', 'unknown', 'broken'), [])):
             status = same_program.main([str(kit)])
-        assert status == len(found) == sum(line.startswith(f'{name}: ') for line in told.getvalue().split('\n'))
+        assert status == len(found + alone) == sum(line.startswith(f'{name}: ') for line in told.getvalue().split('\n'))
+    check_compared(rust)
+
+
+def check_compared(rust):
+    """Rustc's functions in the place of the prover's, one of which each side lacks: these, one of a trait and a
+    derived one that have other bodies, and an entry of a list that nothing wants are found."""
+    names = {name: name for name in rust.functions if name.startswith('pairs::') and '{' not in name}
+    names = {**names, 'pairs::gone': 'pairs::gone', 'pairs::ordered': 'pairs::ordered'}
+    proved = mock.Mock(functions={name: of for name, of in names.items() if name != 'pairs::more'}, trivial=set(), idle=set())
+    other = next(name for name in names if name.endswith('RankPartialOrd::partial_cmp'))
+    changed = {other: 'pairs::rank', 'pairs::SKeeps::keep': 'pairs::SHolds::keep'}
+    side = lambda _, name: AsProved(rust, rust.functions[changed.get(name, name)], name)
+    whole, alone = same_program.why, Listed(['pairs::ordered: not compiled', 'pairs::unused: not compiled'])
+    with mock.patch.multiple(same_program, ALONE=alone, is_own=str,
+                             why=lambda proved, rust, name, there: whole(proved, rust, name, there, side)):
+        found = same_program.compared(proved, rust, 'pairs')
+    assert {(name, reason) for name, reason in found['differ'] if reason.startswith('not ')} == {
+        ('pairs::gone', 'not compiled'), ('pairs::more', 'not proved')}, found['differ']
+    assert {*changed} <= {name for how in ('differ', 'unknown') for name, _ in found[how]}, found
+    assert alone.unused() == ['pairs::unused: not compiled']
+
+
+def check_kit(rust, folder):
+    """What another kit may keep is refused in a sentence: a field of another name, one more kind of statement, and a file
+    that is cut short."""
+    place = {'local': 0, 'steps': []}
+    body = ['Seq', {'Assign': [place, {'Opd': {'Copy': {**place, 'local': 1}}}]}, 'Return']
+    text = json.dumps([['pairs::go', {'params': 1, 'generics': {'types': [], 'bounds': [], 'impls': []}, 'types': [],
+                                      'locals': [{'ty': {'Int': 64}}] * 2, 'body': body}]])
+    for old, new, wanted in (('', '', 'same'), ('"generics"', '"general"', "pairs::go: .* KeyError: 'generics'"),
+                             ('"locals"', '"places"', "pairs::go: .* KeyError: 'locals'"),
+                             ('"Assign"', '"Twice"', 'unknown: step Twice'), (']', '', 'no whole program .* rt ci proves')):
+        (folder / 'mir.json').write_text(text.replace(old, new, 1))
+        try:
+            proved = Proved(libraries.program(folder / 'mir.json'))
+            how, said = same_program.why(proved, rust, 'pairs::go', 'pairs::go')
+        except (Broken, SystemExit) as reason:
+            how, said = 'refused', reason
+        assert re.search(wanted, f'{how}: {said}'), (how, said)
 
 
 def changed(proved, function, draw):
@@ -231,15 +279,6 @@ def planted(kit, temporary, proved):
     return len(PLANTS) + len(OTHERWISE) + texts(crate, kit, temporary / 'texts')
 
 
-def refused():
-    """What the eraser refuses."""
-    ghosts = erase.Ghosts((Path(f'{name}.rt'), text) for name, _, text in TEXTS)
-    for name, how, text in TEXTS:
-        if how == 'eraser':
-            with TestCase().assertRaises(erase.Refused, msg=name):
-                erase.Eraser(text, 'planted', (), f'crates/planted/src/{name}.rt', ghosts).run()
-
-
 def texts(crate, kit, temporary):
     """Texts that mean something else once they are erased: proved, and added to a copy of the crate, where each is found.
     Returns how many."""
@@ -272,42 +311,22 @@ def texts(crate, kit, temporary):
     return len(TEXTS)
 
 
-def lists(proved, sides):
-    """Without one of its entries a list lets less through; `ALONE` has nothing that both sides have."""
-    for within, rust in sides:
-        program = proved[within.split('::')[0]]
-        both = [name for name in program.functions if same_program.place(program, rust, name) in rust.functions]
-        assert not any(same_program.ALONE.fullmatch(f'{name}: not compiled') for name in both), within
-    of = lambda: {(name, how) for within, rust in sides
-                  for how, found in same_program.compared(proved[within.split('::')[0]], rust, within).items()
-                  for name, _ in found}
-    whole, unused, kept = of(), [], same_pair.SAME
-    for k, (pattern, _) in enumerate(kept):
-        same_pair.SAME = kept[:k] + kept[k + 1:]
-        unused += [] if of() != whole else [pattern.pattern]
-    same_pair.SAME = kept
-    assert not unused, f'without use: {unused}'
-    return len(kept)
-
-
 def main(arguments):
     assert all(one == two for one, two in EQUAL) and \
             not any(one == two for one, two in UNEQUAL), [pair for pair in EQUAL if pair[0] != pair[1]]
     folders = [word for word in arguments if word != '--bodies']
     with tempfile.TemporaryDirectory() as temporary:
         temporary = Path(temporary)
-        kit = widths.kit_of(folders, temporary)
-        count = bodies(temporary / 'bodies', kit)
-        refused()
-        if folders != arguments:
-            print(f'{len(EQUAL)} terms are one, {len(UNEQUAL)} are two; {count} pairs of bodies')
-            return 0
-        proved, sides = same_program.programs(folders, temporary)
-        entries = lists(proved, sides)
-        seen = programs(proved, sides) + ghosts(proved, sides)
-        plants = planted(kit, temporary, proved)
-    print(f'{len(EQUAL)} terms are one, {len(UNEQUAL)} are two; {count} pairs of bodies; {seen} changes of programs '
-          f'and {plants} plants are found; each of {entries} entries is used')
+        kits = widths.kits_of(folders, temporary)
+        counts = [bodies(temporary / f'bodies{version}', kit) for kit, version in kits.items()]
+        said = f'{len(EQUAL)} terms are one, {len(UNEQUAL)} are two; by {len(kits)} rustcs {counts[0]} pairs of bodies'
+        if folders == arguments:
+            proved, by_kit = same_program.programs(folders, temporary)
+            sides = next(iter(by_kit.values()))
+            seen = programs(proved, sides) + ghosts(proved, sides)
+            plants = planted(next(iter(kits)), temporary, proved)
+            said += f'; {seen} changes of programs and {plants} plants are found'
+    print(said)
     return 0
 
 

@@ -28,13 +28,14 @@ call of std's with a `usize` or an `isize` in its type that `KNOWN` lacks. Deriv
 The law `is_usize` is given a parameter, a length, what a method of `self` returned, or a literal: of a sum it would
 state what is to be proved. No proof but those of `most` and of this law unfolds `shortfall`, but for that it is below
 2^64. docs/std-calls.md is to have what std's functions are called, but for operators, indices, `?`, calls of closures
-and what prints, and docs/TRUST.md the ported crates of crates.txt; --write writes the first. The compiler is that of
-rust/kit.sh, unpacked in FOLDER, or in a temporary one. The status is 1 if something is open or a page has other lines,
-and 2 if there is no compiler.
+and what prints, and docs/TRUST.md the ported crates of crates.txt; --write writes the first. The compilers are that of
+rust/kit.sh, unpacked in FOLDER, or in a temporary one, and the one on PATH, as far as `READS` has them. The status is 1 if
+something is open, a page has other lines, or there is no such compiler.
 """
 import collections
 import os
 import re
+import shlex
 import shutil
 import subprocess
 import sys
@@ -44,7 +45,7 @@ from pathlib import Path
 
 sys.dont_write_bytecode = True
 import erase
-from parts.mir_text import called
+from parts.mir_text import Listed, called, tables
 from parts.same_body import LIMIT, CompiledSide
 from parts.same_compiled import Compiled
 from parts.same_pair import Pair
@@ -56,6 +57,7 @@ REPOSITORY = Path(__file__).resolve().parent.parent
 SOURCES = [str(Path(folder).relative_to('rust')) for folder in erase.given.PACKAGES.values()]
 PAGE = REPOSITORY / 'docs/std-calls.md'
 MARK = '"in any `usize`"'
+READS = ('1.85.', '1.95.', '1.96.')               # the versions of rustc whose MIR is read
 MOST = 2 ** 32 - 1                                # the greatest `usize` of 32 bits
 SIZE = re.compile(r'\b[iu]size\b')
 NARROW = {'u8', 'u16', 'u32', 'bool', 'char'}
@@ -65,13 +67,7 @@ KEPT = 'kept'
 # Operations, and what covers each; after `wrapping_` and `saturating_` they are calls.
 COVERS = {'Add': 'bound end', 'Mul': 'bound end', 'Shl': '', 'usize.wrapping_add': 'bound', 'usize.wrapping_sub': 'index',
           'usize.wrapping_neg': 'wrapped', 'usize.saturating_add': 'lesser', 'usize.saturating_mul': 'lesser'}
-# Calls of std's that give a `usize` of a value or a function that has one, and nothing new. An operator of any type, or
-# a conversion, isn't one of them.
-KNOWN = re.compile(r'''usize:(?:Ord\.(?:min|max|cmp)|Partial(?:Eq|Ord)\.\w+|Clone\.clone|Default\.default)
-  | usize\.(?:saturating_(?:sub|add|mul)|abs_diff|wrapping_(?:add|sub|neg))|slice\ of\ a\ range
-  | [\w?]+:(?:Index(?:Mut)?|Try|FromResidual|Fn(?:Once|Mut)?)\.\w+|Option:(?:Clone|PartialEq|Default)\.\w+|Option\.(?:is_some|filter)
-  | slice\.(?:len|get|first|iter|iter_mut|split_at)|Vec\.len|Range:IntoIterator\.into_iter|mem\.replace
-  | Argument\.new_display''', re.X)
+KNOWN = Listed(tables('same_names.txt')['known'])
 ANY = re.compile(r'\?:(?:(?:Add|Sub|Mul|Div|Rem|Neg|Not|Sh[lr]|Bit\w+)(?:Assign)?|TryFrom|TryInto|FromStr)\.\w+'
                  r'|Iterator\.(?:sum|product)')
 OWN = re.compile(r' as (?!core::|std::|alloc::)\w+::')
@@ -185,8 +181,9 @@ class Sized(CompiledSide):
 
     def is_marked(self, node, state):
         """Whether the way from a node is the panic of a bound, which has the mark."""
-        promoted = (name for step in self.nodes[node[0]] for name in re.findall(r'::(promoted\[\d+\])', step))
-        return any(MARK in self.program.promoted.get((self.path, name), '') for name in promoted) and \
+        said = [text for step in self.nodes[node[0]] for text in (step, *(
+            self.program.promoted.get((self.path, name), '') for name in re.findall(r'::(promoted\[\d+\])', step)))]
+        return any(MARK in text for text in said) and \
             isinstance(self.run(node, dict(state)), Panic)
 
     def constant(self, text):
@@ -196,10 +193,6 @@ class Sized(CompiledSide):
         if limit and SIZE.fullmatch(limit[1] or limit[2]) or number and int(number[1]) > MOST:
             self.note(f'the constant {text}')
         return super().constant(text)
-
-    def kind_of(self, text):
-        limit = LIMIT.fullmatch(text.removeprefix('const '))
-        return limit[1] or limit[2] if limit else super().kind_of(text)
 
     def binary(self, state, sign, how, one, two):
         made = super().binary(state, sign, how, one, two)
@@ -235,8 +228,9 @@ class Sized(CompiledSide):
 
     def pure(self, state, head, name, arguments, kind):
         is_own = '::' in name or OWN.search(head) or name in self.program.traits.values()
-        is_known = KNOWN.fullmatch(name) or name == 'Iterator.count' and '<core::iter::Filter<core::slice::Iter<' in head
-        if ANY.fullmatch(name) or SIZE.search(f'{self.into} {head}') and not is_own and not is_known:
+        is_count = name == 'Iterator.count' and '<core::iter::Filter<core::slice::Iter<' in head
+        has_size = SIZE.search(f'{self.into} {head}') and not is_own and not is_count
+        if ANY.fullmatch(name) or has_size and not KNOWN.has(name):
             self.note(f'call of {name}')
         for cover, form, given in (('end', r'.*[.:]part(?:_mut)?|slice of a range', arguments[-1:]),
                                    ('index', r'slice\.get', arguments[-1:]), ('lesser', r'usize:Ord\.min', arguments),
@@ -380,19 +374,29 @@ def unfolded(crates):
             yield f'{path}: a proof unfolds shortfall'
 
 
-def kit_of(folders, temporary):
-    """The first of the folders, or one that is made, with the compiler of rust/kit.sh; ends the script if that can't be
-    had, or if there is another one: what is read here is what this one prints."""
-    kit, script = Path(folders[0]).resolve() if folders else temporary / 'kit', REPOSITORY / 'rust/kit.sh'
-    if status := subprocess.run(['sh', script, kit]).returncode:
-        print(f'{Path(sys.argv[0]).stem}: not run: no compiler', file=sys.stderr)
-        sys.exit(status)
-    pinned = re.search(r'^version=(.*)', script.read_text(), re.M)[1]
-    this = subprocess.run([kit / 'rustc', '--version'], capture_output=True, text=True).stdout.strip()
-    if this.split()[1:2] != [pinned]:
-        sys.exit(f'{Path(sys.argv[0]).stem}: it reads the MIR that rustc {pinned} prints, which rust/kit.sh unpacks; '
-                 f'this is {this}: name another folder than {kit}')
-    return kit
+def kits_of(folders, temporary):
+    """The compilers whose MIR is read, each a folder with its version: that of rust/kit.sh, in the first of the folders or
+    one that is made; and the one on PATH, so that what users compile is what is compared. One is enough; ends the
+    script if there is none."""
+    kit, own, name = Path(folders[0]).resolve() if folders else temporary / 'kit', temporary / 'own', Path(sys.argv[0]).stem
+    is_there, found = not subprocess.run(['sh', REPOSITORY / 'rust/kit.sh', kit]).returncode, {}
+    if not shutil.which('cargo'):
+        print(f'{name}: not run: no cargo', file=sys.stderr)
+        sys.exit(2)
+    own.mkdir(exist_ok=True)
+    (own / 'rustc').write_text(f'#!/bin/sh\nexec {shlex.quote(shutil.which("rustc") or "rustc")} "$@"\n')
+    (own / 'rustc').chmod(0o755)
+    for folder in [kit] * is_there + [own]:
+        said = subprocess.run([folder / 'rustc', '--version'], capture_output=True, text=True).stdout.split()
+        version = said[1] if said[1:] else 'no rustc'
+        if version.startswith(READS):
+            found.setdefault(version, folder)
+        elif folder == kit or not found:
+            sys.exit(f'{name}: it reads the MIR of rustc {", ".join(it[:-1] for it in READS)}, and {folder} has {version}: name another folder, '
+                     'or put one of these on PATH')
+        else:
+            print(f'{name}: the MIR of rustc {version}, which is on PATH, is not read: READS of tools/widths.py')
+    return {folder: version for version, folder in found.items()}
 
 
 def rustc(crate, kit, target, what='--lib', words=('--features', 'segmentation-offload,std'), flags=(),
@@ -455,9 +459,12 @@ def ported():
 def main(arguments):
     with tempfile.TemporaryDirectory() as temporary:
         temporary = Path(temporary)
-        kit = kit_of([word for word in arguments if word != '--write'], temporary)
-        rust = compiled(root := with_bounds(temporary / 'crate'), kit, temporary / 'target')
-        found, counts = of_crate(root, rust)
+        root, found = with_bounds(temporary / 'crate'), []
+        for kit, version in kits_of([word for word in arguments if word != '--write'], temporary).items():
+            rust = compiled(root, kit, temporary / version)
+            said, counts = of_crate(root, rust)
+            found += [f'{what} (rustc {version})' for what in said]
+    found += [f'tools/parts/same_names.txt: no call of `known`: {it}' for it in KNOWN.unused()]
     found += [*laws(sorted((REPOSITORY / 'crates').glob('*/src/**/*.rt'))), *unfolded(REPOSITORY / 'crates')]
     head, block = PAGE.read_text().split('\n\n- ', 1)[0], std_calls(rust)
     if '--write' in arguments:

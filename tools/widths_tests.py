@@ -21,8 +21,7 @@ from parts.mir_text import tables
 # Bodies by what covers their operation, and those that nothing covers; items, each behind whether one of their
 # operations is open; functions that may state of a number that it is one, and functions that may not.
 COVERED = tables('widths_bodies.txt')
-HEAD, OPEN, ITEMS, LAWFUL, UNLAWFUL, EXPORTS = (
-    COVERED.pop(name) for name in ('head', 'open', 'items', 'lawful', 'unlawful', 'exports'))
+HEAD, OPEN, ITEMS, LAWFUL, UNLAWFUL = (COVERED.pop(name) for name in ('head', 'open', 'items', 'lawful', 'unlawful'))
 BODY = 'pub fn f(a: usize, b: usize, x: u64, xs: &mut [u8], s: &mut S) -> usize {{\n    {}\n}}'
 
 
@@ -53,8 +52,9 @@ def check_refusals(folder):
         (folder / program).write_text('#!/bin/sh\necho rustc 1.0.0\n')
         (folder / program).chmod(0o755)
     with mock.patch.dict(os.environ, PATH=f'{folder}:{os.environ["PATH"]}'):
-        for refuse in (lambda: widths.kit_of([folder], folder), libraries.kit):
-            with TestCase().assertRaisesRegex(SystemExit, '; this is rustc 1.0.0: name '):
+        for refuse, said in ((lambda: widths.kits_of([folder], folder), 'has 1.0.0: name another folder'),
+                             (libraries.kit, '; this is rustc 1.0.0: name ')):
+            with TestCase().assertRaisesRegex(SystemExit, said):
                 refuse()
 
 
@@ -80,11 +80,11 @@ def check_laws(folder):
 def check_status(kit):
     """What is open is said and counted, and so is another page."""
     page = '- ' + widths.PAGE.read_text().split('\n\n- ', 1)[1].rstrip('\n')
-    for found, said, wanted in (([], page, []), (['a: b'], page, ['open: a: b']),
+    for found, said, wanted in (([], page, []), (['a: b'], page, ['open: a: b (rustc 1.85)']),
                                 ([], '- `A`: `b`', ['open: std-calls.md: tools/widths.py --write has other lines'])):
         told = contextlib.redirect_stdout(io.StringIO())
         with told as out, mock.patch.multiple(widths, compiled=lambda *_: None, with_bounds=str, of_crate=lambda *_: ([*found], {'bound': 3}),
-                                              std_calls=lambda _: said):
+                                              KNOWN=mock.Mock(unused=list), std_calls=lambda _: said, kits_of=lambda *_: {kit: '1.85'}):
             status = widths.main([str(kit)])
         lines = [*wanted, f'{len(wanted)} open, 3 bound']
         assert (status, out.getvalue().splitlines()) == (int(bool(wanted)), lines), out.getvalue()
@@ -93,26 +93,19 @@ def check_status(kit):
 def main(arguments):
     with tempfile.TemporaryDirectory() as temporary:
         temporary = Path(temporary)
-        kit = widths.kit_of(arguments, temporary)
+        kits = widths.kits_of(arguments, temporary)
         check_refusals(temporary / 'others')
         covered = [(text, cover) for cover, texts in COVERED.items() for text in texts]
         rows = [(BODY.format(text), {cover}, False) for text, cover in covered]
         rows += [(BODY.format(text), None, True) for text in OPEN]
         rows += [(text, None, is_open != '0') for is_open, text in (item.split(' ', 1) for item in ITEMS)]
-        found = read(temporary / 'plants', str(kit / 'rustc'), {f'row{k}': text for k, (text, *_) in enumerate(rows)})
-        for (text, covers, is_open), (said, seen) in zip(rows, found.values()):
-            assert bool(said) == is_open and covers in (None, seen), (text, said, seen)
-        crate = temporary / 'crate'
-        widths.with_bounds(crate)
-        for file, part, plant in (row.split(' ~~ ') for row in EXPORTS):
-            path = crate / 'src/exports' / file
-            assert part in path.read_text(), (file, part)
-            path.write_text(path.read_text().replace(part, plant, 1))
-        said, _ = widths.of_crate(crate, widths.compiled(crate, kit, temporary / 'target'))
-        assert len(said) == len(EXPORTS), said
+        for kit, version in kits.items():
+            found = read(temporary / version, str(kit / 'rustc'), {f'row{k}': text for k, (text, *_) in enumerate(rows)})
+            for (text, covers, is_open), (said, seen) in zip(rows, found.values()):
+                assert bool(said) == is_open and covers in (None, seen), (version, text, said, seen)
         check_laws(temporary)
-        check_status(kit)
-    print(f'{len(covered)} covers, {len(OPEN) + len(EXPORTS)} plants, {len(ITEMS)} items, '
+        check_status(next(iter(kits)))
+    print(f'by {len(kits)} rustcs {len(covered)} covers, {len(OPEN)} plants, {len(ITEMS)} items, '
           f'{len(LAWFUL) + len(UNLAWFUL)} calls of the law')
     return 0
 

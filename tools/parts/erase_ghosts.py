@@ -39,17 +39,21 @@ class Ghosts:
         for path, text in sources:
             self.types |= {*COUNT.findall(text)}
             try:
-                read = Text(text)
+                self.note(path, text, methods)
             except Refused:                        # the eraser of this file says so
-                continue
-            for k, (kind, word, at) in enumerate(read.tokens):
-                name = read.tokens[read.next(k + 1)][1] if word == 'fn' else ''
-                if name.isidentifier():
-                    said = read.plain(k, *read.function_ends(k))
-                    head, owner = around(text[:at], read.margin(k))
-                    for of in ('', owner):
-                        methods[of, name].add(said.startswith(f'fn {name} ( & self ) -> '))
-                    is_idle = re.fullmatch(rf'fn {name} \([^()]*\) {IDLE.pattern} ', said)
-                    if is_idle and not OF_TRAIT.search(head):
-                        self.idle.add((owner or path.stem, name))
+                pass
         self.readers = {method for method, are in methods.items() if are == {True}}
+
+    def note(self, path, text, methods):
+        """Notes a file's functions."""
+        read = Text(text)
+        for k, (kind, word, at) in enumerate(read.tokens):
+            name = read.tokens[read.next(k + 1)][1] if word == 'fn' else ''
+            if name.isidentifier():
+                said = read.plain(k, *read.function_ends(k))
+                head, owner = around(text[:at], read.margin(k))
+                for of in ('', owner):
+                    methods[of, name].add(said.startswith(f'fn {name} ( & self ) -> '))
+                is_idle = re.fullmatch(rf'fn {name} \([^()]*\) {IDLE.pattern} ', said)
+                if is_idle and not OF_TRAIT.search(head):
+                    self.idle.add((owner or path.stem, name))

@@ -8,12 +8,13 @@ import re
 from pathlib import Path
 
 import guards
+import plants
 from parts.erase_list import PACKAGES
 
 ROOT = Path(__file__).resolve().parent.parent.parent
 # What no file counts: what is asked for, and versions.
 FIXED = ["32 or 64 bits", "smoltcp 0.14.0", "until 1.0", "Rust 1.87 and Python 3.9", "smoltcp's is 1", "[0BSD]",
-         "what rustc 1.85 makes", "segment of 1,460 bytes", "quinn-proto 0.9.2", "sent 0.75 of Linux's MB/s", "its two bugs",
+         "segment of 1,460 bytes", "quinn-proto 0.9.2", "sent 0.75 of Linux's MB/s", "its two bugs",
          "N = 4", "two segments of 16 bytes", "checksum of 20 bytes", "frame of 1,200 bytes", "5 of 100", "by 2 KiB",
          "by 64 KiB", "After the first 32", "after the first 32", "round trip of 1 ms", "With 10 % lost",
          "0.75 of Reno's, with 5 % delayed", "with 20 % delayed"]
@@ -137,6 +138,10 @@ def counted():
         yield text, left, [WORDS[first(r"^== left\n(.*)", left).count(" ~~ ") // 2]]
     same = ("tools/same_program.py", "tools/parts/same_*.py", "tools/parts/mir_text.py")
     yield "with its parts {} lines of Python", ", ".join(same), [tens(count("\n", *same))]
+    planted = plants.SECTIONS.copy()
+    yield "each of {} weakened scripts", "tools/parts/plants.txt", [str(len(planted.pop(("weakened",))))]
+    yield "Each of {} faults", "tools/parts/plants.txt", [str(sum(map(len, planted.values())))]
+    yield "has {} patterns of", left, [WORDS[first(r"^== alone\n(.*?)\n\n", left).count("\n") + 1]]
     yield "those of {} others are", "tools/guards.py", [WORDS[len([*guards.guarded()])]]
     yield "[{} functions](std-calls.md)", "docs/std-calls.md", [
         str(sum(len(re.findall(r"`\w+`", names)) for names in re.findall(

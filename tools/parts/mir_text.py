@@ -19,6 +19,27 @@ def tables(name):
     return found
 
 
+def cells(row):
+    """The parts of a table's row, which `~~` is between."""
+    return re.split(r' ?~~(?: |\Z)', row)
+
+
+class Listed:
+    """A closed list of what a script lets through: patterns, each with its reason, and which of them let something
+    through."""
+
+    def __init__(self, rows):
+        self.rows, self.used = [re.compile(cells(row)[0]) for row in rows], set()
+
+    def has(self, what):
+        found = {row.pattern for row in self.rows if row.fullmatch(what)}
+        self.used |= found
+        return bool(found)
+
+    def unused(self):
+        return [row.pattern for row in self.rows if row.pattern not in self.used]
+
+
 def erased_files(root, *folders):
     """The erased files in folders of a crate's, by their paths: of each its module, in the prover's words and in
     rustc's."""

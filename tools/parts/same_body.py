@@ -27,19 +27,25 @@ def count(text):
     return integer(int(text)) if text.isdigit() else term('N', text)
 
 
+def text_of(data):
+    """A text of these bytes: a slice of what a program keeps."""
+    return term('slice', term('static', json.dumps({'Ints': {'values': data, 'width': 8}})), integer(len(data)))
+
+
 class CompiledSide(Side):
     """A function of rustc's program, by the text of its item."""
     word, widths = 'B', WIDTHS
 
     def __init__(self, program, item, name):
-        self.program, self.path, self.nodes, self.start = program, name, {}, (0, 0)
+        self.program, self.path, self.start = program, name, (0, 0)
         head, *lines = item.split('\n')
         begin = head.find('(_1: ') + 1
         parameters = split(head[begin:closing(head, begin)]) if begin else []
         parameters = dict(re.match(r'_(\d+): (.*)', one).groups() for one in parameters)
         self.parameters = len(parameters)
         self.types = parameters | dict(re.findall(r'let (?:mut )?_(\d+): (.*?);\s+//', item))
-        block = None
+        block, written = None, re.search(r' = (const [^\n]*);$', head)
+        self.nodes = {0: [f'_0 = {written[1]}', 'return']} if written else {}       # a number, as rustc 1.95 prints it
         for line in lines:
             if start := re.match(r'    bb(\d+)(?: \(cleanup\))?: \{', line):
                 block = self.nodes.setdefault(int(start[1]), [])
@@ -74,7 +80,8 @@ class CompiledSide(Side):
     def kind_of(self, text):
         """The type of an operand, if its text or its local tells it: u64 of `const 3_u64`, or of `copy (_3.0: u64)`."""
         if text.startswith('const '):
-            return (re.search(r'_([iu]\w+)$', text) or ['', None])[1]
+            limit = LIMIT.fullmatch(text[6:])
+            return limit[1] or limit[2] if limit else (re.search(r'_([iu]\w+)$', text) or ['', None])[1]
         text = re.sub(r'^(?:copy|move) ', '', text)
         field, inner = re.fullmatch(r'\(.*\.\d+: (.*)\)', text), re.fullmatch(r'\(\*_(\d+)\)', text)
         if inner:
@@ -102,9 +109,8 @@ class CompiledSide(Side):
             return integer(ord(text[1]))
         written = re.fullmatch(r'(b?)("(?:[^"\\]|\\[^u])*")', text)
         if written and text.isascii():
-            data = list(ast.literal_eval('b' + written[2]))
-            static = term('static', json.dumps({'Ints': {'values': data, 'width': 8}}))
-            return static if written[1] else term('slice', static, integer(len(data)))
+            made = text_of(list(ast.literal_eval('b' + written[2])))
+            return made.pointer if written[1] else made
         if limit and (limit[1] or limit[2]) in self.widths.keys() - {'isize'}:           # widths.py knows a `usize`
             width = WIDTHS[limit[1] or limit[2]]
             most, least = (2 ** width - 1, 0) if width > 0 else (2 ** (-width - 1) - 1, 2 ** (-width - 1))
@@ -127,7 +133,7 @@ class CompiledSide(Side):
 
     def compute(self, state, text):
         """What the right side of an assignment gives."""
-        if reference := re.match(r'&(mut |raw const |raw mut |fake )?(?=[(_])', text):
+        if reference := re.match(r'&(mut |raw const |raw mut |fake )?(?:\(fake\) )?(?=[(_])', text):
             return self.address(self.at_place(state, text[len(reference[0]):]), 'mut' in (reference[1] or ''))
         if text.startswith('deref_copy '):
             return self.read(state, self.at_place(state, text[11:]))
@@ -316,8 +322,8 @@ class CompiledSide(Side):
             return UNIT
         if name == 'Argument.new_display':         # a reference's text is that of what it refers to
             return self.referred(state, arguments[0], kind)
-        if name in ('Arguments.new_v1', 'Arguments.new_const'):
-            return self.formatted(state, arguments)
+        if name in ('Arguments.new_v1', 'Arguments.new_const', 'Arguments.new', 'Arguments.from_str'):
+            return self.formatted(state, name, arguments)
         if name in ('slice.iter', 'slice.iter_mut', 'slice:IntoIterator.into_iter'):
             return aggregate(term('iter', arguments[0]), FALSE)
         is_iterator = of in ('Range', 'Iter', 'IterMut', 'Zip') or f'{of}:Iterator.next' in self.program.traits.values()
@@ -327,9 +333,22 @@ class CompiledSide(Side):
         """What a reference to references refers to at last."""
         return self.referred(state, self.target(state, value), kind[1:]) if kind.startswith('&&') else value
 
-    def formatted(self, state, arguments):
-        """What is written, in turn: of `write!(f, "({a})")` "(", a and ")"."""
-        texts, given = [*(self.target(state, one).parts for one in arguments), ()][:2]
+    def formatted(self, state, name, arguments):
+        """What is written, in turn: of `write!(f, "({a})")` "(", a and ")". Rustc 1.85 has the texts in a list, 1.95 a
+        text alone, or all in bytes: before each text its length, 0xc0 in the place of a value, and 0 at the end."""
+        if name == 'Arguments.from_str':
+            return aggregate(aggregate(*arguments))
+        given = [*self.target(state, arguments[-1]).parts] if arguments[1:] else []
+        if name == 'Arguments.new':
+            data, both = json.loads(arguments[0].data)['Ints']['values'], []
+            while data[0]:
+                if data[0] not in (*range(128), 0xc0):
+                    return None                    # a call, as of a text with a width in rustc 1.85
+                size = data[0] % 0xc0
+                both.append(text_of(data[1:size + 1]) if size else given.pop(0))
+                data = data[size + 1:]
+            return aggregate(aggregate(*both))
+        texts = self.target(state, arguments[0]).parts
         both = [one for k, text in enumerate(texts) for one in (text, *given[k:k + 1])]
         return aggregate(aggregate(*(one for one in both if one[-1] != FALSE)))
 

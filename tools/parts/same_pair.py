@@ -3,19 +3,24 @@ import re
 
 from parts.mir_text import tables
 from parts.same_side import Branch, Call, Never, Panic, Return, Store, at_local
-from parts.same_terms import (UNIT, Differ, Known, Unknown, any_part, discriminant, holds_ref, is_test, mentions,
-                              met, settled, shown, term)
+from parts.same_terms import (UNIT, Differ, Known, Term, Unknown, any_part, discriminant, holds_ref, is_test,
+                              mentions, met, settled, shown, term)
 
 # Names that one of the programs has, and those that both have here.
 SAME = [(re.compile(pattern), text) for pattern, text in
         (row.split(' ~~ ') for row in tables('same_names.txt')['names'])]
 
 
+USED = set()                                       # those of `SAME` that a name had
+
+
 def common(name, traits):
     """A callee in common words: Vec.from_elem of Vec.filled."""
     name = traits.get(name, name)
     for pattern, text in SAME:
-        name = pattern.sub(text, name) if pattern.fullmatch(name) else name
+        if pattern.fullmatch(name):
+            USED.add(pattern.pattern)
+            name = pattern.sub(text, name)
     return name
 
 
@@ -77,10 +82,20 @@ class Pair:
     def reach(self, node, state):
         """A pair of places is reached: what was equal on each way is equal."""
         old = self.states.get(node)
+        if self.counts:
+            old, state = (of and {name: self.numbered(value) for name, value in of.items()} for of in (old, state))
         new = state if old is None else self.joined(('phi', node), old, state)
         if new is not None:
             self.states[node] = new
             self.work += [node] if node not in self.work else []
+
+    def numbered(self, value):
+        """A term with rustc's names of parameters that are numbers, so that both sides meet as one: N('N') of N(0)."""
+        if isinstance(value, dict):
+            return {self.numbered(one): known for one, known in value.items()}
+        if isinstance(value, Term) and value[0] == 'N' and isinstance(value.name, int):
+            return self.counts.get(value, value)
+        return type(value)(map(self.numbered, value)) if isinstance(value, (tuple, frozenset)) else value
 
     @staticmethod
     def joined(key, old, new):
@@ -214,9 +229,13 @@ class Pair:
 
     @staticmethod
     def has_drop(value, kept, state):
-        """Whether a value has something to drop: not a variant, if it is known, that has nothing."""
+        """Whether a value has something to drop: not a variant, if it is known, or known which it isn't, that has nothing."""
         variant = settled(discriminant(value), state['facts'], {})
-        return kept[0] != 'kept' or not kept.numbers or variant[0] != 'int' or variant.number in kept.numbers
+        if kept[0] != 'kept' or not kept.numbers:
+            return True
+        if variant[0] == 'int':
+            return variant.number in kept.numbers
+        return not {*kept.numbers} <= state['facts'].get(variant, Known()).others
 
     def call(self, node, one, two, state):
         """Both call the same function with equal arguments; what they are lent may be changed, and so may memory."""

@@ -159,6 +159,8 @@ def operation(sign, one, two, width=64):
         return negated(operation('==', one, two))
     if sign == '<=' and one[0] == 'op' and (one.sign, one.two) == ('+', integer(1)):     # whose sum is proved
         sign, one = '<', one.one
+    if sign == '<=' and one[0] == 'int' and one.number > 0:                     # 1 <= a, which is 0 < a
+        sign, one = '<', integer(one.number - 1)
     if sign == '<=' and two == integer(2 ** 64 - 1):                            # the greatest number, which guards test
         return TRUE
     if sign in ('<<', '>>') and two[0] == 'cast' and two.width > two.old > 0:
