@@ -8,7 +8,7 @@ for folder in . net-tcp benches exports fuzz ../c ../compare; do
     (cd "$folder" && cargo fmt --check)
 done
 (cd ../tools/growth && cargo fmt --check -- --config-path ../../rust)
-for file in ../compare/quinn/*.rs; do
+for file in ../compare/quinn/*.rs ../compare/quics/*.rs; do
     rustfmt --edition 2021 --config-path ../compare < "$file" | cmp - "$file"
 done
 for features in "" "--no-default-features" "--no-default-features --features alloc" "--all-features"; do

@@ -129,7 +129,7 @@ def compared(proved, rust, within):
             how, reason = why(proved, rust, name, there)
             found[how].append((name, reason))
         # a drop that only drops isn't erased, nor what does nothing
-        elif name not in proved.trivial | proved.idle and not ALONE.has(f'{name}: not compiled'):
+        elif not ALONE.has(f'{name}: not compiled') and name not in proved.trivial | proved.idle:
             found['differ'].append((name, 'not compiled'))
     own = {name for name in rust.functions if name.startswith(f'{within}::') and '{' not in name} - rust.derived
     found['differ'] += [(name, 'not proved')

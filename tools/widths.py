@@ -27,10 +27,10 @@ call of std's with a `usize` or an `isize` in its type that `KNOWN` lacks. Deriv
 
 The law `is_usize` is given a parameter, a length, what a method of `self` returned, or a literal: of a sum it would
 state what is to be proved. No proof but those of `most` and of this law unfolds `shortfall`, but for that it is below
-2^64. docs/std-calls.md is to have what std's functions are called, but for operators, indices, `?`, calls of closures
-and what prints, and docs/TRUST.md the ported crates of crates.txt; --write writes the first. The compilers are that of
-rust/kit.sh, unpacked in FOLDER, or in a temporary one, and the one on PATH, as far as `READS` has them. The status is 1 if
-something is open, a page has other lines, or there is no such compiler.
+2^64, and at most 2^64 - 2^32. docs/std-calls.md is to have what std's functions are called, but for operators, indices,
+`?`, calls of closures and what prints, and docs/TRUST.md the ported crates of crates.txt; --write writes the first. The
+compilers are that of rust/kit.sh, unpacked in FOLDER, or in a temporary one, and the one on PATH, as far as `READS` has
+them. The status is 1 if something is open, a page has other lines, or there is no such compiler.
 """
 import collections
 import os
@@ -367,7 +367,8 @@ def laws(paths):
 def unfolded(crates):
     """The proofs that know how many bits a `usize` has: but for the two that say what it is, there is none."""
     # of 0 and 2^64 - 2^32
-    of_both = re.compile(r'(?m)^word : shortfall < 2 \^ 64\nunfolding shortfall\nword = omega arith$')
+    of_both = re.compile(r'(?m)^(?:word : shortfall < 2 \^ 64|pub narrow : 2 \^ 32 \+ shortfall ≤ 2 \^ 64)\nunfolding shortfall\n'
+                         r'(?:word|narrow) = omega arith$')
     for path in sorted([*crates.glob('*/proofs/**/*.antt'), *crates.glob('*/src/**/*.rt')]):
         if re.search(r'unfolding\b[^\n]*\bshortfall\b',
                      of_both.sub('', path.read_text())) and str(path.relative_to(crates)) not in KNOWING:

@@ -23,28 +23,11 @@ case "${1-}" in
 esac
 shift
 
-# Unpacks the sources of lwIP's package, from where the machine has its packages: lists of this run alone ask there for
-# sources too.
-unpack_lwip() {
-    mkdir -p "$out/apt.lists" "$out/apt.state/partial" "$out/apt.cache" "$out/lwip.sources"
-    for list in /etc/apt/sources.list /etc/apt/sources.list.d/*.list /etc/apt/sources.list.d/*.sources; do
-        [ ! -f "$list" ] || sed 's/^deb /deb-src /; s/^Types:.*/Types: deb-src/' "$list" > "$out/apt.lists/${list##*/}"
-    done
-    set -- -qq -o Dir::Etc::SourceList=/dev/null -o Dir::Etc::SourceParts="$out/apt.lists" -o APT::Sandbox::User=root \
-        -o Dir::State::Lists="$out/apt.state" -o Dir::Cache="$out/apt.cache"
-    version=$(dpkg-query -W -f '${source:Version}' liblwip-dev)
-    cd "$out"
-    { guarded apt-get "$@" update || :; guarded apt-get "$@" source --download-only "lwip=$version"; } > apt 2>&1 || :
-    cd - > /dev/null
-    tar -xf "$out"/lwip_*.orig.tar.* -C "$out/lwip.sources" --strip-components 1 2> /dev/null ||
-        not_run "no sources of lwip: apt-get source lwip=$version"
-}
-
 # lwIP as Debian builds it reports no blocks; its sources do if they are told to.
 build_programs() {
     want /usr/include/lwip/lwipopts.h liblwip-dev
     want /usr/share/gocode/src/gvisor.dev golang-go golang-gvisor-gvisor-dev
-    unpack_lwip
+    unpack "lwip=$(dpkg-query -W -f '${source:Version}' liblwip-dev)" "$out/lwip.sources"
     build="guarded cc -O2 -isystem /usr/include/lwip"
     $build -Wall -Wextra -Werror -o "$out/lwip" "$here/lwip.c" -llwip
     $build -w -DLWIP_TCP_SACK_OUT=1 -o "$out/lwip_sack" "$here/lwip.c" \

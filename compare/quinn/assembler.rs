@@ -1,33 +1,32 @@
-//! quinn's `Assembler` over net-base's receiver. `run.sh` puts it in the place of quinn's `connection/assembler.rs`.
+//! quinn's `Assembler` over net-base's `StreamRanges`. `run.sh` puts it in the place of quinn's
+//! `connection/assembler.rs`.
 
-use std::collections::BTreeMap;
-use std::{iter, mem};
+use std::{collections::VecDeque, mem, ops::Range};
 
-use bytes::{Buf, Bytes};
-use net_base::receiver::ReceiverOver;
+use bytes::Bytes;
+use net_base::{finite::StreamRangesOver, storage::Run};
 
-use crate::range_set::RangeSet;
-
-/// How many runs a ring holds that wait for bytes before them.
-const RUNS: usize = 32;
-/// The least capacity of a ring.
-const LEAST: usize = 4096;
-
-type Ring = ReceiverOver<Vec<u8>, RUNS>;
+/// How many ranges may wait for bytes before them. The first ones have room for `FIRST_RUNS`.
+const MOST_RUNS: usize = 1024;
+const FIRST_RUNS: usize = 8;
+/// Chunks of fewer bytes are short. They are joined to blocks once so many of them came.
+const SHORT: usize = 256;
+const MANY_SHORT: usize = 1024;
+const BLOCK: usize = 1024;
 
 /// Puts what arrives in the order of the stream.
-#[derive(Debug, Default)]
+#[derive(Debug)]
 pub(crate) struct Assembler {
-    /// `None` while nothing has come, and from the first unordered read on.
-    ring: Option<Box<Ring>>,
-    /// The position of the byte at index 0 of the ring's storage.
-    ring_first: u64,
-    /// What the ring refused, which is kept since its packet is acknowledged. From the first unordered read on all that
-    /// waits, each byte once.
-    aside: BTreeMap<u64, Bytes>,
-    /// All that ever came, from the first unordered read on.
-    received: Option<RangeSet>,
+    /// Which bytes came.
+    ranges: StreamRangesOver<Vec<Run>>,
+    /// The bytes up to the first that is missing, but for those that were read.
+    ready: VecDeque<Chunk>,
+    /// The bytes beyond it, in the order of their offsets.
+    waiting: VecDeque<Chunk>,
     bytes_read: u64,
+    /// After so many more short chunks they are joined.
+    short_left: usize,
+    is_unordered: bool,
 }
 
 impl Assembler {
@@ -36,73 +35,44 @@ impl Assembler {
     }
 
     pub(crate) fn ensure_ordering(&mut self, ordered: bool) -> Result<(), IllegalOrderedRead> {
-        match (ordered, &self.received) {
-            (true, Some(_)) => Err(IllegalOrderedRead),
-            (false, None) => {
-                let waiting: Vec<_> =
-                    self.take_ring().into_iter().chain(mem::take(&mut self.aside)).collect();
-                self.received.insert(RangeSet::new()).insert(0..self.bytes_read);
-                for (offset, bytes) in waiting {
-                    self.insert_unordered(offset, bytes);
-                }
-                Ok(())
-            }
-            _ => Ok(()),
+        self.is_unordered |= !ordered;
+        if ordered && self.is_unordered {
+            return Err(IllegalOrderedRead);
         }
+        Ok(())
     }
 
     pub(crate) fn read(&mut self, max_length: usize, ordered: bool) -> Option<Chunk> {
-        if !ordered {
-            self.ensure_ordering(false).ok()?;
+        let is_ready = !self.ready.is_empty();
+        let chunks = if is_ready || ordered { &mut self.ready } else { &mut self.waiting };
+        let mut chunk = chunks.pop_front()?;
+        if max_length < chunk.bytes.len() {
+            let rest = chunk.bytes.split_off(max_length);
+            chunks.push_front(Chunk::new(chunk.offset + max_length as u64, rest));
         }
-        let chunk = if self.received.is_some() {
-            let first = self.aside.first_entry()?;
-            if ordered && *first.key() > self.bytes_read {
-                return None;
-            }
-            let (offset, mut bytes) = first.remove_entry();
-            if max_length < bytes.len() {
-                self.aside.insert(offset + max_length as u64, bytes.split_off(max_length));
-            }
-            Chunk::new(offset, bytes)
-        } else {
-            let ring = self.ring.as_mut().filter(|ring| !ring.is_empty())?;
-            let (_, bytes) = ring.read_with(|front| {
-                let part = &front[..front.len().min(max_length)];
-                (part.len(), Bytes::copy_from_slice(part))
-            });
-            Chunk::new(self.bytes_read, bytes)
-        };
+        if is_ready {
+            self.ranges.read(chunk.bytes.len());
+        }
         self.bytes_read += chunk.bytes.len() as u64;
         Some(chunk)
     }
 
-    pub(crate) fn insert(&mut self, offset: u64, bytes: Bytes, _allocation_size: usize) {
-        if bytes.is_empty() {
-            return;
-        }
-        if self.received.is_some() {
-            return self.insert_unordered(offset, bytes);
-        }
-        let end = offset + bytes.len() as u64;
-        if end <= self.bytes_read {
-            return;
-        }
-        let ring = self.ring_up_to(end);
-        if ring.keep(offset, &bytes).is_err() {
-            let longest = self.aside.entry(offset).or_default();
-            if longest.len() < bytes.len() {
-                *longest = bytes;
+    /// Takes what is new of a frame.
+    pub(crate) fn insert(&mut self, offset: u64, bytes: Bytes, datagram: usize) -> Result<(), TooManyRanges> {
+        let frame = offset..offset + bytes.len() as u64;
+        while let Some(part) = self.keep(frame.clone())? {
+            if part == frame {
+                self.put(offset, bytes, datagram);
+                break;
             }
-            return;
+            let index = |pos| (pos - offset) as usize;
+            self.put(part.start, bytes.slice(index(part.start)..index(part.end)), datagram);
         }
-        let next = ring.next();
-        self.keep_aside_up_to(next);
+        Ok(())
     }
 
     /// Discards all that waits, and goes on at a position.
     pub(crate) fn set_bytes_read(&mut self, new: u64) {
-        self.clear();
         self.bytes_read = new;
     }
 
@@ -111,67 +81,72 @@ impl Assembler {
     }
 
     pub(crate) fn clear(&mut self) {
-        self.ring = None;
-        self.aside.clear();
+        self.ready = VecDeque::new();
+        self.waiting = VecDeque::new();
     }
 
-    /// Moves into the ring what waits aside and begins at or below its first missing position.
-    fn keep_aside_up_to(&mut self, mut next: u64) {
-        while let Some(first) = self.aside.first_entry() {
-            if *first.key() > next {
-                break;
+    /// Returns the first part of a range that is new, and notes that it came. Makes room for more ranges if need be.
+    fn keep(&mut self, range: Range<u64>) -> Result<Option<Range<u64>>, TooManyRanges> {
+        if let Ok(part) = self.ranges.keep(range.clone(), false) {
+            return Ok(part);
+        }
+        let most = self.ranges.most_runs();
+        if most == MOST_RUNS {
+            return Err(TooManyRanges);
+        }
+        self.ranges.grow_runs(vec![Run::EMPTY; (2 * most).clamp(FIRST_RUNS, MOST_RUNS)]);
+        Ok(self.ranges.keep(range, false).expect("room for a range"))
+    }
+
+    /// Puts bytes where they can be read, and what follows them, or else where they wait. It copies them if they are
+    /// little of their datagram, so that this can be freed.
+    fn put(&mut self, offset: u64, mut bytes: Bytes, datagram: usize) {
+        if 3 * bytes.len() < datagram {
+            bytes = Bytes::copy_from_slice(&bytes);
+        }
+        let is_short = bytes.len() < SHORT;
+        let (chunk, next) = (Chunk::new(offset, bytes), self.ranges.next());
+        if offset < next {
+            self.ready.push_back(chunk);
+            while self.waiting.front().map_or(false, |first| first.offset < next) {
+                self.ready.extend(self.waiting.pop_front());
             }
-            let (offset, bytes) = first.remove_entry();
-            let ring = self.ring_up_to(offset + bytes.len() as u64);
-            ring.keep(offset, &bytes).expect("it begins in order");
-            next = ring.next();
+        } else if self.waiting.back().map_or(true, |last| last.offset < offset) {
+            self.waiting.push_back(chunk);
+        } else {
+            let index = self.waiting.partition_point(|other| other.offset < offset);
+            self.waiting.insert(index, chunk);
+        }
+        self.short_left -= usize::from(is_short);
+        if self.short_left == 0 {
+            self.join_chunks();
         }
     }
 
-    /// Returns a ring that has room up to a position. It takes over what waits in a smaller one.
-    fn ring_up_to(&mut self, end: u64) -> &mut Ring {
-        let need = end.saturating_sub(self.bytes_read) as usize;
-        if self.ring.as_ref().map_or(true, |ring| ring.capacity() < need) {
-            let waiting = self.take_ring();
-            let storage = vec![0; need.next_power_of_two().max(LEAST)];
-            let mut ring = Box::new(Ring::over_at(storage, self.bytes_read));
-            for (offset, bytes) in waiting {
-                ring.keep(offset, &bytes).expect("no more runs than before");
+    /// Joins chunks that touch, up to a block.
+    fn join_chunks(&mut self) {
+        let waiting = mem::take(&mut self.waiting);
+        let mut joined: VecDeque<Chunk> = VecDeque::new();
+        for chunk in mem::take(&mut self.ready).into_iter().chain(waiting) {
+            match joined.back_mut() {
+                Some(last) if last.end() == chunk.offset && last.bytes.len() + chunk.bytes.len() <= BLOCK => {
+                    last.bytes = [&last.bytes[..], &chunk.bytes[..]].concat().into();
+                }
+                _ => joined.push_back(chunk),
             }
-            (self.ring, self.ring_first) = (Some(ring), self.bytes_read);
         }
-        self.ring.as_mut().expect("a ring")
+        self.short_left = MANY_SHORT.max(joined.len());
+        let next = self.ranges.next();
+        self.waiting = joined.split_off(joined.partition_point(|chunk| chunk.offset < next));
+        self.ready = joined;
     }
+}
 
-    /// Takes all bytes out of the ring: each run, in two parts if the storage ends within, with its position.
-    fn take_ring(&mut self) -> Vec<(u64, Bytes)> {
-        let Some(ring) = self.ring.take() else { return vec![] };
-        let queue = (self.bytes_read, ring.next());
-        let runs: Vec<_> = iter::once(queue).chain(ring.held()).collect();
-        let storage = Bytes::from(ring.into_storage());
-        let parts = |(start, end): (u64, u64)| {
-            let at = ((start - self.ring_first) % storage.len() as u64) as usize;
-            let len = (end - start) as usize;
-            let front = storage.slice(at..storage.len().min(at + len));
-            let back = storage.slice(..len - front.len());
-            [(start, front.clone()), (start + front.len() as u64, back)]
-        };
-        runs.into_iter().flat_map(parts).filter(|part| !part.1.is_empty()).collect()
-    }
-
-    /// Keeps what of these bytes never came before.
-    fn insert_unordered(&mut self, mut offset: u64, mut bytes: Bytes) {
-        let received = self.received.as_mut().expect("an unordered read");
-        for old in received.replace(offset..offset + bytes.len() as u64) {
-            if offset < old.start {
-                self.aside.insert(offset, bytes.split_to((old.start - offset) as usize));
-            }
-            bytes.advance((old.end - old.start) as usize);
-            offset = old.end;
-        }
-        if !bytes.is_empty() {
-            self.aside.insert(offset, bytes);
-        }
+impl Default for Assembler {
+    fn default() -> Self {
+        let ranges = StreamRangesOver::over_at(vec![], 0, usize::MAX);
+        let (ready, waiting) = (VecDeque::new(), VecDeque::new());
+        Assembler { ranges, ready, waiting, bytes_read: 0, short_left: MANY_SHORT, is_unordered: false }
     }
 }
 
@@ -188,32 +163,38 @@ impl Chunk {
     fn new(offset: u64, bytes: Bytes) -> Self {
         Chunk { offset, bytes }
     }
+
+    fn end(&self) -> u64 {
+        self.offset + self.bytes.len() as u64
+    }
 }
 
 /// A stream was read in order after it was read unordered.
 #[derive(Debug)]
 pub struct IllegalOrderedRead;
 
+/// More ranges would wait than may.
+#[derive(Debug)]
+pub(crate) struct TooManyRanges;
+
 /// What quinn's unit tests call, which `run.sh` appends.
 #[cfg(test)]
 impl Assembler {
-    /// A ring has no fragments.
-    fn defragment(&mut self) {}
+    fn defragment(&mut self) {
+        self.join_chunks();
+    }
 
     /// Returns what can be read now.
-    fn data(&self) -> Vec<Chunk> {
-        let queue = self.ring.iter().map(|ring| ring.as_slices().0).filter(|it| !it.is_empty());
-        queue.map(|it| Chunk::new(self.bytes_read, Bytes::copy_from_slice(it))).collect()
+    fn data(&self) -> &VecDeque<Chunk> {
+        &self.ready
     }
-}
 
-#[cfg(test)]
-struct Buffer;
-
-#[cfg(test)]
-impl Buffer {
-    #[allow(clippy::new_ret_no_self)]
-    fn new(offset: u64, bytes: Bytes, _allocation_size: usize) -> Chunk {
-        Chunk::new(offset, bytes)
+    /// Reads all that can be read, as one chunk.
+    fn read_joined(&mut self) -> Option<Chunk> {
+        let mut chunk = self.read(usize::MAX, true)?;
+        while let Some(more) = self.read(usize::MAX, true) {
+            chunk.bytes = [chunk.bytes, more.bytes].concat().into();
+        }
+        Some(chunk)
     }
 }

@@ -1,10 +1,11 @@
 #!/bin/sh
-# Builds quinn-proto 0.9.2, as Debian 12 has it, twice: as it is, and with net-base's receiver and send buffer in the
-# place of its `Assembler` and `SendBuffer` (assembler.rs and send_buffer.rs beside this):
+# Builds quinn-proto 0.9.2, as Debian 12 has it, twice: as it is, and with types over net-base's `StreamRanges` and
+# `SendRanges` in the place of its `Assembler` and `SendBuffer` (assembler.rs and send_buffer.rs beside this):
 #
 #     sh compare/quinn/run.sh --sample   quinn's tests, and transfers over a path that loses, which must be equal
-#     sh compare/quinn/run.sh --runs     the transfers with other numbers of runs: a table
-#     sh compare/quinn/run.sh --speed    the two types of both by themselves: a table of times
+#     sh compare/quinn/run.sh --runs     the transfers, where a sender remembers few ranges: a table
+#     sh compare/quinn/run.sh --speed    the two types of both by themselves, and rings: tables of times, of instructions
+#                                        by callgrind, and of memory, in some minutes
 #
 # quinn's sources and what they depend on are Debian's, and it installs them if it can. All that it builds is in a
 # folder that goes when it ends. Status 1 if something fails, and 2 if the machine has no such packages. TERM ends all
@@ -59,38 +60,37 @@ replace() {
     { cat "$here/$1.rs"; sed -n '/^#\[cfg(test)\]/,$p' "$out/original/src/connection/$1.rs"; } > "$file"
 }
 
-# Puts before a test a copy of it, whose expectations a command of sed changes: here the bytes of frames and of writes
-# that touch are lent at once.
+# These want a frame's bytes in one chunk where other frames have some of them. Each byte is stored once here, as it
+# first came.
+parted="assemble_complex assemble_contains chunks_dedup defrag_read_chunk"
+
+# Puts before each of these a copy, which reads all chunks as one.
 join() {
-    { sed "/fn $2()/,\$d" "$1"; sed -n "/fn $2()/,/^ \{0,4\}}\$/p" "$1" | sed "s/fn $2/&_joined/; $3"
-        echo '#[test]'; sed -n "/fn $2()/,\$p" "$1"; } > "$out/changed"
-    cp "$out/changed" "$1"
+    for test in $parted; do
+        { sed "/fn $test()/,\$d" "$1"
+            sed -n "/fn $test()/,/^ \{0,4\}}\$/p" "$1" | sed "s/fn $test/&_joined/; s/x\.read(usize::MAX, true)/x.read_joined()/
+                s/next(&mut x, 32)/x.read_joined().map(|it| it.bytes)/; s/\"abcd\")))/\"abcdefghi\")))/; s/Some(Chunk::new(4.*/None/"
+            echo '#[test]'; sed -n "/fn $test()/,\$p" "$1"; } > "$out/changed"
+        cp "$out/changed" "$1"
+    done
 }
 
-# Makes the package over net-base. quinn acknowledges no byte twice, and counts a range's bytes when it does. With few
-# runs net-base has it send more than what is lost. So bytes are counted when they needn't be stored any more, and a
-# stream of which something is to be sent again is pending.
+# Makes the package over net-base. Where more ranges would wait than may, the connection is closed.
 port() {
     copy ported
     printf '\n[dependencies.net-base]\npath = "%s"\n' "$here/../../rust" >> "$out/ported/Cargo.toml"
-    change "$out/ported/src/connection/streams/state.rs" 's/self\.unacked_data -= frame\..*/\
-        let was_pending = stream.is_pending();\
-        self.unacked_data -= stream.pending.ack(frame.offsets.clone());\
-        if !was_pending \&\& stream.is_pending() {\
-            push_pending(\&mut self.pending, id, stream.priority);\
-        }/'
+    change "$out/ported/src/connection/streams/recv.rs" \
+        's/\(assembler.insert(.*)\);/\1.map_err(|_| TransportError::INTERNAL_ERROR("too many ranges"))?;/'
+    change "$out/ported/src/connection/mod.rs" \
+        's/\(\.insert(crypto\.offset.*)\);/\1.map_err(|_| TransportError::CRYPTO_BUFFER_EXCEEDED("too many ranges"))?;/'
     replace assembler
-    change "$file" 's/x\.data\.peek()/x.data().first()/'
+    change "$file" 's/x\.data\.peek()/x.data().front()/'
     change "$file" 's/x\.data\.len()/x.data().len()/'
-    join "$file" assemble_ordered '/&y/s/789/78910/; /&y.*"10"/d'
-    join "$file" assemble_overlapping '/&y/s/"123"/"1234"/; /&y.*"4"/d'
-    join "$file" chunks_dedup '/new(0/s/abcd/abcdefghi/; s/Some(Chunk::new(4.*/None/'
+    change "$file" 's/Buffer::new(\(.*\), 2)/Chunk::new(\1)/'
+    join "$file"
     replace send_buffer
     change "$file" 's/buf\.acks\./buf.acks()./'
     change "$file" 's/buf\.unacked_segments\./buf.unacked_segments()./'
-    join "$file" multiple_segments 's/assert_eq!(\(buf.get([^)]*)\), \(SEG.\))/assert!(\1.starts_with(\2))/'
-    join "$out/ported/src/tests/mod.rs" key_update_reordered \
-        '/buf2/d; s/assert_matches!(.*buf1.*/assert_eq!(buf1.bytes, [MSG1, MSG2].concat());/'
 }
 
 # Makes a package of what times the types of both.
@@ -99,6 +99,7 @@ pair() {
     printf '[package]\nname = "speed"\nedition = "2021"\n[dependencies]\nbytes = "1"\nnet-base.path = "%s"\n' \
         "$here/../../rust" > "$out/speed/Cargo.toml"
     cp "$here/speed.rs" "$out/speed/src/main.rs"
+    cp "$here/rings.rs" "$out/speed/src"
     cp "$out/original/src/range_set/btree_range_set.rs" "$out/speed/src/range_set.rs"
     for file in assembler.rs send_buffer.rs; do
         cp "$out/original/src/connection/$file" "$out/speed/src/quinn"
@@ -148,9 +149,6 @@ run_transfers() {
     sed -n 's/.*lossy|//p' transfers | sort > "$2"
 }
 
-# These want each frame and each write by itself, which QUIC doesn't preserve (RFC 9000, section 2.2).
-separate="assemble_ordered assemble_overlapping chunks_dedup key_update_reordered multiple_segments"
-
 # Prints how many of a file's tests pass.
 passed() {
     echo "$(grep -c ^passed "tests.$1") of $(grep -c '' "tests.$1")"
@@ -166,7 +164,7 @@ sample() {
     echo "| quinn's tests | quinn as it is | over net-base |"
     echo '|---|---:|---:|'
     echo "| pass | $(passed original) | $(passed ported) |"
-    echo "| pass, of five that want each frame or write by itself, with joined bytes | | $(passed joined) |"
+    echo "| pass, of those that want other pieces of frames that overlap, with joined bytes | | $(passed joined) |"
     run_transfers "$original" transfers.original
     run_transfers "$ported" transfers.ported
     echo
@@ -185,7 +183,7 @@ sample() {
         }
         END { row() }'
     failed=$(sed -n 's/^failed //p' tests.ported | sort)
-    [ "$failed" = "$(printf '%s\n' $separate)" ] || { echo "quinn: not those five fail, but" $failed >&2; exit 1; }
+    [ "$failed" = "$(printf '%s\n' $parted)" ] || { echo "quinn: not those four fail, but" $failed >&2; exit 1; }
     ! grep -h ^failed tests.original tests.joined >&2 || exit 1
     cmp -s transfers.original transfers.ported || { echo 'quinn: a transfer differs' >&2; exit 1; }
     echo
@@ -193,11 +191,19 @@ sample() {
     run_with 1
 }
 
-# Prints a row of what the transfers take with so many runs, beside what quinn's took. Ends all if it is too much.
+# Prints a row of what the transfers take where a sender has so many runs, beside what quinn's took. Ends all if it is too
+# much. quinn acknowledges no byte twice, and counts a range's bytes when it does. With few runs net-base has it send more
+# than what is lost. So here bytes are counted once, and a stream of which something is to be sent again is pending.
 run_with() {
-    for file in assembler send_buffer; do
-        change "ported/src/connection/$file.rs" "s/^const RUNS: usize = .*/const RUNS: usize = $1;/"
-    done
+    if ! grep -q was_pending ported/src/connection/streams/state.rs; then
+        change ported/src/connection/streams/state.rs 's/self\.unacked_data -= frame\..*/\
+            let was_pending = stream.is_pending();\
+            self.unacked_data -= stream.pending.ack(frame.offsets.clone());\
+            if !was_pending \&\& stream.is_pending() {\
+                push_pending(\&mut self.pending, id, stream.priority);\
+            }/'
+    fi
+    change ported/src/connection/send_buffer.rs "s/^const MOST_RUNS: usize = .*/const MOST_RUNS: usize = $1;/"
     build
     run_transfers "$ported" transfers.ported
     paste -d '|' transfers.original transfers.ported | awk -F '|' -v count="$1" '
@@ -216,13 +222,35 @@ runs() {
 }
 
 print_runs() {
-    echo '| N | Equal transfers | Packets | Time |'
+    echo '| Runs | Equal transfers | Packets | Time |'
     echo '|---:|---:|---:|---:|'
 }
 
+# Counts the instructions of each run by itself. Callgrind numbers what it writes after each.
+count_instructions() {
+    guarded valgrind --tool=callgrind --callgrind-out-file=counts --zero-before=counted --dump-after=counted \
+        "$CARGO_TARGET_DIR/release/speed" count > counted 2> valgrind.said || fail valgrind.said
+    ls counts.* | sort -t . -k 2n | xargs sed -n 's/^totals: //p' | paste -d '|' - - - | paste -d '|' counted -
+}
+
 speed() {
+    want /usr/bin/valgrind valgrind
     guarded cargo build --offline --release --package speed > built 2>&1 || fail built
-    guarded "$CARGO_TARGET_DIR/release/speed"
+    echo '| | quinn, ns a frame | over net-base | ratio | ring | ratio |'
+    echo '|---|---:|---:|---:|---:|---:|'
+    guarded "$CARGO_TARGET_DIR/release/speed" | awk -F '|' '{
+        printf "| %s | %.0f | %.0f | %.*f | %.0f | %.*f |\n",
+            $1, $2, $3, $5 < .1 ? 4 : 2, $5, $4, $6 < .1 ? 4 : 2, $6 }'
+    echo
+    echo '| | quinn, instructions a frame | over net-base | ratio | ring | ratio |'
+    echo '|---|---:|---:|---:|---:|---:|'
+    count_instructions | awk -F '|' '{
+        printf "| %s | %.0f | %.0f | %.*f | %.0f | %.*f |\n", $1, $3 / $2, $4 / $2, $4 < .1 * $3 ? 4 : 2, $4 / $3,
+            $5 / $2, $5 < .1 * $3 ? 4 : 2, $5 / $3 }'
+    echo
+    echo '| Bytes | quinn | over net-base | ring |'
+    echo '|---|---:|---:|---:|'
+    guarded "$CARGO_TARGET_DIR/release/speed" memory | sed 's/|/ | /g; s/^/| /; s/$/ |/'
 }
 
 export CARGO_TARGET_DIR="$out/target" CARGO_PROFILE_DEV_DEBUG=0

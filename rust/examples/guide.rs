@@ -1,6 +1,8 @@
 //! The tasks of docs/GUIDE.md of the repository, whose page quotes them: `cargo run --example guide -- TASK`, where
 //! TASK is ring, packets, receiver, quic, fragments, interrupt or sizes.
-use net_base::finite::{FiniteReceiver, SegmentBytes, SendBuffer};
+use std::collections::BTreeMap;
+
+use net_base::finite::{FiniteReceiver, SendBuffer, SendRanges, StreamRanges};
 use net_base::receiver::Receiver;
 use net_base::storage::{FragmentBuffer, PacketBuffer, PacketMetadata, RingBuffer, Run, SplitRing};
 use net_base::time::{Duration, Instant};
@@ -51,34 +53,39 @@ fn receiver() {
 }
 
 fn quic() {
-    let (mut out, mut into) = ([0u8; 32], [0u8; 32]);
-    let (mut acknowledged, mut settled) = ([Run::EMPTY; 8], [Run::EMPTY; 8]);
-    let mut sending = SendBuffer::new(&mut out, &mut acknowledged, &mut settled);
-    let mut receiving = FiniteReceiver::<8>::new_at(&mut into[..], 0);
+    let written = b"the quick brown fox";
+    let [known, settled, held] = &mut [[Run::EMPTY; 8]; 3]; // eight ranges may wait in each
+    let mut sending = SendRanges::new(known, settled);
+    let mut receiving = StreamRanges::new(held, 32);
+    let mut chunks = BTreeMap::new(); // the bytes that came, by position
     let max_stream_data = 32; // what the receiving side announced
-    assert_eq!(sending.write(b"the quick brown fox"), 19);
+    assert_eq!(sending.write(19), 19);
     sending.close();
     let mut packet = 0;
     while !sending.is_done() {
         let mut acknowledged = vec![];
         while let Some(range) = sending.next(max_stream_data, 8) {
-            let SegmentBytes { front, back, fin } = sending.bytes(range.clone());
-            let (offset, data) = (range.start, [front, back].concat());
+            let (start, end) = (range.start, range.end.min(19));
+            let (data, fin) = (&written[start as usize..end as usize], end < range.end);
             assert!(sending.mark(range.clone())); // it is in flight
             packet += 1;
-            println!("packet {packet}: {range:?} {:?} fin {fin}", text(&data));
+            println!("packet {packet}: {range:?} {:?} fin {fin}", text(data));
             if packet == 2 {
                 continue; // it is lost
             }
             // The receiving side.
-            let end = offset + data.len() as u64;
             if end > max_stream_data {
                 return println!("FLOW_CONTROL_ERROR");
             }
             if receiving.end().is_some_and(|known| end > known) || fin && !receiving.can_end(end) {
                 return println!("FINAL_SIZE_ERROR");
             }
-            receiving.keep(offset, &data, fin).expect("eight ranges are enough here");
+            while let Some(part) =
+                receiving.keep(start..end, fin).expect("eight ranges are enough here")
+            {
+                let new = (part.start - start) as usize..(part.end - start) as usize;
+                chunks.insert(part.start, &data[new]);
+            }
             acknowledged.push(range); // an ACK frame names the packet
         }
         for range in acknowledged {
@@ -86,9 +93,9 @@ fn quic() {
         }
         sending.lose_all(); // your loss detection: here all that isn't acknowledged
     }
-    let mut all = [0; 32];
-    let count = receiving.read(&mut all);
-    println!("read {:?}, all of it: {}", text(&all[..count]), receiving.has_read_all());
+    let read = chunks.range(..receiving.next()).map(|chunk| *chunk.1).collect::<Vec<_>>().concat();
+    receiving.read(read.len());
+    println!("read {:?}, all of it: {}", text(&read), receiving.has_read_all());
 }
 
 fn interrupt() {
@@ -125,6 +132,8 @@ fn sizes() {
     println!("Receiver {} and {}", size_of::<Receiver<'_, 4>>(), size_of::<Receiver<'_, 32>>());
     let finite = (size_of::<FiniteReceiver<'_, 4>>(), size_of::<FiniteReceiver<'_, 32>>());
     println!("FiniteReceiver {} and {}", finite.0, finite.1);
+    println!("StreamRanges {}", size_of::<StreamRanges<'_>>());
+    println!("SendRanges {}", size_of::<SendRanges<'_>>());
     println!("SendBuffer {}", size_of::<SendBuffer<'_>>());
 }
 

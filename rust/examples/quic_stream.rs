@@ -1,19 +1,24 @@
 //! A stream of QUIC over packets that are lost, doubled and late: ranges acknowledged by packets, a final size, and flow
-//! control of a window that is smaller than the stream. Both sides begin with little memory, and take more as they need it.
+//! control of a window that is smaller than the stream. Both sides keep the bytes themselves, begin without room for a
+//! range, and make more as they need it.
 //!
 //! Frames here are Rust values. A QUIC of your own has packets, keys and a congestion window besides.
 use std::collections::{BTreeMap, VecDeque};
+use std::mem;
 use std::ops::Range;
 
-use net_base::finite::{SegmentBytes, SendBuffer, StreamReceiver};
+use net_base::finite::{FiniteError, SendRanges, StreamRanges};
 use net_base::rand::Rand;
 use net_base::storage::Run;
 
 /// The most bytes of a STREAM frame.
 const SIZE: usize = 500;
-/// How many bytes may wait on either side, and how many at first.
+/// How many bytes the receiving side lets be unread, and how many at first.
 const CAPACITY: usize = 8_000;
 const BEGIN: usize = 1_000;
+/// How many ranges may wait there. Without a limit a peer's tiny frames, with a hole before each, take memory as they like
+/// (RFC 9000, section 21.7).
+const MOST_RUNS: usize = 100;
 /// How many packets may be in flight.
 const WINDOW: usize = 16;
 /// How many packets may overtake one before it counts as lost: RFC 9002 has 3, and this path has packets come as they like.
@@ -45,23 +50,29 @@ impl Path {
     }
 }
 
-/// The side that sends: the stream, and the range of each packet that is in flight.
-struct Sender {
-    stream: SendBuffer<'static>,
+/// The side that sends: the bytes, what is known of them, and the range of each packet that is in flight.
+struct Sender<'a> {
+    data: &'a [u8],
+    stream: SendRanges<'static>,
     ranges: BTreeMap<u64, Range<u64>>,
     next_number: u64,
     max_stream_data: u64,
     heard: u64,
 }
 
-impl Sender {
+impl Sender<'_> {
     /// Sends what the peer's flow control and the window of packets allow.
     fn send(&mut self, path: &mut Path, now: u64) {
         while self.ranges.len() < WINDOW {
             let Some(range) = self.stream.next(self.max_stream_data, SIZE) else { break };
-            let SegmentBytes { front, back, fin } = self.stream.bytes(range.clone());
-            let (number, data) = (self.next_number, [front, back].concat());
-            path.send(now, &Packet::Stream { number, offset: range.start, data, fin });
+            // The end has the number after the last byte's.
+            let end = range.end.min(self.data.len() as u64);
+            let data = self.data[range.start as usize..end as usize].to_vec();
+            let number = self.next_number;
+            path.send(
+                now,
+                &Packet::Stream { number, offset: range.start, data, fin: end < range.end },
+            );
             assert!(self.stream.mark(range.clone()), "it was written");
             self.ranges.insert(number, range);
             self.next_number += 1;
@@ -80,7 +91,7 @@ impl Sender {
             }
             self.heard = now;
             let in_flight = self.ranges.split_off(&(number + 1).saturating_sub(OVERTAKING));
-            for lost in std::mem::replace(&mut self.ranges, in_flight).into_values() {
+            for lost in mem::replace(&mut self.ranges, in_flight).into_values() {
                 assert!(self.stream.lose(lost), "it was sent");
             }
         }
@@ -94,30 +105,47 @@ impl Sender {
     }
 }
 
-/// The side that receives: the stream, and the MAX_STREAM_DATA that it announced last.
+/// The side that receives: which bytes came, these bytes by position, and the MAX_STREAM_DATA that it announced last.
 struct Receiver {
-    stream: StreamReceiver<'static>,
+    stream: StreamRanges<'static>,
+    chunks: BTreeMap<u64, Vec<u8>>,
     announced: u64,
 }
 
 impl Receiver {
     /// Takes a STREAM frame, or returns the error with which the connection closes.
     fn receive(&mut self, offset: u64, data: &[u8], fin: bool) -> Result<(), &'static str> {
-        let end = offset + data.len() as u64;
-        if end > self.announced {
+        let range = offset..offset + data.len() as u64;
+        if range.end > self.announced {
             return Err("FLOW_CONTROL_ERROR");
         }
-        if self.stream.end().is_some_and(|known| end > known) || fin && !self.stream.can_end(end) {
+        if self.stream.end().is_some_and(|known| range.end > known) {
             return Err("FINAL_SIZE_ERROR");
         }
-        if self.stream.keep(offset, data, fin).is_err() {
-            // Too many ranges wait. With room for one more, this one may wait too. A limit belongs here: a peer that
-            // sends tiny frames, with a hole after each, attacks (RFC 9000, section 21.7).
-            let runs = vec![Run::EMPTY; 2 * self.stream.most_runs() + 1];
-            self.stream.grow_runs(runs.into());
-            self.stream.keep(offset, data, fin).map_err(|_| "INTERNAL_ERROR")?;
+        loop {
+            match self.stream.keep(range.clone(), fin) {
+                Ok(Some(part)) => {
+                    let new = (part.start - offset) as usize..(part.end - offset) as usize;
+                    self.chunks.insert(part.start, data[new].to_vec());
+                }
+                Ok(None) => return Ok(()),
+                Err(FiniteError::OtherEnd) => return Err("FINAL_SIZE_ERROR"),
+                Err(FiniteError::TooManyHoles) if self.stream.most_runs() < MOST_RUNS => {
+                    let runs = vec![Run::EMPTY; 2 * self.stream.most_runs() + 1];
+                    self.stream.grow_runs(runs.into());
+                }
+                Err(_) => return Err("INTERNAL_ERROR"),
+            }
         }
-        Ok(())
+    }
+
+    /// Reads all that has no gap before it.
+    fn read(&mut self) -> Vec<u8> {
+        let waiting = self.chunks.split_off(&self.stream.next());
+        let read =
+            mem::replace(&mut self.chunks, waiting).into_values().collect::<Vec<_>>().concat();
+        self.stream.read(read.len());
+        read
     }
 
     /// Returns the MAX_STREAM_DATA to announce now. It never falls.
@@ -131,35 +159,33 @@ fn main() {
     let mut random = Rand::new(2);
     let file: Vec<u8> = (0..50_000).map(|_| random.rand_u32() as u8).collect();
     let mut path = Path { random, packets: VecDeque::new() };
-    let mut receiver =
-        Receiver { stream: StreamReceiver::new(vec![0; BEGIN], vec![]), announced: BEGIN as u64 };
+    let mut receiver = Receiver {
+        stream: StreamRanges::new(vec![], BEGIN),
+        chunks: BTreeMap::new(),
+        announced: BEGIN as u64,
+    };
     let mut sender = Sender {
-        stream: SendBuffer::new(vec![0; BEGIN], vec![], vec![]),
+        data: &file,
+        stream: SendRanges::new(vec![], vec![]),
         ranges: BTreeMap::new(),
         next_number: 0,
         max_stream_data: BEGIN as u64,
         heard: 0,
     };
-    let (mut rest, mut read, mut now) = (&file[..], Vec::<u8>::new(), 0);
+    assert_eq!(sender.stream.write(file.len() as u64), file.len() as u64);
+    sender.stream.close();
+    let (mut read, mut now) = (Vec::<u8>::new(), 0);
     while !sender.stream.is_done() {
-        rest = &rest[sender.stream.write(rest)..];
-        if rest.is_empty() {
-            sender.stream.close();
-        } else if sender.stream.capacity() < CAPACITY {
-            sender.stream.grow(vec![0; 2 * sender.stream.capacity()].into());
-        }
         sender.send(&mut path, now);
         now = path.packets.front().map_or(now + TIMEOUT, |next| next.0);
         match path.packets.pop_front().map(|next| next.1) {
             Some(Packet::Stream { number, offset, data, fin }) => {
                 receiver.receive(offset, &data, fin).expect("the peer keeps the rules");
-                let mut into = [0; CAPACITY];
-                let count = receiver.stream.read(&mut into);
-                read.extend(&into[..count]);
+                read.extend(receiver.read());
                 // The peer fills the window, so it gets a larger one.
                 let stream = &mut receiver.stream;
                 if stream.capacity() < CAPACITY.min(read.len()) {
-                    stream.grow(vec![0; 2 * stream.capacity()].into());
+                    stream.grow(2 * stream.capacity());
                 }
                 let (packets, max_stream_data) = (vec![number], receiver.announce());
                 path.send(now, &Packet::Ack { packets, max_stream_data });

@@ -238,9 +238,9 @@ fn whatever_is_called() {
         few = sum(few, against_sets(3, seed));
         many = sum(many, against_sets(64, seed));
     }
-    assert!(none.0 > 0 && none.1 > 0 && one.0 > 0 && one.1 > 0 && many == (0, 0));
-    // Three ranges are too few in some of a thousand streams, and in none of the first 400.
-    assert!(RUNS < 1_000 || few.0 > 0 && few.1 > 0);
+    assert!(none.0 > 0 && none.1 > 0 && many == (0, 0));
+    // One range, and three, are too few in some of a thousand streams.
+    assert!(RUNS < 1_000 || one.0 > 0 && one.1 > 0 && few.0 > 0 && few.1 > 0);
 }
 
 /// Packets by their numbers, as RFC 9002 has them: what is three below an acknowledged one is lost, and where nothing is
@@ -352,6 +352,8 @@ fn the_end_is_no_data() {
 }
 
 /// What a peer may say of ranges, and what a program may pass, as its page says, and nothing changes.
+// Reversed ranges are what is tested.
+#[allow(clippy::reversed_empty_ranges)]
 #[test]
 fn nonsense() {
     let mut ranges = SendRanges::new_at(vec![Run::EMPTY; 2], vec![Run::EMPTY; 2], 100);

@@ -16,7 +16,7 @@ ROOT = Path(__file__).resolve().parent.parent.parent
 FIXED = ["32 or 64 bits", "smoltcp 0.14.0", "until 1.0", "Rust 1.87 and Python 3.9", "smoltcp's is 1", "[0BSD]",
          "segment of 1,460 bytes", "quinn-proto 0.9.2", "sent 0.75 of Linux's MB/s", "its two bugs",
          "N = 4", "two segments of 16 bytes", "checksum of 20 bytes", "frame of 1,200 bytes", "5 of 100", "by 2 KiB",
-         "by 64 KiB", "After the first 32", "after the first 32", "round trip of 1 ms", "With 10 % lost",
+         "by 64 KiB", "first 1,024 they are refused", "after 1,024 ranges", "round trip of 1 ms", "With 10 % lost",
          "0.75 of Reno's, with 5 % delayed", "with 20 % delayed"]
 WORDS = [*"none one two three four five six seven eight nine ten eleven twelve".split(), *map(str, range(13, 100))]
 NUMBER = rf"(\d(?:[\w.,-]*\w)?|(?i:{'|'.join(WORDS)}))"
@@ -85,7 +85,7 @@ def measured():
     tests, transfers = (next(row for row in quinn if row[0] == name) for name in ("pass", "256"))
     yield "passes {} of its {} tests", "compare/results/quinn.md", re.findall(r"\d+", tests[2])
     yield "In {} of {} transfers", "compare/results/quinn.md", re.findall(r"\d+", transfers[1])
-    times_of = {row[0]: value(row[3]) for row in quinn if len(row) == 4 and re.fullmatch(r"[\d,]+", row[1])}
+    times_of = {row[0]: value(row[3]) for row in quinn if len(row) == 7 and re.fullmatch(r"[\d,]+", row[1])}
     small = {name: ratio for name, ratio in times_of.items() if "of one byte" in name}
     sent = {name: ratio for name, ratio in times_of.items() if " by " in name}
     received = [ratio for name, ratio in times_of.items() if name not in {*small, *sent}]
@@ -96,12 +96,13 @@ def measured():
                        ("sent in order, written by 2 KiB", "sent in order, written by 2 KiB"),
                        ("sent in order, written by 64 KiB", "sent in order, written by 64 KiB"),
                        ("5 of 100 lost, written by 64 KiB", "5 % of frames lost, written by 64 KiB"),
-                       ("acknowledged with more holes than N, written by 64 KiB",
-                        "acknowledged with 437 holes, written by 64 KiB")]:
+                       ("acknowledged with 437 holes, written by 64 KiB",
+                        "acknowledged with 437 holes, written by 64 KiB"),
+                       ("1,000 holes, and then copied out", "1,000 holes of 524 bytes, then copied")]:
         yield form + " | {} |", "compare/results/quinn.md", [f"{times_of[name]:.2f}"]
     most = max(small, key=lambda name: value(name))
     for form in ("With {} of them a frame takes {} of", "Each of {} frames of one byte takes {} of"):
-        yield form, "compare/results/quinn.md", [most.split()[0], f"{small[most]:.3f}"]
+        yield form, "compare/results/quinn.md", [most.split()[0], f"{small[most]:.4f}"]
     yield "time to receive a frame | {} | {} |", "compare/results/quinn.md", span(received)
     yield "time to send a frame | {} | {} |", "compare/results/quinn.md", span([*sent.values()])
     clean = next(row for row in cells(peers) if len(row) == 6 and row[0] == "clean")

@@ -56,7 +56,8 @@ class Pair:
         if one[:1] == ('closure',):
             return self.place(one.name) == two.name
         if one[:1] == ('N',):                      # a parameter that is a number, by place and by name
-            return self.counts.setdefault(one, two) == two and self.counts.setdefault(two, one) == one
+            return one == two and isinstance(one.name, str) or \
+                self.counts.setdefault(one, two) == two and self.counts.setdefault(two, one) == one
         if one[:1] == ('ref',) and one.side != two.side:
             ends = [settled(side.read(state, at_local(ref)), state['facts'], {})
                     for side, ref in zip(self.sides, (one, two))]
