@@ -6,32 +6,6 @@ use Rattle.net_receiver.specs.SendRanges.{Board, IsSoundRanges, Loses, RangesSta
 use Rattle.net_receiver.proofs.SendRanges.{is_lost_from, lost_is_sound, open_after, taken_is_sound}
 use Rattle.net_receiver.proofs.send_ranges.SendRangesOver.acknowledge.Goals as goal
 
-pub returns-then-range-clause-taken : goal.returns-then-range-clause-taken
-returns-then-range-clause-taken g c = λ _.
-    sym (with_range-none c.args.self.now.acknowledged c.args.range.start (c.args.range.end - c.args.range.start)
-    (omega (arith, c.if-range.true)))
-
-pub invariant_of-self : goal.invariant_of-self
-invariant_of-self g c =
-    let inside = c.self.inside in
-    let from = c.args.range.start in
-    let to = c.args.range.end in
-    let same = c.remember.ensures.unchanged c.if-not-remember.true in
-    let after = c.remember.ensures.after c.if-not-remember.true in
-    let forgets = subst (λ (n : ℕ). Forgets (runs_beyond inside.settled.positions) n inside.settled.positions
-    from to c.forget.new.self.positions) c.self.invariant.0 c.forget.ensures.forgets in
-    subst (λ (a : Board). (c.forget.new.self.most_runs ≡ a.most_runs) × IsSoundRanges (record {
-      most_runs = a.most_runs;
-      written = inside.written;
-      closed = inside.closed;
-      sent = inside.sent;
-      acknowledged = a.positions;
-      settled = c.forget.new.self.positions;
-    })) (sym same) (
-      c.forget.ensures.runs ∙ c.self.invariant.0,
-      lost_is_sound _ _ from from to c.self.invariant.1 (omega (arith, after)) forgets,
-    )
-
 pub returns-then-not-remember-clause-lost : goal.returns-then-not-remember-clause-lost
 returns-then-not-remember-clause-lost g c = λ _.
     let inside = c.self.inside in
@@ -61,6 +35,32 @@ returns-then-not-remember-clause-lost g c = λ _.
     (subst (λ (a : Board). Loses b from to (left a)) (sym same)
     (is_lost_from b _ from from to c.self.invariant.1 (omega (arith, after)) forgets (omega arith)
     (λ l. absurd (omega arith))))
+
+pub returns-then-range-clause-taken : goal.returns-then-range-clause-taken
+returns-then-range-clause-taken g c = λ _.
+    sym (with_range-none c.args.self.now.acknowledged c.args.range.start (c.args.range.end - c.args.range.start)
+    (omega (arith, c.if-range.true)))
+
+pub invariant_of-self : goal.invariant_of-self
+invariant_of-self g c =
+    let inside = c.self.inside in
+    let from = c.args.range.start in
+    let to = c.args.range.end in
+    let same = c.remember.ensures.unchanged c.if-not-remember.true in
+    let after = c.remember.ensures.after c.if-not-remember.true in
+    let forgets = subst (λ (n : ℕ). Forgets (runs_beyond inside.settled.positions) n inside.settled.positions
+    from to c.forget.new.self.positions) c.self.invariant.0 c.forget.ensures.forgets in
+    subst (λ (a : Board). (c.forget.new.self.most_runs ≡ a.most_runs) × IsSoundRanges (record {
+      most_runs = a.most_runs;
+      written = inside.written;
+      closed = inside.closed;
+      sent = inside.sent;
+      acknowledged = a.positions;
+      settled = c.forget.new.self.positions;
+    })) (sym same) (
+      c.forget.ensures.runs ∙ c.self.invariant.0,
+      lost_is_sound _ _ from from to c.self.invariant.1 (omega (arith, after)) forgets,
+    )
 
 pub invariant_of-self-2 : goal.invariant_of-self-2
 invariant_of-self-2 g c =

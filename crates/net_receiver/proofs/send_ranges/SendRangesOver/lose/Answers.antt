@@ -4,16 +4,6 @@ use Rattle.net_receiver.specs.SendRanges.{IsLost, Loses, RangesState, is_in_flig
 use Rattle.net_receiver.proofs.SendRanges.{is_lost_from, lost_is_sound, lost_told}
 use Rattle.net_receiver.proofs.send_ranges.SendRangesOver.lose.Goals as goal
 
-pub invariant_of-self : goal.invariant_of-self
-invariant_of-self g c =
-    let inside = c.self.inside in
-    let forgets = subst (λ (n : ℕ). Forgets (runs_beyond inside.settled.positions) n inside.settled.positions
-    c.max-start.result c.args.range.end c.forget.new.self.positions) c.self.invariant.0 c.forget.ensures.forgets in (
-      c.forget.ensures.runs ∙ c.self.invariant.0,
-      lost_is_sound _ _ c.max-start.result c.args.range.start c.args.range.end c.self.invariant.1
-          (omega (arith, c.max-start.ensures, c.first_unreported.ensures)) forgets,
-    )
-
 pub returns-clause-lost : goal.returns-clause-lost
 returns-clause-lost g c = λ _.
     let inside = c.self.inside in
@@ -31,6 +21,16 @@ returns-clause-lost g c = λ _.
     (is_lost_from _ _ c.max-start.result c.args.range.start c.args.range.end c.self.invariant.1
     (omega (arith, c.max-start.ensures, c.first_unreported.ensures)) forgets (omega (arith, c.max-start.ensures))
     (λ l. omega (arith, l, c.max-start.ensures, c.first_unreported.ensures)))
+
+pub invariant_of-self : goal.invariant_of-self
+invariant_of-self g c =
+    let inside = c.self.inside in
+    let forgets = subst (λ (n : ℕ). Forgets (runs_beyond inside.settled.positions) n inside.settled.positions
+    c.max-start.result c.args.range.end c.forget.new.self.positions) c.self.invariant.0 c.forget.ensures.forgets in (
+      c.forget.ensures.runs ∙ c.self.invariant.0,
+      lost_is_sound _ _ c.max-start.result c.args.range.start c.args.range.end c.self.invariant.1
+          (omega (arith, c.max-start.ensures, c.first_unreported.ensures)) forgets,
+    )
 
 pub returns-clause-told : goal.returns-clause-told
 returns-clause-told g c = λ _ p is.
