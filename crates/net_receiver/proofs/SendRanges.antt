@@ -5,7 +5,7 @@ use Rattle.net_receiver.proofs.Words.{with_range, nothing, zero, suc}
 use Rattle.net_assembler.specs.Positions.{missing_count}
 use Rattle.std.specs.Int.{from_bool}
 use Rattle.net_receiver.specs.Scoreboards.{Forgets, IsReport}
-use Rattle.std.specs.Prelude.{IsFalse}
+use Rattle.std.specs.Prelude.{IsFalse, ◌≢◌}
 use Rattle.net_receiver.proofs.Words.{first_missing-misses, first_missing-has, first_missing-le, contains-with_range}
 use Rattle.net_receiver.proofs.Words.{contains-nothing, contains, nat_tests}
 use Rattle.net_receiver.proofs.Scoreboards.{front_misses, front_has}
@@ -218,20 +218,27 @@ pub ruleset remembers = (buffers, refused_after, front_below, front_grows)
 
 pub ruleset loses = (buffers, front_from, front_below)
 
+from_bool_le : (closed : Bool) → from_bool closed ≤ 1
+from_bool_le true = omega arith
+from_bool_le false = omega arith
+
 -- ---- What is next: open numbers up to where they end, or as many as have room.
 pub is_next : (b : RangesState) (top size from to last : ℕ) → ((p : ℕ) → p < from → IsFalse (is_open b p)) →
     ((p : ℕ) → from ≤ p → p < to → IsTrue (is_open b p)) → (from < b.sent → to ≤ b.sent) →
-    (to < top → IsTrue (is_open b to) → to ≡ b.sent) → to ≤ top → from < last → last ≤ to →
-    min last b.written ≤ from + size → (last < to → last ≡ from + size) → IsNext b top size from last
-is_next b top size from to last before are one_kind whole within some most bytes cut = record {
+    (to < top → IsTrue (is_open b to) → to ≡ b.sent) → to ≤ top → top ≤ end_number b → from < last → last ≤ to →
+    min last b.written ≤ from + size → (last < to → (last ≡ from + size) × (last ≢ b.written)) →
+    IsNext b top size from last
+is_next b top size from to last before are one_kind whole within known some most bytes cut = record {
   some = some;
   within = omega arith;
   first = before;
   all_open = λ p low high. are p low (omega arith);
   one_kind = λ old. let all = one_kind old in omega arith;
   bytes = bytes;
-  whole = λ below is short.
-      either (cases_lt last to) (λ less. let at = cut less in absurd (omega arith))
+  whole = λ below is room.
+      either (cases_lt last to) (λ less. let at = (cut less).0 in
+      let one = from_bool_le b.closed in
+      absurd ((cut less).1 (omega (arith, at, one))))
       (λ more. let same : to ≡ last = omega arith in
       sym same ∙ whole (omega arith) (subst (λ (p : ℕ). IsTrue (is_open b p)) (sym same) is));
 }

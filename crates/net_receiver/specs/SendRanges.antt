@@ -99,7 +99,7 @@ pub record IsNext (b : RangesState) (top size from to : ℕ) : Type 0 where
   pub all_open : (p : ℕ) → from ≤ p → p < to → IsTrue (is_open b p)
   pub one_kind : from < b.sent → to ≤ b.sent
   pub bytes : min to b.written ≤ from + size
-  pub whole : to < top → IsTrue (is_open b to) → to < from + size → to ≡ b.sent
+  pub whole : to < top → IsTrue (is_open b to) → min (to + 1) b.written ≤ from + size → to ≡ b.sent
 
 -- how many runs a set has beyond its front
 abbrev pub runs_beyond : Positions → ℕ

@@ -15,9 +15,9 @@
 // and a loop over `next` ends.
 #![tactic(auto, using(crate::proofs::SendRanges::buffers))]
 
-ghost use Rattle.std.specs.Prelude.{◌≡◌, ◌↔◌, ◌-◌, ◌+◌, ◌<◌, ◌≤◌, ◌&&◌, ◌||◌, ◌==◌, ◌^◌, ℕ, None, IsTrue, IsFalse};
-ghost use Rattle.std.specs.Prelude.{IfSome, IsErr, MatchResult, cond, min, max, length, not, nat_eq, nat_le, nat_lt, true};
-ghost use Rattle.std.specs.Prelude.{if◌then◌else◌};
+ghost use Rattle.std.specs.Prelude.{◌≡◌, ◌↔◌, ◌-◌, ◌+◌, ◌<◌, ◌≤◌, ◌&&◌, ◌||◌, ◌==◌, ℕ, None, IsTrue, IsFalse};
+ghost use Rattle.std.specs.Prelude.{IfSome, IsErr, MatchResult, min, max, length, not, nat_le, nat_lt, true};
+ghost use Rattle.std.specs.Prelude.{if◌then◌else◌, ◌≢◌};
 ghost use Rattle.net_assembler.specs.Positions.{contains, front, missing_count, with_range};
 ghost use Rattle.net_receiver.specs.Finite.{no_end};
 ghost use Rattle.net_receiver.specs.Scoreboards.{HasNoRoom, IsReport};
@@ -751,7 +751,7 @@ fn with_room(from: u64, to: u64, size: usize, end: u64) -> u64
     ensures some { from < result }
     ensures within { result ≤ to }
     ensures bytes { min result end ≤ from + max 1 size }
-    ensures cut { result < to → result ≡ from + max 1 size }
+    ensures cut { result < to → (result ≡ from + max 1 size) × (result ≢ end) }
 {
     let most = from.saturating_add(size.max(1) as u64);
     if most == end { to } else { to.min(most) }
