@@ -184,8 +184,8 @@ impl<const N: usize> Assembler<N> {
 
     /// Adds the positions from `offset` to `offset + size - 1`; none if `size` is 0.
     ///
-    /// It is inlined where it is called, so it is the fast call, and the large one. `AssemblerHead::add`
-    /// is the same rule as one function, which `add_then_remove_front` calls.
+    /// It is inlined where it is called, so it is the fast call, and the large one. `add_then_remove_front`
+    /// calls the same rule as one function.
     ///
     /// ```rust
     /// assembler.add(offset, size)?;

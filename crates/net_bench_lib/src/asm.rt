@@ -1,5 +1,5 @@
 //! Mode `asm`: ranges are added to a set of positions, and its front is removed.
-ghost use Rattle.std.specs.Prelude.{◌≡◌, [], ◌++◌, ◌≤◌, codes, decimal, OnOk, IfErr, Ok};
+ghost use Rattle.std.specs.Prelude.{◌≡◌, [], ◌≤◌, OnOk, IfErr, Ok};
 ghost use Rattle.std.specs.Prelude.{string_bytes};
 ghost use Rattle.net_assembler.specs.Positions.{nothing};
 ghost use Rattle.net_bench_lib.specs.Numeral.{number_of};

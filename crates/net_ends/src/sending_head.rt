@@ -1,23 +1,19 @@
 //! The rules of a sending end, of numbers alone: what a sender of TCP does with an acknowledgement, with the end of its
 //! timer, and with what is to be sent. Rust and C have the same.
 
-ghost use Rattle.std.specs.Prelude.{◌≡◌, ◌↔◌, ◌-◌, ◌+◌, ◌<◌, ◌≤◌, ◌&&◌, ◌==◌, ℕ, Option, Some, IsTrue, IsFalse, min};
-ghost use Rattle.std.specs.Prelude.{IfSome, IfNone, is_some, is_none, ◌||◌, ◌++◌, not, nat_lt, false};
-ghost use Rattle.std.specs.Prelude.{length, Bool};
+ghost use Rattle.std.specs.Prelude.{◌≡◌, ◌-◌, ◌+◌, ◌<◌, ◌≤◌, ◌&&◌, ◌==◌, ℕ, Option, Some, IsTrue, IsFalse, min};
+ghost use Rattle.std.specs.Prelude.{IfSome, is_some, is_none, ◌||◌, not, false};
+ghost use Rattle.std.specs.Prelude.{length};
 ghost use Rattle.net_assembler.specs.Positions.{contains};
-ghost use Rattle.net_tcp.specs.LossRecovery.{is_active, is_wrong, taken_back};
-ghost use Rattle.net_receiver.specs.FiniteSender.{sender_after_command, Acknowledges, accepts, finite_room};
-ghost use Rattle.net_receiver.specs.Finite.{no_end};
-ghost use Rattle.net_ends.specs.Ends.{new_end, first, end, is_acceptable, greatest_of, is_shut, asks, told};
-ghost use Rattle.net_ends.specs.Ends.{limit, may_send, after_event, Wrote, Shut, Heard, Looked, Sent, Rested};
-ghost use Rattle.net_ends.specs.Ends.{Resumed};
-ghost use Rattle.net_ends.specs.Ends.{IsSegment, round_trip, Opened, Forgot, Opening, synchronized, sampled};
-ghost use Rattle.net_ends.specs.Ends.{timed_out, has_timed_out, is_overdue, reports_of, new_of, kept};
-ghost use Rattle.net_ends.specs.Ends.{begins_of, is_due, is_worth, is_enough, hurries, Enabled};
+ghost use Rattle.net_tcp.specs.LossRecovery.{is_active};
+ghost use Rattle.net_receiver.specs.FiniteSender.{sender_after_command, Acknowledges};
+ghost use Rattle.net_ends.specs.Ends.{first, end, greatest_of, is_shut, asks, told};
+ghost use Rattle.net_ends.specs.Ends.{limit};
+ghost use Rattle.net_ends.specs.Ends.{round_trip, synchronized, sampled};
+ghost use Rattle.net_ends.specs.Ends.{timed_out, is_overdue, kept};
+ghost use Rattle.net_ends.specs.Ends.{is_due, is_worth, is_enough, hurries};
 ghost use Rattle.net_ends.specs.Acknowledgements.{reported_by};
-ghost use Rattle.net_ends.specs.Acknowledgements.{numbers_of, unsent_of, unsent_at, doubted, Recovers};
-ghost use Rattle.net_ends.specs.Acknowledgements.{is_sought, after_segment, after_wait};
-ghost use Rattle.net_ends.specs.Acknowledgements.{expiry_of};
+ghost use Rattle.net_ends.specs.Acknowledgements.{numbers_of, unsent_at, Recovers};
 ghost use Rattle.net_receiver.specs.Scoreboards.{IsEnd, IsHole};
 ghost use Rattle.net_tcp.specs.LossRecovery.{next_probe, as_range};
 ghost use Rattle.net_tcp.specs.Sack.{is_permitted};
@@ -38,11 +34,10 @@ ghost use Rattle.net_tcp.specs.Windows.{no_window, window_from};
 ghost use Rattle.std.specs.Prelude.{List, max, true};
 ghost use Rattle.net_tcp.specs.Retransmission.{timer_of};
 ghost use Rattle.net_ends.specs.Buffers.{is_window_probe, is_tail_probe};
-ghost use Rattle.net_tcp.specs.Retransmission.{has_ended, has_expired, after_expiry};
+ghost use Rattle.net_tcp.specs.Retransmission.{has_expired, after_expiry};
 ghost use Rattle.net_tcp.specs.Retransmission.{after_acknowledged, expires_at};
-ghost use Rattle.net_ends.specs.Ends.{AreHoles, open_to, found, due_of, range_of, IsProbed, probe_of, is_probe};
 ghost use Rattle.std.specs.Option.{option_or};
-ghost use Rattle.net_tcp.specs.Windows.{after_update, acknowledgement_number};
+ghost use Rattle.net_tcp.specs.Windows.{after_update};
 
 use crate::sending_end::{Acknowledged, Expired, Outgoing};
 use crate::tcp_buffer::{AckKind, BufferHead, Queued, Sending, TakenAck};

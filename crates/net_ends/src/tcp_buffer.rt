@@ -1,10 +1,10 @@
 //! What a sending end of TCP has sent, without a clock: what was reported of it, and what is lost by TCP's rules. (A
 //! stream of QUIC has `net_receiver`'s `SendBuffer`, which is told of each loss.)
-ghost use Rattle.std.specs.Prelude.{◌≡◌, ◌-◌, ◌+◌, ◌<◌, ◌≤◌, ◌&&◌, ◌==◌, ℕ, Option, Some, IsTrue, IsFalse, min, max};
-ghost use Rattle.std.specs.Prelude.{IfSome, IfNone, is_some, ◌++◌, not, true, false, length};
+ghost use Rattle.std.specs.Prelude.{◌≡◌, ◌-◌, ◌+◌, ◌<◌, ◌≤◌, ◌&&◌, ℕ, Option, IsTrue, IsFalse, min, max};
+ghost use Rattle.std.specs.Prelude.{IfSome, is_some, true, false, length};
 ghost use Rattle.net_assembler.specs.Positions.{contains};
 ghost use Rattle.net_tcp.specs.LossRecovery.{is_wrong, taken_back, was_sent_again};
-ghost use Rattle.net_tcp.specs.LossRecovery.{is_active, in_flight, begun, forgotten, next_segment, next_range};
+ghost use Rattle.net_tcp.specs.LossRecovery.{is_active, in_flight, next_segment, next_range};
 ghost use Rattle.net_tcp.specs.LossRecovery.{resumed, recovery_of, as_range};
 ghost use Rattle.net_tcp.specs.LossRecovery.{gone_on, begins_at, next_probe};
 ghost use Rattle.net_receiver.specs.Scoreboards.{IsEnd, IsHole, IsSoundBoard};
@@ -15,11 +15,10 @@ ghost use Rattle.net_receiver.specs.NewHeads.{scoreboard_head};
 ghost use Rattle.std.specs.Prelude.{◌↔◌, List};
 ghost use Rattle.net_ends.specs.Ends.{kept, has_dropped};
 ghost use Rattle.net_ends.specs.Buffers.{board_of, is_repeat};
-ghost use Rattle.std.specs.Prelude.{nat_eq, nat_lt};
 ghost use Rattle.net_ends.specs.Buffers.{is_window_probe, is_tail_probe};
 ghost use Rattle.net_ends.specs.Acknowledgements.{with_block, is_new, after_blocks, reported_by, has_block};
 ghost use Rattle.net_ends.specs.Acknowledgements.{doubted, is_duplicated};
-ghost use Rattle.net_ends.specs.Acknowledgements.{numbers_of, unsent_of, unsent_at, IsLeft, Recovers, begins_by};
+ghost use Rattle.net_ends.specs.Acknowledgements.{unsent_at, IsLeft, Recovers, begins_by};
 ghost use Rattle.net_ends.specs.Acknowledgements.{after_segment, after_wait};
 
 use net_assembler::Run;

@@ -1,7 +1,7 @@
 //! How often a segment is answered of which nothing is taken. Moments are in microseconds, of one clock.
 //!
 //! A limit of zeros allows an answer from moment 0 on.
-ghost use Rattle.std.specs.Prelude.{◌≡◌, ◌≤◌, ◌^◌, ◌-◌, negsuc, IsTrue, IsFalse};
+ghost use Rattle.std.specs.Prelude.{◌≡◌, ◌^◌, ◌-◌, negsuc};
 ghost use Rattle.net_tcp.specs.AnswerLimit.{allows, after_question};
 ghost use Rattle.net_ffi.specs.AnswerLimit.{limit_of};
 

@@ -7,7 +7,7 @@ ghost use Rattle.std.specs.Prelude.{◌∷◌, ◌⊎◌};
 ghost use Rattle.net_assembler.specs.Positions.{contains, maximal_runs, runs as run_count};
 ghost use Rattle.net_assembler.specs.RunLists.{HasSoundRuns, IsCanonical, set_of};
 ghost use Rattle.net_receiver.specs.Schedule.{piece};
-ghost use Rattle.net_receiver.specs.ReceiverState.{verdict, state_after, numbers, first_three, segment_result};
+ghost use Rattle.net_receiver.specs.ReceiverState.{verdict, state_after, numbers, first_three};
 ghost use Rattle.net_receiver.specs.ReceiverState.{fresh_receiver, domain, IsSameState, receiver_after_read};
 ghost use Rattle.net_receiver.specs.ReceiverState.{count_between};
 ghost use Rattle.net_receiver.specs.Finite.{queue_only};

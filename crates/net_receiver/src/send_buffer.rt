@@ -1,7 +1,7 @@
 //! What a stream that ends sends, and sends again: its bytes, in a ring, and their numbers, as `SendRanges` knows them.
 #![tactic(auto, using(crate::proofs::SendRanges::buffers))]
 
-ghost use Rattle.std.specs.Prelude.{◌≡◌, ◌↔◌, ◌-◌, ◌+◌, ◌<◌, ◌≤◌, ◌&&◌, ◌||◌, ◌++◌, ◌==◌, ◌^◌, ℕ, None, IsTrue, IsFalse};
+ghost use Rattle.std.specs.Prelude.{◌≡◌, ◌↔◌, ◌-◌, ◌+◌, ◌<◌, ◌≤◌, ◌&&◌, ◌++◌, ◌==◌, ℕ, None, IsTrue, IsFalse};
 ghost use Rattle.std.specs.Prelude.{IfSome, IsErr, MatchResult, min, max, length, not, nat_le, nat_lt, true};
 ghost use Rattle.std.specs.Prelude.{if◌then◌else◌};
 ghost use Rattle.net_assembler.specs.Positions.{contains, front, missing_count, with_range};

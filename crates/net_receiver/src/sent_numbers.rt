@@ -14,7 +14,6 @@ ghost use Rattle.std.specs.Prelude.{◌≡◌, ◌-◌};
 /// let numbers: SentNumbers = sender.sent_numbers();
 /// assert_eq!((numbers.first_unacknowledged, numbers.sent, numbers.flight_size()), (100, 102, 2));
 /// ```
-#[repr(C)]
 #[derive(Copy, Clone, Debug, PartialEq, Eq, Hash)]
 pub struct SentNumbers {
     /// The first number that isn't acknowledged.

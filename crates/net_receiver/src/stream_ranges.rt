@@ -5,7 +5,7 @@
 // is the exception. Each part but a lone one joins a held run, so no refusal comes between the parts of a segment.
 #![tactic(auto)]
 
-ghost use Rattle.std.specs.Prelude.{◌≡◌, ◌↔◌, ◌≤◌, ◌<◌, ◌-◌, ◌+◌, ◌^◌, length, Some, None, Err, IsTrue, IsFalse, OnErr, min};
+ghost use Rattle.std.specs.Prelude.{◌≡◌, ◌≤◌, ◌<◌, ◌-◌, ◌+◌, ◌^◌, length, Some, None, Err, IsTrue, IsFalse, min};
 ghost use Rattle.std.specs.Prelude.{List, ℕ, ◌==◌};
 ghost use Rattle.net_assembler.specs.Positions.{contains, first_missing, maximal_runs};
 ghost use Rattle.net_assembler.specs.RunLists.{HasSoundRuns, set_of};

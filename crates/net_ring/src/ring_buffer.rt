@@ -1,15 +1,15 @@
 //! A ring of elements over storage that is lent or owned.
 #![tactic(auto, using(crate::proofs::RingFacts::rings))]
 
-ghost use Rattle.std.specs.Prelude.{◌≡◌, ◌≢◌, ◌↔◌, ◌≤◌, ◌<◌, ◌==◌, ◌-◌, ◌+◌, ◌^◌, ◌∷◌, ◌++◌, [], ℕ, List, length, take};
-ghost use Rattle.std.specs.Prelude.{drop, min, slice_get, slice_index_or, IsTrue, IsErr, OnErr};
+ghost use Rattle.std.specs.Prelude.{◌≡◌, ◌≢◌, ◌↔◌, ◌≤◌, ◌<◌, ◌==◌, ◌-◌, ◌+◌, ◌^◌, ◌∷◌, ◌++◌, [], List, length, take};
+ghost use Rattle.std.specs.Prelude.{drop, min, slice_get, IsTrue, IsErr, OnErr};
 ghost use Rattle.std.specs.Prelude.{IfOk, is_ok, if◌then◌else◌};
 ghost use Rattle.std.specs.Borrow.{sem};
-ghost use Rattle.std.specs.Fn.{FnOnceTakesAtMut, FnOnceReturnsAtMut};
+ghost use Rattle.std.specs.Fn.{FnOnceTakesAtMut};
 ghost use Rattle.std.specs.List.{AllZip};
 ghost use Rattle.net_ring.specs.{ring, capacity, window, queue, spare, write_at, IsWellFormed, contiguous_window};
 ghost use Rattle.net_ring.specs.{contiguous_spare, contiguous_unallocated, spare_index, contiguous_queued};
-ghost use Rattle.net_ring.specs.{contiguous_queue, contiguous_allocated, queue_index, with_elements};
+ghost use Rattle.net_ring.specs.{contiguous_queue, contiguous_allocated, with_elements};
 ghost use Rattle.net_ring.specs.{with_elements_wrapping, with_enqueued, with_dequeued, with_one_enqueued};
 ghost use Rattle.net_ring.specs.{with_one_dequeued, rewind_if_empty, Enqueues, Dequeues, WritesSpare};
 ghost use Rattle.net_ring.specs.{TakesFirstOf, CalledOnNext, CalledOnFirst, CountsWithin, CalledOnSpare, CalledOnQueue};
@@ -924,7 +924,6 @@ impl<T, S: Storage<T>> RingOver<T, S> {
     }
 }
 
-/// The queue, shown. smoltcp doesn't have these calls; std's `VecDeque` does.
 impl<T, S: Storage<T>> RingOver<T, S> {
     /// Moves the queue to the beginning of a larger storage, whose other elements stay as they are, and returns the
     /// storage from before. smoltcp has no such call.
@@ -961,6 +960,7 @@ impl<T, S: Storage<T>> RingOver<T, S> {
     }
 }
 
+/// The queue, shown. smoltcp doesn't have these calls; std's `VecDeque` does.
 impl<T, S: Storage<T>> RingOver<T, S> {
     /// Shows the queue, in order, in two parts: the elements up to the storage's end, and those from
     /// its beginning on. The second part is empty unless the queue wraps.

@@ -8,7 +8,7 @@
 
 #![tactic(auto, using(crate::proofs::SplitNumbers::counts))]
 
-ghost use Rattle.std.specs.Prelude.{◌≡◌, ◌↔◌, ◌≤◌, ◌-◌, ◌+◌, ℕ, IsTrue, min, length, take, drop, ◌++◌};
+ghost use Rattle.std.specs.Prelude.{◌≡◌, ◌↔◌, ◌≤◌, ◌-◌, ◌+◌, IsTrue, min, length, take, drop, ◌++◌};
 ghost use Rattle.net_ring.specs.Width.{IsUsize};
 ghost use Rattle.net_ring.specs.RingHead.{IsSound, IsWithin, free_index, queued_index, ring_at};
 ghost use Rattle.net_ring.specs.Ring.{queue, window};
@@ -49,7 +49,6 @@ pub mod laws;
 /// assert_eq!(SplitCounts { written, taken: 0 }.free(4, 4).span.count, 2);
 /// assert_eq!(SplitCounts { written, taken }.free(4, 4).span.count, 4);
 /// ```
-#[repr(C)]
 #[derive(Debug, Default, Clone, Copy, PartialEq, Eq)]
 pub struct SplitCounts {
     /// How many elements were written, modulo twice the capacity.
@@ -68,7 +67,6 @@ pub struct SplitCounts {
 /// let lent = SplitCounts { written: 7, taken: 4 }.free(4, 9);
 /// assert_eq!((lent.span.from, lent.span.count, lent.next), (3, 1, 0));
 /// ```
-#[repr(C)]
 #[derive(Debug, Clone, Copy, PartialEq, Eq)]
 pub struct SplitSpan {
     /// Where they are.

@@ -671,7 +671,6 @@ impl<T, S: Storage<T>> RingOver<T, S> {
     }
 }
 
-/// The queue, shown. smoltcp doesn't have these calls; std's `VecDeque` does.
 impl<T, S: Storage<T>> RingOver<T, S> {
     /// Moves the queue to the beginning of a larger storage, whose other elements stay as they are, and returns the
     /// storage from before. smoltcp has no such call.
@@ -705,6 +704,7 @@ impl<T, S: Storage<T>> RingOver<T, S> {
     }
 }
 
+/// The queue, shown. smoltcp doesn't have these calls; std's `VecDeque` does.
 impl<T, S: Storage<T>> RingOver<T, S> {
     /// Shows the queue, in order, in two parts: the elements up to the storage's end, and those from
     /// its beginning on. The second part is empty unless the queue wraps.

@@ -38,7 +38,6 @@ use crate::storage::ring_head::{RingHead, Span};
 /// assert_eq!(SplitCounts { written, taken: 0 }.free(4, 4).span.count, 2);
 /// assert_eq!(SplitCounts { written, taken }.free(4, 4).span.count, 4);
 /// ```
-#[repr(C)]
 #[derive(Debug, Default, Clone, Copy, PartialEq, Eq)]
 pub struct SplitCounts {
     /// How many elements were written, modulo twice the capacity.
@@ -57,7 +56,6 @@ pub struct SplitCounts {
 /// let lent = SplitCounts { written: 7, taken: 4 }.free(4, 9);
 /// assert_eq!((lent.span.from, lent.span.count, lent.next), (3, 1, 0));
 /// ```
-#[repr(C)]
 #[derive(Debug, Clone, Copy, PartialEq, Eq)]
 pub struct SplitSpan {
     /// Where they are.

@@ -3,7 +3,7 @@ ghost use Rattle.std.specs.Prelude.{◌≡◌, ◌≢◌, ◌<◌, ◌≤◌, �
 ghost use Rattle.net_ring.specs.Width.{IsUsize};
 ghost use Rattle.net_ring.specs.Overwrite.{overwrite};
 ghost use Rattle.net_ring.specs.Ring.{queue, spare, window, storage_index};
-ghost use Rattle.net_ring.specs.SplitRing.{SplitState, Step, Writes, fresh, after_step, after_steps, whole};
+ghost use Rattle.net_ring.specs.SplitRing.{Step, Writes, fresh, after_step, after_steps, whole};
 ghost use Rattle.net_ring.specs.SplitRing.{writer, reader};
 ghost use Rattle.net_ring.specs.SplitRing.{AreCounts, counts, IsOfWriter, IsOfReader};
 
