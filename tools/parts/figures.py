@@ -17,7 +17,7 @@ FIXED = ["32 or 64 bits", "smoltcp 0.14.0", "until 1.0", "Rust 1.87 and Python 3
          "segment of 1,460 bytes", "quinn-proto 0.9.2", "sent 0.75 of Linux's MB/s", "its two bugs",
          "N = 4", "two segments of 16 bytes", "checksum of 20 bytes", "frame of 1,200 bytes", "5 of 100", "by 2 KiB",
          "by 64 KiB", "first 1,024 they are refused", "after 1,024 ranges", "round trip of 1 ms", "With 10 % lost",
-         "0.75 of Reno's, with 5 % delayed", "with 20 % delayed"]
+         "0.75 of Reno's MB/s, with 5 % delayed", "with 20 % delayed"]
 WORDS = [*"none one two three four five six seven eight nine ten eleven twelve".split(), *map(str, range(13, 100))]
 NUMBER = rf"(\d(?:[\w.,-]*\w)?|(?i:{'|'.join(WORDS)}))"
 
@@ -78,9 +78,7 @@ def measured():
     yield "{} to {} of smoltcp's bytes. A `Receiver` takes {} to {}, and {} if it is built for speed", sizes, [
         *span(ratios), *span([ratio for row in ours for ratio in row[:2]]), f"{max(row[2] for row in ours):.2f}"]
     linux = {row[0]: [*map(value, row[4:])] for row in cells(peers) if len(row) == 6}
-    # Rows of today's version.
-    now = [ratios[0] for name, ratios in linux.items() if name not in ("clean", "3 % lost", "10 % lost")]
-    yield "sends, more is better | {} | {} |", peers, span(now)[::-1]
+    yield "sends, more is better | {} | {} |", peers, span([it[0] for name, it in linux.items() if name != "10 % lost"])[::-1]
     quinn = cells("compare/results/quinn.md")
     tests, transfers = (next(row for row in quinn if row[0] == name) for name in ("pass", "256"))
     yield "passes {} of its {} tests", "compare/results/quinn.md", re.findall(r"\d+", tests[2])
