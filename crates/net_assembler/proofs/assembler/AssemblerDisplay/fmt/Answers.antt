@@ -40,15 +40,6 @@ loop-start-init g c =
       written = ([], ap (text_from 0) (sym is), search rules);
     }
 
-pub overflow_sub-contig : goal.overflow_sub-contig
-overflow_sub-contig g c =
-    (rises_next _ c.in-Some.start c.in-Some.end _ _ c.in-Some.ensures.steps c.loop-start.invariant.rises).0
-
-pub overflow_sub-contig-in-loop-start : goal.overflow_sub-contig-in-loop-start
-overflow_sub-contig-in-loop-start g c =
-    let next = rises_next _ c.in-Some.start c.in-Some.end _ _ c.in-Some.ensures.steps c.loop-start.invariant.rises in
-    omega (arith, next.1)
-
 pub loop-start-preserved : goal.loop-start-preserved
 loop-start-preserved g c =
     let from = c.loop-start.from in

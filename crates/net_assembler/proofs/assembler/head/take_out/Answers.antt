@@ -1,6 +1,6 @@
-use Rattle.std.proofs.Common.{◌≡◌, ◌∙◌, ℕ, subst, ◌++◌, take, drop, arith}
+use Rattle.std.proofs.Common.{◌∙◌, take, arith}
 use Rattle.std.proofs.lemmas.List.{length-set}
-use Rattle.net_assembler.specs.RunLists.{runs_wrapped, wrapped_run}
+use Rattle.net_assembler.specs.RunLists.{wrapped_run}
 use Rattle.net_assembler.proofs.Moves.{change_more, rest_at, rest_more}
 use Rattle.net_assembler.proofs.ShiftedRuns.{moved_usize}
 use Rattle.net_assembler.proofs.assembler.head.take_out.Goals as goal
@@ -28,11 +28,3 @@ loop-k-preserved c =
       looks = omega arith;
       moves = omega arith;
     }
-
-pub returns-clause-runs : goal.returns-clause-runs
-returns-clause-runs c =
-    let ys = c.args.runs.now in
-    let at_end : c.loop-k.k ≡ c.args.used = omega (arith, c.requires.from) in
-    subst (λ (n : ℕ). take c.loop-k.to c.loop-k.runs ≡ take c.args.at ys
-    ++ runs_wrapped c.args.by (drop c.args.from (take n ys)))
-    at_end c.loop-k.invariant.taken

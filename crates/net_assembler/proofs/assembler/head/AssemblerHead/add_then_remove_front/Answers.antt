@@ -1,6 +1,6 @@
 use Rattle.std.proofs.Common.{◌∙◌, ◌<◌, refl, sym, ap, arith}
 use Rattle.net_assembler.specs.RunLists.{set_of_runs}
-use Rattle.net_assembler.proofs.Sets.{too_many, shift_down-zero}
+use Rattle.net_assembler.proofs.Sets.{too_many}
 use Rattle.net_assembler.proofs.SoundHeads.{contains-below, contains-none, dropped, few_held, lowered, lowered_set}
 use Rattle.net_assembler.proofs.SoundHeads.{next_removed, shift_down-none}
 use Rattle.net_assembler.proofs.assembler.head.AssemblerHead.add_then_remove_front.Goals as goal
@@ -16,16 +16,6 @@ returns-then-size-self-clause-both c =
     let s = c.requires.sound in
     next_removed _ c.args.offset c.args.size _ _ (omega arith) (contains-below _ _ s c.args.size (omega arith))
     (lowered_set _ _ s c.args.size (omega arith)) (few_held _ _ (lowered _ _ s c.args.size))
-
-pub returns-then-end-eq0-clause-both : goal.returns-then-end-eq0-clause-both
-returns-then-end-eq0-clause-both c =
-    let ends = c.in_ok-end.ensures.front in
-    let none = ends.none c.if-end-eq0.true in
-    record {
-      value = (none.0, none.1 ∙ sym (shift_down-zero _ 0 refl));
-      refused = (λ f. absurd (cc), λ over. absurd (omega (arith, ((too_many _ _ _ _).0 over.1).1, ends.room over.0)));
-      bound = omega (arith, few_held _ _ ends.sound, c.reach_front.auto.runs);
-    }
 
 pub returns-clause-both : goal.returns-clause-both
 returns-clause-both c =

@@ -1,4 +1,4 @@
-use Rattle.std.proofs.Common.{◌∙◌, ◌≤◌, arith, refl}
+use Rattle.std.proofs.Common.{◌∙◌, arith, refl}
 use Rattle.net_assembler.specs.RunLists.{used_runs}
 use Rattle.net_assembler.proofs.Searches.{before_split, few_split, next_overlap, no_overlap, overlap, overlap_set}
 use Rattle.net_assembler.proofs.Searches.{overlap_usize}
@@ -76,52 +76,3 @@ returns c =
     (omega (arith, c.loop-k.auto, few_split _ _ c.requires _ _ c.runs_by.ensures, c.saturating_sub-first.ensures))
     (λ l. absurd (omega (arith, c.loop-k-test.false, l))) in
     omega (arith, none, c.loop-k.invariant.counted) ∙ all
-
-pub loop-k-preserved : goal.loop-k-preserved
-loop-k-preserved c =
-    let h = c.args.self.now in
-    let xs = c.args.runs.now in
-    let next = next_overlap xs h.used c.requires.runs c.requires.room c.loop-k.k c.saturating_sub-from.result
-    c.saturating_sub-to.result c.loop-k-test.true in
-    record {
-      counted = omega (
-        arith,
-        next,
-        c.loop-k.invariant.counted,
-        c.saturating_sub-count.ensures,
-        c.min.ensures,
-        c.max.ensures,
-        c.end_of.ensures,
-        c.start_of-start.ensures,
-      );
-      looks = omega (arith, c.loop-k.invariant.looks, c.step.ensures.looks);
-      moves = omega (arith, c.loop-k.invariant.moves, c.step.ensures.moves);
-    }
-
-pub were_a_pass-requires : goal.were_a_pass-requires
-were_a_pass-requires c =
-    omega (
-      arith,
-      c.new-turns.ensures.looks,
-      c.new-turns.ensures.moves,
-      c.loop-k.invariant.looks,
-      c.loop-k.invariant.moves,
-      c.step.ensures.looks,
-      c.step.ensures.moves,
-      c.loop-k-test.true,
-      c.requires.room,
-    )
-
-pub were_a_pass-requires-2 : goal.were_a_pass-requires-2
-were_a_pass-requires-2 c =
-    let few : c.loop-k.k ≤ c.args.self.now.used =
-    omega (arith, c.loop-k.auto, few_split _ _ c.requires _ _ c.runs_by.ensures, c.saturating_sub-first.ensures) in
-    omega (
-      arith,
-      c.new-turns.ensures.looks,
-      c.new-turns.ensures.moves,
-      c.loop-k.invariant.looks,
-      c.loop-k.invariant.moves,
-      few,
-      c.requires.room,
-    )

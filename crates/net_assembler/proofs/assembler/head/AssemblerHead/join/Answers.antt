@@ -1,50 +1,10 @@
 use Rattle.std.proofs.Common.{◌≡◌, ◌+◌, ◌-◌, ◌≤◌, ℕ, ap, length, subst, arith}
 use Rattle.net_assembler.specs.Heads.{AddsInPlace}
-use Rattle.net_assembler.specs.RunLists.{start_at}
 use Rattle.net_assembler.specs.Turns.{binary_digits}
 use Rattle.net_assembler.proofs.Calls.{below_binary_digits}
-use Rattle.net_assembler.proofs.SoundHeads.{first_pair, pair_rises, searched}
+use Rattle.net_assembler.proofs.SoundHeads.{searched}
 use Rattle.net_assembler.proofs.assembler.head.AssemblerHead.join.Goals as goal
 use Rattle.net_assembler.proofs.assembler.head.AssemblerHead.join.Goals.{then-by-eq0, else-by-eq0}
-
-pub runs_ending_before-first-requires-clause-some : goal.runs_ending_before-first-requires-clause-some
-runs_ending_before-first-requires-clause-some c = c.requires.last.1
-
-pub runs_ending_before-first-requires-clause-last : goal.runs_ending_before-first-requires-clause-last
-runs_ending_before-first-requires-clause-last c =
-    let h = c.args.self.now in
-    let starts = c.requires.last in
-    omega (arith, starts.2, pair_rises h c.args.runs.now c.requires.sound (h.used - 1) (omega (arith, starts.1)))
-
-pub join_here-requires-clause-first : goal.join_here-requires-clause-first
-join_here-requires-clause-first c =
-    elim c.if-by-eq0.branch [
-      | then-by-eq0 w ↦ omega (arith, w.first-is, w.runs_ending_before-first.ensures.within)
-      | else-by-eq0 w ↦ omega (arith, w.first-is, c.requires.last.1)
-    ]
-
-pub join_here-requires-clause-size : goal.join_here-requires-clause-size
-join_here-requires-clause-size c = c.requires.last.0
-
-pub join_here-requires-clause-begin : goal.join_here-requires-clause-begin
-join_here-requires-clause-begin c =
-    let xs = c.args.runs.now in
-    elim c.if-by-eq0.branch [
-      | then-by-eq0 w ↦ omega (
-        arith,
-        w.begin-is,
-        w.if-by-eq0.true,
-        w.start_of-begin.ensures,
-        ap (start_at xs) w.first-is,
-      )
-      | else-by-eq0 w ↦
-          omega (
-            arith,
-            w.begin-is,
-            ap (start_at xs) w.first-is,
-            first_pair c.args.self.now xs c.requires.sound c.requires.last.1,
-          )
-    ]
 
 pub returns : goal.returns
 returns c =

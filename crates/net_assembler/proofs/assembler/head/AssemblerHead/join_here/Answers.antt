@@ -5,7 +5,7 @@ use Rattle.std.proofs.lemmas.List.{length-set}
 use Rattle.net_assembler.specs.RunLists.{AreUsize, FitsFrom, end_at, runs_wrapped, start_at, used_runs, wrapped_run}
 use Rattle.net_assembler.proofs.Runs.{runs_with_range}
 use Rattle.net_assembler.proofs.Calls.{below_binary_digits, no_turn}
-use Rattle.net_assembler.proofs.SoundHeads.{joined_in_place, pair_fits, refused_in_place}
+use Rattle.net_assembler.proofs.SoundHeads.{joined_in_place, refused_in_place}
 use Rattle.std.proofs.lemmas.List.{append-nil, drop_all, length-take}
 use Rattle.net_assembler.proofs.Moves.{rest_written, written_above}
 use Rattle.net_assembler.proofs.Sets.{either}
@@ -13,24 +13,6 @@ use Rattle.net_assembler.proofs.Joins.{grown_run, used_starts_rise}
 use Rattle.net_assembler.proofs.ShiftedRuns.{fits-less, up-none, inserted_run, joined_run, refused_run, tail_usize}
 use Rattle.net_assembler.proofs.assembler.head.AssemblerHead.join_here.Goals as goal
 use Rattle.net_assembler.proofs.assembler.head.AssemblerHead.join_here.Goals.{then-next-used, else-next-used}
-
-pub overflow_add-last_end : goal.overflow_add-last_end
-overflow_add-last_end c =
-    let next = c.runs_met-next.ensures in
-    omega (
-      arith,
-      pair_fits c.args.self.now c.args.runs.now c.requires.sound (c.runs_met-next.result - 1)
-          (omega (arith, next.from, next.within)),
-    )
-
-pub prove-unreachable-requires-3 : goal.prove-unreachable-requires-3
-prove-unreachable-requires-3 c =
-    let next = c.runs_met-next.ensures in
-    omega (
-      arith,
-      pair_fits c.args.self.now c.args.runs.now c.requires.sound (c.runs_met-next.result - 1)
-          (omega (arith, next.from, next.within)),
-    )
 
 pub returns-then-used-runs-clause-added : goal.returns-then-used-runs-clause-added
 returns-then-used-runs-clause-added c =
