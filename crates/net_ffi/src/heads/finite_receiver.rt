@@ -41,8 +41,10 @@ pub extern "C" fn net_base_finite_receiver_init(
     first: u64,
 ) -> bool
     ensures done { IsTrue result ↔ (first < no_end) }
-    ensures sound { IsTrue result → (capacity : ℕ) (runs : List (ℕ × ℕ)) → HasSoundFinite receiver.new capacity runs }
-    ensures state { IsTrue result → (storage : List ℕ) (runs : List (ℕ × ℕ)) → finite_of receiver.new storage runs ≡ fresh_finite first (length storage) }
+    ensures sound { IsTrue result → (capacity : ℕ) (runs : List (ℕ × ℕ))
+        → HasSoundFinite receiver.new capacity runs }
+    ensures state { IsTrue result → (storage : List ℕ) (runs : List (ℕ × ℕ))
+        → finite_of receiver.new storage runs ≡ fresh_finite first (length storage) }
     ensures canonical { IsTrue result → IsCanonical receiver.new.receiver.held }
     ensures numbers { IsTrue result → receiver.new ≡ finite_receiver_head first }
     ensures unchanged { IsFalse result → (receiver.new ≡ receiver.old) }
@@ -83,8 +85,11 @@ pub extern "C" fn net_base_finite_receiver_can_end(
     runs: &[Run],
     position: u64,
 ) -> bool
-    requires sound { HasRuns (length runs.now) receiver.now.receiver → HasSoundHeld receiver.now.receiver runs.now }
-    ensures value { HasRuns (length runs.now) receiver.now.receiver → result ≡ can_end_by (end_of receiver.now) (top_at receiver.now.receiver runs.now) position }
+    requires sound { HasRuns (length runs.now) receiver.now.receiver
+        → HasSoundHeld receiver.now.receiver runs.now }
+    ensures value { HasRuns (length runs.now) receiver.now.receiver
+        → result
+        ≡ can_end_by (end_of receiver.now) (top_at receiver.now.receiver runs.now) position }
     ensures refused { (HasRuns (length runs.now) receiver.now.receiver → ⊥) → IsFalse result }
 {
     if !has_runs(&receiver.receiver, runs.len()) {
@@ -104,8 +109,12 @@ pub extern "C" fn net_base_finite_receiver_acknowledged(
     number: &mut u64,
 ) -> bool
     ensures done { IsTrue result ↔ (next_of receiver.now < no_end) }
-    ensures state { IsTrue result → (storage : List ℕ) (runs : List (ℕ × ℕ)) → HasSoundFinite receiver.now (length storage) runs → number.new ≡ acknowledged (finite_of receiver.now storage runs) }
-    ensures value { IsTrue result → number.new ≡ (if next_of receiver.now == end_of receiver.now then next_of receiver.now + 1 else next_of receiver.now) }
+    ensures state { IsTrue result → (storage : List ℕ) (runs : List (ℕ × ℕ))
+        → HasSoundFinite receiver.now (length storage) runs
+        → number.new ≡ acknowledged (finite_of receiver.now storage runs) }
+    ensures value { IsTrue result
+        → number.new ≡ (if next_of receiver.now == end_of receiver.now then next_of receiver.now + 1
+        else next_of receiver.now) }
     ensures unchanged { IsFalse result → (number.new ≡ number.old) }
 {
     if !has_number(receiver) {
@@ -120,7 +129,8 @@ pub extern "C" fn net_base_finite_receiver_acknowledged(
 /// It is refused if the number after the first missing position doesn't fit 64 bits: false.
 #[unsafe(no_mangle)]
 pub extern "C" fn net_base_finite_receiver_has_read_all(receiver: &FiniteReceiverHead) -> bool
-    ensures state { next_of receiver.now < no_end → (storage : List ℕ) (runs : List (ℕ × ℕ)) → result ≡ has_read_all (finite_of receiver.now storage runs) }
+    ensures state { next_of receiver.now < no_end → (storage : List ℕ) (runs : List (ℕ × ℕ))
+        → result ≡ has_read_all (finite_of receiver.now storage runs) }
     ensures refused { (next_of receiver.now < no_end → ⊥) → IsFalse result }
 {
     if !has_number(receiver) {
@@ -140,13 +150,31 @@ pub extern "C" fn net_base_finite_receiver_read(
     storage: &[u8],
     into: &mut [u8],
 ) -> usize
-    ensures count { (IsSoundPlace (length storage.now) receiver.old.receiver.place) × (next_of receiver.old < 2 ^ 64) → result ≡ min (length into.old) receiver.old.receiver.place.length }
-    ensures into { let queued = queue (ring_at storage.now receiver.old.receiver.place) in (IsSoundPlace (length storage.now) receiver.old.receiver.place) × (next_of receiver.old < 2 ^ 64) → into.new ≡ take (length into.old) queued ++ drop (length queued) into.old }
-    ensures head { (IsSoundPlace (length storage.now) receiver.old.receiver.place) × (next_of receiver.old < 2 ^ 64) → receiver.new.receiver ≡ head_after_read (length storage.now) result receiver.old.receiver }
-    ensures end { (IsSoundPlace (length storage.now) receiver.old.receiver.place) × (next_of receiver.old < 2 ^ 64) → receiver.new.after_end ≡ receiver.old.after_end }
-    ensures sound { (IsSoundPlace (length storage.now) receiver.old.receiver.place) × (next_of receiver.old < 2 ^ 64) → (runs : List (ℕ × ℕ)) → HasSoundFinite receiver.old (length storage.now) runs → HasSoundFinite receiver.new (length storage.now) runs }
-    ensures state { (IsSoundPlace (length storage.now) receiver.old.receiver.place) × (next_of receiver.old < 2 ^ 64) → (runs : List (ℕ × ℕ)) → HasSoundFinite receiver.old (length storage.now) runs → finite_of receiver.new storage.now runs ≡ finite_after_read (finite_of receiver.old storage.now runs) (length into.old) }
-    ensures refused { ((IsSoundPlace (length storage.now) receiver.old.receiver.place) × (next_of receiver.old < 2 ^ 64) → ⊥) → (result ≡ no_number) × (receiver.new ≡ receiver.old) × («into».new ≡ «into».old) }
+    ensures count { (IsSoundPlace (length storage.now) receiver.old.receiver.place)
+        × (next_of receiver.old < 2 ^ 64)
+        → result ≡ min (length into.old) receiver.old.receiver.place.length }
+    ensures into { let queued = queue (ring_at storage.now receiver.old.receiver.place) in
+        (IsSoundPlace (length storage.now) receiver.old.receiver.place)
+        × (next_of receiver.old < 2 ^ 64)
+        → into.new ≡ take (length into.old) queued ++ drop (length queued) into.old }
+    ensures head { (IsSoundPlace (length storage.now) receiver.old.receiver.place)
+        × (next_of receiver.old < 2 ^ 64)
+        → receiver.new.receiver
+        ≡ head_after_read (length storage.now) result receiver.old.receiver }
+    ensures end { (IsSoundPlace (length storage.now) receiver.old.receiver.place)
+        × (next_of receiver.old < 2 ^ 64) → receiver.new.after_end ≡ receiver.old.after_end }
+    ensures sound { (IsSoundPlace (length storage.now) receiver.old.receiver.place)
+        × (next_of receiver.old < 2 ^ 64) → (runs : List (ℕ × ℕ))
+        → HasSoundFinite receiver.old (length storage.now) runs
+        → HasSoundFinite receiver.new (length storage.now) runs }
+    ensures state { (IsSoundPlace (length storage.now) receiver.old.receiver.place)
+        × (next_of receiver.old < 2 ^ 64) → (runs : List (ℕ × ℕ))
+        → HasSoundFinite receiver.old (length storage.now) runs
+        → finite_of receiver.new storage.now runs
+        ≡ finite_after_read (finite_of receiver.old storage.now runs) (length into.old) }
+    ensures refused { ((IsSoundPlace (length storage.now) receiver.old.receiver.place)
+        × (next_of receiver.old < 2 ^ 64) → ⊥)
+        → (result ≡ no_number) × (receiver.new ≡ receiver.old) × («into».new ≡ «into».old) }
 {
     if !receiver.receiver.place.is_sound(storage.len()) || !has_next(&receiver.receiver) {
         return no_number();
@@ -166,11 +194,17 @@ pub extern "C" fn net_base_finite_receiver_remove(
     capacity: usize,
     count: usize,
 ) -> bool
-    ensures done { IsTrue result ↔ ((IsSoundPlace capacity receiver.old.receiver.place) × (count ≤ receiver.old.receiver.place.length) × (next_of receiver.old < 2 ^ 64)) }
-    ensures head { IsTrue result → receiver.new.receiver ≡ head_after_read capacity count receiver.old.receiver }
+    ensures done { IsTrue result ↔ ((IsSoundPlace capacity receiver.old.receiver.place)
+        × (count ≤ receiver.old.receiver.place.length) × (next_of receiver.old < 2 ^ 64)) }
+    ensures head { IsTrue result
+        → receiver.new.receiver ≡ head_after_read capacity count receiver.old.receiver }
     ensures end { IsTrue result → receiver.new.after_end ≡ receiver.old.after_end }
-    ensures sound { IsTrue result → (runs : List (ℕ × ℕ)) → HasSoundFinite receiver.old capacity runs → HasSoundFinite receiver.new capacity runs }
-    ensures state { IsTrue result → (storage : List ℕ) (runs : List (ℕ × ℕ)) → length storage ≡ capacity → HasSoundFinite receiver.old capacity runs → finite_of receiver.new storage runs ≡ finite_after_read (finite_of receiver.old storage runs) count }
+    ensures sound { IsTrue result → (runs : List (ℕ × ℕ))
+        → HasSoundFinite receiver.old capacity runs → HasSoundFinite receiver.new capacity runs }
+    ensures state { IsTrue result → (storage : List ℕ) (runs : List (ℕ × ℕ))
+        → length storage ≡ capacity → HasSoundFinite receiver.old capacity runs
+        → finite_of receiver.new storage runs
+        ≡ finite_after_read (finite_of receiver.old storage runs) count }
     ensures unchanged { IsFalse result → (receiver.new ≡ receiver.old) }
 {
     if !receiver.receiver.place.is_sound(capacity)

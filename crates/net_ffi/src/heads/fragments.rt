@@ -22,7 +22,8 @@ use net_base::storage::FragmentsHead;
 /// microseconds. It is sound for any memory.
 #[unsafe(no_mangle)]
 pub extern "C" fn net_base_fragments_init(fragments: &mut FragmentsHead, expires_at: i64)
-    ensures sound { (storage : List ℕ) (runs : List (ℕ × ℕ)) → HasSoundParts fragments.new storage runs }
+    ensures sound { (storage : List ℕ) (runs : List (ℕ × ℕ))
+        → HasSoundParts fragments.new storage runs }
     ensures nothing { (runs : List (ℕ × ℕ)) → set_of fragments.new.present runs ≡ nothing }
     ensures value { fragments.new ≡ zero_fragments expires_at }
     ensures exact { IsExact fragments.new }
@@ -39,7 +40,8 @@ pub extern "C" fn net_base_fragments_is_sound(
     capacity: usize,
     runs: &[Run],
 ) -> bool
-    ensures { (storage : List ℕ) → length storage ≡ capacity → (IsTrue result ↔ HasSoundParts fragments.now storage runs.now) }
+    ensures { (storage : List ℕ) → length storage ≡ capacity
+        → (IsTrue result ↔ HasSoundParts fragments.now storage runs.now) }
 {
     fragments.is_sound(capacity, runs)
 }
@@ -60,15 +62,26 @@ pub extern "C" fn net_base_fragments_set_total_size(
     runs: &[Run],
     size: usize,
 ) -> SizeStatus
-    requires sound { fragments.old.present.used ≤ length runs.now → HasSoundRuns fragments.old.present runs.now }
-    ensures ok { fragments.old.present.used ≤ length runs.now → OnOk (done_or_error result) (fragments.new ≡ record fragments.old { has_total = true; total = size }) }
-    ensures total { fragments.old.present.used ≤ length runs.now → OnOk (done_or_error result) (total_of fragments.new ≡ Some size) }
-    ensures sound { fragments.old.present.used ≤ length runs.now → OnOk (done_or_error result) ((storage : List ℕ) → length storage ≡ capacity → HasSoundParts fragments.old storage runs.now → HasSoundParts fragments.new storage runs.now) }
-    ensures unchanged { fragments.old.present.used ≤ length runs.now → OnErr (done_or_error result) (fragments.new ≡ fragments.old) }
-    ensures takes { fragments.old.present.used ≤ length runs.now → TakesSize capacity (set_of fragments.old.present runs.now) (total_of fragments.old) size (done_or_error result) }
+    requires sound { fragments.old.present.used ≤ length runs.now
+        → HasSoundRuns fragments.old.present runs.now }
+    ensures ok { fragments.old.present.used ≤ length runs.now
+        → OnOk (done_or_error result)
+        (fragments.new ≡ record fragments.old { has_total = true; total = size }) }
+    ensures total { fragments.old.present.used ≤ length runs.now
+        → OnOk (done_or_error result) (total_of fragments.new ≡ Some size) }
+    ensures sound { fragments.old.present.used ≤ length runs.now
+        → OnOk (done_or_error result) ((storage : List ℕ) → length storage ≡ capacity
+        → HasSoundParts fragments.old storage runs.now
+        → HasSoundParts fragments.new storage runs.now) }
+    ensures unchanged { fragments.old.present.used ≤ length runs.now
+        → OnErr (done_or_error result) (fragments.new ≡ fragments.old) }
+    ensures takes { fragments.old.present.used ≤ length runs.now
+        → TakesSize capacity (set_of fragments.old.present runs.now) (total_of fragments.old) size
+        (done_or_error result) }
     ensures exact { IsExact fragments.old → IsExact fragments.new }
     ensures status { fragments.old.present.used ≤ length runs.now → IsStatus result }
-    ensures refused { (fragments.old.present.used ≤ length runs.now → ⊥) → (result ≡ NET_BASE_REFUSED) × (fragments.new ≡ fragments.old) }
+    ensures refused { (fragments.old.present.used ≤ length runs.now → ⊥)
+        → (result ≡ NET_BASE_REFUSED) × (fragments.new ≡ fragments.old) }
 {
     if fragments.present.used > runs.len() {
         return NET_BASE_REFUSED;
@@ -92,14 +105,25 @@ pub extern "C" fn net_base_fragments_add(
     offset: usize,
     data: &[u8],
 ) -> FragmentStatus
-    requires sound { IsPlausible (length storage.old) (length runs.old) fragments.old → HasSoundParts fragments.old storage.old runs.old }
-    ensures sound { IsPlausible (length storage.old) (length runs.old) fragments.old → HasSoundParts fragments.new storage.new runs.new }
-    ensures adds { IsPlausible (length storage.old) (length runs.old) fragments.old → Adds (length runs.old) (fragments_of fragments.old storage.old runs.old) offset «data».now false (done_or_error result) (fragments_of fragments.new storage.new runs.new) }
-    ensures unchanged { IsPlausible (length storage.old) (length runs.old) fragments.old → OnErr (done_or_error result) ((fragments.new ≡ fragments.old) × (storage.new ≡ storage.old) × (runs.new ≡ runs.old)) }
-    ensures others { (fragments.new.has_total ≡ fragments.old.has_total) × (fragments.new.total ≡ fragments.old.total) × (fragments.new.expires_at ≡ fragments.old.expires_at) }
+    requires sound { IsPlausible (length storage.old) (length runs.old) fragments.old
+        → HasSoundParts fragments.old storage.old runs.old }
+    ensures sound { IsPlausible (length storage.old) (length runs.old) fragments.old
+        → HasSoundParts fragments.new storage.new runs.new }
+    ensures adds { IsPlausible (length storage.old) (length runs.old) fragments.old
+        → Adds (length runs.old) (fragments_of fragments.old storage.old runs.old) offset «data».now
+        false (done_or_error result) (fragments_of fragments.new storage.new runs.new) }
+    ensures unchanged { IsPlausible (length storage.old) (length runs.old) fragments.old
+        → OnErr (done_or_error result)
+        ((fragments.new ≡ fragments.old) × (storage.new ≡ storage.old) × (runs.new ≡ runs.old)) }
+    ensures others { (fragments.new.has_total ≡ fragments.old.has_total)
+        × (fragments.new.total ≡ fragments.old.total)
+        × (fragments.new.expires_at ≡ fragments.old.expires_at) }
     ensures exact { IsExact fragments.old → IsExact fragments.new }
-    ensures status { IsPlausible (length storage.old) (length runs.old) fragments.old → IsStatus result }
-    ensures refused { (IsPlausible (length storage.old) (length runs.old) fragments.old → ⊥) → (result ≡ NET_BASE_REFUSED) × (fragments.new ≡ fragments.old) × (storage.new ≡ storage.old) × (runs.new ≡ runs.old) }
+    ensures status { IsPlausible (length storage.old) (length runs.old) fragments.old
+        → IsStatus result }
+    ensures refused { (IsPlausible (length storage.old) (length runs.old) fragments.old → ⊥)
+        → (result ≡ NET_BASE_REFUSED) × (fragments.new ≡ fragments.old)
+        × (storage.new ≡ storage.old) × (runs.new ≡ runs.old) }
 {
     if !is_plausible(fragments, storage.len(), runs.len()) {
         return NET_BASE_REFUSED;
@@ -124,9 +148,13 @@ pub extern "C" fn net_base_fragments_differs(
     offset: usize,
     data: &[u8],
 ) -> bool
-    requires sound { IsPlausible (length storage.now) (length runs.now) fragments.now → HasSoundParts fragments.now storage.now runs.now }
-    ensures value { IsPlausible (length storage.now) (length runs.now) fragments.now → (IsTrue result ↔ Differs (fragments_of fragments.now storage.now runs.now) offset «data».now) }
-    ensures refused { (IsPlausible (length storage.now) (length runs.now) fragments.now → ⊥) → IsTrue result }
+    requires sound { IsPlausible (length storage.now) (length runs.now) fragments.now
+        → HasSoundParts fragments.now storage.now runs.now }
+    ensures value { IsPlausible (length storage.now) (length runs.now) fragments.now
+        → (IsTrue result
+        ↔ Differs (fragments_of fragments.now storage.now runs.now) offset «data».now) }
+    ensures refused { (IsPlausible (length storage.now) (length runs.now) fragments.now → ⊥)
+        → IsTrue result }
 {
     if !is_plausible(fragments, storage.len(), runs.len()) {
         return true;

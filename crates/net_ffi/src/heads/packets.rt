@@ -33,14 +33,26 @@ pub extern "C" fn net_base_packets_shorten_last(
     capacity: usize,
     count: usize,
 ) -> bool
-    ensures done { IsSoundHead (length slots.old) capacity packets.old → (IsTrue result ↔ CanShorten packets.old (last_slot packets.old slots.old) count) }
-    ensures head { IsTrue result → (packets.new.slots ≡ packets.old.slots) × (packets.new.bytes ≡ place packets.old.bytes.read_at (packets.old.bytes.length - count)) }
-    ensures slots { IsTrue result → slots.new ≡ set slots.old (last_slot_index packets.old slots.old) (packet_slot ((last_slot packets.old slots.old).size - count)) }
+    ensures done { IsSoundHead (length slots.old) capacity packets.old
+        → (IsTrue result ↔ CanShorten packets.old (last_slot packets.old slots.old) count) }
+    ensures head { IsTrue result
+        → (packets.new.slots ≡ packets.old.slots)
+        × (packets.new.bytes ≡ place packets.old.bytes.read_at (packets.old.bytes.length - count)) }
+    ensures slots { IsTrue result
+        → slots.new ≡ set slots.old (last_slot_index packets.old slots.old)
+        (packet_slot ((last_slot packets.old slots.old).size - count)) }
     ensures unchanged { IsFalse result → (packets.new ≡ packets.old) × (slots.new ≡ slots.old) }
-    ensures sound { IsSoundHead (length slots.old) capacity packets.old → IsSoundHead (length slots.old) capacity packets.new }
-    ensures sound_slots { IsSoundHead (length slots.old) capacity packets.old → HasSoundSlots capacity packets.old slots.old → HasSoundSlots capacity packets.new slots.new }
-    ensures state { IsTrue result → (xs : List ℕ) → length xs ≡ capacity → HasSoundSlots capacity packets.old slots.old → queue_of packets.new slots.new xs ≡ with_last_size ((last_slot packets.old slots.old).size - count) (queue_of packets.old slots.old xs) }
-    ensures refused { (IsSoundHead (length slots.old) capacity packets.old → ⊥) → (IsFalse result) × (packets.new ≡ packets.old) × (slots.new ≡ slots.old) }
+    ensures sound { IsSoundHead (length slots.old) capacity packets.old
+        → IsSoundHead (length slots.old) capacity packets.new }
+    ensures sound_slots { IsSoundHead (length slots.old) capacity packets.old
+        → HasSoundSlots capacity packets.old slots.old
+        → HasSoundSlots capacity packets.new slots.new }
+    ensures state { IsTrue result → (xs : List ℕ) → length xs ≡ capacity
+        → HasSoundSlots capacity packets.old slots.old
+        → queue_of packets.new slots.new xs ≡ with_last_size
+        ((last_slot packets.old slots.old).size - count) (queue_of packets.old slots.old xs) }
+    ensures refused { (IsSoundHead (length slots.old) capacity packets.old → ⊥)
+        → (IsFalse result) × (packets.new ≡ packets.old) × (slots.new ≡ slots.old) }
 {
     if !packets.is_sound(slots.len(), capacity) {
         return false;

@@ -42,9 +42,12 @@ pub extern "C" fn net_base_ring_unallocated(
     size: usize,
 ) -> Span
     ensures from { IsSound capacity place.now → result.from ≡ free_index capacity place.now offset }
-    ensures count { IsSound capacity place.now → result.count ≡ min size (capacity - place.now.length - offset) }
-    ensures contiguous { IsSound capacity place.now → result.contiguous ≡ min result.count (capacity - result.from) }
-    ensures within { IsSound capacity place.now → (result.from ≤ capacity) × IsWithin capacity result }
+    ensures count { IsSound capacity place.now
+        → result.count ≡ min size (capacity - place.now.length - offset) }
+    ensures contiguous { IsSound capacity place.now
+        → result.contiguous ≡ min result.count (capacity - result.from) }
+    ensures within { IsSound capacity place.now
+        → (result.from ≤ capacity) × IsWithin capacity result }
     ensures refused { (IsSound capacity place.now → ⊥) → result ≡ nowhere }
 {
     if !place.is_sound(capacity) {
@@ -65,10 +68,14 @@ pub extern "C" fn net_base_ring_allocated(
     offset: usize,
     size: usize,
 ) -> Span
-    ensures from { IsSound capacity place.now → result.from ≡ queued_index capacity place.now offset }
-    ensures count { IsSound capacity place.now → result.count ≡ min size (place.now.length - offset) }
-    ensures contiguous { IsSound capacity place.now → result.contiguous ≡ min result.count (capacity - result.from) }
-    ensures within { IsSound capacity place.now → (result.from ≤ capacity) × IsWithin capacity result }
+    ensures from { IsSound capacity place.now
+        → result.from ≡ queued_index capacity place.now offset }
+    ensures count { IsSound capacity place.now
+        → result.count ≡ min size (place.now.length - offset) }
+    ensures contiguous { IsSound capacity place.now
+        → result.contiguous ≡ min result.count (capacity - result.from) }
+    ensures within { IsSound capacity place.now
+        → (result.from ≤ capacity) × IsWithin capacity result }
     ensures refused { (IsSound capacity place.now → ⊥) → result ≡ nowhere }
 {
     if !place.is_sound(capacity) {
@@ -83,7 +90,8 @@ pub extern "C" fn net_base_ring_allocated(
 /// elements are free: false, and nothing changes.
 #[unsafe(no_mangle)]
 pub extern "C" fn net_base_ring_enqueue(place: &mut RingHead, capacity: usize, count: usize) -> bool
-    ensures done { IsTrue result ↔ ((IsSound capacity place.old) × (count ≤ capacity - place.old.length)) }
+    ensures done { IsTrue result
+        ↔ ((IsSound capacity place.old) × (count ≤ capacity - place.old.length)) }
     ensures place { IsTrue result → place.new ≡ enqueued_place count place.old }
     ensures sound { IsTrue result → IsSound capacity place.new }
     ensures unchanged { IsFalse result → (place.new ≡ place.old) }
@@ -124,13 +132,25 @@ pub extern "C" fn net_base_ring_enqueue_slice(
     storage: &mut [u8],
     data: &[u8],
 ) -> usize
-    ensures count { IsSound (length storage.old) place.old → result ≡ min (length «data».now) (window (ring_at storage.old place.old)) }
-    ensures ring { let g = rewind_if_empty (ring_at storage.old place.old) in IsSound (length storage.old) place.old → ring_at storage.new place.new ≡ with_enqueued result (with_elements_wrapping g (write_at g) (take result «data».now)) }
-    ensures enqueued { IsSound (length storage.old) place.old → Enqueues (rewind_if_empty (ring_at storage.old place.old)) (take result «data».now) (ring_at storage.new place.new) }
-    ensures queue { IsSound (length storage.old) place.old → queue (ring_at storage.new place.new) ≡ queue (ring_at storage.old place.old) ++ take result «data».now }
-    ensures same { IsSound (length storage.old) place.old → (place.new.length ≡ place.old.length + result) × (length storage.new ≡ length storage.old) }
-    ensures sound { IsSound (length storage.old) place.old → IsSound (length storage.new) place.new }
-    ensures refused { (IsSound (length storage.old) place.old → ⊥) → (result ≡ no_number) × (place.new ≡ place.old) × (storage.new ≡ storage.old) }
+    ensures count { IsSound (length storage.old) place.old
+        → result ≡ min (length «data».now) (window (ring_at storage.old place.old)) }
+    ensures ring { let g = rewind_if_empty (ring_at storage.old place.old) in
+        IsSound (length storage.old) place.old
+        → ring_at storage.new place.new
+        ≡ with_enqueued result (with_elements_wrapping g (write_at g) (take result «data».now)) }
+    ensures enqueued { IsSound (length storage.old) place.old
+        → Enqueues (rewind_if_empty (ring_at storage.old place.old)) (take result «data».now)
+        (ring_at storage.new place.new) }
+    ensures queue { IsSound (length storage.old) place.old
+        → queue (ring_at storage.new place.new)
+        ≡ queue (ring_at storage.old place.old) ++ take result «data».now }
+    ensures same { IsSound (length storage.old) place.old
+        → (place.new.length ≡ place.old.length + result)
+        × (length storage.new ≡ length storage.old) }
+    ensures sound { IsSound (length storage.old) place.old
+        → IsSound (length storage.new) place.new }
+    ensures refused { (IsSound (length storage.old) place.old → ⊥)
+        → (result ≡ no_number) × (place.new ≡ place.old) × (storage.new ≡ storage.old) }
 {
     if !place.is_sound(storage.len()) {
         return no_number();
@@ -149,13 +169,23 @@ pub extern "C" fn net_base_ring_dequeue_slice(
     storage: &[u8],
     into: &mut [u8],
 ) -> usize
-    ensures count { IsSound (length storage.now) place.old → result ≡ min (length «into».old) place.old.length }
-    ensures given { IsSound (length storage.now) place.old → «into».new ≡ take result (queue (ring_at storage.now place.old)) ++ drop result «into».old }
-    ensures ring { IsSound (length storage.now) place.old → ring_at storage.now place.new ≡ with_dequeued result (ring_at storage.now place.old) }
-    ensures dequeued { IsSound (length storage.now) place.old → Dequeues (ring_at storage.now place.old) result (take result (queue (ring_at storage.now place.old))) (ring_at storage.now place.new) }
-    ensures queue { IsSound (length storage.now) place.old → queue (ring_at storage.now place.new) ≡ drop result (queue (ring_at storage.now place.old)) }
-    ensures sound { IsSound (length storage.now) place.old → IsSound (length storage.now) place.new }
-    ensures refused { (IsSound (length storage.now) place.old → ⊥) → (result ≡ no_number) × (place.new ≡ place.old) × («into».new ≡ «into».old) }
+    ensures count { IsSound (length storage.now) place.old
+        → result ≡ min (length «into».old) place.old.length }
+    ensures given { IsSound (length storage.now) place.old
+        → «into».new
+        ≡ take result (queue (ring_at storage.now place.old)) ++ drop result «into».old }
+    ensures ring { IsSound (length storage.now) place.old
+        → ring_at storage.now place.new ≡ with_dequeued result (ring_at storage.now place.old) }
+    ensures dequeued { IsSound (length storage.now) place.old
+        → Dequeues (ring_at storage.now place.old) result
+        (take result (queue (ring_at storage.now place.old))) (ring_at storage.now place.new) }
+    ensures queue { IsSound (length storage.now) place.old
+        → queue (ring_at storage.now place.new)
+        ≡ drop result (queue (ring_at storage.now place.old)) }
+    ensures sound { IsSound (length storage.now) place.old
+        → IsSound (length storage.now) place.new }
+    ensures refused { (IsSound (length storage.now) place.old → ⊥)
+        → (result ≡ no_number) × (place.new ≡ place.old) × («into».new ≡ «into».old) }
 {
     if !place.is_sound(storage.len()) {
         return no_number();
