@@ -4,8 +4,8 @@
     python3 tools/same_program_tests.py [--bodies] [KIT [FOLDER]]
 
 Each part is tested: terms; rustc's side and the pair by bodies that mean the same, or don't; the prover's by changes of
-its programs; the whole by changes of the erased text; and its lists by leaving out each entry. With --bodies only the
-terms and the bodies are, which want no proof."""
+its programs; and the whole by changes of the erased text. With --bodies only what wants no proof is: the terms, the
+bodies, small programs of the prover's, and the list of what one side has alone."""
 import contextlib
 import copy
 import io
@@ -29,7 +29,7 @@ from parts import erase_list as given
 from parts.mir_text import Listed, cells, tables
 from parts.same_body import CompiledSide
 from parts.same_compiled import Compiled
-from parts.same_proved import SNAPSHOT, Proved, ProvedSide, tree_of
+from parts.same_proved import SNAPSHOT, Proved, ProvedSide, is_own, tree_of
 from parts.same_terms import Broken, cast, integer, negated, operation, put, sliced, take, term
 
 X, Y, LAST = term('par', 1), term('par', 2), term('f', 1)
@@ -94,6 +94,8 @@ def bodies(folder, kit):
             assert how[0] in (('same',) if is_one or a == b else ('differ', 'unknown')), (one, two, how)
     check_faults(rust, names[0], kit)
     check_kit(rust, folder)
+    check_graph()
+    check_alone(rust)
     return len(pairs)
 
 
@@ -156,6 +158,60 @@ def check_kit(rust, folder):
         except (Broken, SystemExit) as reason:
             how, said = 'refused', reason
         assert re.search(wanted, f'{how}: {said}'), (how, said)
+
+
+def function(kinds, *step, bounds=()):
+    """One of the prover's functions with a parameter: the types of its locals, of which the first is its result; at most
+    one step with its parts before the return; and the traits that bound its type."""
+    return {'params': 1, 'generics': {'types': [], 'bounds': [{'of': of} for of in bounds], 'impls': []},
+            'types': [{'name': SNAPSHOT, 'shape': {'Fields': []}}], 'locals': [{'ty': kind} for kind in kinds],
+            'body': ['Seq', *step, 'Return'] if step else ['Return']}
+
+
+def check_graph():
+    """What does nothing, what only reads, and what only drops, by what it calls, also of the program below."""
+    at = lambda local, *steps: {'local': local, 'steps': [*steps]}
+    call = lambda head, given, to=0: {'Call': [head, [{'Copy': at(local)} for local in given], at(to)]}
+    calls = lambda name, given=(1,), to=0: call({'Fn': [name, {'types': [], 'dicts': []}]}, given, to)
+    asks = lambda local: call({'Method': [{'Given': 0}, 0, []]}, [local])
+    number, generic, own = {'Int': 64}, {'Param': 0}, ['net_ring::Own']
+    lent, lent_mut = ({'Ref': [{'Named': 0}, way, number]} for way in ('Imm', 'Mut'))
+    behind, unit = at(1, {'Deref': number}), ('Unit', number)
+    ghost = (*unit, {'Named': [{'name': SNAPSHOT}, []]})
+    gives, stores = {'Assign': [at(0), {'Opd': {'Copy': behind}}]}, {'Assign': [behind, {'Opd': 'Unit'}]}
+    more, owned = calls('core::more::go'), calls('net_ring::BDrop::drop')
+    ring = Proved((f'net_ring::{name}', function(*parts)) for name, parts in {
+        'idle': (unit,), 'third': (unit, calls('net_ring::idle')), 'second': (unit, calls('net_ring::third')),
+        'gives': ((number, number),), 'stores': (('Unit', lent_mut), stores), 'goes': (unit, more),
+        'goes_on': (unit, calls('net_ring::goes')), 'loops': (unit, 'Loop', 'Skip'),
+        'counts': (ghost, calls('core::more::go', [2], 2)), 'begins': (ghost, calls('core::more::go', [], 2)),
+        'looks': ((number, lent), gives), 'again': ((number, lent), calls('net_ring::looks')),
+        'looks_up': ((number, lent), more), 'may_change': ((number, lent_mut), gives),
+        'changes': ((number, lent), stores), 'of_number': ((number, number), calls('net_ring::looks')),
+        'branches': ((number, lent), {'If': {'Copy': at(1)}}, 'Skip', 'Skip'),
+        'ADrop::drop': (('Unit', generic), calls('alloc::vec::Vec::drop')), 'drops': (('Unit', generic), owned),
+        'BDrop::drop': (('Unit', generic), calls('net_ring::ADrop::drop')), 'drops_none': (unit, owned),
+        'CDrop::drop': (('Unit', generic), more), 'DDrop::drop': (('Unit', lent_mut), stores),
+    }.items())
+    base = Proved([('net_base::over', function(unit, calls('net_ring::second'))),
+                   ('net_base::looks_below', function((number, lent), calls('net_ring::again'))),
+                   ('net_base::asks', function((number, lent), asks(1), bounds=own)),
+                   ('net_base::asks_std', function((number, lent), asks(1), bounds=['core::Other'])),
+                   ('net_base::asks_to_change', function((number, lent, lent_mut), asks(2), bounds=own))], [ring])
+    found = [{name.partition('::')[2] for name in names if is_own(name)}
+             for names in (ring.trivial, ring.idle, base.idle, ring.readers, base.readers)]
+    idle, readers = {'idle', 'third', 'second', 'counts', 'drops_none'}, {'looks', 'again'}
+    assert found == [{'ADrop::drop', 'BDrop::drop'}, idle, {*idle, 'over'}, readers,
+                     {*readers, 'looks_below', 'asks'}], found
+
+
+def check_alone(rust):
+    """The list of what one side has alone lets no function of these bodies through, and no plant."""
+    names = [name for name in rust.functions if re.search(r'::[a-z]\w*$', name)]
+    names += [f'{file.removesuffix(".rs").replace("/", "::")}::{name.split(": ")[0]}' for file, *_, name in PLANTS]
+    passed = [name for name in names if any(same_program.ALONE.has(f'{name}: {how}')
+                                            for how in ('', 'not compiled', 'not proved'))]
+    assert not passed, passed
 
 
 def changed(proved, function, draw):
