@@ -572,3 +572,6 @@ module _ {H : Type 0} {h : PacketsHead} {ms : List (PacketMetadata H)} {xs : Lis
       left_at h ms2 xs2 (on_left (holds k) first.no_gap s hd slots_are_first (ring_at ms2 h.slots)
       (subst (λ n. IsSound n h.slots) (sym long) k.sound.0) (long ∙ slots_of k) (ring_at xs2 h.bytes) ws new
       (set_queue x ms2 wrote) (ap (λ l. ring_at l h.bytes) left))
+
+-- what is known of the first slot
+pub ruleset first_slots = (none_in, some_in, has_header)

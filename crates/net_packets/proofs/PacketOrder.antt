@@ -750,3 +750,5 @@ module _ {H : Type 0} where
 pub ruleset empty_queues = (empty_taken, empty_no_slot, empty_too_long)
 
 pub ruleset first_packets = (peeked_contents, still_there, kept_contents)
+
+pub ruleset last_lent = (last_shown, length-overwrite)

@@ -214,6 +214,7 @@ impl PacketsHead {
     /// Returns how far the test has come after a slot, if that can follow. A gap can't follow a gap, has bytes, and
     /// ends at the storage's end; a packet ends there or before.
     #[inline]
+    #[tactic(auto, using(crate::proofs::HeadQueue::follows))]
     fn progress(self, capacity: usize, done: Progress, slot: &PacketSlot) -> Option<Progress>
         requires sound { IsSound capacity self.bytes }
         requires within { done.offset + done.gap ≤ self.bytes.length }
@@ -312,6 +313,7 @@ impl PacketsHead {
     /// Takes the last `count` bytes off the last packet, whose slot is `last`, and lowers the size
     /// there.
     #[inline]
+    #[tactic(auto, using(crate::proofs::HeadQueue::last_shortened))]
     fn shorten_slot(&mut self, last: &mut PacketSlot, count: usize)
         requires last { CanShorten self.old last.old count }
         ensures slot { last.new ≡ packet_slot (last.old.size - count) }
@@ -373,6 +375,7 @@ impl PacketsHead {
 
     /// Appends a packet of `size` bytes as [`place`](PacketsHead::place) does, and writes its slots.
     #[inline]
+    #[tactic(auto, using(crate::proofs::HeadQueue::none_enqueued))]
     pub fn enqueue(
         &mut self,
         slots: &mut [PacketSlot],

@@ -118,6 +118,7 @@ impl<H, M: Storage<PacketMetadata<H>>, B: Storage<u8>> PacketsOver<H, M, B> {
     /// ```
     #[inline]
     #[must_use]
+    #[tactic(auto, using(crate::proofs::HeadParts::is_empty, crate::proofs::PacketOrder::is_empty_none))]
     pub fn is_empty(&self) -> bool
         ensures empty { IsTrue result ↔ (contents self.now ≡ []) }
         ensures packets { result ≡ (length self.now.packets == 0) }
@@ -343,6 +344,7 @@ impl<H: Drop, M: Storage<PacketMetadata<H>>, B: Storage<u8>> PacketsOver<H, M, B
     ///
     /// `Full` if [`PacketsOver::enqueue`] returns it. Then the header is dropped, and nothing
     /// changes.
+    #[tactic(auto, using(crate::proofs::HeadParts::placement_is))]
     pub fn place(&mut self, size: usize, header: H) -> Result<(), Full>
         ensures accepted { OnOk result ((ws : List ℕ) → length ws ≡ size
             → contents (with_last_bytes self.new ws) ≡ contents self.old ++ (header, ws) ∷ []) }
@@ -383,6 +385,7 @@ impl<H: Drop, M: Storage<PacketMetadata<H>>, B: Storage<u8>> PacketsOver<H, M, B
     /// queue.last_mut()[0] = b'x';
     /// assert_eq!(queue.peek(), Ok((&1, &b"xbc"[..])));
     /// ```
+    #[tactic(auto, using(crate::proofs::PacketOrder::last_lent))]
     pub fn last_mut(&mut self) -> &mut [u8]
         ensures* writes_back { sem 𝓛 (lends_bytes H.row M.row B.row M.Storage B.Storage
             self.entry result (with_last_bytes self.old)) }
@@ -460,6 +463,7 @@ impl<H: Drop, M: Storage<PacketMetadata<H>>, B: Storage<u8>> PacketsOver<H, M, B
     ///
     /// `f` takes the `max_size` bytes that it is lent, and returns at most `max_size`.
     #[track_caller]
+    #[tactic(auto, using(crate::proofs::HeadParts::placement_is))]
     pub fn enqueue_with_infallible<F: FnOnce(&mut [u8]) -> usize>(
         &mut self,
         max_size: usize,
@@ -605,6 +609,7 @@ impl<H: Drop, M: Storage<PacketMetadata<H>>, B: Storage<u8>> PacketsOver<H, M, B
     /// # Errors
     ///
     /// `Empty` if the queue has no packets. Then nothing changes.
+    #[tactic(auto, using(crate::proofs::PacketSteps::close_gap, crate::proofs::PacketOrder::left_as))]
     pub fn take(&mut self) -> Result<(H, usize), Empty>
         ensures empty { IsErr result ↔ (contents self.old ≡ []) }
         // Guarantee.
@@ -692,6 +697,7 @@ impl<H: Drop, M: Storage<PacketMetadata<H>>, B: Storage<u8>> PacketsOver<H, M, B
     /// # Errors
     ///
     /// `Empty` if the queue has no packets. Then nothing changes.
+    #[tactic(auto, using(crate::proofs::PacketOrder::last_dequeued_stay))]
     pub fn pop_slice(&mut self, into: &mut [u8]) -> Result<(H, usize), Empty>
         ensures empty { IsErr result ↔ (contents self.old ≡ []) }
         ensures popped { IfOk result
@@ -756,6 +762,7 @@ impl<H: Drop, M: Storage<PacketMetadata<H>>, B: Storage<u8>> PacketsOver<H, M, B
 impl<H, M: Storage<PacketMetadata<H>>, B: Storage<u8>> PacketsOver<H, M, B> {
     /// Returns the gap before a packet of `size` bytes, if it can be placed.
     #[inline]
+    #[tactic(auto, using(crate::proofs::HeadParts::placement_is))]
     fn placement(&self, size: usize) -> Option<usize>
         ensures { result ≡ placement self.now size }
     {
@@ -793,6 +800,7 @@ impl<H, M: Storage<PacketMetadata<H>>, B: Storage<u8>> PacketsOver<H, M, B> {
     }
 
     /// Returns the first packet, which has no gap before it.
+    #[tactic(auto, using(crate::proofs::HeadParts::some_in))]
     fn first(&self) -> Result<(&H, &[u8]), Empty>
         requires { first_gap self.now.packets ≡ 0 }
         ensures no_packet { IsErr result ↔ (length self.now.packets ≡ 0) }
@@ -813,6 +821,7 @@ impl<H, M: Storage<PacketMetadata<H>>, B: Storage<u8>> PacketsOver<H, M, B> {
     }
 
     /// Returns the size of the last packet, or 0 if there is none.
+    #[tactic(auto, using(crate::proofs::HeadParts::last_size_is))]
     fn last_size(&self) -> usize
         ensures size { result ≡ first_size (only_last self.now.packets) }
         ensures well_placed { IsWellPlaced self.now }
@@ -832,6 +841,7 @@ impl<H: Drop, M: Storage<PacketMetadata<H>>, B: Storage<u8>> PacketsOver<H, M, B
     ghost use Rattle.net_packets.specs.PacketLends.{lends_bytes};
 
     /// Lends the last `size` bytes, which are those of the last packet.
+    #[tactic(auto, using(crate::proofs::HeadParts::last_in, crate::proofs::HeadParts::last_fits))]
     fn last_part_mut(&mut self, size: usize) -> &mut [u8]
         requires { size ≡ first_size (only_last self.old.packets) }
         ensures* writes_back { sem 𝓛 (lends_bytes H.row M.row B.row M.Storage B.Storage
@@ -845,6 +855,7 @@ impl<H: Drop, M: Storage<PacketMetadata<H>>, B: Storage<u8>> PacketsOver<H, M, B
     }
 
     /// Takes the first packet, which has no gap before it, off, and returns its header and size.
+    #[tactic(auto, using(crate::proofs::HeadParts::first_slots))]
     fn take_first(&mut self) -> Option<(H, usize)>
         requires { first_gap self.old.packets ≡ 0 }
         ensures none { IsNone result ↔ (length self.old.packets ≡ 0) }

@@ -1,14 +1,7 @@
-use Rattle.std.proofs.Common.{◌≡◌, length, ◌∙◌, ap, rules}
-use Rattle.net_packets.specs.{queue_of}
+use Rattle.std.proofs.Common.{length}
 use Rattle.net_packets.proofs.HeadParts.{place_is}
-use Rattle.net_packets.proofs.HeadQueue.{packet_enqueued, sound_enqueued, none_enqueued}
+use Rattle.net_packets.proofs.HeadQueue.{packet_enqueued, sound_enqueued}
 use Rattle.net_packets.proofs.head.PacketsHead.enqueue.Goals as goal
-
-pub returns-in_err-place-clause-state : goal.returns-in_err-place-clause-state
-returns-in_err-place-clause-state c xs e hs =
-    let same : c.place.new.self ≡ c.args.self.now = search rules in
-    ap (λ h. queue_of h c.args.slots.now xs) same
-    ∙ none_enqueued c.args.capacity c.args.self.now c.args.slots.now c.args.size (search rules) xs e hs
 
 pub returns-clause-sound_slots : goal.returns-clause-sound_slots
 returns-clause-sound_slots c =

@@ -1,7 +1,6 @@
-use Rattle.std.proofs.Common.{◌≡◌, ℕ, List, length, true, false, refl, sym, ap, ap₂, ◌∙◌, subst, is_ok, rules, arith}
+use Rattle.std.proofs.Common.{◌≡◌, ℕ, List, length, true, false, refl, ap, ap₂, ◌∙◌, is_ok, rules, arith}
 use Rattle.std.proofs.lemmas.Bool.{false≢true}
 use Rattle.std.specs.declared.option.Option.TheVariants.{Some}
-use Rattle.net_ring.specs.RingHead.{IsSound}
 use Rattle.net_ring.proofs.Rotations.{length-overwrite}
 use Rattle.net_packets.specs.{IsFirst, after_hand_out, without_gap, with_slot_taken, slot}
 use Rattle.net_packets.specs.PacketHistory.{contents}
@@ -94,12 +93,6 @@ module _ (g : given.Over) (c : After-part_mut g) where
 pub f-answer-requires : goal.f-answer-requires
 f-answer-requires g c =
     c.requires c.in-Some.header.now c.part_mut.result.now (shown g c) c.in-Some.header c.part_mut.result refl refl
-
-pub take-requires-clause-sound : goal.take-requires-clause-sound
-take-requires-clause-sound g c = (
-  subst (λ (n : ℕ). IsSound n c.self.inside.head.slots) (sym c.count-slot_count.ensures) c.self.invariant.0,
-  subst (λ (n : ℕ). IsSound n c.self.inside.head.bytes) (sym c.count-capacity.ensures) c.self.invariant.1,
-)
 
 pub take-requires-clause-size : goal.take-requires-clause-size
 take-requires-clause-size g c = first_in (first g (goal.at.take-requires-clause-size g c).In-Some)

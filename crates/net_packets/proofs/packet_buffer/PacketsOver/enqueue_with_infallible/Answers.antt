@@ -1,23 +1,17 @@
-use Rattle.std.proofs.Common.{◌≡◌, ◌-◌, length, refl, sym, ap, ◌∙◌, arith}
+use Rattle.std.proofs.Common.{◌≡◌, ◌-◌, length, refl, ap, ◌∙◌, arith}
 use Rattle.std.proofs.lemmas.Bool.{false≢true}
 use Rattle.net_ring.specs.RingHead.{place}
 use Rattle.net_ring.proofs.Rotations.{length-overwrite}
 use Rattle.net_ring.proofs.RingFacts.{returned}
 use Rattle.net_packets.specs.{IsRoom, contents, with_last_size, with_last_bytes, with_packet_if_room}
 use Rattle.net_packets.specs.declared.head.PacketsHead.{PacketsHead}
-use Rattle.net_packets.proofs.HeadParts.{IsQueue, IsPlaceIn, place_in, queue_at, well, placement_is, has_place, room_is}
+use Rattle.net_packets.proofs.HeadParts.{IsQueue, IsPlaceIn, place_in, queue_at, well, has_place, room_is}
 use Rattle.net_packets.proofs.HeadParts.{filled, slots_of, slots_long, stored}
 use Rattle.net_packets.proofs.PacketOrder as order
 use Rattle.net_packets.proofs.PacketOrder.{enqueue_with_call}
 use Rattle.net_packets.proofs.packet_buffer.PacketsOver.enqueue_with_infallible.Given as given
 use Rattle.net_packets.proofs.packet_buffer.PacketsOver.enqueue_with_infallible.Goals as goal
 use Rattle.net_packets.proofs.packet_buffer.PacketsOver.enqueue_with_infallible.Goals.{After-part_mut}
-
-pub returns-in_default-clause-full : goal.returns-in_default-clause-full
-returns-in_default-clause-full g c =
-    let is = placement_is (queue_at _ _ _ c.self.invariant c.self.view_is) _ _ c.count-slot_count.ensures
-    c.count-capacity.ensures c.args.max_size in
-    (λ _. sym is ∙ c.in_default.ensures.full.0 refl, λ _. refl)
 
 module _ (g : given.Over) (c : After-part_mut g) where
   at : IsPlaceIn c.self.inside.head (g.M.Storage.elements c.self.inside.slots)

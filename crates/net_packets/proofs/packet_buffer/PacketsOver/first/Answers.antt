@@ -1,8 +1,7 @@
 use Rattle.std.proofs.Common.{ap, ◌∙◌, arith}
-use Rattle.std.proofs.lemmas.Bool.{false≢true}
 use Rattle.std.specs.declared.option.Option.TheVariants.{Some}
 use Rattle.net_packets.specs.{slot}
-use Rattle.net_packets.proofs.HeadParts.{IsFirstIn, queue_at, some_in, gap_first, first_at, first_fits, first_sized}
+use Rattle.net_packets.proofs.HeadParts.{IsFirstIn, queue_at, gap_first, first_at, first_fits, first_sized}
 use Rattle.net_packets.proofs.HeadParts.{first_shown}
 use Rattle.net_packets.proofs.packet_buffer.PacketsOver.first.Given as given
 use Rattle.net_packets.proofs.packet_buffer.PacketsOver.first.Goals as goal
@@ -23,13 +22,6 @@ overflow_add-from g c =
 
 pub part-requires : goal.part-requires
 part-requires g c = let fits = first_fits (first g c) in record { count = (omega arith, omega arith) }
-
-pub returns-in-Some-clause-no_packet : goal.returns-in-Some-clause-no_packet
-returns-in-Some-clause-no_packet g c = (
-  λ e. absurd (false≢true e),
-  λ zero. absurd (some_in (queue_at _ _ _ c.self.invariant c.self.view_is)
-      (omega (arith, c.if-self-eq0.false)) zero),
-)
 
 pub returns-in-Some-clause-first : goal.returns-in-Some-clause-first
 returns-in-Some-clause-first g c =

@@ -1,20 +1,7 @@
 use Rattle.std.proofs.Common.{ℕ, refl, ap, ap₂, ◌∙◌, take, drop, arith}
 use Rattle.net_packets.specs.{with_bytes}
-use Rattle.net_packets.proofs.HeadParts.{queue_at, last_in, last_at, last_fits, lent_is, lent_size, written}
+use Rattle.net_packets.proofs.HeadParts.{queue_at, last_at, last_fits, lent_is, lent_size, written}
 use Rattle.net_packets.proofs.packet_buffer.PacketsOver.last_part_mut.Goals as goal
-
-pub overflow_sub-before : goal.overflow_sub-before
-overflow_sub-before g c = last_in (queue_at _ _ _ c.self.invariant c.self.view_is) _ refl c.args.size c.requires
-
-pub overflow_add-from : goal.overflow_add-from
-overflow_add-from g c =
-    let fits = last_fits (queue_at _ _ _ c.self.invariant c.self.view_is) _ c.count.ensures c.args.size c.requires in
-    omega (arith, c.index-from.ensures.index, c.count.ensures, c.count.type_inv)
-
-pub part_mut-requires : goal.part_mut-requires
-part_mut-requires g c =
-    let fits = last_fits (queue_at _ _ _ c.self.invariant c.self.view_is) _ c.count.ensures c.args.size c.requires in
-    record { count = (omega arith, omega (arith, c.index-from.ensures.index)) }
 
 pub invariant_of-self-lent : goal.invariant_of-self-lent
 invariant_of-self-lent g c = λ w. (written (queue_at _ _ _ c.self.invariant c.self.view_is) c.index-from.result w _

@@ -1,11 +1,7 @@
-use Rattle.std.proofs.Common.{◌≡◌, ap, ◌∙◌, rules}
-use Rattle.net_packets.specs.{first_gap, without_first_and_gap, IsFirstSized}
-use Rattle.net_packets.proofs.PacketSteps.{close_gap}
-use Rattle.net_packets.proofs.PacketOrder.{none_of, taken_as, left_as, take_call}
+use Rattle.std.proofs.Common.{◌≡◌, rules}
+use Rattle.net_packets.specs.{without_first_and_gap, IsFirstSized}
+use Rattle.net_packets.proofs.PacketOrder.{none_of, taken_as, take_call}
 use Rattle.net_packets.proofs.packet_buffer.PacketsOver.take.Goals as goal
-
-pub take_first-requires : goal.take_first-requires
-take_first-requires g c = ap (λ o. first_gap o.packets) c.skip.ensures.skipped ∙ close_gap c.args.self.now.packets
 
 pub returns-in_default-clause-empty : goal.returns-in_default-clause-empty
 returns-in_default-clause-empty g c = none_of c.args.self.now (search rules)
@@ -19,12 +15,6 @@ returns-clause-taken g c =
     let is : c.take_first.new.self ≡ without_first_and_gap q = search rules in
     let first : IsFirstSized q.packets c.in-Some.header c.in-Some.size = search rules in
     taken_as q c.skip.ensures.well_placed c.in-Some.header c.in-Some.size first c.take_first.new.self (search is)
-
-pub returns-clause-left : goal.returns-clause-left
-returns-clause-left g c =
-    let q = c.args.self.now in
-    let is : c.take_first.new.self ≡ without_first_and_gap q = search rules in
-    left_as q c.skip.ensures.well_placed c.take_first.new.self (search is)
 
 pub returns-clause-call : goal.returns-clause-call
 returns-clause-call g c =

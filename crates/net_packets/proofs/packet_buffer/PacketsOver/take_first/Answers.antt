@@ -1,27 +1,10 @@
-use Rattle.std.proofs.Common.{ℕ, length, refl, sym, ap, ap₂, ◌∙◌, arith}
-use Rattle.std.proofs.lemmas.Bool.{false≢true}
+use Rattle.std.proofs.Common.{ℕ, length, ap, ap₂, ◌∙◌, arith}
 use Rattle.std.proofs.lemmas.List.{length-set}
 use Rattle.net_packets.specs.{without_first, with_slot_taken}
-use Rattle.net_packets.proofs.HeadParts.{IsQueue, queue_at, none_in, some_in, has_header, first_at, sized, first_in}
+use Rattle.net_packets.proofs.HeadParts.{IsQueue, queue_at, first_at, sized, first_in}
 use Rattle.net_packets.proofs.HeadParts.{taken}
 use Rattle.net_packets.proofs.packet_buffer.PacketsOver.take_first.Given as given
 use Rattle.net_packets.proofs.packet_buffer.PacketsOver.take_first.Goals as goal
-
-pub returns-then-self-eq0-clause-none : goal.returns-then-self-eq0-clause-none
-returns-then-self-eq0-clause-none g c =
-    (λ _. none_in (queue_at _ _ _ c.self.invariant c.self.view_is) (omega (arith, c.if-self-eq0.true)), λ _. refl)
-
--- the first slot in use has a header
-headless : (g : given.Over) (c : goal.In_default g) → ⊥
-headless g c =
-    has_header (queue_at _ _ _ c.self.invariant c.self.view_is) (omega (arith, c.if-self-eq0.false)) c.requires
-    (c.in_default.ensures.none refl)
-
-pub invariant_of-self : goal.invariant_of-self
-invariant_of-self g c = absurd (headless g c)
-
-pub returns-in_default : goal.returns-in_default
-returns-in_default g c = absurd (headless g c)
 
 pub take-requires-clause-size : goal.take-requires-clause-size
 take-requires-clause-size g c =
@@ -40,13 +23,6 @@ left g c =
 
 pub invariant_of-self-2 : goal.invariant_of-self-2
 invariant_of-self-2 g c = (left g c).sound
-
-pub returns-clause-none : goal.returns-clause-none
-returns-clause-none g c = (
-  λ e. absurd (false≢true (sym e)),
-  λ zero. absurd (some_in (queue_at _ _ _ c.self.invariant c.self.view_is)
-      (omega (arith, c.if-self-eq0.false)) zero),
-)
 
 pub returns-clause-first : goal.returns-clause-first
 returns-clause-first g c =
