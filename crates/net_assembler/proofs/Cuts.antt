@@ -8,7 +8,7 @@ use Rattle.net_assembler.specs.declared.assembler.head.AssemblerHead.{AssemblerH
 use Rattle.net_assembler.specs.AssemblerLaws.{CutsRun, Removes}
 use Rattle.std.proofs.lemmas.Bool.Decides.{nat_tests}
 use Rattle.net_ring.specs.Width.{IsUsize}
-use Rattle.net_assembler.specs.Positions.{Positions, contains, nothing, positions, runs_shifted_up, shift_down, shift_up}
+use Rattle.net_assembler.specs.Positions.{Positions, contains, nothing, runs_shifted_up, shift_down, shift_up}
 use Rattle.net_assembler.specs.Positions.{without_range}
 use Rattle.net_assembler.specs.RunLists.{AreRuns, FitsFrom, HasSoundRuns, IsRising, StartsAtZero, end_at, runs_of}
 use Rattle.net_assembler.specs.RunLists.{AreUsize, runs_wrapped, set_of, set_of_runs, start_at, used_runs}
@@ -21,6 +21,7 @@ use Rattle.net_assembler.proofs.ShiftedRuns.{up-up, wrapped-up}
 use Rattle.std.proofs.lemmas.List.{append_assoc, drop-set, get_or-take, length-set, length-take-le, take-set-le}
 use Rattle.std.proofs.lemmas.List.{take-take, take_more_set}
 use Rattle.std.proofs.Math.Seq.{take-set-lt}
+use Rattle.std.proofs.Common.{rules}
 use Rattle.net_assembler.proofs.SoundHeads.{few_held, length-runs_of, length-used_runs, runs-set_of}
 use Rattle.net_assembler.proofs.Sets.{contains-nothing, contains-positions, contains-set_of_list, contains-shift_down}
 use Rattle.net_assembler.proofs.Sets.{contains-shift_up, either, has, same_positions}
@@ -38,9 +39,7 @@ has-left lo hi (k ∷ ks) q =
 pub contains-without_range : (s : Positions) (o n q : ℕ) →
     contains (without_range s o n) q ≡ (contains s q && not (nat_le o q && nat_lt q (o + n)))
 unfolding without_range
-contains-without_range s o n q =
-    contains-set_of_list _ q ∙ has-left o (o + n) (positions s) q
-    ∙ ap (λ b. b && outside o (o + n) q) (sym (contains-positions s q))
+contains-without_range s o n q = search (rules, contains-set_of_list, has-left, contains-positions)
 
 pub ruleset without = (contains-without_range, contains-shift_down, contains-shift_up, nat_tests)
 
@@ -63,9 +62,7 @@ cut_runs [] lo hi = []
 cut_runs (r ∷ rs) lo hi = piece r.0 (min r.1 lo) (piece (max r.0 hi) r.1 (cut_runs rs lo hi))
 
 in-piece : (a b : ℕ) (rs : List (ℕ × ℕ)) (q : ℕ) → in_runs (piece a b rs) q ≡ ((nat_le a q && nat_lt q b) || in_runs rs q)
-in-piece a b rs q =
-    cond_both (nat_lt a b) _ _ (λ l. in_runs l q ≡ ((nat_le a q && nat_lt q b) || in_runs rs q))
-    (λ e. refl) (λ e. grind (arith, nat_tests))
+in-piece a b rs q = search (rules, cond_both, in_runs, nat_tests)
 
 in_runs-cut : (rs : List (ℕ × ℕ)) (lo hi q : ℕ) → lo < hi →
     in_runs (cut_runs rs lo hi) q ≡ (in_runs rs q && not (nat_le lo q && nat_lt q hi))
@@ -78,10 +75,7 @@ in_runs-cut (r ∷ rs) lo hi q l =
 
 rising-piece : (low a b : ℕ) (rs : List (ℕ × ℕ)) → low ≤ a → IsRising low rs → (a < b → IsRising (b + 1) rs) →
     IsRising low (piece a b rs)
-rising-piece low a b rs l none some =
-    either (cases_lt a b)
-    (λ k. subst (IsRising low) (sym (cond-true _ _ _ (lt-ltb a b k))) (l, k, some k))
-    (λ k. subst (IsRising low) (sym (cond-false _ _ _ (le-ltb a b k))) none)
+rising-piece low a b rs l none some = search (rules, either, cases_lt, cond-true, lt-ltb, cond-false, le-ltb)
 
 rising-cut_runs : (low : ℕ) (rs : List (ℕ × ℕ)) (lo hi : ℕ) → lo < hi → IsRising low rs → IsRising low (cut_runs rs lo hi)
 rising-cut_runs low [] lo hi l h = tt
@@ -121,11 +115,7 @@ is_cut rs ts lo hi h first l e = record {
 -- ---- What is left of each run.
 keeps : (r : ℕ × ℕ) (rs : List (ℕ × ℕ)) (lo hi : ℕ) → r.0 < r.1 → r.1 ≤ lo → lo < hi →
     cut_runs (r ∷ rs) lo hi ≡ r ∷ cut_runs rs lo hi
-keeps r rs lo hi some l m =
-    let end : min r.1 lo ≡ r.1 = omega (arith, l) in
-    ap (λ b. piece r.0 b (piece (max r.0 hi) r.1 (cut_runs rs lo hi))) end
-    ∙ cond-true _ _ _ (lt-ltb r.0 r.1 some)
-    ∙ ap (λ ts. r ∷ ts) (cond-false _ _ _ (le-ltb (max r.0 hi) r.1 (omega arith)))
+keeps r rs lo hi some l m = search (rules, cond-true, lt-ltb, cond-false, le-ltb)
 
 drops : (r : ℕ × ℕ) (rs : List (ℕ × ℕ)) (lo hi : ℕ) → lo ≤ r.0 → r.1 ≤ hi →
     cut_runs (r ∷ rs) lo hi ≡ cut_runs rs lo hi
@@ -139,18 +129,11 @@ ends_left r rs lo hi l m some =
 
 begins_left : (r : ℕ × ℕ) (rs : List (ℕ × ℕ)) (lo hi : ℕ) → r.0 < lo → r.0 < r.1 → r.1 ≤ hi →
     cut_runs (r ∷ rs) lo hi ≡ (r.0, min r.1 lo) ∷ cut_runs rs lo hi
-begins_left r rs lo hi l some m =
-    cond-true _ _ _ (lt-ltb r.0 (min r.1 lo) (omega (arith, some)))
-    ∙ ap (λ ts. (r.0, min r.1 lo) ∷ ts) (cond-false _ _ _ (le-ltb (max r.0 hi) r.1 (omega arith)))
+begins_left r rs lo hi l some m = search (rules, cond-true, lt-ltb, cond-false, le-ltb)
 
 both_left : (r : ℕ × ℕ) (rs : List (ℕ × ℕ)) (lo hi : ℕ) → r.0 < lo → hi < r.1 → lo < hi →
     cut_runs (r ∷ rs) lo hi ≡ (r.0, lo) ∷ (hi, r.1) ∷ cut_runs rs lo hi
-both_left r rs lo hi l m n =
-    let end : min r.1 lo ≡ lo = omega arith in
-    let start : max r.0 hi ≡ hi = omega arith in
-    (λ i. piece r.0 (end i) (piece (start i) r.1 (cut_runs rs lo hi)))
-    ∙ cond-true _ _ _ (lt-ltb r.0 lo l)
-    ∙ ap (λ ts. (r.0, lo) ∷ ts) (cond-true _ _ _ (lt-ltb hi r.1 m))
+both_left r rs lo hi l m n = search (rules, cond-true, lt-ltb)
 
 -- all start at hi or after it
 stays : (low : ℕ) (rs : List (ℕ × ℕ)) (lo hi : ℕ) → IsRising low rs → hi ≤ low → lo < hi → cut_runs rs lo hi ≡ rs
@@ -251,9 +234,7 @@ in_runs-up n [] q = elim (nat_le n q) as (λ b. false ≡ (b && false)) [ true �
 in_runs-up n (r ∷ rs) q = let rest = in_runs-up n rs q in grind (arith, nat_tests)
 
 pub set-up : (n : ℕ) (rs : List (ℕ × ℕ)) → set_of_runs (runs_shifted_up n rs) ≡ shift_up (set_of_runs rs) n
-set-up n rs = same_positions _ _ (λ q.
-    contains-set_of_runs (runs_shifted_up n rs) q ∙ in_runs-up n rs q
-    ∙ ap (λ b. nat_le n q && b) (sym (contains-set_of_runs rs (q - n))) ∙ sym (contains-shift_up (set_of_runs rs) n q))
+set-up n rs = search (rules, same_positions, contains-set_of_runs, in_runs-up, contains-shift_up)
 
 fits-raised : (n by low : ℕ) (rs : List (ℕ × ℕ)) → IsRising low rs →
     ((q : ℕ) → in_runs (runs_shifted_up n rs) q ≡ true → IsUsize (by + q + 1)) → FitsFrom (n + by) rs
@@ -274,10 +255,7 @@ module _ (h : AssemblerHead) (xs : List (ℕ × ℕ)) (s : HasSoundRuns h xs) wh
 
   pub fits_first : (by : ℕ) → ((p : ℕ) → contains (set_of h xs) p ≡ true → IsUsize (by + p + 1)) → 0 < h.used →
       IsUsize (h.first_start + by)
-  fits_first by fits some =
-      let first = fits-at (h.first_start + by) (used_runs h xs) 0 (fits_raised by fits)
-      (omega (arith, some, length-used_runs h xs s)) in
-      omega (arith, first)
+  fits_first by fits some = search (rules, fits-at, fits_raised, length-used_runs)
 
   pub raised_sound : (by : ℕ) → ((p : ℕ) → contains (set_of h xs) p ≡ true → IsUsize (by + p + 1)) →
       HasSoundRuns (record { used = h.used; first_start = h.first_start + by }) xs
@@ -306,12 +284,7 @@ module _ (h : AssemblerHead) (xs : List (ℕ × ℕ)) (s : HasSoundRuns h xs) wh
 
   -- ---- What is left.
   pub nothing_removed : (o k : ℕ) → k ≡ 0 → Removes (length xs) (set_of h xs) o k (Ok tt) (set_of h xs)
-  nothing_removed o k e = record {
-    ok = without-none (set_of h xs) o k e;
-    unchanged = tt;
-    refused = (λ f. absurd (cc), λ is. absurd (omega (arith, is.0.some, e)));
-    bound = few_held h xs s;
-  }
+  nothing_removed o k e = search (rules, without-none, few_held)
 
   pub nothing_there : (o k : ℕ) → h.used ≡ 0 → Removes (length xs) (set_of h xs) o k (Ok tt) (set_of h xs)
   nothing_there o k e =
@@ -448,9 +421,7 @@ module _ (xs : List (ℕ × ℕ)) (used : ℕ) (h : AreRuns (take used xs)) (roo
       ∙ up-none 0 (drop n cs) refl
 
   pub tail_fits : (n : ℕ) (v : ℕ × ℕ) → met ≤ n → n ≤ used → AreUsize (runs_wrapped 0 (drop n (take used (set xs i v))))
-  tail_fits n v a b =
-      subst (λ (ts : List (ℕ × ℕ)). AreUsize (runs_wrapped 0 ts)) (sym (rest_written xs i n used v (omega (arith, met_some, a)) b))
-      (tail_usize 0 n cs h f)
+  tail_fits n v a b = search (rules, rest_written, met_some, tail_usize)
 
   later_starts : (k : ℕ) → i < k → k < length cs → lo ≤ start_at cs k
   later_starts k a b =
@@ -467,10 +438,7 @@ module _ (xs : List (ℕ × ℕ)) (used : ℕ) (h : AreRuns (take used xs)) (roo
   end_is_at k a = (pair_is k a).1
 
   put : (v : ℕ × ℕ) → take met (set xs i v) ≡ take i cs ++ v ∷ []
-  put v =
-      let place : met ≡ i + 1 = omega (arith, met_some) in
-      ap (λ n. take n (set xs i v)) place ∙ take_more_set xs i v (omega (arith, met_some, from, within, room))
-      ∙ ap (λ ts. ts ++ v ∷ []) (sym (take-take i used xs (omega (arith, met_some, from, within))))
+  put v = search (rules, met_some, take_more_set, take-take)
 
   -- one run becomes two
   pub split_run : (ts : List (ℕ × ℕ)) (begin last_end : ℕ) → begin ≡ start_at xs i → last_end ≡ end_at xs (next - 1) →
@@ -520,14 +488,7 @@ module _ (xs : List (ℕ × ℕ)) (used : ℕ) (h : AreRuns (take used xs)) (roo
     w = (hi, end_at xs j)
 
     wrote : (v : ℕ × ℕ) → drop j (take used (set (set xs i v) j w)) ≡ w ∷ drop next cs
-    wrote v =
-        let last : j + 1 ≡ next = omega (arith, more) in
-        let long : length (take used (set xs i v)) ≡ used =
-        length-take-le used (set xs i v) (omega (arith, length-set xs i v, room)) in
-        ap (drop j) (take-set-lt used (set xs i v) j w (omega (arith, more, within)))
-        ∙ drop-set (take used (set xs i v)) j w (omega (arith, more, within, long))
-        ∙ (λ k. w ∷ drop (last k) (take used (set xs i v)))
-        ∙ ap (λ ts. w ∷ ts) (rest_written xs i next used v (omega (arith, met_some, more)) within)
+    wrote v = search (rules, length-take-le, length-set, take-set-lt, drop-set, rest_written, met_some)
 
     high : AreRuns (w ∷ drop next cs)
     high = (
@@ -547,9 +508,7 @@ module _ (xs : List (ℕ × ℕ)) (used : ℕ) (h : AreRuns (take used xs)) (roo
 
     pub high_usize : (v : ℕ × ℕ) (last_end : ℕ) → last_end ≡ end_at xs j →
         AreUsize (runs_wrapped 0 (drop j (take used (set (set xs i v) j (hi, last_end)))))
-    high_usize v last_end at_end =
-        subst (λ (ts : List (ℕ × ℕ)). AreUsize (runs_wrapped 0 ts))
-        (sym ((λ k. drop j (take used (set (set xs i v) j (hi, at_end k)))) ∙ wrote v)) (tail_usize 0 0 (w ∷ drop next cs) high high_fits)
+    high_usize v last_end at_end = search (rules, wrote, tail_usize, high, high_fits)
 
     pub cut_both : (ts : List (ℕ × ℕ)) (begin end last_end : ℕ) → begin ≡ start_at xs i → end ≡ min (end_at xs i) lo →
         last_end ≡ end_at xs j →

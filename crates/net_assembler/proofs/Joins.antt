@@ -6,6 +6,7 @@ use Rattle.std.proofs.Math.Seq.{take-set-lt}
 use Rattle.std.proofs.lemmas.List.{take-set, drop-set, drop_all, length-append, length-take-le, length-drop}
 use Rattle.std.proofs.lemmas.List.{take_more_set, take-append-drop, take-take, get_or-take}
 use Rattle.std.proofs.lemmas.Bool.{cases_lt, eq-eqb, ne_eqb, lt-ltb, le-ltb, cond-true, cond-false}
+use Rattle.std.proofs.Common.{rules}
 use Rattle.net_assembler.specs.Positions.{nothing, runs, set_of_list}
 use Rattle.net_assembler.specs.RunLists.{start_at, end_at, IsRising, AreRuns, set_of_runs}
 use Rattle.net_assembler.proofs.Runs.{runs_with_range, in_runs, in_first, past_first, not_in_runs, front_of_runs}
@@ -180,9 +181,7 @@ module _ (xs : List (ℕ × ℕ)) (used : ℕ) (h : AreRuns (take used xs)) (roo
       (λ l. subst (IsRising start) (sym (drop_all m cs (omega (arith, len)))) tt)
 
   pub rest_starts : (m start : ℕ) → m ≤ used → (m < used → start ≡ start_at xs m) → start_at (drop m cs) 0 ≤ start
-  rest_starts m start few is = either (cases_lt m used)
-      (λ l. omega (arith, start-drop cs m, is l, pair_is m l))
-      (λ l. omega (arith, ap (λ rs. start_at rs 0) (drop_all m cs (omega (arith, len)))))
+  rest_starts m start few is = search (rules, either, cases_lt, start-drop, pair_is, drop_all, len)
 
   -- runs that all end before a range
   all_before : (start : ℕ) → (0 < used → end_at xs (used - 1) < start) → (k : ℕ) → k < used → end_at cs k < start
@@ -193,17 +192,11 @@ module _ (xs : List (ℕ × ℕ)) (used : ℕ) (h : AreRuns (take used xs)) (roo
 
   alone : (start end : ℕ) → start < end → (0 < used → end_at xs (used - 1) < start) →
       runs_with_range cs start end ≡ take used cs ++ (start, end) ∷ drop used cs
-  alone start end m last =
-      apart_at 0 cs used start end h (omega (arith, len)) m (all_before start last)
-      (λ k a b. absurd (omega (arith, len)))
+  alone start end m last = search (rules, apart_at, len, all_before)
 
   pub pushed_run : (start end : ℕ) → used < length xs → start < end → (0 < used → end_at xs (used - 1) < start) →
       take (used + 1) (set xs used (start, end)) ≡ runs_with_range cs start end
-  pushed_run start end l m last =
-      take_more_set xs used (start, end) l
-      ∙ (λ k. sym (take-take used used xs (omega arith)) k
-      ++ (start, end) ∷ sym (drop_all used cs (omega (arith, len))) k)
-      ∙ sym (alone start end m last)
+  pushed_run start end l m last = search (rules, take_more_set, take-take, drop_all, len, alone)
 
   pub not_pushed : (start end : ℕ) → start < end → (0 < used → end_at xs (used - 1) < start) →
       length (runs_with_range cs start end) ≡ used + 1

@@ -21,6 +21,7 @@ use Rattle.std.specs.Prelude.{All, AllPairs, count_by}
 use Rattle.std.proofs.lemmas.List.Elements.{All-from_recursion, All-head, All-tail}
 use Rattle.std.proofs.lemmas.List.Kept.{AllPairs-cons}
 use Rattle.std.proofs.lemmas.List.Sums.{sum_by-cons}
+use Rattle.std.proofs.Common.{rules}
 
 -- the runs with the positions from lo to hi - 1, where what meets or touches becomes one run
 abbrev pub runs_with_range : List (ℕ × ℕ) → ℕ → ℕ → List (ℕ × ℕ)
@@ -122,10 +123,7 @@ positions-set_of_runs rs h = positions-set_of_list (run_positions rs) (rises-run
 -- the maximal runs of the set that rising runs represent are these runs
 pub maximal_runs-set_of_runs : (rs : List (ℕ × ℕ)) → IsRising 0 rs → maximal_runs (set_of_runs rs) ≡ rs
 unfolding maximal_runs run_starts
-maximal_runs-set_of_runs rs h =
-    let s = set_of_runs rs in
-    ap (λ ks. map (λ p. (p, first_missing s p)) (filter (begins_run s) ks)) (positions-set_of_runs rs h)
-    ∙ runs_shown s 0 rs h (λ q _. contains-set_of_runs rs q)
+maximal_runs-set_of_runs rs h = search (rules, positions-set_of_runs, runs_shown, contains-set_of_runs)
 
 pub runs-set_of_runs : (rs : List (ℕ × ℕ)) → IsRising 0 rs → runs (set_of_runs rs) ≡ length rs
 runs-set_of_runs rs h = runs-maximal_runs (set_of_runs rs) ∙ ap length (maximal_runs-set_of_runs rs h)
@@ -178,9 +176,7 @@ in_runs-runs_with_range low (r ∷ rs) lo hi q h m =
 pub set-runs_with_range : (rs : List (ℕ × ℕ)) (o n : ℕ) → IsRising 0 rs → 0 < n →
     set_of_runs (runs_with_range rs o (o + n)) ≡ with_range (set_of_runs rs) o n
 set-runs_with_range rs o n h l =
-    same_positions _ _ (λ q. contains-set_of_runs _ q ∙ in_runs-runs_with_range 0 rs o (o + n) q h (omega arith)
-    ∙ ap (λ b. b || (nat_le o q && nat_lt q (o + n))) (sym (contains-set_of_runs rs q))
-    ∙ sym (contains-with_range (set_of_runs rs) o n q))
+    search (rules, same_positions, contains-set_of_runs, in_runs-runs_with_range, contains-with_range)
 
 pub runs-runs_with_range : (rs : List (ℕ × ℕ)) (o n : ℕ) → IsRising 0 rs → 0 < n →
     runs (with_range (set_of_runs rs) o n) ≡ length (runs_with_range rs o (o + n))
@@ -235,9 +231,7 @@ in_runs-drop (r ∷ rs) (suc j) q ends =
 pub set-shifted_down : (rs : List (ℕ × ℕ)) (j m : ℕ) → ((k : ℕ) → k < j → (get_or rs k (0, 0)).1 ≤ m) →
     set_of_runs (runs_shifted_down m (drop j rs)) ≡ shift_down (set_of_runs rs) m
 set-shifted_down rs j m ends =
-    same_positions _ _ (λ q. contains-set_of_runs _ q ∙ in_runs-down (drop j rs) m q
-    ∙ in_runs-drop rs j (q + m) (λ k l. let e = ends k l in omega arith) ∙ sym (contains-set_of_runs rs (q + m))
-    ∙ sym (contains-shift_down (set_of_runs rs) m q))
+    search (rules, same_positions, contains-set_of_runs, in_runs-down, in_runs-drop, contains-shift_down)
 
 -- the run of s that begins at p
 abbrev run_from : Positions → ℕ → ℕ × ℕ
@@ -253,12 +247,7 @@ some_at s p h = either (cases_eq p (first_missing s p))
     (λ n. let l = first_missing-le s p in omega arith)
 
 is_maximal : (s : Positions) (p : ℕ) → contains s p ≡ true → begins_run s p ≡ true → IsMaximalRun s (run_from s p)
-is_maximal s p h b = record {
-  some = some_at s p h;
-  inside = λ q l m. first_missing-has s p q l m;
-  ended = first_missing-misses s p;
-  begun = begun_at s p b;
-}
+is_maximal s p h b = search (rules, some_at, first_missing-has, first_missing-misses, begun_at)
 
 -- each member of a list is in s
 abbrev Within : Positions → List ℕ → Type 0
@@ -340,9 +329,7 @@ unfolding begins_run
 begins-zero s = refl
 
 begins-suc : (s : Positions) (q : ℕ) → begins_run s (suc q) ≡ false → contains s q ≡ true
-begins-suc s q h =
-    let before : suc q - 1 ≡ q = omega arith in
-    true_from_ne_false _ (λ e. false≢true (sym h ∙ begins-true s (suc q) (λ _. ap (contains s) before ∙ e)))
+begins-suc s q h = search (rules, true_from_ne_false, false≢true, begins-true)
 
 run_of : (s : Positions) (q : ℕ) → contains s q ≡ true → RunOf s q
 run_of s zero h = own_run s 0 h (begins-zero s)

@@ -17,7 +17,7 @@ use Rattle.net_assembler.specs.Assembler.{MakesTooManyRuns, makes_too_many_runs}
 use Rattle.net_assembler.specs.Positions.{front, Positions, contains, positions, set_of_list, nothing, with_range}
 use Rattle.net_assembler.specs.Positions.{begins_run, run_starts, runs, maximal_runs, runs_shifted_up, shift_down}
 use Rattle.net_assembler.specs.Positions.{shift_up, bound_of, missing_within, first_missing, are_same}
-use Rattle.std.specs.Cmp.Lexicographic.{bytes_decides}
+use Rattle.std.proofs.Common.{rules}
 
 -- membership in a list
 abbrev pub has : List ℕ → ℕ → Bool
@@ -56,9 +56,7 @@ has-range_with_len o (suc n) q = let ih = has-range_with_len (o + 1) n q in grin
 pub contains-with_range : (s : Positions) (o n q : ℕ) →
     contains (with_range s o n) q ≡ (contains s q || (nat_le o q && nat_lt q (o + n)))
 unfolding with_range
-contains-with_range s o n q =
-    contains-set_of_list _ q ∙ has-append (positions s) (range_with_len o n) q
-    ∙ (λ i. sym (contains-positions s q) i || has-range_with_len o n q i)
+contains-with_range s o n q = search (rules, contains-set_of_list, has-append, contains-positions, has-range_with_len)
 
 abbrev marked : Bool → Option (Unit {0})
 marked b = cond b (Some tt) None
@@ -129,9 +127,7 @@ has_tail x xs q l = grind (arith, nat_tests)
 
 tails : (x : ℕ) (xs ys : List ℕ) → Rises (x + 1) xs → Rises (x + 1) ys → ((q : ℕ) → has (x ∷ xs) q ≡ has (x ∷ ys) q) →
     (q : ℕ) → has xs q ≡ has ys q
-tails x xs ys h g is q =
-    either (cases_lt x q) (λ l. sym (has_tail x xs q l) ∙ is q ∙ has_tail x ys q l)
-    (λ l. not_has (x + 1) xs q h (omega arith) ∙ sym (not_has (x + 1) ys q g (omega arith)))
+tails x xs ys h g is q = search (rules, either, cases_lt, has_tail, not_has)
 
 -- two rising lists with the same members are equal
 pub rising_unique : (low : ℕ) (xs ys : List ℕ) → Rises low xs → Rises low ys → ((q : ℕ) → has xs q ≡ has ys q) → xs ≡ ys
@@ -295,14 +291,7 @@ module _ (s : Positions) (n : ℕ) where
   positions-shift_up = positions-set_of_list _ (rises_up n 0 0 (positions s) (omega arith) (positions_rise s))
 
   begins-shift_up : (p : ℕ) → begins_run (shift_up s n) (n + p) ≡ begins_run s p
-  begins-shift_up p =
-      either (cases_lt 0 p)
-      (λ l. let same = there (n + p - 1) (p - 1) (omega arith) in
-      either (cases_Bool (contains s (p - 1)))
-      (λ e. begins-false (shift_up s n) (n + p) (omega arith) (same ∙ e) ∙ sym (begins-false s p l e))
-      (λ e. begins-true (shift_up s n) (n + p) (λ _. same ∙ e) ∙ sym (begins-true s p (λ _. e))))
-      (λ l. begins-true (shift_up s n) (n + p) (λ k. gone (n + p - 1) (omega arith))
-      ∙ sym (begins-true s p (λ k. absurd (omega arith))))
+  begins-shift_up p = search (rules, either, cases_lt, there, cases_Bool, begins-false, begins-true, gone)
 
   first_missing-shift_up : (p : ℕ) → first_missing (shift_up s n) (n + p) ≡ n + first_missing s p
   first_missing-shift_up p =
@@ -313,9 +302,7 @@ module _ (s : Positions) (n : ℕ) where
 
   run_starts-shift_up : run_starts (shift_up s n) ≡ map (λ p. n + p) (run_starts s)
   unfolding run_starts
-  run_starts-shift_up =
-      ap (filter (begins_run (shift_up s n))) positions-shift_up
-      ∙ filter_up (begins_run (shift_up s n)) (begins_run s) n (positions s) begins-shift_up
+  run_starts-shift_up = search (rules, positions-shift_up, filter_up, begins-shift_up)
 
   pub maximal_runs-shift_up : maximal_runs (shift_up s n) ≡ runs_shifted_up n (maximal_runs s)
   unfolding maximal_runs
@@ -328,23 +315,14 @@ module _ (s : Positions) (n : ℕ) where
   runs-shift_up = ap length run_starts-shift_up ∙ length-map (run_starts s) (λ p. n + p)
 
 pub are_same_decides : (s t : Positions) → Decides (are_same s t) (s ≡ t)
-are_same_decides s t =
-    let d = bytes_decides (positions s) (positions t) in (
-      λ e. let same = d.0 e in same_positions s t (λ q. contains-positions s q ∙ ap (λ ks. has ks q) same ∙ sym
-          (contains-positions t q)),
-      λ e. d.1 (ap positions e),
-    )
+are_same_decides s t = search (rules, same_positions, contains-positions)
 
 -- what a refused range is
 pub too_many : (most_runs : ℕ) (s : Positions) (o n : ℕ) →
     (MakesTooManyRuns most_runs s o n → (0 < n) × (most_runs < runs (with_range s o n)))
     × ((0 < n) × (most_runs < runs (with_range s o n)) → MakesTooManyRuns most_runs s o n)
-too_many most_runs s o n =
-    Decides-and (nat_lt 0 n) (nat_lt most_runs (runs (with_range s o n))) (Decides-ltb 0 n)
-    (Decides-ltb most_runs (runs (with_range s o n)))
+too_many most_runs s o n = search (rules)
 
 pub few_enough : (most_runs : ℕ) (s : Positions) (o n : ℕ) → 0 < n → makes_too_many_runs most_runs s o n ≡ false →
     runs (with_range s o n) ≤ most_runs
-few_enough most_runs s o n some within =
-    either (cases_lt most_runs (runs (with_range s o n)))
-    (λ over. absurd (false≢true (sym within ∙ (too_many most_runs s o n).1 (some, over)))) (λ few. few)
+few_enough most_runs s o n some within = search (rules, either, cases_lt, false≢true, too_many)

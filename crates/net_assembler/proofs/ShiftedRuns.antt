@@ -1,7 +1,7 @@
 -- Runs that are counted from elsewhere, also by numbers that wrap, and a range that joins them.
 use Rattle.std.proofs.Common.{◌||◌, ◌≡◌, ℕ, zero, suc, ◌+◌, ◌-◌, ◌<◌, ◌≤◌, ◌^◌, max, min, true, false, ◌&&◌, List, []}
 use Rattle.std.proofs.Common.{◌∷◌, length, map, drop, set, get_or, nat_le, nat_lt, refl, sym, ap, subst, ◌∙◌, arith}
-use Rattle.std.proofs.Common.{◌%◌, ◌++◌, take, ◌*◌, ◌/◌}
+use Rattle.std.proofs.Common.{◌%◌, ◌++◌, take}
 use Rattle.std.proofs.lemmas.List.{drop-map, length-map, get_or-map, map-id, length-drop, length-take-le, take-take}
 use Rattle.std.proofs.lemmas.List.{get_or-drop, get_or-take}
 use Rattle.std.proofs.lemmas.Bool.{cases_lt, cond_both, false≢true, or_cases}
@@ -15,6 +15,7 @@ use Rattle.net_assembler.proofs.Sets.{either}
 use Rattle.net_assembler.proofs.Joins.{apart_at, joined_at, length_apart, rising-drop}
 use Rattle.std.proofs.Math.Nat.{mod-eq_of_lt}
 use Rattle.std.proofs.lemmas.Nat.{mod-mul-add}
+use Rattle.std.proofs.Common.{rules}
 
 -- runs that are counted n higher
 pub length-up : (n : ℕ) (rs : List (ℕ × ℕ)) → length (runs_shifted_up n rs) ≡ length rs
@@ -254,10 +255,7 @@ wrapped-up by low (r ∷ rs) h f =
 
 -- and down, by a number that wraps
 wraps : (n m x : ℕ) → (n + m) % 2 ^ 64 ≡ 0 → m ≤ x → x < 2 ^ 64 → (n + x) % 2 ^ 64 ≡ x - m
-wraps n m x e l f =
-    let times = (n + m) / 2 ^ 64 in
-    let once : n + x ≡ times * 2 ^ 64 + (x - m) = omega arith in
-    ap (λ k. k % 2 ^ 64) once ∙ mod-mul-add times (2 ^ 64) (x - m) (omega arith)
+wraps n m x e l f = search (rules, mod-mul-add)
 
 pub wrapped-down : (n m : ℕ) (rs : List (ℕ × ℕ)) → (n + m) % 2 ^ 64 ≡ 0 → IsRising m rs → FitsFrom 0 rs →
     runs_wrapped n rs ≡ runs_shifted_down m rs
@@ -329,16 +327,10 @@ module _ (xs : List (ℕ × ℕ)) (used by start end first next : ℕ) (h : AreR
   ups_len = length-up by cs ∙ len
 
   up_before : first ≤ used → (k : ℕ) → k < first → end_at ups k < start
-  up_before few k l =
-      let at = end_at-up by cs k (omega (arith, len)) in
-      let p = before k l in
-      either (cases_lt 0 by) (λ b. let zeroth = one_way b in absurd (omega arith))
-      (λ b. omega (arith, pair_is k (omega arith)))
+  up_before few k l = search (rules, end_at-up, len, either, cases_lt, pair_is)
 
   up_after : (k : ℕ) → next ≤ k → k < length ups → end < start_at ups k
-  up_after k a b =
-      let l : k < used = omega (arith, b, ups_len) in
-      omega (arith, start_at-up by cs k (omega (arith, len)), after k a l, pair_is k l)
+  up_after k a b = search (rules, ups_len, start_at-up, len, pair_is)
 
   tail : (n : ℕ) → runs_wrapped by (drop n cs) ≡ drop n ups
   tail n =
@@ -346,14 +338,7 @@ module _ (xs : List (ℕ × ℕ)) (used by start end first next : ℕ) (h : AreR
       ∙ sym (drop-up by n cs)
 
   start_same : first ≤ used → take first xs ≡ take first ups
-  start_same few =
-      either (cases_lt 0 first)
-      (λ l.
-      let p = before 0 l in
-      let same : by ≡ 0 =
-      either (cases_lt 0 by) (λ b. let zeroth = one_way b in absurd (omega arith)) (λ b. omega arith) in
-      sym (take-take first used xs few) ∙ ap (take first) (sym (up-none by cs same)))
-      (λ l. let zeroth : first ≡ 0 = omega arith in ap (λ n. take n xs) zeroth ∙ ap (λ n. take n ups) (sym zeroth))
+  start_same few = search (rules, either, cases_lt, take-take, up-none)
 
   module _ (same : first ≡ next) where
     alone : runs_with_range ups start end ≡ take first ups ++ (start, end) ∷ drop first ups

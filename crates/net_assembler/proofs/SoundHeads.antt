@@ -4,7 +4,7 @@ use Rattle.std.proofs.Common.{max, min, refl, sym, ap, subst, ◌∙◌, arith, 
 use Rattle.std.specs.List.{slice_get}
 use Rattle.std.proofs.lemmas.Option.{slice_get-get_or, slice_get_past}
 use Rattle.net_assembler.proofs.Holes.{all_holes, few_holes, hole_between, no_hole, rises_after}
-use Rattle.net_assembler.specs.RunLists.{IsRising, start_at, end_at, AreRuns, HasSoundRuns, StartsAtZero, FitsFrom}
+use Rattle.net_assembler.specs.RunLists.{IsRising, start_at, end_at, AreRuns, HasSoundRuns, FitsFrom}
 use Rattle.net_assembler.specs.RunLists.{used_runs, runs_of, set_of, set_of_runs, runs_shifted_down}
 use Rattle.net_assembler.proofs.Runs.{runs_with_range, one_run_more, rising-runs_with_range, set-shifted_down}
 use Rattle.net_assembler.proofs.Runs.{front_of_runs, step_meets, contains-set_of_runs, front-set_of_runs}
@@ -15,7 +15,7 @@ use Rattle.net_assembler.proofs.ShiftedRuns.{first-runs_with_range, up-none, fit
 use Rattle.net_assembler.proofs.ShiftedRuns.{up-runs_with_range, up-up, zero-runs_with_range, length-up, drop-up}
 use Rattle.net_assembler.proofs.ShiftedRuns.{runs-up, down-up, fits-at, start-up, first_at, get_or-up, up-injective}
 use Rattle.net_assembler.proofs.ShiftedRuns.{fits-less, rising-cut, fits-cut, down-cut, in_runs-fits}
-use Rattle.std.specs.Prelude.{false, suc, Some, None, Result, Ok, Err, IsOk, IsErr, IsTrue}
+use Rattle.std.specs.Prelude.{false, Some, None, Result, Ok, Err, IsOk, IsErr, IsTrue}
 use Rattle.std.proofs.lemmas.List.{nil_from_length, length-take-le, get_or-take}
 use Rattle.net_ring.specs.Width.{shortfall}
 use Rattle.net_assembler.specs.declared.assembler.error.TooManyHolesError.{TooManyHolesError}
@@ -30,6 +30,7 @@ use Rattle.std.proofs.Math.Seq.{take-set-lt}
 use Rattle.net_assembler.proofs.Joins.{no_runs, runs-nothing, set_of_no_runs, front_of_runs-none, at_run, apart}
 use Rattle.net_assembler.proofs.Joins.{front_of_runs-some, in_run_at, used_ends_rise, used_starts_rise}
 use Rattle.std.proofs.lemmas.Bool.Decides.{nat_tests}
+use Rattle.std.proofs.Common.{rules}
 use Rattle.net_assembler.proofs.Sets.{front-is, contains-with_range, are_same_decides, contains-nothing}
 use Rattle.net_assembler.proofs.Sets.{front-with_range, shift_down-with_range, either, too_many, shift_down-zero}
 use Rattle.net_assembler.proofs.Sets.{with_range-none}
@@ -90,9 +91,7 @@ module _ (h : AssemblerHead) (xs : List (ℕ × ℕ)) (s : HasSoundRuns h xs) wh
 
   pub run_at : (k : ℕ) → k < h.used →
       get_or (runs_of h xs) k (0, 0) ≡ (h.first_start + start_at xs k, h.first_start + end_at xs k)
-  run_at k l =
-      get_or-up h.first_start (used_runs h xs) k (omega (arith, length-used_runs))
-      ∙ (λ i. (h.first_start + start_of k l i, h.first_start + end_of k l i))
+  run_at k l = search (rules, get_or-up, length-used_runs, start_of, end_of)
 
   -- it is listed, and no later one is
   pub run_listed : (k : ℕ) → k < h.used →
@@ -110,11 +109,7 @@ module _ (h : AssemblerHead) (xs : List (ℕ × ℕ)) (s : HasSoundRuns h xs) wh
   pub hole_after : (k : ℕ) → k + 1 < h.used →
       slice_get (holes_before (end_at (runs_of h xs) 0) (drop 1 (runs_of h xs))) k
       ≡ Some (h.first_start + end_at xs k, h.first_start + start_at xs (k + 1))
-  hole_after k l =
-      let next : suc k ≡ k + 1 = omega arith in
-      hole_between 0 (runs_of h xs) k are_runs (omega (arith, length-runs_of))
-      ∙ (λ i. Some (end_at (runs_of h xs) k, start_at (runs_of h xs) (next i)))
-      ∙ (λ i. Some ((run_at k (omega arith) i).1, (run_at (k + 1) l i).0))
+  hole_after k l = search (rules, hole_between, are_runs, length-runs_of, run_at)
 
   pub no_hole_after : (k : ℕ) → h.used ≤ k + 1 →
       slice_get (holes_before (end_at (runs_of h xs) 0) (drop 1 (runs_of h xs))) k ≡ None
@@ -125,24 +120,17 @@ module _ (h : AssemblerHead) (xs : List (ℕ × ℕ)) (s : HasSoundRuns h xs) wh
 
   -- no run at 0
   pub no_front : (0 < h.used → 0 < h.first_start) → 0 ≡ front (set_of h xs)
-  no_front later =
-      front_of_runs-none (runs_of h xs)
-      (λ l e. let some = length-runs_of in absurd (omega (arith, run_start (omega arith), later (omega arith))))
-      ∙ sym front-set_of
+  no_front later = search (rules, front_of_runs-none, length-runs_of, run_start, front-set_of)
 
   -- a run at 0
   pub first_front : 0 < h.used → h.first_start ≡ 0 → end_at xs 0 ≡ front (set_of h xs)
   first_front some zeroth =
-      let ends = end_at-up h.first_start (used_runs h xs) 0 (omega (arith, length-used_runs)) in
-      let is = front_of_runs-some (runs_of h xs) (omega (arith, length-runs_of)) (omega (arith, run_start some)) in
-      omega (arith, is, front-set_of, ends, end_of 0 some)
+      search (rules, end_at-up, length-used_runs, front_of_runs-some, length-runs_of, run_start, front-set_of, end_of)
 
   -- what is left of the pairs, counted lower
   pub dropped : (k m top : ℕ) → top ≡ h.first_start + m →
       runs_shifted_down m (drop k (used_runs h xs)) ≡ runs_shifted_down top (drop k (runs_of h xs))
-  dropped k m top e =
-      sym (down-up h.first_start m (drop k (used_runs h xs)))
-      ∙ (λ i. runs_shifted_down (sym e i) (sym (drop-up h.first_start k (used_runs h xs)) i))
+  dropped k m top e = search (rules, down-up, drop-up)
 
   pub contains-below : (q : ℕ) → q < h.first_start → contains (set_of h xs) q ≡ false
   contains-below q l = contains-set_of_runs (runs_of h xs) q ∙ in_runs-below h.first_start (used_runs h xs) q l
@@ -187,12 +175,7 @@ module _ (h : AssemblerHead) (xs : List (ℕ × ℕ)) (s : HasSoundRuns h xs) wh
   pub left_set : (n m top : ℕ) (g : AssemblerHead) (ys : List (ℕ × ℕ)) → n ≤ h.used → (0 < n → end_at xs (n - 1) ≤ m) →
       top ≡ h.first_start + m → runs_of g ys ≡ runs_shifted_down m (drop n (used_runs h xs)) →
       set_of g ys ≡ shift_down (set_of h xs) top
-  left_set n m top g ys few last is e =
-      ap set_of_runs (e ∙ dropped n m top is)
-      ∙ set-shifted_down (runs_of h xs) n top (λ k l.
-      let at = ap (λ (r : ℕ × ℕ). r.1) (run_at k (omega arith)) in
-      let by = ends_rise k (n - 1) (omega arith) (omega arith) in
-      omega (arith, last (omega arith)))
+  left_set n m top g ys few last is e = search (rules, dropped, set-shifted_down, run_at, ends_rise)
 
   pub left_after_front : (m : ℕ) (g : AssemblerHead) (ys : List (ℕ × ℕ)) → 0 < h.used → h.first_start ≡ 0 →
       m ≡ end_at xs 0 →
@@ -213,18 +196,14 @@ module _ (h : AssemblerHead) (xs : List (ℕ × ℕ)) (s : HasSoundRuns h xs) wh
     cut_used = take-set-lt h.used xs n (m, e) l ∙ ap (λ t. set (used_runs h xs) n (m, t)) (is ∙ sym (end_of n l))
 
     pub cut_rises : AreRuns (used_runs h (set xs n (m, e)))
-    cut_rises =
-        subst AreRuns (sym cut_used)
-        (rising-cut 0 (used_runs h xs) n m s.runs (omega (arith, a, start_of n l)) (omega (arith, b, is, end_of n l)))
+    cut_rises = search (rules, cut_used, rising-cut, start_of, end_of)
 
     pub cut_fits : FitsFrom h.first_start (used_runs h (set xs n (m, e)))
     cut_fits = subst (FitsFrom h.first_start) (sym cut_used) (fits-cut h.first_start (used_runs h xs) n m s.fits)
 
     pub cut_left : runs_shifted_down m (drop n (used_runs h (set xs n (m, e))))
         ≡ runs_shifted_down m (drop n (used_runs h xs))
-    cut_left =
-        ap (λ rs. runs_shifted_down m (drop n rs)) cut_used
-        ∙ down-cut (used_runs h xs) n m (omega (arith, a, start_of n l))
+    cut_left = search (rules, cut_used, down-cut, start_of)
 
 pub lowered_runs : (h : AssemblerHead) (xs : List (ℕ × ℕ)) → HasSoundRuns h xs → (m : ℕ) →
     runs (set_of (record { used = h.used; first_start = h.first_start - m }) xs) ≡ h.used
@@ -245,9 +224,7 @@ module _ (h : AssemblerHead) (xs : List (ℕ × ℕ)) (g : AssemblerHead) (ys : 
   same_number e = sym (length-runs_of h xs s) ∙ ap length (same_runs e) ∙ length-runs_of g ys t
 
   pub same_first_start : 0 < h.used → set_of h xs ≡ set_of g ys → h.first_start ≡ g.first_start
-  same_first_start l e =
-      sym (run_start h xs s l) ∙ ap (λ rs. start_at rs 0) (same_runs e)
-      ∙ run_start g ys t (omega (arith, same_number e))
+  same_first_start l e = search (rules, run_start, same_runs, same_number)
 
   pub same_pairs : 0 < h.used → set_of h xs ≡ set_of g ys → used_runs h xs ≡ used_runs g ys
   same_pairs l e =
@@ -289,12 +266,7 @@ module _ (h : AssemblerHead) (xs : List (ℕ × ℕ)) (g : AssemblerHead) (ys : 
 -- the range (o, 0)
 pub none_added : (h : AssemblerHead) (xs : List (ℕ × ℕ)) → HasSoundRuns h xs → (o k : ℕ) → k ≡ 0 →
     Adds (length xs) (set_of h xs) o k (Ok tt) (set_of h xs)
-none_added h xs s o k e = record {
-  ok = sym (with_range-none (set_of h xs) o k e);
-  unchanged = tt;
-  refused = (λ f. absurd (cc), λ over. absurd (omega (arith, (too_many _ _ o k).0 over)));
-  bound = few_held h xs s;
-}
+none_added h xs s o k e = search (rules, with_range-none, refused, too_many, few_held)
 
 -- a range that joins the runs, where all is counted from low on: by higher than the first run starts, which is f;
 -- without a run
@@ -309,10 +281,7 @@ module _ (h : AssemblerHead) (xs : List (ℕ × ℕ)) (s : HasSoundRuns h xs) (o
   nil e = nil_from_length (used_runs h xs) (length-used_runs h xs s ∙ e)
 
   same_place : runs_shifted_up low counted ≡ runs_of h xs
-  same_place = either (cases_lt 0 h.used)
-      (λ b. let start = waits b in up-up low by h.first_start (used_runs h xs) (omega arith))
-      (λ b. let gone = nil (omega arith) in
-      ap (λ rs. runs_shifted_up low (runs_shifted_up by rs)) gone ∙ ap (runs_shifted_up h.first_start) (sym gone))
+  same_place = search (rules, either, cases_lt, up-up, nil)
 
   counted_fits : FitsFrom low counted
   counted_fits = either (cases_lt 0 h.used)
@@ -322,20 +291,21 @@ module _ (h : AssemblerHead) (xs : List (ℕ × ℕ)) (s : HasSoundRuns h xs) (o
   joined_sound : (m : ℕ) (ys : List (ℕ × ℕ)) → m ≤ length ys → o + k + shortfall < 2 ^ 64 →
       take m ys ≡ runs_with_range counted lo hi →
       HasSoundRuns (record { used = m; first_start = low }) ys
-  joined_sound m ys room fits e = record {
-    room = room;
-    runs =
-        subst AreRuns (sym e)
-        (rising-runs_with_range 0 counted lo hi (runs-up by (used_runs h xs) s.runs) (omega arith) l);
-    first = subst StartsAtZero (sym e) (either (cases_lt 0 by)
-        (λ b. zero-runs_with_range counted lo hi (one_way b))
-        (λ b.
-        let unmoved = up-none by (used_runs h xs) (omega arith) in
-        let count = length-up by (used_runs h xs) in
-        first-runs_with_range counted lo hi (subst StartsAtZero (sym unmoved) s.first)
-        (λ z. let begin = none (omega (arith, z, count, length-used_runs h xs s)) in omega arith)));
-    fits = subst (FitsFrom low) (sym e) (fits-runs_with_range low counted lo hi counted_fits (omega arith));
-  }
+  joined_sound m ys room fits e =
+      search (
+        rules,
+        rising-runs_with_range,
+        runs-up,
+        either,
+        cases_lt,
+        zero-runs_with_range,
+        up-none,
+        length-up,
+        first-runs_with_range,
+        length-used_runs,
+        fits-runs_with_range,
+        counted_fits,
+      )
 
   shown : runs_shifted_up low (runs_with_range counted lo hi) ≡ runs_with_range (runs_of h xs) o (o + k)
   shown = up-runs_with_range low counted lo hi ∙ (λ i. runs_with_range (same_place i) (at i) (upto i))
@@ -353,25 +323,12 @@ module _ (h : AssemblerHead) (xs : List (ℕ × ℕ)) (s : HasSoundRuns h xs) (o
       TurnsWithin (2 * binary_digits (length xs)) (length xs) counts new_counts →
       AddsInPlace h xs o k (Ok tt) (record { used = m; first_start = low }) ys counts new_counts
   joined_in_place m ys counts new_counts long room some size fits e turns =
-      let sound = joined_sound m ys room fits e in
-      record {
-        sound = sound;
-        added = accepted h xs _ ys s long o k size sound (joined_runs m ys e);
-        unchanged = tt;
-        canonical = λ _ z. absurd (omega arith);
-        turns = turns;
-      }
+      search (rules, joined_sound, accepted, joined_runs)
 
   pub refused_in_place : (counts new_counts : ℕ × ℕ) → 0 < k → length xs < length (runs_with_range counted lo hi) →
       TurnsWithin (2 * binary_digits (length xs)) (length xs) counts new_counts →
       (e : TooManyHolesError) → AddsInPlace h xs o k (Err e) h xs counts new_counts
-  refused_in_place counts new_counts size over turns e = record {
-    sound = s;
-    added = refused h xs h xs s refl o k size _ refl (omega (arith, joined_length)) refl;
-    unchanged = (refl, refl);
-    canonical = λ none. none;
-    turns = turns;
-  }
+  refused_in_place counts new_counts size over turns e = search (rules, refused, joined_length)
 
   -- where by is 0
   pub plain : by ≡ 0 → runs_with_range (used_runs h xs) lo hi ≡ runs_with_range counted lo hi
@@ -382,31 +339,13 @@ pub searched : (h : AssemblerHead) (xs : List (ℕ × ℕ)) (o k : ℕ) (r : Res
     (g : AssemblerHead) (ys : List (ℕ × ℕ)) (old counts new : ℕ × ℕ) → AddsInPlace h xs o k r g ys counts new →
     old.0 ≤ counts.0 → counts.0 ≤ old.0 + binary_digits (length xs) →
     counts.1 ≡ old.1 → new.0 ≤ counts.0 + binary_digits (length xs) → AddsInPlace h xs o k r g ys old new
-searched h xs o k r g ys old counts new all few most same looks = record {
-  sound = all.sound;
-  added = all.added;
-  unchanged = all.unchanged;
-  canonical = all.canonical;
-  turns = record {
-    looks_few = omega arith;
-    moves_few = omega (arith, all.turns.moves_few);
-    no_look_lost = omega (arith, all.turns.no_look_lost);
-    no_move_lost = omega (arith, all.turns.no_move_lost);
-  };
-}
+searched h xs o k r g ys old counts new all few most same looks = search (rules)
 
 -- data that comes next, and reaches no run, is the front and removed
 pub next_removed : (most_runs o n : ℕ) (s t : Positions) → o ≡ 0 → contains s n ≡ false → t ≡ shift_down s n →
     runs t ≤ most_runs →
     AddsThenRemovesFront most_runs s o n (Ok n) t
-next_removed most_runs o n s t z misses e few = record {
-  value = (
-    sym (ap (λ k. front (with_range s k n)) z ∙ front-with_range s n misses),
-    e ∙ sym (ap (λ k. shift_down (with_range s k n) n) z ∙ shift_down-with_range s n n (omega arith)),
-  );
-  refused = (λ f. absurd (cc), λ over. absurd (omega (arith, over.0)));
-  bound = few;
-}
+next_removed most_runs o n s t z misses e few = search (rules, front-with_range, shift_down-with_range, refused)
 
 -- a range at 0 that reaches the first run makes no more runs
 pub reaches_some : (h : AssemblerHead) (xs : List (ℕ × ℕ)) → HasSoundRuns h xs → (size : ℕ) → 0 < h.used →
@@ -444,12 +383,7 @@ without_first h xs s end some last =
 front_there : (h : AssemblerHead) (xs : List (ℕ × ℕ)) → HasSoundRuns h xs → (end : ℕ) → 0 < end →
     end ≡ front (set_of h xs) →
     (0 < h.used) × (h.first_start ≡ 0) × (end ≡ end_at xs 0)
-front_there h xs s end some is =
-    either (cases_lt 0 h.used)
-    (λ used. either (cases_lt 0 h.first_start)
-    (λ later. absurd (omega (arith, no_front h xs s (λ _. later), is)))
-    (λ z. let zeroth : h.first_start ≡ 0 = omega arith in (used, zeroth, is ∙ sym (first_front h xs s used zeroth))))
-    (λ none. absurd (omega (arith, no_front h xs s (λ used. absurd (omega arith)), is)))
+front_there h xs s end some is = search (rules, either, cases_lt, no_front, first_front)
 
 -- the front of a sound head, once the range (o, k) is in its set
 pub front_ends : (h : AssemblerHead) (xs : List (ℕ × ℕ)) (o k : ℕ) (g : AssemblerHead) (ys : List (ℕ × ℕ)) (end : ℕ) →
