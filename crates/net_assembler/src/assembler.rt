@@ -10,9 +10,9 @@ ghost use Rattle.std.specs.Iterator.{UpTo, YieldsFirst, at_most, item_count};
 ghost use Rattle.std.specs.Iterator.SizeHint.{IsWithinCount};
 ghost use Rattle.std.specs.List.{slice_get};
 ghost use Rattle.net_assembler.specs.Assembler.{MakesTooManyRuns, display_text, hole_text};
-ghost use Rattle.net_assembler.specs.Positions.{RangeFits, are_same, contains, front, holes, holes_before, maximal_runs};
-ghost use Rattle.net_assembler.specs.Positions.{nothing, positions, runs, runs as run_count, runs_shifted_up, shift_down};
-ghost use Rattle.net_assembler.specs.Positions.{with_range};
+ghost use Rattle.net_assembler.specs.Positions.{RangeFits, are_same, contains, front, holes, holes_before};
+ghost use Rattle.net_assembler.specs.Positions.{maximal_runs, nothing, positions, runs, runs as run_count};
+ghost use Rattle.net_assembler.specs.Positions.{runs_shifted_up, shift_down, with_range};
 ghost use Rattle.net_assembler.specs.RunLists.{AreRuns, FitsFrom, HasSoundRuns, IsRising, set_of};
 ghost use Rattle.net_assembler.specs.Turns.{binary_digits};
 

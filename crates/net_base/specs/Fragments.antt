@@ -165,8 +165,8 @@ pub record HasSoundParts (h : FragmentsHead) (bytes : List ℕ) (runs : List (�
   pub room : unwrap_or (total_of h) (length bytes) ≤ length bytes
   pub below : IsBelow (set_of h.present runs) (unwrap_or (total_of h) (length bytes))
 
--- where no run is used, both numbers of `present` are 0; `total` is 0 while the size isn't known: two exact heads of one
--- buffer that have the same runs are equal
+-- where no run is used, both numbers of `present` are 0; `total` is 0 while the size isn't known: two exact heads
+-- of one buffer that have the same runs are equal
 pub record IsExact (h : FragmentsHead) : Type 0 where
   pub present : IsCanonical h.present
   pub no_total : IsFalse h.has_total → h.total ≡ 0

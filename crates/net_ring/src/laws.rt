@@ -50,8 +50,9 @@ pub fn head_of_zeros<T>()
     ensures ring { (xs : List T) → ring_at xs (place 0 0) ≡ ring xs 0 0 }
 {}
 
-/// States what is lent across calls: free elements have the same indices after others are dequeued, and queued ones after
-/// others are enqueued. What rewinds an empty ring moves its free elements; one with a queue isn't rewound.
+/// States what is lent across calls: free elements have the same indices after others are dequeued, and
+/// queued ones after others are enqueued. What rewinds an empty ring moves its free elements; one with a
+/// queue isn't rewound.
 pub fn lent_stays()
     ensures free { (c k i : ℕ) (p : RingHead) → IsSound c p → k ≤ p.length → i ≤ c - p.length →
         free_index c (dequeued_place c k p) i ≡ free_index c p i }

@@ -278,7 +278,8 @@ impl AssemblerHead {
     /// The head is sound with the runs, as `is_sound` tests, and each run ends at a `usize` then.
     pub fn raise(&mut self, runs: &[Run], by: usize)
         requires sound { HasSoundRuns self.old runs.now }
-        requires fits { (p : ℕ) → IsTrue (contains (set_of self.old runs.now) p) → IsUsize (by + p + 1) }
+        requires fits { (p : ℕ) → IsTrue (contains (set_of self.old runs.now) p) →
+            IsUsize (by + p + 1) }
         ensures sound { HasSoundRuns self.new runs.now }
         ensures set { set_of self.new runs.now ≡ shift_up (set_of self.old runs.now) by }
         ensures used { self.new.used ≡ self.old.used }
@@ -1079,8 +1080,8 @@ fn insert_run(runs: &mut [Run], used: usize, at: usize, entry: Run, by: usize, t
     runs[at] = entry;
 }
 
-/// Takes the positions from `from` on and below `to` out of the runs, after whose first position they start. Returns how
-/// many runs there are then, or `None`, and changes nothing, if there is no room for one more.
+/// Takes the positions from `from` on and below `to` out of the runs, after whose first position they start.
+/// Returns how many runs there are then, or `None`, and changes nothing, if there is no room for one more.
 fn cut(runs: &mut [Run], used: usize, from: usize, to: usize) -> Option<usize>
     requires used { used ≤ length runs.old }
     requires runs { AreRuns (take used runs.old) }

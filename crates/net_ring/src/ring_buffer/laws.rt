@@ -1,7 +1,7 @@
 //! Laws of rings and of their storage, over the definitions alone: the functions do nothing.
 ghost use Rattle.std.specs.Prelude.{◌≡◌, ◌+◌, ◌++◌, ◌∷◌, [], List, length, take, drop, ℕ, slice_set};
-ghost use Rattle.net_ring.specs.{overwrite, OverwritesAt, RingState, ring, capacity, window, queue, spare, IsWellFormed};
-ghost use Rattle.net_ring.specs.{RingCall, MakesAll, history};
+ghost use Rattle.net_ring.specs.{overwrite, OverwritesAt, RingState, ring, capacity, window, queue, spare};
+ghost use Rattle.net_ring.specs.{IsWellFormed, RingCall, MakesAll, history};
 
 /// States that the numbers of queued and of free elements are the lengths of a ring's two parts,
 /// and add up to its capacity.

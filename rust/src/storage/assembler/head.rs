@@ -716,8 +716,8 @@ fn insert_run(runs: &mut [Run], used: usize, at: usize, entry: Run, by: usize) {
     runs[at] = entry;
 }
 
-/// Takes the positions from `from` on and below `to` out of the runs, after whose first position they start. Returns how
-/// many runs there are then, or `None`, and changes nothing, if there is no room for one more.
+/// Takes the positions from `from` on and below `to` out of the runs, after whose first position they start.
+/// Returns how many runs there are then, or `None`, and changes nothing, if there is no room for one more.
 fn cut(runs: &mut [Run], used: usize, from: usize, to: usize) -> Option<usize> {
     let met = runs_starting_by(runs, used, from - 1);
     let next = runs_met(runs, used, met, to - 1);
