@@ -32,11 +32,10 @@ import re
 import sys
 import textwrap
 
-from parts import figures
+from parts import ROOT, figures
 from parts.erase_list import PACKAGES
 from parts.erase_tokens import Text
 
-ROOT = pathlib.Path(__file__).resolve().parent.parent
 # The crates whose lines doc comments quote as examples.
 EXAMPLES = ["net_examples", "net_tests"]
 # Where names are looked for.

@@ -30,9 +30,9 @@ import subprocess
 import sys
 import tempfile
 
+from parts import ROOT
 from parts.erase_list import PACKAGES
 
-ROOT = pathlib.Path(__file__).resolve().parent.parent
 CRATES = ROOT / "crates"
 PAGE = CRATES / "must-fail.md"
 # A row: the wrong body; its edit, with the function and the clause, or a test.

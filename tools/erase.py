@@ -48,7 +48,6 @@ The rules:
 import functools
 import itertools
 import re
-import shutil
 import subprocess
 import sys
 import tempfile
@@ -56,16 +55,15 @@ import textwrap
 from pathlib import Path
 
 sys.dont_write_bytecode = True
+from parts import ROOT, erase_says
 from parts import erase_list as given
-from parts import erase_says
 from parts.erase_ghosts import CALL, OF_TRAIT, OWNER, PLACES, Ghosts, around, is_ghost
 from parts.erase_tokens import SPACE, Refused, Text, words
 
-REPOSITORY = Path(__file__).resolve().parent.parent
-OUTS = {package: REPOSITORY / folder for package, folder in given.PACKAGES.items()}
-OUT, EXAMPLE = OUTS[given.BASE], REPOSITORY / 'rust/examples/net_bench'
+OUTS = {package: ROOT / folder for package, folder in given.PACKAGES.items()}
+OUT, EXAMPLE = OUTS[given.BASE], ROOT / 'rust/examples/net_bench'
 FOR_C = OUT / 'exports/for_c'                     # what C's exports alone want of other modules
-ROOT, RATTLE = 'crate::proved', 'crate::rattle'   # the second is the program's
+PROVED, RATTLE = 'crate::proved', 'crate::rattle'   # the second is the program's
 WRITTEN = '// Written by tools/erase.py from '
 HEADER = WRITTEN + '{}: a change here would be lost.\n'
 # What the program's prelude has.
@@ -121,7 +119,7 @@ class Eraser(Text):
             return f'crate::{given.FOLDERS[self.crate]}'
         if crate in self.by_hand or first == 'std':
             return f'{RATTLE}::{crate}' if self.by_hand else 'core'
-        return f'{ROOT}::{crate}' if first == 'crate' or first in given.CRATES else first
+        return f'{PROVED}::{crate}' if first == 'crate' or first in given.CRATES else first
 
     def run(self):
         """`head` is where the documentation, the attributes and the modifiers of an item begin."""
@@ -470,7 +468,7 @@ impl core::error::Error for {name} {{}}
 def sources(crates=given.CRATES):
     """The files of these crates that are erased: of each its crate, the path in that, and the text."""
     for crate in crates:
-        source = REPOSITORY / 'crates' / crate / 'src'
+        source = ROOT / 'crates' / crate / 'src'
         for path in sorted(file.relative_to(source) for file in source.rglob('*.rt')):
             text = (source / path).read_text()
             if not any(f'{crate}/{path.with_suffix("")}' in names for names in given.UNERASED.values()) and \
@@ -482,7 +480,7 @@ def program():
     """The same of the program, which is erased into an example."""
     crate, module = given.SCHEDULE.split('/')
     return [*sources(given.PROGRAM),
-            (crate, Path(f'{module}.rt'), (REPOSITORY / 'crates' / crate / 'src' / f'{module}.rt').read_text())]
+            (crate, Path(f'{module}.rt'), (ROOT / 'crates' / crate / 'src' / f'{module}.rt').read_text())]
 
 
 def leaves(use):
@@ -511,7 +509,7 @@ def exported():
 def omitted(crate, path):
     """The names of the modules in a file that aren't erased."""
     folder = Path(crate) if path.name == 'lib.rt' else crate / path.with_suffix('')
-    inside = (REPOSITORY / 'crates' / crate / 'src' / folder.relative_to(crate)).glob('*.rt')
+    inside = (ROOT / 'crates' / crate / 'src' / folder.relative_to(crate)).glob('*.rt')
     return {Path(name).name for names in given.UNERASED.values() for name in names if Path(name).parent == folder} | \
         {file.stem for file in inside if is_ghost(file, file.read_text())}
 
@@ -529,7 +527,7 @@ def replaced(file, text):
 def all_ghosts():
     """What of all sources is a ghost."""
     return Ghosts((path, path.read_text()) for crate in [*given.CRATES, *given.PROGRAM]
-                  for path in sorted((REPOSITORY / 'crates' / crate / 'src').rglob('*.rt')))
+                  for path in sorted((ROOT / 'crates' / crate / 'src').rglob('*.rt')))
 
 
 def erased(said):
@@ -559,18 +557,18 @@ def erased(said):
                     files[FOR_C / f'{"_".join(path[1:])}.rs'] = relocated(
                         f'{HEADER.format(eraser.file)}use crate::{"::".join(path)}::*;\n{of_super}')
             elif missing := [item for item in constants(text) if item not in by_hand_root(out, file)]:
-                said.append(f'{out.relative_to(REPOSITORY)}: {missing[0]} of {eraser.file} is by hand in no root')
+                said.append(f'{out.relative_to(ROOT)}: {missing[0]} of {eraser.file} is by hand in no root')
             gone |= {f'{file} {name}' for name in eraser.gone}
             of_traits |= {eraser.name(k) for _, impl, k, *_ in eraser.functions if OF_TRAIT.search(impl)}
         except Refused as refused:
-            said.append(f'{REPOSITORY / "crates" / crate / "src" / path}:{refused}')
+            said.append(f'{ROOT / "crates" / crate / "src" / path}:{refused}')
     for file, names in given.UNCALLED.items():
         said += [f'tools/parts/erase_list.py: {file} has no {name}'
                  for name in names if f'{file} {name}' not in gone]
         said += [f'tools/parts/erase_list.py: {name} is also the name of a function of a trait'
                  for name in names if name in of_traits]
     left |= {name for names in given.UNERASED.values() for name in names
-             if not (REPOSITORY / 'crates' / name.replace('/', '/src/', 1)).with_suffix('.rt').is_file()}
+             if not (ROOT / 'crates' / name.replace('/', '/src/', 1)).with_suffix('.rt').is_file()}
     said += [f'tools/parts/erase_list.py: no such file: {file}' for file in sorted(left)]
     others = ''.join(text for path, text in files.items() if not {OUT, EXAMPLE} & {*path.parents})
     said += [f'tools/parts/erase_list.py: no other package than net-base calls {name} of {file}'
@@ -614,7 +612,7 @@ def relocated(text, package=None):
                          for module in sorted({module for module, _ in modules}))
 
     if package not in (None, given.BASE):
-        text = re.sub(rf'use {ROOT}::(?:{hidden})::([^;]*);', shown, text)
+        text = re.sub(rf'use {PROVED}::(?:{hidden})::([^;]*);', shown, text)
 
     def place(name):
         module = name[1].replace('::', '/')
@@ -622,7 +620,7 @@ def relocated(text, package=None):
         root = 'crate' if package in (None, root) else root
         return '::'.join([root, *path]).removesuffix('::')
 
-    return re.sub(rf'{ROOT}::({"|".join(names)})\b', place, text)
+    return re.sub(rf'{PROVED}::({"|".join(names)})\b', place, text)
 
 
 def constants(text):
@@ -640,11 +638,8 @@ def by_hand_root(out, file):
 
 def formatted(files, said):
     """The files as rustfmt leaves them. It may add and take commas and braces, and order imports: no other token."""
-    if not shutil.which('rustfmt'):
-        print('erase: not run: no rustfmt', file=sys.stderr)
-        sys.exit(2)
     with tempfile.TemporaryDirectory() as folder:
-        there = {path: Path(folder, *path.relative_to(REPOSITORY).parts) for path in files}
+        there = {path: Path(folder, *path.relative_to(ROOT).parts) for path in files}
         for path, text in files.items():
             there[path].parent.mkdir(parents=True, exist_ok=True)
             there[path].write_text(text)

@@ -28,7 +28,8 @@ import re
 import sys
 import textwrap
 
-ROOT = pathlib.Path(__file__).resolve().parent.parent
+from parts import ROOT
+
 EXPORTS = ROOT / "crates/net_ffi"
 HEADER = ROOT / "c/net_base.h"
 CONFIG = ROOT / "c/net_base.pc"

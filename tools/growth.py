@@ -22,6 +22,9 @@ import sys
 import tempfile
 from pathlib import Path
 
+sys.dont_write_bytecode = True
+from parts import ROOT, lacks, stop
+
 FEW, MANY = 32, 1024
 # How many times more instructions a call may take with 32 times as many runs.
 MOST = {"looks": 1.1, "searches": 2.2, "passes": 36}
@@ -59,8 +62,8 @@ LEFT_OUT = {
     "only a program makes it: it copies the storage from before": "grow grow_runs",
     "only a program makes it: it passes once and searches at each run": "in_flight",
 }
-HERE = Path(__file__).resolve().parent
-PAGE = HERE.parent / "compare/results/growth.md"
+HERE = ROOT / "tools"
+PAGE = ROOT / "compare/results/growth.md"
 
 
 def public_calls():
@@ -149,11 +152,11 @@ def counted():
         source = folder / "growth"
         shutil.copytree(HERE / "growth", source)
         manifest = source / "Cargo.toml"
-        manifest.write_text(manifest.read_text().replace("../../rust", str(HERE.parent / "rust")))
+        manifest.write_text(manifest.read_text().replace("../../rust", str(ROOT / "rust")))
         target = Path(os.environ.get("CARGO_TARGET_DIR", folder / "target"))
         words = ["cargo", "build", "--quiet", "--release", "--offline", "--target-dir", target]
         if subprocess.run(words, cwd=source).returncode:
-            sys.exit("growth/src/main.rs doesn't compile over the crate: a call of it has changed")
+            stop("growth/src/main.rs doesn't compile over the crate: a call of it has changed")
         return [counts(target / "release/growth", runs, folder) for runs in (FEW, MANY)]
 
 
@@ -178,8 +181,7 @@ def main():
     parser.add_argument("--write", action="store_true")
     arguments = parser.parse_args()
     if not shutil.which("valgrind"):
-        print("not run: valgrind isn't here")
-        return 2
+        lacks("no valgrind")
     few, many = counted()
     source = (HERE / "growth/src/main.rs").read_text()
     classes = {call: kind for kind, call in re.findall(rf"^ +({'|'.join(MOST)}) (\w+) {{", source, re.M)}

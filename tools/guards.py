@@ -19,6 +19,7 @@ from pathlib import Path
 sys.dont_write_bytecode = True
 import erase
 import libraries
+from parts import ROOT
 from parts import erase_list as given
 
 TOP = '''//! Checked calls of the functions with guards.
@@ -104,8 +105,8 @@ def unbroken():
     """The guards of public calls that no row of a test `panics.rs` breaks, with their messages. That `N` is something is
     tested when a program is compiled, by src/refused.txt."""
     rows = {row for path in given.PACKAGES.values() for row in re.findall(
-        r'panics\(\s*"([\w:]+)"', (erase.REPOSITORY / path).parent.joinpath('tests/panics.rs').read_text())}
-    listed = (erase.REPOSITORY / 'tools/public_items.txt').read_text()
+        r'panics\(\s*"([\w:]+)"', (ROOT / path).parent.joinpath('tests/panics.rs').read_text())}
+    listed = (ROOT / 'tools/public_items.txt').read_text()
     public = {f'{owner}::{call}' for owner, call in re.findall(r'(\w+): pub (?:const )?fn (\w+)', listed)}
     wanted = {name for name, header, _, tests in guarded()
               if {*tests} - {'N >= 1'} and (name in public or ' for ' in header)} | {*' '.join(TESTED.values()).split()} & public

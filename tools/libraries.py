@@ -15,28 +15,26 @@ import tempfile
 from pathlib import Path
 
 sys.dont_write_bytecode = True
+from parts import ROOT, lacks, stop
 from parts.erase_list import EXPORTS
-
-REPOSITORY = Path(__file__).resolve().parent.parent
 
 
 def rlib(crate):
     """Where `rt ci` leaves a library. The prover's program of it is `toolchain/mir.json` there."""
-    return REPOSITORY / f'crates/{crate}/out/rlib/{crate}.rlib'
+    return ROOT / f'crates/{crate}/out/rlib/{crate}.rlib'
 
 
 def kit():
     """The kit's folder; ends the script if it is another kit than docs/CONTRACTS.md names: what that one keeps of a
     proof is read here."""
-    named = re.search(r'`rt version` prints\s+`(.*?)`', (REPOSITORY / 'docs/CONTRACTS.md').read_text())[1]
+    named = re.search(r'`rt version` prints\s+`(.*?)`', (ROOT / 'docs/CONTRACTS.md').read_text())[1]
     if not shutil.which('rt'):
-        print(f'{Path(sys.argv[0]).stem}: not run: no rt, the prover kit', file=sys.stderr)
-        sys.exit(2)
+        lacks('no rt, the prover kit')
     this, page = (subprocess.run(['rt', word], check=True, capture_output=True, text=True).stdout.strip()
                   for word in ('version', 'doc'))
     if named not in this:
-        sys.exit(f'{Path(sys.argv[0]).stem}: it reads what the kit with {named} keeps of a proof, which '
-                 f'docs/CONTRACTS.md names; this is {this}: name that one there once every step passes with it')
+        stop(f'it reads what the kit with {named} keeps of a proof, which docs/CONTRACTS.md names; this is {this}: name '
+             'that one there once every step passes with it')
     return Path(page).parent
 
 
@@ -45,7 +43,7 @@ def program(path):
     try:
         return json.loads(path.read_text())
     except (OSError, ValueError) as error:
-        sys.exit(f'{Path(sys.argv[0]).stem}: {path} is no whole program ({error}): rt ci proves its crate again')
+        stop(f'{path} is no whole program ({error}): rt ci proves its crate again')
 
 
 def over(uses, verb, crate, source, kept, *words):
@@ -63,13 +61,13 @@ def over(uses, verb, crate, source, kept, *words):
 
 def build_exports(folder, made, *words):
     """Builds the exports for C, which are a library of Rattle or, by these words, of another kind."""
-    uses = re.search(rf'^{EXPORTS} staticlib: (.*)', (REPOSITORY / 'crates.txt').read_text(), re.M)[1].split()
+    uses = re.search(rf'^{EXPORTS} staticlib: (.*)', (ROOT / 'crates.txt').read_text(), re.M)[1].split()
     if missing := [crate for crate in uses if not rlib(crate).is_dir()]:
-        sys.exit(f'libraries: no proved library of {", ".join(missing)}: rt ci')
-    said, status = over(uses, 'build', EXPORTS, REPOSITORY / 'crates' / EXPORTS, folder / 'incremental', *words, '-o',
+        stop(f'no proved library of {", ".join(missing)}: rt ci')
+    said, status = over(uses, 'build', EXPORTS, ROOT / 'crates' / EXPORTS, folder / 'incremental', *words, '-o',
                         made)
     if status:
-        sys.exit(f'libraries: {EXPORTS} is not built:\n{said[-3000:]}')
+        stop(f'{EXPORTS} is not built:\n{said[-3000:]}')
 
 
 if __name__ == '__main__':

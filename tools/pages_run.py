@@ -18,7 +18,9 @@ import subprocess
 import sys
 import tempfile
 
-ROOT = pathlib.Path(__file__).resolve().parent.parent
+sys.dont_write_bytecode = True
+from parts import ROOT
+
 # The pages, and where the commands of each are run, unless they name that folder.
 PAGES = {"README.md": ".", "rust/README.md": "rust", "rust/net-tcp/README.md": "rust/net-tcp", "docs/GUIDE.md": ".", "docs/C.md": ".", "docs/CONTRACTS.md": ".",
          "docs/BENCH.md": ".", "overlay/README.md": "."}

@@ -5,9 +5,11 @@ reason, or if a list has what isn't so.
 """
 import re
 import sys
-from pathlib import Path
 
-CRATES = Path(__file__).resolve().parent.parent / "crates"
+sys.dont_write_bytecode = True
+from parts import ROOT
+
+CRATES = ROOT / "crates"
 # Methods without this clause, and why.
 NO_CALLS = {
     "dequeue_with": "clause `handed` says it, by HandsPacket",

@@ -21,9 +21,9 @@ import time
 from pathlib import Path
 
 sys.dont_write_bytecode = True
+from parts import ROOT
 from parts.mir_text import cells, tables
 
-ROOT = Path(__file__).resolve().parent.parent
 SECTIONS = {tuple(part.strip() for part in head.split('|')): [*map(cells, rows)]
             for head, rows in tables('plants.txt').items()}
 # The tests of scripts.

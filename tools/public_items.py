@@ -18,9 +18,9 @@ import sys
 import tempfile
 from pathlib import Path
 
+from parts import ROOT
 from parts.erase_list import BASE, PACKAGES
 
-ROOT = Path(__file__).resolve().parent.parent
 LIST = ROOT / "tools/public_items.txt"
 SETS = {"+": "--all-features", "-": "--no-default-features"}
 # What is before and after the trait of an impl.

@@ -42,7 +42,7 @@ sys.dont_write_bytecode = True
 import libraries
 import widths
 from parts import erase_list as given
-from parts import same_pair
+from parts import ROOT, same_pair, stop
 from parts.mir_text import Listed, tables
 from parts.same_body import CompiledSide
 from parts.same_compiled import Compiled
@@ -51,7 +51,7 @@ from parts.same_proved import Proved, ProvedSide, is_own
 from parts.same_terms import Broken, Differ, Unknown, reading
 
 OTHER = ': if the kit or rustc is another one, CONTRIBUTING.md has the steps'
-REPOSITORY, SCHEDULE, PROGRAM = widths.REPOSITORY, given.SCHEDULE.replace('/', '::'), 'toolchain/mir.json'
+SCHEDULE, PROGRAM = given.SCHEDULE.replace('/', '::'), 'toolchain/mir.json'
 # What one side has alone, each entry with a reason there: rustc refuses a call of what the eraser leaves out. What isn't
 # erased at all is by hand, or not there.
 ALONE = Listed([*tables('same_names.txt')['alone'],
@@ -205,10 +205,10 @@ def programs(arguments, temporary):
     missing = [crate for crate in (*given.CRATES, *given.PROGRAM) if crate != given.EXPORTS
                and not kept(crate).is_file()]
     if missing:
-        sys.exit(f'{Path(sys.argv[0]).stem}: not compared: no proved library of {", ".join(missing)}: rt ci')
+        stop(f'not compared: no proved library of {", ".join(missing)}: rt ci')
     sides = {}
     for kit, version in widths.kits_of(folders, temporary).items():
-        library, example = compiled(REPOSITORY / 'rust', kit, temporary / version)
+        library, example = compiled(ROOT / 'rust', kit, temporary / version)
         sides[kit, version] = [(crate, library) for crate in given.CRATES] + \
             [(within, example) for within in (SCHEDULE, *given.PROGRAM)]
     made = folder / f'{given.EXPORTS}.rlib'
@@ -225,10 +225,10 @@ def main(arguments):
         with tempfile.TemporaryDirectory() as temporary, reading('the programs'):
             proved, sides = programs(arguments, Path(temporary))
             (kit, _), first = next(iter(sides.items()))
-            bad = [f'{name}: {reason}' for name, reason in builds(REPOSITORY / 'rust', kit, Path(temporary),
+            bad = [f'{name}: {reason}' for name, reason in builds(ROOT / 'rust', kit, Path(temporary),
                                                                   (first[0][1], first[-1][1]))]
     except (Broken, Unknown) as reason:
-        sys.exit(f'{Path(sys.argv[0]).stem}: {reason}{OTHER}')
+        stop(f'{reason}{OTHER}')
     left = {*LEFT}
     for version, within, rust in ((version, *pair) for (_, version), pairs in sides.items() for pair in pairs):
         program = proved[within.split('::')[0]]

@@ -25,6 +25,7 @@ import erase
 import libraries
 import same_program
 import widths
+from parts import ROOT
 from parts import erase_list as given
 from parts.mir_text import Listed, cells, tables
 from parts.same_body import CompiledSide
@@ -309,14 +310,14 @@ def ghosts(programs, sides):
 def planted(kit, temporary, proved):
     """Each plant in the erased text is found, and nothing besides."""
     crate = temporary / 'crate'
-    shutil.copytree(widths.REPOSITORY / 'rust', crate, ignore=shutil.ignore_patterns('target', 'rows'))
+    shutil.copytree(ROOT / 'rust', crate, ignore=shutil.ignore_patterns('target', 'rows'))
     config = crate / 'src/config.rs'
     config.write_text(config.read_text() + '\npub(crate) fn head() -> crate::storage::AssemblerHead {\n'
                       '    crate::storage::AssemblerHead::new()\n}\n')
     for file, part, plant, _ in PLANTS + OTHERWISE:
         is_program, module = file.split('/')[0] in same_program.given.PROGRAM, file.removesuffix('.rs')
         folder = erase.EXAMPLE if is_program else erase.OUTS[erase.package_of(module)]
-        path = crate / folder.relative_to(widths.REPOSITORY / 'rust') / f'{erase.placed(module)}.rs'
+        path = crate / folder.relative_to(ROOT / 'rust') / f'{erase.placed(module)}.rs'
         assert part in path.read_text(), (file, part)
         path.write_text(path.read_text().replace(part, plant, 1))
     library, example = same_program.compiled(crate, kit, temporary / 'target2')

@@ -45,6 +45,7 @@ from pathlib import Path
 
 sys.dont_write_bytecode = True
 import erase
+from parts import ROOT, lacks, stop
 from parts.mir_text import Listed, called, tables
 from parts.same_body import LIMIT, CompiledSide
 from parts.same_compiled import Compiled
@@ -52,10 +53,9 @@ from parts.same_pair import Pair
 from parts.same_side import Branch, Call, Panic, Return, Store
 from parts.same_terms import UNIT, Differ, Unknown, any_part, mentions, reading, term
 
-REPOSITORY = Path(__file__).resolve().parent.parent
 # The folders of rust that have erased text.
 SOURCES = [str(Path(folder).relative_to('rust')) for folder in erase.given.PACKAGES.values()]
-PAGE = REPOSITORY / 'docs/std-calls.md'
+PAGE = ROOT / 'docs/std-calls.md'
 MARK = '"in any `usize`"'
 READS = ('1.85.', '1.95.', '1.96.')               # the versions of rustc whose MIR is read
 MOST = 2 ** 32 - 1                                # the greatest `usize` of 32 bits
@@ -379,11 +379,10 @@ def kits_of(folders, temporary):
     """The compilers whose MIR is read, each a folder with its version: that of rust/kit.sh, in the first of the folders or
     one that is made; and the one on PATH, so that what users compile is what is compared. One is enough; ends the
     script if there is none."""
-    kit, own, name = Path(folders[0]).resolve() if folders else temporary / 'kit', temporary / 'own', Path(sys.argv[0]).stem
-    is_there, found = not subprocess.run(['sh', REPOSITORY / 'rust/kit.sh', kit]).returncode, {}
+    kit, own = Path(folders[0]).resolve() if folders else temporary / 'kit', temporary / 'own'
+    is_there, found = not subprocess.run(['sh', ROOT / 'rust/kit.sh', kit]).returncode, {}
     if not shutil.which('cargo'):
-        print(f'{name}: not run: no cargo', file=sys.stderr)
-        sys.exit(2)
+        lacks('no cargo')
     own.mkdir(exist_ok=True)
     (own / 'rustc').write_text(f'#!/bin/sh\nexec {shlex.quote(shutil.which("rustc") or "rustc")} "$@"\n')
     (own / 'rustc').chmod(0o755)
@@ -393,10 +392,10 @@ def kits_of(folders, temporary):
         if version.startswith(READS):
             found.setdefault(version, folder)
         elif folder == kit or not found:
-            sys.exit(f'{name}: it reads the MIR of rustc {", ".join(it[:-1] for it in READS)}, and {folder} has {version}: name another folder, '
-                     'or put one of these on PATH')
+            stop(f'it reads the MIR of rustc {", ".join(it[:-1] for it in READS)}, and {folder} has {version}: name another '
+                 'folder, or put one of these on PATH')
         else:
-            print(f'{name}: the MIR of rustc {version}, which is on PATH, is not read: READS of tools/widths.py')
+            print(f'the MIR of rustc {version}, which is on PATH, is not read: READS of tools/widths.py')
     return {folder: version for version, folder in found.items()}
 
 
@@ -420,13 +419,13 @@ def mir_of(target, folder='deps', name=''):
 
 def with_bounds(crate):
     """A copy of the crate that is erased with all bounds."""
-    shutil.copytree(REPOSITORY / 'rust', crate, ignore=shutil.ignore_patterns('target', 'rows'))
+    shutil.copytree(ROOT / 'rust', crate, ignore=shutil.ignore_patterns('target', 'rows'))
     erase.Eraser.bounds, said = True, []
     for path, text in erase.formatted(erase.erased(said), said).items():
-        (crate / path.relative_to(REPOSITORY / 'rust')).write_text(text)
+        (crate / path.relative_to(ROOT / 'rust')).write_text(text)
     erase.Eraser.bounds = False
     if said:
-        sys.exit('\n'.join(said))
+        stop('\n'.join(said))
     return crate
 
 
@@ -452,9 +451,9 @@ def std_calls(rust):
 
 def ported():
     """The ported crates, as docs/TRUST.md is to name them."""
-    rows = re.sub('#.*', '', (REPOSITORY / 'crates.txt').read_text()).split('\n')
+    rows = re.sub('#.*', '', (ROOT / 'crates.txt').read_text()).split('\n')
     used = {crate for row in rows for crate in row.partition(':')[2].split()}
-    return f'({", ".join(f"`{it}`" for it in sorted(used) if not (REPOSITORY / "crates" / it).exists())})'
+    return f'({", ".join(f"`{it}`" for it in sorted(used) if not (ROOT / "crates" / it).exists())})'
 
 
 def main(arguments):
@@ -466,13 +465,13 @@ def main(arguments):
             said, counts = of_crate(root, rust)
             found += [f'{what} (rustc {version})' for what in said]
     found += [f'tools/parts/same_names.txt: no call of `known`: {it}' for it in KNOWN.unused()]
-    found += [*laws(sorted((REPOSITORY / 'crates').glob('*/src/**/*.rt'))), *unfolded(REPOSITORY / 'crates')]
+    found += [*laws(sorted((ROOT / 'crates').glob('*/src/**/*.rt'))), *unfolded(ROOT / 'crates')]
     head, block = PAGE.read_text().split('\n\n- ', 1)[0], std_calls(rust)
     if '--write' in arguments:
         PAGE.write_text(f'{head}\n\n{block}\n')
     elif PAGE.read_text() != f'{head}\n\n{block}\n':
         found.append(f'{PAGE.name}: tools/widths.py --write has other lines')
-    if ported() not in ' '.join((REPOSITORY / 'docs/TRUST.md').read_text().split()):
+    if ported() not in ' '.join((ROOT / 'docs/TRUST.md').read_text().split()):
         found.append(f'docs/TRUST.md has other crates than crates.txt, which has {ported()}')
     print(*(f'open: {what}' for what in found), sep='\n', end='\n' * bool(found))
     print(', '.join(f'{count} {cover}' for cover, count in (('open', len(found)), *sorted(counts.items()))))

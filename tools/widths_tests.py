@@ -16,6 +16,7 @@ sys.dont_write_bytecode = True
 import erase
 import libraries
 import widths
+from parts import ROOT
 from parts.mir_text import tables
 
 # Bodies by what covers their operation, and those that nothing covers; items, each behind whether one of their
@@ -46,7 +47,7 @@ def read(folder, compiler, modules):
 
 
 def check_refusals(folder):
-    """Another rustc is refused in a sentence, and so is another kit of the prover's."""
+    """Another rustc is refused in a sentence, and so are another kit of the prover's, and what a script can't read."""
     folder.mkdir()
     for program in ('rustc', 'rt'):
         (folder / program).write_text('#!/bin/sh\necho rustc 1.0.0\n')
@@ -56,6 +57,13 @@ def check_refusals(folder):
                              (libraries.kit, '; this is rustc 1.0.0: name ')):
             with TestCase().assertRaisesRegex(SystemExit, said):
                 refuse()
+    for text, status, said in (('subprocess.run(["no-program"])', 2, 'not run: no no-program'),
+                               ('subprocess.run("false", check=True)', 1, 'ended with status 1'),
+                               ('open("/no/file")', 1, "No such file or directory: '/no/file'"),
+                               ('{}["a"]', 1, "KeyError: 'a': what it reads is cut short")):
+        ran = subprocess.run([sys.executable, '-Bc', f'import parts, subprocess; {text}'], cwd=ROOT / 'tools',
+                             capture_output=True, text=True)
+        assert (ran.returncode, ran.stderr.count('\n')) == (status, 1) and said in ran.stderr, ran
 
 
 def check_laws(folder):
@@ -73,7 +81,7 @@ def check_laws(folder):
                               (path, '', 0), (source, '#[tactic(auto, unfolding shortfall)]', 1)):
         file.write_text(f'use a.{{shortfall}}\n{text}\n')
         assert len([*widths.unfolded(folder / 'crates')]) == count, text
-    assert all(re.search('unfolding.*shortfall', (widths.REPOSITORY / 'crates' / name).read_text(), re.S)
+    assert all(re.search('unfolding.*shortfall', (ROOT / 'crates' / name).read_text(), re.S)
                for name in widths.KNOWING)
 
 

@@ -9,9 +9,9 @@ from pathlib import Path
 
 import guards
 import plants
+from parts import ROOT
 from parts.erase_list import PACKAGES
 
-ROOT = Path(__file__).resolve().parent.parent.parent
 # What no file counts: what is asked for, and versions.
 FIXED = ["32 or 64 bits", "smoltcp 0.14.0", "until 1.0", "Rust 1.87 and Python 3.9", "smoltcp's is 1", "[0BSD]",
          "segment of 1,460 bytes", "quinn-proto 0.9.2", "sent 0.75 of Linux's MB/s", "its two bugs",

@@ -1,9 +1,10 @@
 """What an export returns for a null pointer, by the words of c/net_base.h alone: the rule of its first comment, and
 what the comment of an export says of a refusal. Nothing here asks tools/ffi.py, by which the shim refuses."""
-import pathlib
 import re
 
-HEADER = pathlib.Path(__file__).resolve().parents[2] / "c/net_base.h"
+from parts import ROOT
+
+HEADER = ROOT / "c/net_base.h"
 # "It returns `false` where it returns a `bool`; where it returns one of these alone or as the first field of a struct,
 # the `NET_BASE_.._REFUSED` of a status, `NET_BASE_NONE` of a `size_t`, `UINT64_MAX` of a `uint64_t`; and 0 of another
 # number".

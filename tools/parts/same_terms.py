@@ -1,10 +1,9 @@
 """The terms of tools/same_program.py: what a program computes, each a word and its parts. Two programs compute the same
 where their terms are equal. same_names.txt has an example of each."""
 import contextlib
-import traceback
 from collections import namedtuple
-from pathlib import Path
 
+from parts import fault
 from parts.mir_text import tables
 
 # The words of terms, and where their parts are, as same_names.txt lists and shows them.
@@ -38,8 +37,7 @@ def reading(name):
     except (Unknown, Differ, Broken):
         raise
     except Exception as error:
-        at = traceback.extract_tb(error.__traceback__)[-1]
-        raise Broken(f'{name}: {Path(at.filename).name}:{at.lineno} fails: {type(error).__name__}: {error}') from error
+        raise Broken(f'{name}: {fault(error)}') from error
 
 
 class Term(tuple):
