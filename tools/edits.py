@@ -30,7 +30,7 @@ import subprocess
 import sys
 import tempfile
 
-from parts import ROOT
+from parts import ROOT, stop
 from parts.erase_list import PACKAGES
 
 CRATES = ROOT / "crates"
@@ -134,6 +134,8 @@ def is_refused_by(told, texts, function, clause):
 
 def edits_of(crates):
     """The edits of these crates, or of all."""
+    if none := [crate for crate in crates if not [*CRATES.glob(f"{crate}/must-fail/*.edit")]]:
+        stop(f"no edits of {', '.join(none)}")
     return [it for crate in crates or ["*"] for it in sorted(CRATES.glob(f"{crate}/must-fail/*.edit"))]
 
 
