@@ -39,18 +39,15 @@ FIRST = ["refusals", "ring", "packets", "fragments", "parts_sum", "finite_receiv
 PAGE = ROOT / "docs/C.md"
 PAGE_BEGIN = "<!-- Written by tools/ffi.py from crates/net_ffi/src/lib.rt, up to the line END. -->"
 PAGE_END = "<!-- END -->"
-BEGIN = "/* Written by tools/ffi.py, up to the line END. */"
-END = "/* END */"
+TEMPLATE = ROOT / "tools/parts/net_base.h.in"
 WIDTH = 100
 C_TYPES = {"usize": "size_t", "bool": "bool"}
 C_TYPES |= {f"{sign}{bits}": f"{'u' * (sign == 'u')}int{bits}_t" for sign in "iu" for bits in (8, 16, 32, 64)}
 # The constants that arrays have as lengths.
 LENGTHS = dict(re.findall(r"const (\w+): usize = (\d+);",
                           "".join(path.read_text() for path in EXPORTS.glob("src/*.rt"))))
-# The type of the numbers of all statuses, an alias of `u32`, and what says in C that a result isn't to be thrown away.
-STATUS, MUST_USE = "Status", "NET_BASE_MUST_USE"
-# What makes an enum 32 bits wide where a compiler has no attribute for it.
-WIDEST = "NET_BASE_WIDEST"
+# The type of the numbers of all statuses, an alias of `u32`.
+STATUS = "Status"
 # The statuses that a call can answer, by the type of its result: an alias of `u32` whose comment names them in its
 # first paragraph, and then says what one of them means there, if that isn't what it means elsewhere. Each is an enum.
 COMMENTS = {name: re.sub("^/// ?", "", doc, flags=re.M) for doc, name in re.findall(
@@ -403,10 +400,10 @@ def c_item(item, library, more=()):
         lines.append(f"{c_type(item.name).replace('enum', 'enum NET_BASE_32_BITS')} {{")
         for it in item.members:
             lines += documented(f"{enumerator(item.name, it.name)} = {it.text},", it.doc, structs)
-        return [*lines, f"    {WIDEST}({re.sub('Status$', '', item.name).upper()})", "};"]
+        return [*lines, f"    NET_BASE_WIDEST({re.sub('Status$', '', item.name).upper()})", "};"]
     parameters = [part for member in item.members for part in c_members(member)]
     result = c_type(item.type) if item.type else "void"
-    must = f"{MUST_USE} " * must_use(item, structs)
+    must = "NET_BASE_MUST_USE " * must_use(item, structs)
     label = f" NET_BASE_LINK({item.name.removeprefix('net_base_')});"
     lines += filled(f"{must}{result} {item.name}(", restricted(parameters) or ["void"], ")" + label)
     return lines
@@ -443,102 +440,6 @@ def index_of(library):
             yield f"- `net_base_{name}_`: {title_of(doc)}: {', '.join(names)}."
 
 
-# What isn't to be thrown away: C++17 and C23 say it in their own way, which `(void)` before a call overrides; GCC takes
-# that also of earlier C, and otherwise has a word that nothing overrides. An enum is as wide on each processor: other
-# compilers than GCC and Clang give one the bits that its greatest number needs.
-MUST = f"""/** What is returned isn't to be thrown away, unless `(void)` is written before the call. GCC before
- * version 11 takes no `(void)`, but `if (call) {{}}`. */
-#if defined __cplusplus && __cplusplus >= 201703L || defined __STDC_VERSION__ && __STDC_VERSION__ >= 202311L
-#define {MUST_USE} [[nodiscard]]
-#elif defined __GNUC__ && __GNUC__ >= 11 && !defined __clang__ && !defined __cplusplus
-#define {MUST_USE} [[nodiscard]]
-#elif defined __GNUC__
-#define {MUST_USE} __attribute__((warn_unused_result))
-#else
-#define {MUST_USE}
-#endif
-/** @cond */
-/* Each enum has 32 bits, also where a compiler makes it as short as its numbers. */
-#ifdef __GNUC__
-#define NET_BASE_32_BITS __attribute__((mode(SI)))
-#define {WIDEST}(name)
-#else
-#define NET_BASE_32_BITS
-#define {WIDEST}(name) NET_BASE_##name##_WIDEST = INT32_MAX
-#endif
-/* What a call may write overlaps nothing else that it is passed. */
-#ifdef __GNUC__
-#define NET_BASE_RESTRICT __restrict
-#elif defined __cplusplus
-#define NET_BASE_RESTRICT
-#else
-#define NET_BASE_RESTRICT restrict
-#endif
-/** @endcond */"""
-
-# GCC would tell of `[[nodiscard]]` in C before C23.
-EARLY = """/** @cond */
-#if defined __GNUC__ && !defined __clang__
-#pragma GCC diagnostic push
-#pragma GCC diagnostic ignored "-Wpedantic"
-#endif
-/** @endcond */"""
-LATE = """/** @cond */
-#if defined __GNUC__ && !defined __clang__
-#pragma GCC diagnostic pop
-#endif
-/** @endcond */"""
-
-# What a library that tests duties calls.
-BROKEN = """/** A function that you write if the library was built with `--features check`: a call broke a duty.
- * `duty` is its number, 7 for 5 and 6 too; `argument` names the parameter, or is empty. It must not
- * return, unless the number is 0: then the call was refused, for a null pointer if that is named.
- */
-void net_base_broken(uint32_t duty, const char *name, const char *argument);"""
-
-# What GCC is told of slices: of a pointer's elements as many are read, or may be written, as the parameter of another
-# number says. The second are `write_only` also where a call reads them: `read_write` asks for values, which the storage
-# and the runs of a new head don't have.
-ACCESS = """/** @cond */
-#if defined __has_attribute
-#if __has_attribute(access)
-#define NET_BASE_READS(pointer, length) __attribute__((access(read_only, pointer, length)))
-#define NET_BASE_WRITES(pointer, length) __attribute__((access(write_only, pointer, length)))
-#define NET_BASE_SLICES(name, told) extern __typeof__(net_base_##name) net_base_##name told;
-#pragma GCC diagnostic push
-#pragma GCC diagnostic ignored "-Wredundant-decls\""""
-
-
-def link_names(library, number):
-    """What the header says of the number in the names that functions are linked by: by labels, or where a compiler has
-    none by macros."""
-    macros = "\n".join(f"#define {item.name} {link_name(item, number)}" for item in library.exports())
-    return f"""/** The number of this interface. It is in the name that each function is linked by, so that no
- * library of another version links or loads.
- */
-#define NET_BASE_INTERFACE {number}
-/** @cond */
-#ifdef NET_BASE_PLAIN_NAMES /* without the number, as in a library of another maker */
-#define NET_BASE_LINK(name)
-#elif !defined __GNUC__
-{macros}
-#define NET_BASE_LINK(name)
-#else
-#define NET_BASE_TEXT(text) #text
-#define NET_BASE_LABEL(before, name) __asm__(NET_BASE_TEXT(before) name)
-#define NET_BASE_LINK(name) NET_BASE_LABEL(__USER_LABEL_PREFIX__, "net_base_{number}_" #name)
-#endif
-/** @endcond */"""
-
-
-def slices(library):
-    """What GCC is told of slices, apart from the declarations, which stay plain."""
-    told = [(item.name.removeprefix("net_base_"), " ".join(attributes(item))) for item in library.exports()]
-    return [ACCESS, *[f"NET_BASE_SLICES({name}, {it})" for name, it in told if it], "#pragma GCC diagnostic pop",
-            "#endif", "#endif",
-            "/** @endcond */"]
-
-
 def link_name(item, number):
     return f"net_base_{number}_{item.name.removeprefix('net_base_')}"
 
@@ -549,25 +450,36 @@ def interface():
 
 
 def c_part(library, crate):
-    """The first comment of the header, and the declarations for C."""
-    version = version_of("rust")
-    lines = ["/* SPDX-License-Identifier: 0BSD */", "/** @file", f" * net-base {version}.", " *"]
+    """The header, by its template."""
     start = re.search(r"^    #include \"net_base.h\"\n.*?^    \}$", PAGE.read_text(), flags=re.M | re.S)[0]
-    lines += [" * Quick start", " *", *[f" * {line}".rstrip() for line in start.splitlines()], " *"]
-    lines += [" * What for, and which calls", " *"]
-    lines += [f" * {row}" for line in index_of(library) for row in wrapped_text(line, WIDTH - 3)] + [" *"]
-    for heading, text in root_sections(crate):
-        lines += [f" * {heading}", " *"] * bool(heading)
-        lines += [f" * {row}".rstrip() for row in wrapped_text(c_text(text.splitlines(), library.structs), WIDTH - 3)]
-        lines += [" *"]
-    lines[-1] = " */"
-    numbers = zip(("MAJOR", "MINOR", "PATCH"), version.partition("-")[0].split("."))
-    lines += ["#ifndef NET_BASE_H", "#define NET_BASE_H", "#include <stdbool.h>", "#include <stddef.h>",
-              "#include <stdint.h>", ""]
-    for name, number in numbers:
-        lines += [f"/** The {name.lower()} number: until 1.0 names and structs may change with each minor one. */",
-                  f"#define NET_BASE_VERSION_{name} {number}"]
-    lines += ["", link_names(library, interface()), "", MUST, "", "#ifdef __cplusplus", 'extern "C" {', "#endif", EARLY, "", BEGIN]
+    version, exports = version_of("rust"), library.exports()
+    sections = [[*[heading] * bool(heading), *[""] * bool(heading), *wrapped_text(c_text(text.splitlines(), library.structs), WIDTH - 3)]
+                for heading, text in root_sections(crate)]
+    numbers = zip(("major", "minor", "patch"), version.partition("-")[0].split("."))
+    told = [(item.name.removeprefix("net_base_"), " ".join(attributes(item))) for item in exports]
+    texts = {
+        "VERSION": [version], "NUMBER": [str(interface())], "DECLARATIONS": declarations(library),
+        "START": starred(start.splitlines()),
+        "INDEX": starred(row for line in index_of(library) for row in wrapped_text(line, WIDTH - 3)),
+        "SECTIONS": starred(row for k, rows in enumerate(sections) for row in [*[""] * bool(k), *rows]),
+        "VERSIONS": [line for name, number in numbers for line in (
+            f"/** The {name} number: until 1.0 names and structs may change with each minor one. */",
+            f"#define NET_BASE_VERSION_{name.upper()} {number}")],
+        "NAMES": [f"#define {item.name} {link_name(item, interface())}" for item in exports],
+        "SLICES": [f"NET_BASE_SLICES({name}, {it})" for name, it in told if it],
+    }
+    template = re.sub(r"^// .*\n", "", TEMPLATE.read_text(), flags=re.M)
+    return re.sub("@([A-Z]+)@", lambda it: "\n".join(texts[it[1]]), template)
+
+
+def starred(lines):
+    """Lines of a comment."""
+    return [f" * {line}".rstrip() for line in lines]
+
+
+def declarations(library):
+    """The lines of the sections."""
+    lines = []
     for doc, section, name in library.sections:
         head = head_of(section)
         lines += ["", *group(first_paragraph(doc) if head else doc, name, library.structs)]
@@ -575,8 +487,7 @@ def c_part(library, crate):
             more = ["", *doc[doc.index("") + 1 :]] if item is head and "" in doc else []
             lines += [""] + c_item(item, library, more)
         lines += ["", "/** @} */"]
-    lines += ["", END, "", LATE, "", BROKEN, "", *slices(library), "", "#ifdef __cplusplus", "}", "#endif"]
-    return "\n".join([*lines, "#endif"]) + "\n"
+    return lines
 
 
 def head_of(section):
