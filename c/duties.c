@@ -1,5 +1,5 @@
 /* What the library with the feature `check` tells of calls that break a duty, or are refused. */
-#include "net_base.h"
+#include "net_bound.h"
 #include <setjmp.h>
 #include <stdio.h>
 #include <string.h>
@@ -34,6 +34,8 @@ int main(void) {
     static struct net_base_run runs[4];
     static struct net_base_packet_slot slots[4];
     struct net_base_packets packets = {0};
+    struct net_bound_packets bound = {.slots = slots, .slots_length = 4};
+    struct net_base_first_packet first;
     struct net_base_ring ring = {0, 0}, empty = {0, 0};
     struct net_base_fragments fragments = {0};
     struct net_base_kept_counts counts;
@@ -53,6 +55,9 @@ int main(void) {
         "finite_receiver_segment receiver");
     TOLD(net_base_ring_enqueue_slice(&ring, storage, 16, none, 4), 0, "ring_enqueue_slice data");
     TOLD(net_base_ring_enqueue(NULL, 16, 4), 0, "ring_enqueue place");
+    TOLD(net_bound_ring_enqueue_slice(NULL, bytes, 4), 0, "ring_enqueue_slice place");
+    TOLD(net_bound_packets_peek(&bound, NULL), 0, "packets_peek packets");
+    TOLD(net_bound_packets_peek(&bound, &first), 9, "");
     TOLD(net_base_ring_enqueue(&ring, 16, 17), 9, "");
     TOLD(net_base_packets_dequeue(&packets, slots, 4, 16).size, 9, "");
     ring.length = 17;

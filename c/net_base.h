@@ -2,27 +2,7 @@
 /** @file
  * net-base 0.6.0-dev.
  *
- * Quick start
- *
- *     #include "net_base.h"
- *
- *     static struct net_base_finite_receiver receiver;
- *     static uint8_t storage[64];         // room for the stream's bytes
- *     static struct net_base_run runs[4]; // at most four ranges may wait
- *
- *     int main(void)
- *     {
- *         const uint8_t later[] = "def", first[] = "abc"; // at positions 3 and 0
- *         struct net_base_kept_counts counts;
- *         uint8_t out[64];
- *         if (!net_base_finite_receiver_init(&receiver, 0) ||
- *             net_base_finite_receiver_segment(
- *                 &receiver, storage, 64, runs, 4, 3, later, 3, false, &counts) ||
- *             net_base_finite_receiver_segment(
- *                 &receiver, storage, 64, runs, 4, 0, first, 3, false, &counts))
- *             return 1; // refused: a status that isn't 0
- *         return net_base_finite_receiver_read(&receiver, storage, 64, out, 64) != 6; // "abcdef"
- *     }
+ * In net_bound.h these calls are with the memory of each head. Begin there.
  *
  * What for, and which calls
  *

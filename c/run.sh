@@ -53,7 +53,8 @@ echo "library: wants only $(tr '\n' ' ' < "$out/wanted")"
 
 # The header declares what the library has, and nothing else can be linked with. Each export has a row in exports.txt,
 # or none is written.
-python3 "$here/../tools/ffi.py" --tests "$out/exports.c" --layouts "$out/layouts.c" --sequence "$out/sequence.c"
+python3 "$here/../tools/ffi.py" --tests "$out/exports.c" --layouts "$out/layouts.c" \
+    --sequence "$out/sequence.c" --through "$out/through.h"
 nm -g --defined-only "$out/library.o" | awk '$2 == "T" { print $3 }' | sort -u > "$out/defined"
 number=$(sed -n 's/^#define NET_BASE_INTERFACE //p' "$here/net_base.h")
 grep -v '^#' "$here/net_base.h" | sed -n "s/.* NET_BASE_LINK(\([a-z0-9_]*\));/net_base_${number}_\1/p" |
@@ -72,32 +73,36 @@ echo "layouts: $(grep -c 'offset_of!(' "$out/layouts.rs") fields of $(grep -c 's
     fail "not each struct"
 
 at="a warning of the header"
+echo '#include "net_bound.h"' > "$out/bound.c"
 for each in "$compiler" gcc clang; do
     command -v "$each" > /dev/null || continue
-    "$each" -std=c11 $warnings -x c -fsyntax-only "$here/net_base.h"
-    "$each" -std=c2x $warnings -x c -fsyntax-only "$here/net_base.h"
+    "$each" -std=c11 $warnings -I "$here" -fsyntax-only "$out/bound.c"
+    "$each" -std=c2x $warnings -I "$here" -fsyntax-only "$out/bound.c"
 done
 for each in "${CXX:-c++}" g++ clang++; do
     command -v "$each" > /dev/null || continue
     "$each" -std=c++17 $warnings -Wold-style-cast -x c++ -fsyntax-only "$here/net_base.hpp"
     "$each" -std=c++20 $warnings -Wold-style-cast -x c++ -fsyntax-only "$here/net_base.hpp"
-    echo '#include "byte_ring.h"' | "$each" -std=c++17 $warnings -x c++ -I "$here/programs" -fsyntax-only -
+    printf '#include "net_bound.h"\n#include "byte_ring.h"\n' |
+        "$each" -std=c++17 $warnings -x c++ -I "$here" -I "$here/programs" -fsyntax-only -
 done
 at="what the header allows"
 # Storage and runs without values, a head of zeros, and a result that `(void)` drops; but not one that nothing drops.
 cat > "$out/allowed.c" <<'EOF'
-#include "net_base.h"
+#include "net_bound.h"
 size_t allowed(const uint8_t *data, size_t size, uint8_t *into) {
     struct net_base_fragments fragments = {0};
-    struct net_base_finite_receiver receiver = {0};
+    struct net_bound_finite_receiver receiver;
     struct net_base_ring ring = {0, 0};
     struct net_base_run runs[4], others[4];
     struct net_base_kept_counts counts;
     uint8_t storage[64], bytes[64], queue[64];
     (void)net_base_ring_enqueue_slice(&ring, queue, 64, data, size);
     if (net_base_fragments_add(&fragments, storage, 64, runs, 4, 0, data, size)
-        || net_base_finite_receiver_segment(&receiver, bytes, 64, others, 4, 0, data, size, false, &counts))
+        || !net_bound_finite_receiver_init(&receiver, bytes, 64, others, 4, 0)
+        || net_bound_finite_receiver_segment(&receiver, 0, data, size, false, &counts))
         return 0;
+    DROPPED net_bound_finite_receiver_read(&receiver, into, size);
     DROPPED net_base_ring_dequeue_slice(&ring, queue, 64, into, size);
     return counts.kept;
 }
@@ -277,11 +282,14 @@ sed -n 's/^    \(rustc .*\)/\1/p' "$here/../docs/C.md" > "$out/rustc/lines"
 [ "$("$out/program")" = "read abcdef" ]
 
 at="edges.c"
-# Also over a library with debug assertions, which tell of a pointer to nothing that is used.
+# Also by the calls of net_bound.h, and over a library with debug assertions, which tell of a pointer to nothing that is
+# used.
 (cd "$here" && CARGO_TARGET_DIR="$target" cargo build --offline --locked --quiet)
 for each in "$library" "$target/debug/libnet_base.a"; do
-    "$compiler" $flags -I "$here" "$here/edges.c" "$each" -o "$out/edges"
-    "$out/edges"
+    for through in "" "-include $out/through.h"; do
+        "$compiler" $flags -D_DEFAULT_SOURCE $through -I "$here" "$here/edges.c" "$each" -o "$out/edges"
+        "$out/edges"
+    done
 done
 
 at="bare.c"
@@ -296,14 +304,16 @@ diff "$here/hosted.stdout" "$out/printed" || fail "hosted.c prints something els
 echo "hosted: as in hosted.stdout"
 
 at="tools/exports.txt"
-"$compiler" $flags -O1 $sanitizers -I "$here" "$out/exports.c" "$library" -o "$out/exports"
-"$out/exports" > "$out/printed" || { cat "$out/printed"; fail "a value of tools/exports.txt"; }
-cat "$out/printed"
 # Each check of the program is made once, and what is wrong is told of: with an argument its last check doesn't hold.
 made=$("$compiler" $flags -E -I "$here" "$out/exports.c" | grep -c 'check((')
-[ "$(cat "$out/printed")" = "exports: $made checks passed" ] || fail "$made checks aren't made"
-"$out/exports" wrong > "$out/said" && fail "exports.c tells of nothing"
-grep -q "count < 2 is false" "$out/said"
+for through in "" "-include $out/through.h"; do
+    "$compiler" $flags -O1 $sanitizers $through -I "$here" "$out/exports.c" "$library" -o "$out/exports"
+    "$out/exports" > "$out/printed" || { cat "$out/printed"; fail "a value of tools/exports.txt, $through"; }
+    cat "$out/printed"
+    [ "$(cat "$out/printed")" = "exports: $made checks passed" ] || fail "$made checks aren't made"
+    "$out/exports" wrong > "$out/said" && fail "exports.c tells of nothing"
+    grep -q "count < 2 is false" "$out/said"
+done
 
 at="the sequence"
 "$compiler" $flags -O1 $sanitizers -I "$here" "$out/sequence.c" "$library" -o "$out/sequence"

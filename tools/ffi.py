@@ -1,9 +1,10 @@
 #!/usr/bin/env python3
 """Writes the declarations of the library for C from the exports of crates/net_ffi.
 
-    python3 tools/ffi.py               writes c/net_base.h, the shim, net_base.pc, and duties in docs/C.md
+    python3 tools/ffi.py               writes c/net_base.h, net_bound.h, the shim, net_base.pc, and duties in docs/C.md
     python3 tools/ffi.py --check       compares the files with what it would write; status 1 if one is stale
     python3 tools/ffi.py --tests FILE  writes the program that calls each export at the values of exports.txt
+    python3 tools/ffi.py --through FILE     writes the header by which that program makes the calls of net_bound.h
     python3 tools/ffi.py --sequence FILE    writes the program that makes one long sequence of calls of all
 
 It reads, in the order of the modules in lib.rt, but those in FIRST before,
@@ -451,7 +452,6 @@ def interface():
 
 def c_part(library, crate):
     """The header, by its template."""
-    start = re.search(r"^    #include \"net_base.h\"\n.*?^    \}$", PAGE.read_text(), flags=re.M | re.S)[0]
     version, exports = version_of("rust"), library.exports()
     sections = [[*[heading] * bool(heading), *[""] * bool(heading), *wrapped_text(c_text(text.splitlines(), library.structs), WIDTH - 3)]
                 for heading, text in root_sections(crate)]
@@ -459,7 +459,6 @@ def c_part(library, crate):
     told = [(item.name.removeprefix("net_base_"), " ".join(attributes(item))) for item in exports]
     texts = {
         "VERSION": [version], "NUMBER": [str(interface())], "DECLARATIONS": declarations(library),
-        "START": starred(start.splitlines()),
         "INDEX": starred(row for line in index_of(library) for row in wrapped_text(line, WIDTH - 3)),
         "SECTIONS": starred(row for k, rows in enumerate(sections) for row in [*[""] * bool(k), *rows]),
         "VERSIONS": [line for name, number in numbers for line in (
@@ -551,7 +550,8 @@ def put(files, only_compares):
 
 
 def main():
-    from parts import exports  # which import this file
+    from parts import bound  # which import this file
+    from parts import exports
     from parts import layouts
     from parts import sequence
     from parts import shim
@@ -561,8 +561,10 @@ def main():
     parser.add_argument("--tests", type=pathlib.Path, help="write the program of exports.txt to a file")
     parser.add_argument("--sequence", type=pathlib.Path, help="write the program of a sequence of calls to a file")
     parser.add_argument("--layouts", type=pathlib.Path, help="write the program of the structs' layouts to a file")
+    parser.add_argument("--through", type=pathlib.Path, help="write the header that makes tests call net_bound.h's calls")
     options = parser.parse_args()
-    programs = {options.tests: exports.program, options.sequence: sequence.sequence, options.layouts: layouts.program}
+    programs = {options.tests: exports.program, options.sequence: sequence.sequence, options.layouts: layouts.program,
+                options.through: bound.through}
     library = Library(EXPORTS)
     if any(programs):
         for path in filter(None, programs):
@@ -570,7 +572,8 @@ def main():
         return
     exports.program(library)  # which stops at a row that is wrong
     header = c_part(library, EXPORTS)
-    texts = {HEADER: header, ABI: abi(header), CONFIG: config(), shim.OUT: shim.text(library), PAGE: page(EXPORTS, PAGE)}
+    texts = {HEADER: header, ABI: abi(header), CONFIG: config(), shim.OUT: shim.text(library),
+             bound.OUT: bound.text(library), PAGE: page(EXPORTS, PAGE)}
     sys.exit(put(texts, options.check))
 
 

@@ -34,7 +34,7 @@ for target; do
             --crate-type staticlib --offline --locked --quiet --features "$features")
         cp "$build/target/$target/$profile/libnet_base.a" "$build/$name/libnet_base${features:+_$features}.a"
     done
-    (cd "$build" && cp c/net_base.h c/net_base.hpp LICENSE "$name" && sed 's|/target/release||' c/net_base.pc > "$name/net_base.pc")
+    (cd "$build" && cp c/net_base.h c/net_bound.h c/net_base.hpp LICENSE "$name" && sed 's|/target/release||' c/net_base.pc > "$name/net_base.pc")
     tar -C "$build" --sort=name --mtime="@$(git log -1 --format=%ct "$tag")" --owner=0 --group=0 --numeric-owner \
         --mode=u=rw,go=r,a+X -cf "$build/$name.tar" "$name"
     gzip -n9 < "$build/$name.tar" > "$assets/$name.tar.gz"

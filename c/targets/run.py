@@ -21,6 +21,7 @@ sys.dont_write_bytecode = True
 
 import disassembly  # noqa: E402
 import ffi  # noqa: E402
+from parts import bound  # noqa: E402
 from parts import exports  # noqa: E402
 from parts import layouts  # noqa: E402
 from parts import sequence  # noqa: E402
@@ -374,10 +375,11 @@ def tests(programs, generated, options):
                           f"{layouts}.rmeta"])
     if status:
         raise Failed(f"layouts: a field of a struct isn't where Rust has it: {said[:1500]}")
-    checks = re.search(r"(\d+) checks", programs.run("exports", [generated / "exports.c"]))
-    if not checks:
-        raise Failed("exports.c counts no checks")
-    done = [f"{checks[1]} checks"]
+    checks, others = (re.findall(r"(\d+) checks", programs.run("exports", [generated / "exports.c"], (), flags))
+                      for flags in ((), ("-include", generated / "through.h")))
+    if not checks or checks != others:
+        raise Failed("exports.c counts no checks, or others by the calls of net_bound.h")
+    done = [f"{checks[0]} checks, by net_bound.h too"]
     if programs.run("hosted", [C / "hosted.c"]) != (C / "hosted.stdout").read_text():
         raise Failed("hosted.c prints something else than hosted.stdout")
     done.append("hosted.c as it should")
@@ -578,6 +580,7 @@ def main():
         (generated / "exports.c").write_text(exports.program(library))
         (generated / "sequence.c").write_text(sequence.sequence(library))
         (generated / "layouts.c").write_text(layouts.program(library))
+        (generated / "through.h").write_text(bound.through(library))
 
         def act(index, way):
             programs = Programs(way, rustc[way.target], folder / str(index))

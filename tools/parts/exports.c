@@ -23,6 +23,8 @@ static bool is_zero(const void *at, size_t size) {
 }
 
 #define CHECK(condition) check((condition), #condition, __LINE__)
+/* What a refused call returns in place of a `uint64_t`: 0 by net_bound.h's calls, as NET_BASE_NONE is 0 there. */
+#define NO_NUMBER (NET_BASE_NONE ? UINT64_MAX : 0)
 
 static const uint8_t *text(const char *bytes) {
     return (const uint8_t *)bytes;

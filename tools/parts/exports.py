@@ -213,15 +213,20 @@ class C:
         elif null:
             refused = self.refused[row.item.name]
             lines.append(f"{ffi.c_type(row.item.type)} refused = {call};")
-            lines.append(f"CHECK({' && '.join(f'refused{field} == {value}' for field, value in refused)});")
+            lines += self.answered(f"refused{field} == {value}" for field, value in refused)
         elif row.item.type in self.structs:
             lines.append(f"{ffi.c_type(row.item.type)} returned = {call};")
-            lines.append(f"CHECK({' && '.join(self.compared('returned', row.result, row.item.type))});")
+            lines += self.answered(self.compared("returned", row.result, row.item.type))
         else:
-            lines.append(f"CHECK({call} == {self.value(row.result, row.item.type)});")
+            lines += self.answered([f"{call} == {self.value(row.result, row.item.type)}"])
         left = self.left(row)
         lines += [f"CHECK({' && '.join(left)});"] if left else []
         return [f"    {lines[0]}"] if len(lines) == 1 else ["    {"] + [f"        {line}" for line in lines] + ["    }"]
+
+    def answered(self, comparisons):
+        """The line that checks what a call returns; that nothing is there, by the name of the number that says so."""
+        text = re.sub(r"== UINT64_MAX$", "== NO_NUMBER", " && ".join(comparisons))
+        return [f"CHECK({re.sub(r'== SIZE_MAX', '== NET_BASE_NONE', text)});"]
 
     def program(self):
         lines = [HEAD]
@@ -229,8 +234,8 @@ class C:
         for answer, names in ffi.ANSWERS.items():
             named |= {ffi.enumerator(answer, f"NET_BASE_{name}"): self.table.numbers[name] for name in names}
             lines.append(f'_Static_assert(sizeof({ffi.c_type(answer)}) == 4, "an enum isn\'t as wide as a number of the library");')
-        lines += [f'_Static_assert({name} == {self.literal(it, "usize")}, "a number of net_base.h isn\'t that of the table");'
-                  for name, it in named.items()]
+        lines += ["#ifndef NET_BOUND_H", *[f'_Static_assert({name} == {self.literal(it, "usize")}, "a number of net_base.h isn\'t that of the table");'
+                                          for name, it in named.items()], "#endif"]
         for name, rows in self.table.rows.items():
             lines += ["", f"static void check_{name.removeprefix('net_base_')}(void) {{"]
             lines += [line for row in rows for line in self.row(row)] + self.nulls(rows[0]) + ["}"]

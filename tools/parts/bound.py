@@ -1,0 +1,192 @@
+"""Writes c/net_bound.h, in which a head has its memory, and the header by which tests of net_base.h's calls make those of
+net_bound.h: part of ffi.py."""
+import re
+import textwrap
+
+import ffi
+
+OUT = ffi.ROOT / "c/net_bound.h"
+# The memory that a struct keeps, by the parameter of a call: what it has, and the field of its length.
+MEMORY = {"storage": ("uint8_t", "capacity"), "runs": ("struct net_base_run", "runs_length"),
+          "slots": ("struct net_base_packet_slot", "slots_length")}
+HEAD = """/* SPDX-License-Identifier: 0BSD */
+/** @file
+ * Heads with their memory. Written by tools/ffi.py.
+ *
+ * Quick start
+ *
+{start}
+ *
+ * A call `net_bound_..` is `net_base_..` of net_base.h, whose comment says what it does. Its struct has the head, and
+ * where storage, runs or slots are. Only `.._init` is passed these, so duty 5 is kept. A struct of zeros but for its
+ * memory is new too. Read its fields as you like, but let only these calls write them.
+ *
+ * What is refused is 0, where a call of net_base.h returns `NET_BASE_NONE` or `UINT64_MAX`. The place of a packet is
+ * written to `place`, and false says that there is none.
+ */
+#ifndef NET_BOUND_H
+#define NET_BOUND_H
+#include "net_base.h"
+
+/** @cond */
+#if defined __GNUC__ && !defined __clang__
+#pragma GCC diagnostic push
+#pragma GCC diagnostic ignored "-Wpedantic"
+#endif
+/* What a call of net_base.h is passed of a struct. Of a null one it is passed a null head, which it refuses. */
+#define NET_BOUND_HEAD(it) ((it) ? &(it)->head : NULL)
+#define NET_BOUND_CAPACITY(it) ((it) ? (it)->capacity : 0)
+#define NET_BOUND_STORAGE(it) ((it) ? (it)->storage : NULL), NET_BOUND_CAPACITY(it)
+#define NET_BOUND_RUNS(it) ((it) ? (it)->runs : NULL), ((it) ? (it)->runs_length : 0)
+#define NET_BOUND_SLOTS(it) ((it) ? (it)->slots : NULL), ((it) ? (it)->slots_length : 0)
+static inline size_t net_bound_or_0(size_t number) {
+    return number == NET_BASE_NONE ? 0 : number;
+}
+/** @endcond */
+"""
+TAIL = """
+/** @cond */
+#if defined __GNUC__ && !defined __clang__
+#pragma GCC diagnostic pop
+#endif
+/** @endcond */
+#endif
+"""
+THROUGH = """/* Has calls of net_base.h made by those of net_bound.h. Written by `python3 tools/ffi.py --through`. */
+#include "net_bound.h"
+#include <stdlib.h>
+#include <string.h>
+/* What `.._init` is passed. */
+static uint8_t bound_storage[3];
+static struct net_base_run bound_runs[2];
+static struct net_base_packet_slot bound_slots[1];
+#undef NET_BASE_NONE
+#define NET_BASE_NONE 0
+"""
+
+
+def named(part):
+    """The name of a parameter."""
+    return part.rpartition(" ")[2].lstrip("*")
+
+
+def wrapped(line):
+    """A line of a function, on several where it is too long."""
+    return textwrap.wrap(line, ffi.WIDTH, initial_indent="    ", subsequent_indent="        ", break_long_words=False)
+
+
+class Call:
+    """A call of net_base.h over a head that has memory, as net_bound.h has it."""
+
+    def __init__(self, item, name, memory, structs):
+        self.item, self.memory, self.structs = item, memory, structs
+        self.name, self.it = item.name.replace("net_base_", "net_bound_"), name.rpartition("_")[2]
+        self.struct, self.is_init = f"struct net_bound_{name}", item.name == f"net_base_{name}_init"
+        self.is_mutable = item.members[0].type.startswith("&mut")
+        self.others = [it for it in item.members[1:] if it.name not in (*MEMORY, "capacity")]
+        self.kind = ffi.c_type(item.type) if item.type else "void"
+        fields = [it.name for it in structs[item.type].members] if item.type in structs else []
+        self.is_place, self.is_span = "slot" in fields, "from" in fields and "slot" not in fields
+
+    def parameters(self):
+        """How C declares them."""
+        bound = [f"{MEMORY[name][0]} *{name}, size_t {length}" for name, length in self.memory] * self.is_init
+        return [f"{'' if self.is_mutable else 'const '}{self.struct} *{self.it}", *bound,
+                *[part for member in self.others for part in ffi.c_members(member)],
+                *[f"{self.kind} *place"] * self.is_place]
+
+    def call(self):
+        """The call of net_base.h."""
+        passed = [f"NET_BOUND_HEAD({self.it})"]
+        for member in self.item.members[1:]:
+            passed += map(named, ffi.c_members(member)) if member in self.others else [
+                f"NET_BOUND_{member.name.upper()}({self.it})"]
+        return f"{self.item.name}({', '.join(passed)})"
+
+    def body(self):
+        """The lines of the function."""
+        call = self.call()
+        if self.is_init:
+            is_told = self.kind == "bool"
+            begin = [f"if (!{call}) return false;"] if is_told else [f"{call};", f"if (!{self.it}) return;"]
+            return [*begin, *[f"{self.it}->{name} = {name}; {self.it}->{length} = {length};"
+                              for name, length in self.memory], *["return true;"] * is_told]
+        if self.is_place:
+            return [f"if (!place) {self.it} = NULL;", f"{self.kind} found = {call};",
+                    "if (found.slot == NET_BASE_NONE) return false;", "*place = found;", "return true;"]
+        if self.is_span:
+            return [f"{self.kind} found = {call};", "found.from = net_bound_or_0(found.from);", "return found;"]
+        if self.item.type == "u64":
+            return [f"{self.kind} number = {call};", "return number == UINT64_MAX ? 0 : number;"]
+        return [f"return net_bound_or_0({call});" if self.item.type == "usize" else
+                f"{'return ' * bool(self.item.type)}{call};"]
+
+    def text(self):
+        must = "NET_BASE_MUST_USE " * ffi.must_use(self.item, self.structs)
+        head = f"{must}static inline {'bool' if self.is_place else self.kind} {self.name}("
+        rows = [row for line in self.body() for row in wrapped(line)]
+        return [*ffi.filled(head, self.parameters(), ") {"), *rows, "}"]
+
+    def through(self):
+        """A function with the parameters of the call of net_base.h that makes the one here, and the macro that has it
+        called. It ends the program if the memory isn't kept."""
+        parts = [part for member in self.item.members for part in ffi.c_members(member)]
+        head, own = named(parts[0]), self.item.name.replace("net_base_", "through_")
+        lines = [f"{self.struct} bound = {{0}}, after;", f"if ({head}) memcpy(&bound.head, {head}, sizeof bound.head);"]
+        for member in [it for it in self.item.members[1:] if it not in self.others]:
+            fields = (member.name, *MEMORY.get(member.name, ())[1:])
+            lines += [f"memcpy(&bound.{field}, &{named(part)}, sizeof {named(part)});"
+                      for field, part in zip(fields, ffi.c_members(member))]
+        made = [(name, f"bound_{pointer}" if name == pointer else f"sizeof bound_{pointer} / sizeof *bound_{pointer}")
+                for pair in self.memory for pointer, name in [(pair[0], name) for name in pair]] * self.is_init
+        lines += ["after = bound;", *[f"after.{name} = {value};" for name, value in made], *self.passed_on(head, made)]
+        kept = " && ".join(f"bound.{name} == after.{name}" for pair in self.memory for name in pair)
+        is_made = f"{head}{' && returned' * (self.is_init and self.kind == 'bool')}"
+        lines += [f"if ({is_made} && !({kept})) abort();"]
+        lines += [f"if ({head}) memcpy({head}, &bound.head, sizeof bound.head);"] * self.is_mutable
+        lines += ["return returned;"] * bool(self.item.type)
+        head = f"static inline {self.kind} {own}({', '.join(parts)}) {{"
+        return [head, *lines, "}", f"#define {self.item.name} {own}"]
+
+    def passed_on(self, head, made):
+        """The lines that make the call."""
+        passed = ", ".join([f"{head} ? &bound : NULL", *[value for _, value in made],
+                            *[named(part) for it in self.others for part in ffi.c_members(it)]])
+        if self.is_place:
+            return [f"{self.kind} returned = {{0, 0, 0, 0}};", f"if ({self.name}({passed}, NULL)) abort();",
+                    f"if (!{self.name}({passed}, &returned) && returned.from) abort();"]
+        return [f"{f'{self.kind} returned = ' * bool(self.item.type)}{self.name}({passed});"]
+
+
+def memory_of(section):
+    """The fields of memory that the heads of a section have: of a pointer, and of a length."""
+    passed = {member.name for item in section if item.kind == "fn" for member in item.members}
+    has_some = "capacity" in passed and ffi.head_of(section)
+    return [(name, MEMORY[name][1]) for name in MEMORY if has_some and (name in passed or name == "storage")]
+
+
+def calls(library):
+    """The calls by kind."""
+    return {name: [Call(item, name, memory_of(section), library.structs) for item in section if item.kind == "fn"]
+            for _, section, name in library.sections if memory_of(section)}
+
+
+def text(library):
+    """The header, which begins with the first program of docs/C.md."""
+    start = re.search(r"^    #include \"net_bound.h\"\n.*?^    \}$", ffi.PAGE.read_text(), flags=re.M | re.S)[0]
+    start = "\n".join(f" * {line}".rstrip() for line in start.splitlines())
+    lines = [HEAD.replace("{start}", start).rstrip("\n")]
+    for name, each in calls(library).items():
+        lines += ["", f"/** `struct net_base_{name}` with its memory. */", f"struct net_bound_{name} {{",
+                  f"    struct net_base_{name} head; /**< Its numbers. */"]
+        for field, length in each[0].memory:
+            lines += [f"    {MEMORY[field][0]} *{field}; /**< As `.._init` was passed it. */",
+                      f"    size_t {length}; /**< How many elements that has. */"]
+        lines += ["};", *[line for call in each for line in call.text()]]
+    return "\n".join(lines) + "\n" + TAIL
+
+
+def through(library):
+    """The header for tests."""
+    lines = [line for each in calls(library).values() for call in each for line in call.through()]
+    return "\n".join([THROUGH, *lines]) + "\n"
