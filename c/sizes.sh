@@ -4,14 +4,15 @@
 # docs/C.md with it. Of a LIBRARY for a Cortex-M4 it also prints the code that a linker takes of the calls of each task.
 set -eu
 here=$(cd "$(dirname "$0")" && pwd)
-kept="ring packets packet_slot run fragments finite_receiver answer_limit parts_sum receiving_end
-sending_end"
+kept="base_ring bound_ring base_packets bound_packets base_packet_slot base_run base_fragments bound_fragments
+base_finite_receiver bound_finite_receiver base_answer_limit base_parts_sum base_receiving_end bound_receiving_end
+base_sending_end bound_sending_end"
 folder=$(mktemp -d)
 trap 'rm -rf "$folder"' EXIT
 {
-    printf '#include "net_base.h"\n'
+    printf '#include "net_bound.h"\n'
     for each in $kept; do
-        printf 'const unsigned %s = sizeof(struct net_base_%s);\n' "$each" "$each"
+        printf 'const unsigned %s = sizeof(struct net_%s);\n' "$each" "$each"
     done
 } > "$folder/sizes.c"
 {
@@ -26,7 +27,7 @@ clang --target=thumbv7em-none-eabi -ffreestanding -I "$here" -S -o "$folder/size
     2> "$folder/said" || : > "$folder/sizes.s"
 "$folder/main" | while read -r name size; do
     small=$(awk -v label="$name:" '$1 == label { getline; print $2 }' "$folder/sizes.s")
-    echo "| \`$name\` | $size | ${small:--} |"
+    echo "| \`net_$name\` | $size | ${small:--} |"
 done
 [ $# = 0 ] || {
     echo 'void _start(void); void _start(void) {}' > "$folder/start.c"

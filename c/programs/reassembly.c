@@ -1,7 +1,7 @@
 /* UDP datagrams that arrive as IPv4 fragments, some twice, some not at all: they are put together,
  * checked and queued, and each that is queued is answered by an echo, which is compared.
  */
-#include "net_base.h"
+#include "net_bound.h"
 #include <stdio.h>
 #include <stdlib.h>
 #include <string.h>
@@ -22,13 +22,13 @@ enum {
 struct context {
     bool is_used;
     uint16_t id;
-    struct net_base_fragments fragments;
+    struct net_bound_fragments fragments;
     struct net_base_run runs[RUNS];
     uint8_t bytes[LONGEST];
 };
 
 static struct context contexts[CONTEXTS];
-static struct net_base_packets queue;
+static struct net_bound_packets queue;
 static struct net_base_packet_slot slots[SLOTS];
 static uint16_t ports[SLOTS];
 static uint8_t queued[ROOM];
@@ -85,7 +85,7 @@ static struct context *context_of(uint16_t id, int64_t now) {
     struct context *found = NULL;
     for (int i = 0; i < CONTEXTS; i++) {
         struct context *it = &contexts[i];
-        if (it->is_used && it->fragments.expires_at < now) {
+        if (it->is_used && it->fragments.head.expires_at < now) {
             it->is_used = false;
             expired++;
         }
@@ -93,7 +93,8 @@ static struct context *context_of(uint16_t id, int64_t now) {
         if (!it->is_used) found = it;
     }
     if (found == NULL) return NULL;
-    net_base_fragments_init(&found->fragments, now + TIMEOUT);
+    net_bound_fragments_init(
+        &found->fragments, found->bytes, LONGEST, found->runs, RUNS, now + TIMEOUT);
     found->is_used = true;
     found->id = id;
     return found;
@@ -102,9 +103,8 @@ static struct context *context_of(uint16_t id, int64_t now) {
 static void deliver(const uint8_t *message, size_t size) {
     struct net_base_parts_sum sum = sum_of(message, size);
     must(net_base_parts_sum_checksum(&sum) == 0, "the checksum of a datagram is wrong");
-    struct net_base_packet_place place =
-        net_base_packets_enqueue(&queue, slots, SLOTS, ROOM, size - UDP);
-    must(place.slot != NET_BASE_NONE, "the queue is full");
+    struct net_base_packet_place place;
+    must(net_bound_packets_enqueue(&queue, size - UDP, &place), "the queue is full");
     ports[place.slot] = get16(message);
     memcpy(queued + place.from, message + UDP, size - UDP);
 }
@@ -116,20 +116,17 @@ static void take_fragment(const uint8_t *frame, size_t size, int64_t now) {
     size_t offset = (size_t)(get16(frame + 6) & 0x1fff) * 8, whole;
     struct context *it = context_of(get16(frame + 4), now);
     if (it == NULL) return;
-    if (net_base_fragments_differs(
-            &it->fragments, it->bytes, LONGEST, it->runs, RUNS, offset, frame + IP, size - IP)) {
+    if (net_bound_fragments_differs(&it->fragments, offset, frame + IP, size - IP)) {
         it->is_used = false;
         return;
     }
     enum net_base_fragment_status status = NET_BASE_FRAGMENT_OTHER_SIZE;
     if ((frame[6] & 0x20) != 0
-        || net_base_fragments_set_total_size(
-               &it->fragments, LONGEST, it->runs, RUNS, offset + size - IP)
+        || net_bound_fragments_set_total_size(&it->fragments, offset + size - IP)
                == NET_BASE_SIZE_DONE)
-        status = net_base_fragments_add(
-            &it->fragments, it->bytes, LONGEST, it->runs, RUNS, offset, frame + IP, size - IP);
+        status = net_bound_fragments_add(&it->fragments, offset, frame + IP, size - IP);
     must(status == NET_BASE_FRAGMENT_DONE || status == NET_BASE_FRAGMENT_TOO_MANY_RUNS, "add");
-    if (net_base_fragments_complete(&it->fragments, LONGEST, it->runs, RUNS, &whole)) {
+    if (net_bound_fragments_complete(&it->fragments, &whole)) {
         deliver(it->bytes, whole);
         it->is_used = false;
     }
@@ -137,8 +134,8 @@ static void take_fragment(const uint8_t *frame, size_t size, int64_t now) {
 
 /* Takes a datagram off the queue, and writes the answer; 0 if there is none. */
 static size_t echo(uint8_t *into) {
-    struct net_base_first_packet first = net_base_packets_dequeue(&queue, slots, SLOTS, ROOM);
-    if (first.slot == NET_BASE_NONE) return 0;
+    struct net_base_first_packet first;
+    if (!net_bound_packets_dequeue(&queue, &first)) return 0;
     memcpy(into + UDP, queued + first.from, first.size);
     finish(into, first.size + UDP, 7, ports[first.slot]);
     return first.size + UDP;
@@ -181,7 +178,8 @@ int main(void) {
     static uint8_t message[LONGEST], answer[LONGEST];
     unsigned long sent = 0, answered = 0;
     int64_t now = 0;
-    net_base_packets_init(&queue);
+    struct net_base_first_packet first;
+    net_bound_packets_init(&queue, queued, ROOM, slots, SLOTS);
     for (random_state = 1; sent < 2000; sent++) {
         size_t size = UDP + 1 + below(1500), step = (80 + below(600)) & ~7u;
         uint16_t port = (uint16_t)(1025 + below(64511));
@@ -190,8 +188,7 @@ int main(void) {
         if (send(message, size, step, (uint16_t)sent, &now))
             lost++;
         else
-            must(net_base_packets_peek(&queue, slots, SLOTS, ROOM).slot != NET_BASE_NONE,
-                "a datagram is missing");
+            must(net_bound_packets_peek(&queue, &first), "a datagram is missing");
         for (size_t count; (count = echo(answer)) > 0; answered++)
             must(count == size && get16(answer + 2) == port
                      && memcmp(answer + UDP, message + UDP, size - UDP) == 0,

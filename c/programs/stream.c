@@ -3,7 +3,7 @@
  * which window is announced. The program has the link, the clock and the numbers of 32 bits. What
  * arrives is compared with what was sent.
  */
-#include "net_base.h"
+#include "net_bound.h"
 #include <stdio.h>
 #include <stdlib.h>
 #include <string.h>
@@ -52,12 +52,6 @@ static void must(bool holds, const char *what) {
     exit(1);
 }
 
-/* A count of bytes that isn't a refusal. */
-static size_t counted(size_t count) {
-    must(count != NET_BASE_NONE, "a count");
-    return count;
-}
-
 /* Some are lost, and some arrive twice. */
 static void put(struct link *link, const struct segment *segment, int64_t now) {
     unsigned copies = below(100) < loss ? 0 : below(20) == 0 ? 2 : 1;
@@ -78,8 +72,8 @@ static bool take(struct link *link, int64_t now, struct segment *segment) {
 }
 
 /* The two ends of a stream, where their bytes are, and the ways between them. */
-static struct net_base_sending_end from;
-static struct net_base_receiving_end to;
+static struct net_bound_sending_end from;
+static struct net_bound_receiving_end to;
 static struct net_base_answer_limit limit;
 static uint8_t outgoing[ROOM], incoming[WINDOW];
 static struct link there, back;
@@ -96,15 +90,14 @@ static uint64_t position_of(uint32_t number, uint64_t near) {
 /* Sends what may be sent now. There is no congestion window. */
 static void send_segments(int64_t now) {
     struct net_base_outgoing_segment next;
-    struct net_base_ended_timer ended = net_base_sending_end_expired(&from, outgoing, ROOM, now);
+    struct net_base_ended_timer ended = net_bound_sending_end_expired(&from, now);
     must(ended.status != NET_BASE_EXPIRED_REFUSED, "expired");
     expired += ended.status == NET_BASE_EXPIRED_LOST;
     probes += ended.status == NET_BASE_EXPIRED_OVERDUE || ended.status == NET_BASE_EXPIRED_PROBE;
-    while (next = net_base_sending_end_next_segment(&from, outgoing, ROOM, UINT64_MAX, now),
+    while (next = net_bound_sending_end_next_segment(&from, UINT64_MAX, now),
         next.status == NET_BASE_OUTGOING_DONE) {
         struct net_base_segment_parts parts =
-            net_base_sending_end_bytes(&from, ROOM, next.position, next.end);
-        must(parts.from != NET_BASE_NONE, "bytes");
+            net_bound_sending_end_bytes(&from, next.position, next.end);
         struct segment segment = {.number = initial + (uint32_t)next.position,
             .is_last = parts.is_last,
             .size = parts.count + parts.rest_count};
@@ -119,20 +112,20 @@ static void send_segments(int64_t now) {
 static void take_acknowledgement(const struct segment *segment, int64_t now) {
     struct net_base_held_run blocks[BLOCKS];
     struct net_base_announcement announced = {0,
-        position_of(segment->acknowledged, from.sender.sent),
+        position_of(segment->acknowledged, from.head.sender.sent),
         (uint64_t)segment->window << SCALE};
     for (size_t i = 0; i < segment->block_count; i++) {
         blocks[i].start = position_of(segment->blocks[i][0], announced.ack);
         blocks[i].end = position_of(segment->blocks[i][1], announced.ack);
     }
-    struct net_base_taken_acknowledgement taken = net_base_sending_end_acknowledged(
-        &from, outgoing, ROOM, &announced, blocks, segment->block_count, true, now);
+    struct net_base_taken_acknowledgement taken = net_bound_sending_end_acknowledged(
+        &from, &announced, blocks, segment->block_count, true, now);
     must(taken.status != NET_BASE_ACKNOWLEDGED_REFUSED, "acknowledged");
 }
 
 static void acknowledge(int64_t now) {
     struct net_base_acknowledgement told;
-    must(net_base_receiving_end_acknowledgement(&to, WINDOW, &told), "acknowledgement");
+    must(net_bound_receiving_end_acknowledgement(&to, &told), "acknowledgement");
     struct segment segment = {.acknowledged = initial + (uint32_t)told.next,
         .window = told.window,
         .block_count = told.block_count};
@@ -147,22 +140,22 @@ static void acknowledge(int64_t now) {
 static void take_segment(const struct segment *segment, int64_t now) {
     uint64_t next;
     struct net_base_kept_counts counts;
-    must(net_base_finite_receiver_acknowledged(&to.receiver, &next), "next");
+    must(net_base_finite_receiver_acknowledged(&to.head.receiver, &next), "next");
     struct net_base_segment numbers = {
         position_of(segment->number, next), segment->size + segment->is_last, false, true, false};
-    enum net_base_arrival_status arrival = net_base_receiving_end_classify(&to, WINDOW, &numbers);
+    enum net_base_arrival_status arrival = net_bound_receiving_end_classify(&to, &numbers);
     bool answers = arrival == NET_BASE_ARRIVAL_ANSWER
                    && net_base_answer_limit_allows(&limit, &numbers, now);
     if (answers || arrival == NET_BASE_ARRIVAL_ACKNOWLEDGEMENT_ONLY)
-        net_base_receiving_end_answer(&to);
+        net_bound_receiving_end_answer(&to);
     /* All of it came before: the answer says so (RFC 2883). Nothing of it is kept. */
     bool is_old = answers && numbers.seq <= next && segment->size <= next - numbers.seq;
     if (arrival == NET_BASE_ARRIVAL_TAKE || is_old)
-        must(net_base_receiving_end_arrived(&to, incoming, WINDOW, numbers.seq, segment->bytes,
-                 segment->size, segment->is_last && !is_old, &counts)
+        must(net_bound_receiving_end_arrived(&to, numbers.seq, segment->bytes, segment->size,
+                 segment->is_last && !is_old, &counts)
                  == NET_BASE_SEGMENT_DONE,
             "arrived");
-    if (net_base_receiving_end_is_due(&to)) acknowledge(now);
+    if (net_bound_receiving_end_is_due(&to)) acknowledge(now);
 }
 
 /* One stream, which begins at a position, and whose reader is slow or isn't. */
@@ -175,26 +168,24 @@ static void run(uint64_t first, const uint8_t *data, size_t size, bool is_slow) 
     initial = below(UINT32_MAX);
     there.count = back.count = 0;
     net_base_answer_limit_init(&limit);
-    must(net_base_receiving_end_init(&to, first, MSS), "init");
-    must(net_base_receiving_end_open(&to, WINDOW, first, SCALE, &window), "open");
-    must(net_base_sending_end_init(&from, first, 1000000, &BOUNDS), "init");
+    must(net_bound_receiving_end_init(&to, incoming, WINDOW, first, MSS), "init");
+    must(net_bound_receiving_end_open(&to, first, SCALE, &window), "open");
+    must(net_bound_sending_end_init(&from, outgoing, ROOM, first, 1000000, &BOUNDS), "init");
     struct net_base_announcement opened = {0, first, window};
-    must(net_base_sending_end_open(&from, outgoing, ROOM, &opened, MSS, true, 0), "open");
-    for (int64_t now = 0; !net_base_finite_receiver_has_read_all(&to.receiver)
-                          || !net_base_sending_end_is_done(&from);
+    must(net_bound_sending_end_open(&from, &opened, MSS, true, 0), "open");
+    for (int64_t now = 0; !net_base_finite_receiver_has_read_all(&to.head.receiver)
+                          || !net_bound_sending_end_is_done(&from);
          now += 1000) {
         struct segment segment;
         must(now < INT64_C(40000000000), "it doesn't end");
-        written += counted(
-            net_base_sending_end_write(&from, outgoing, ROOM, data + written, size - written));
-        if (written == size) net_base_sending_end_close(&from);
+        written += net_bound_sending_end_write(&from, data + written, size - written);
+        if (written == size) net_bound_sending_end_close(&from);
         send_segments(now);
         while (take(&there, now, &segment)) take_segment(&segment, now);
         while (take(&back, now, &segment)) take_acknowledgement(&segment, now);
         if (!is_slow || below(20) == 0)
-            count += counted(
-                net_base_receiving_end_read(&to, incoming, WINDOW, read + count, LONGEST - count));
-        if (net_base_receiving_end_is_wanted(&to, WINDOW)) acknowledge(now);
+            count += net_bound_receiving_end_read(&to, read + count, LONGEST - count);
+        if (net_bound_receiving_end_is_wanted(&to)) acknowledge(now);
     }
     must(count == size && memcmp(read, data, size) == 0, "other bytes arrived");
 }

@@ -1,6 +1,6 @@
 /* Prints of each call of a connection how many instructions it takes at most and on average, in the streams of
  * programs/stream.c: as the emulator counts them, with what counts. */
-#include "net_base.h"
+#include "net_bound.h"
 #include "count.h"
 #include <stdio.h>
 #include <string.h>
@@ -21,19 +21,19 @@ static void note(const char *name, unsigned taken) {
 #define COUNTED(name, ...)                             \
     __extension__({                                    \
         unsigned begin = counter();                        \
-        __auto_type result = net_base_##name(__VA_ARGS__); \
+        __auto_type result = net_bound_##name(__VA_ARGS__); \
         note(#name, since(begin));                     \
         result;                                        \
     })
-#define net_base_sending_end_write(...) COUNTED(sending_end_write, __VA_ARGS__)
-#define net_base_sending_end_next_segment(...) COUNTED(sending_end_next_segment, __VA_ARGS__)
-#define net_base_sending_end_bytes(...) COUNTED(sending_end_bytes, __VA_ARGS__)
-#define net_base_sending_end_acknowledged(...) COUNTED(sending_end_acknowledged, __VA_ARGS__)
-#define net_base_sending_end_expired(...) COUNTED(sending_end_expired, __VA_ARGS__)
-#define net_base_receiving_end_classify(...) COUNTED(receiving_end_classify, __VA_ARGS__)
-#define net_base_receiving_end_arrived(...) COUNTED(receiving_end_arrived, __VA_ARGS__)
-#define net_base_receiving_end_acknowledgement(...) COUNTED(receiving_end_acknowledgement, __VA_ARGS__)
-#define net_base_receiving_end_read(...) COUNTED(receiving_end_read, __VA_ARGS__)
+#define net_bound_sending_end_write(...) COUNTED(sending_end_write, __VA_ARGS__)
+#define net_bound_sending_end_next_segment(...) COUNTED(sending_end_next_segment, __VA_ARGS__)
+#define net_bound_sending_end_bytes(...) COUNTED(sending_end_bytes, __VA_ARGS__)
+#define net_bound_sending_end_acknowledged(...) COUNTED(sending_end_acknowledged, __VA_ARGS__)
+#define net_bound_sending_end_expired(...) COUNTED(sending_end_expired, __VA_ARGS__)
+#define net_bound_receiving_end_classify(...) COUNTED(receiving_end_classify, __VA_ARGS__)
+#define net_bound_receiving_end_arrived(...) COUNTED(receiving_end_arrived, __VA_ARGS__)
+#define net_bound_receiving_end_acknowledgement(...) COUNTED(receiving_end_acknowledgement, __VA_ARGS__)
+#define net_bound_receiving_end_read(...) COUNTED(receiving_end_read, __VA_ARGS__)
 #pragma push_macro("main")
 #undef main
 #define main streams

@@ -153,10 +153,10 @@ WAYS = [
 # The rows of docs/C.md for parts of the library on a Cortex-M4, by the order in which c/sizes.sh prints their code, and
 # the rounds of instructions.c that they have.
 PAGE = ROOT / "docs/C.md"
-PARTS = {"`net_base_ring_`": "ring: 16 bytes in and out", "`net_base_packets_`": "packets: one in and out",
-         "`net_base_fragments_`, `net_base_parts_sum_`": "fragments: two of 16 bytes, the size, the packet",
-         "`net_base_finite_receiver_`": "receiver: a segment of 32 bytes and a read",
-         "`net_base_receiving_end_`, `net_base_sending_end_`": "sending end: 32 bytes written, sent and acknowledged"}
+PARTS = {"`net_bound_ring_`": "ring: 16 bytes in and out", "`net_bound_packets_`": "packets: one in and out",
+         "`net_bound_fragments_`, `net_base_parts_sum_`": "fragments: two of 16 bytes, the size, the packet",
+         "`net_bound_finite_receiver_`": "receiver: a segment of 32 bytes and a read",
+         "`net_bound_receiving_end_`, `net_bound_sending_end_`": "sending end: 32 bytes written, sent and acknowledged"}
 BYTE_RING = """#include "programs/byte_ring.h"
 bool put(struct byte_ring *ring, uint8_t byte) { return byte_ring_put(ring, byte); }
 bool take(struct byte_ring *ring, uint8_t *byte) { return byte_ring_take(ring, byte); }

@@ -147,7 +147,8 @@ def counted():
             r"^- `\w+`: (.*(?:\n  .*)*)", (ROOT / "docs/std-calls.md").read_text(), re.M)))]
     bytes_of = dict(re.findall(r"^\| `(\w+)` \| \d+ \| (\d+) \|$", (ROOT / "docs/C.md").read_text(), re.M))
     yield "takes {} bytes besides its storage, both ends of a connection {} bytes, and all code of the C library {}", "docs/C.md", [
-        bytes_of["ring"], str(int(bytes_of["receiving_end"]) + int(bytes_of["sending_end"])),
+        bytes_of["net_base_ring"],
+        str(int(bytes_of["net_base_receiving_end"]) + int(bytes_of["net_base_sending_end"])),
         first(r"^\| `thumbv7em-none-eabi` \| ([\d,]+) \|", "docs/C.md")]
     yield "declares {}.", rattle, [WORDS[count(r'^\s*(?:unsafe )?extern(?: "\w+")? \{', rattle)]]
     yield "{} `unsafe impl`", rattle, [WORDS[count(r"^\s*unsafe impl\b", rattle)]]
