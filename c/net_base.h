@@ -945,7 +945,10 @@ NET_BASE_MUST_USE size_t net_base_receiving_end_read(
 /** @defgroup net_base_sending_end The sending end of a stream as one machine
  *
  * The sending end of a stream as one machine: a sender of a stream that ends, what the peer has
- * reported, what is lost, the timer, and the peer's window.
+ * reported, what is lost, the timer, and the peer's window. A program needs few of the fields
+ * below: it reads those of `sender`, and fills in `struct net_base_timeout_bounds`. All others,
+ * such as those of `struct net_base_loss_recovery`, are for the calls alone, and may differ in the
+ * next version.
  *
  * @{ */
 

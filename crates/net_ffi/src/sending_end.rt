@@ -1,5 +1,7 @@
 //! The sending end of a stream as one machine: a sender of a stream that ends, what the peer has reported, what is
-//! lost, the timer, and the peer's window.
+//! lost, the timer, and the peer's window. A program needs few of the fields below: it reads those of `sender`, and
+//! fills in `TimeoutBounds`. All others, such as those of `LossRecovery`, are for the calls alone, and may differ in the
+//! next version.
 //!
 //! A head of zeros is new, of a stream that begins at position 0, whose first timeout is 1 second within the RFC's
 //! bounds. All of an end is in its head but the bytes: at most 16 runs are remembered of what was reported, enough for
