@@ -13,6 +13,7 @@ use Rattle.net_ring.specs.Ring.{RingState, index_after, queue, storage_index, Is
 use Rattle.net_ring.specs.Ring.{with_elements, window, write_at, with_enqueued, Enqueues}
 use Rattle.net_ring.specs.RingHead.{ring_at, place, enqueued_place, dequeued_place, rewound, contiguous_free, IsSound}
 use Rattle.std.specs.declared.option.Option.TheVariants.{Some, None}
+use Rattle.std.proofs.Common.{rules}
 use Rattle.net_packets.specs.{Packet, PacketsState, packet, byte_ring, bytes_used, slots_used, slots_for, gap_for}
 use Rattle.net_packets.specs.{IsWellPlaced, IsFirstSized, first_gap, first_size, without_gap, without_first, placement}
 use Rattle.net_packets.specs.{with_packet, with_packet_if, with_packet_if_room, only_last, last_index, last_bytes}
@@ -317,9 +318,7 @@ module _ {H : Type 0} {h : PacketsHead} {ms : List (PacketMetadata H)} {xs : Lis
 
       -- the size in the slot is the packet's
       pub last_size_is : x.size ≡ first_size (only_last v.packets)
-      last_size_is =
-          ap (λ o. o.size) last_slot_is
-          ∙ sym (ap (λ l. first_size (only_last l)) ends.2 ∙ ap first_size (last_append ends.0 ends.1))
+      last_size_is = search (rules, last_slot_is, ends, last_append)
 
       -- n bytes fewer are written to it
       pub shortened : (n : ℕ) → n ≤ x.size → (h2 : PacketsHead) → h2.slots ≡ h.slots
@@ -362,9 +361,7 @@ module _ {H : Type 0} {h : PacketsHead} {ms : List (PacketMetadata H)} {xs : Lis
     last_in = omega (arith, bytes_count, last_ends v well)
 
     pub last_at : index_after c h.bytes.read_at (h.bytes.length - s) ≡ last_index v
-    last_at =
-        ap (λ n. index_after n h.bytes.read_at (h.bytes.length - s)) (ec ∙ ap length stored)
-        ∙ ap₂ (index_after (length v.storage)) read_here (ap₂ ◌-◌ bytes_count es)
+    last_at = search (rules, stored, read_here, bytes_count)
 
     pub last_fits : index_after c h.bytes.read_at (h.bytes.length - s) + s ≤ length xs
     last_fits =

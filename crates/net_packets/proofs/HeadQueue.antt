@@ -12,6 +12,7 @@ use Rattle.std.specs.List.{slice_get}
 use Rattle.net_ring.specs.Ring.{index_after, queue, storage_index}
 use Rattle.net_ring.specs.RingHead.{place, IsSound}
 use Rattle.std.specs.declared.option.Option.TheVariants.{Some, None}
+use Rattle.std.proofs.Common.{rules}
 use Rattle.net_packets.specs.{Packet, packet, slots_used, IsPlaced, ArePlaced, first_gap, first_size, without_first_gap}
 use Rattle.net_packets.specs.{without_gap, without_first_and_gap, without_first, with_last_size, with_packet_if}
 use Rattle.net_packets.specs.{with_packet_if_room, slot, gap_slot, packet_slots, packets_in, AreSoundParts, IsSoundHead}
@@ -34,10 +35,7 @@ use Rattle.net_packets.proofs.HeadParts.{shortened, placed, placed_is}
 -- a slot is a packet's or a gap's
 kind_of : (s : PacketSlot) → ((s.is_gap ≡ 0) × (metadata s ≡ slot s.size (Some tt)) × (nat_eq s.is_gap 0 ≡ true))
     ⊎ ((s.is_gap ≢ 0) × (metadata s ≡ slot s.size None) × (nat_eq s.is_gap 0 ≡ false))
-kind_of s = elim (cases_Bool (nat_eq s.is_gap 0)) [
-  | inl t ↦ inl (grind (arith, nat_tests, t), ap (λ (z : Bool). slot s.size (if z then Some tt else None)) t, t)
-  | inr f ↦ inr (grind (arith, nat_tests, f), ap (λ (z : Bool). slot s.size (if z then Some tt else None)) f, f)
-]
+kind_of s = search (rules, cases_Bool, nat_tests)
 
 -- the head and the slots are those of a queue if they represent one with each storage of c bytes
 sound_over : (c : ℕ) (h : PacketsHead) (ss : List PacketSlot)
@@ -55,16 +53,7 @@ sound_over c h ss r =
 module _ (c : ℕ) (h : PacketsHead) (ss : List PacketSlot) (hs : HasSoundSlots c h ss) where
   -- and they represent one with each
   represented : (xs : List ℕ) → length xs ≡ c → IsQueue h (map metadata ss) xs (queue_of h ss xs)
-  represented xs e = record {
-    sound = (
-      subst (λ n. IsSound n h.slots) (sym (length-map ss metadata)) hs.0.0,
-      subst (λ n. IsSound n h.bytes) (sym e) hs.0.1,
-      hs.1,
-      hs.2,
-      subst (λ (n : ℕ). ArePlaced n h.bytes.read_at 0 (packets_in 0 (queue (slot_ring h ss)))) (sym e) hs.3,
-    );
-    seen = refl;
-  }
+  represented xs e = search (rules, length-map)
 
   some_bytes : IsQueue h (map metadata ss) (replicate c 0) (queue_of h ss (replicate c 0))
   some_bytes = represented (replicate c 0) (length-replicate c 0)
@@ -220,10 +209,7 @@ pub both_steps : (c : ℕ) (h : PacketsHead) (ss : List PacketSlot) (k : Packets
     → k ≡ head_after_gap c h ss
     → (((1 ≤ h.slots.length) × ((first_slot h ss).is_gap ≢ 0 → CanTake c h (first_slot h ss)) → ⊥) → P) → (P → ⊥)
     → ((((first_slot k ss).is_gap ≡ 0) × CanTake c k (first_slot k ss) → ⊥) → Q) → (HasFirst c h ss → ⊥) → Q
-both_steps c h ss k is one not two none =
-    two (λ b. not (one (λ a. let d =
-    subst (λ (o : PacketsHead). ((first_slot o ss).is_gap ≡ 0) × CanTake c o (first_slot o ss)) is b in
-    none (a.1, d.0, d.1))))
+both_steps c h ss k is one not two none = search (rules)
 
 -- packets are left without the first gap
 used_skip : (ps : List (Packet ⊤)) → 1 ≤ slots_used ps → 1 ≤ slots_used (without_first_gap ps)
@@ -384,21 +370,7 @@ module _ (c : ℕ) (b : RingHead) (o : ℕ) where
       → AreSlotsAfter c b o g (metadata s ∷ ms)
       → (o + g + s.size ≤ b.length) × (index_after c b.read_at (o + g) + s.size ≤ c)
       × (s.is_gap ≢ 0 → (g ≡ 0) × (0 < s.size) × (index_after c b.read_at (o + g) + s.size ≡ c))
-  follows g s ms wf le fits a = elim (kind_of s) [
-    | inl k ↦
-        let all = after_packet g s.size ms (subst (λ x. AreSlotsAfter c b o g (x ∷ ms)) k.1 a) in
-        (omega (arith, all.1.1), all.0.0, λ n. absurd (n k.0))
-    | inr k ↦
-        let seen : AreSlotsAfter c b o g (slot s.size None ∷ ms) = subst (λ x. AreSlotsAfter c b o g (x ∷ ms)) k.1 a in
-        let none = one_gap g s.size ms seen in
-        let first : AreSlotsAfter c b o 0 (slot s.size None ∷ ms) =
-        subst (λ (n : ℕ). AreSlotsAfter c b o n (slot s.size None ∷ ms)) none seen in
-        let gap = gap_of (packets_in (0 + s.size) ms) s.size ms first.0 in
-        let at = gap_fits c b.read_at o (packets_in (0 + s.size) ms) first.2 (omega arith) in
-        let same : o + g ≡ o = omega arith in
-        let is = ap (index_after c b.read_at) same in
-        (omega (arith, first.1), omega arith, λ n. (none, gap.1, omega arith))
-  ]
+  follows g s ms wf le fits a = search (rules, kind_of, after_packet, one_gap, gap_of, gap_fits)
 
 -- the slot that is tested next
 pub next_slot : (n c : ℕ) (h : PacketsHead) (ss : List PacketSlot) → IsSoundHead n c h → n ≡ length ss → (k i : ℕ)
@@ -428,6 +400,4 @@ from_start c h ss hs = (hs.1, omega (arith, hs.2), hs.3)
 -- the last slot in use
 pub last_at : (c : ℕ) (h : PacketsHead) (ss : List PacketSlot) → IsSoundHead (length ss) c h → 1 ≤ h.slots.length
     → slice_get ss (last_slot_index h ss) ≡ Some (last_slot h ss)
-last_at c h ss sound some =
-    slice_get-get_or ss (last_slot_index h ss) (packet_slot 0)
-    (omega (arith, place_cases (length ss) h.slots.read_at (h.slots.length - 1), sound.0, some))
+last_at c h ss sound some = search (rules, slice_get-get_or, place_cases)

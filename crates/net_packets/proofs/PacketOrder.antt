@@ -9,7 +9,7 @@ use Rattle.std.specs.Prelude.{Option, set}
 use Rattle.std.specs.declared.option.Option.TheVariants.{Some, None}
 use Rattle.net_ring.specs.Overwrite.{overwrite}
 use Rattle.net_ring.specs.Ring.{RingState, capacity, window, queue, spare, storage_index, IsWellFormed, rewind_if_empty}
-use Rattle.net_ring.specs.Ring.{with_enqueued, with_elements, index_after, ring, contiguous_window}
+use Rattle.net_ring.specs.Ring.{with_enqueued, with_elements, ring, contiguous_window}
 use Rattle.net_packets.specs.{Packet, PacketsState, packet, bytes_used, byte_ring, placement, with_packet}
 use Rattle.net_packets.specs.{with_packet_if_room, last_index, with_bytes, with_last_bytes, with_last_size, first_gap}
 use Rattle.net_packets.specs.{first_size, without_first_gap, without_gap, first_bytes, IsFirst, with_first_header}
@@ -31,6 +31,8 @@ use Rattle.net_packets.proofs.PacketSteps.{mk, last_append, last_ends, push_well
 use Rattle.std.proofs.lemmas.Bool.{eqb-true, eq-eqb, le-leb, lt-leb, cond-true, cond-false}
 use Rattle.std.proofs.lemmas.Option.{none-some}
 use Rattle.std.proofs.Math.Seq.{set-append_seam}
+use Rattle.std.proofs.lemmas.Bool.Decides.{nat_tests}
+use Rattle.std.proofs.Common.{rules}
 use Rattle.net_ring.specs.Log.{Log, empty_log}
 
 pub some_of : (o : Option ℕ) → o ≢ None → (n : ℕ) × (o ≡ Some n)
@@ -122,11 +124,7 @@ module _ {H : Type 0} where
         (take-take k k ws (omega arith))
 
     pub accepted : contents (with_last_bytes (with_packet_if_room q s hd) ws) ≡ contents q ++ ((hd, ws) ∷ [])
-    accepted =
-        let p = some_of (placement q s) some in
-        ap (λ (o : PacketsState H). contents (with_last_bytes o ws)) (pushed_is q ok p.0 s p.1 hd)
-        ∙ filled_go p.0 p.1 s (omega arith)
-        ∙ ap (λ (l : List ℕ). contents q ++ ((hd, l) ∷ [])) (take_all s ws (omega arith))
+    accepted = search (rules, some_of, pushed_is, filled_go, take_all)
 
     pub accepted_with : (k : ℕ) → k ≤ s → contents (with_last_size k (with_last_bytes (with_packet_if_room q s hd) ws))
         ≡ contents q ++ ((hd, take k ws) ∷ [])
@@ -226,10 +224,7 @@ module _ {H : Type 0} where
         ∙ contents_skip q.packets (queue (byte_ring q))
 
     pub shown : (hd : H) (ws : List ℕ) → IsFirst q hd ws → contents q ≡ (hd, ws) ∷ drop 1 (contents q)
-    shown hd ws f =
-        sym gap_dropped ∙ first_shown next (skipped_well q ok) (close_gap q.packets) hd ws (drop 1 q.packets)
-        (ap without_first_gap f.0) f.1
-        ∙ ap (λ l. (hd, ws) ∷ drop 1 l) gap_dropped
+    shown hd ws f = search (rules, gap_dropped, first_shown, skipped_well, close_gap)
 
     pub refused : (hd : H) (ws : List ℕ) → q.packets ≢ [] → length ws ≡ first_size q.packets
         → contents (with_first_bytes next hd ws) ≡ (hd, ws) ∷ drop 1 (contents q)
@@ -380,16 +375,7 @@ module _ {H : Type 0} where
       → let o =
       without_first (mk n st r ps) in (last_dequeued_bytes_index o (first_size ps) ≡ r)
       × AreLastDequeued o (first_size ps)
-  off_go n st r ps ok z =
-      let c = length st in
-      let s = first_size ps in
-      let rest = rest_bytes ps in
-      let f = head_fits c r ps ok.0.0 ok.0.1 ok.1 z in
-      let back : s + (c - s) ≡ c = omega (arith, f.1) in
-      let round : last_dequeued_bytes_index (without_first (mk n st r ps)) s ≡ r =
-      place_place c r s (c - s) ok.0.0 (omega (arith, f.1)) ∙ ap (index_after c r) back
-      ∙ omega (arith, place_cases c r c, f.1) in
-      (round, (omega (arith, ok.0.1), omega (arith, f.1)))
+  off_go n st r ps ok z = search (rules, rest_bytes, head_fits, mk, place_place, place_cases)
 
   off_contents : (q : PacketsState H) → IsWellPlaced q → (ws : List ℕ) → length ws ≡ first_size q.packets
       → contents (with_bytes (without_first_and_gap q) (without_gap q).read_at ws) ≡ contents (without_first_and_gap q)
@@ -419,21 +405,13 @@ module _ {H : Type 0} where
   contents_count q = length-contents_of q.packets (queue (byte_ring q))
 
   pub contents_none : (q : PacketsState H) → (contents q ≡ []) ↔ (length q.packets ≡ 0)
-  contents_none q =
-      let n = contents_count q in
-      (λ e. sym n ∙ ap length e, λ z. nil_from_length (contents q) (n ∙ z))
+  contents_none q = search (rules, contents_count, nil_from_length)
 
   -- a placed packet has as many bytes as were asked for
   placed_long : (q : PacketsState H) → IsWellPlaced q → (s : ℕ) (hd : H) → placement q s ≢ None
       → length (last_bytes (with_packet_if_room q s hd)) ≡ s
   placed_long q ok s hd some =
-      let g = some_of (placement q s) some in
-      let o = with_packet_if_room q s hd in
-      let f = last_ends o (placed_well q ok s hd some) in
-      let long = length-drop (last_index o) o.storage in
-      length-take-le (first_size (only_last o.packets)) (drop (last_index o) o.storage) (omega (arith, f.1))
-      ∙ ap (λ (p : PacketsState H). first_size (only_last p.packets)) (pushed_is q ok g.0 s g.1 hd)
-      ∙ ap first_size (last_append q.packets (packet hd s g.0))
+      search (rules, some_of, last_ends, placed_well, length-drop, length-take-le, pushed_is, last_append)
 
   placed_stands : (q : PacketsState H) → IsWellPlaced q → (s : ℕ) (hd : H) → placement q s ≢ None
       → contents (with_packet_if_room q s hd) ≡ contents q ++ ((hd, last_bytes (with_packet_if_room q s hd)) ∷ [])
@@ -447,41 +425,22 @@ module _ {H : Type 0} where
   last_is_written : (q : PacketsState H) → IsWellPlaced q → (ws : List ℕ) → q.packets ≢ []
       → length ws ≡ first_size (only_last q.packets) → contents (with_last_bytes q ws) ≡ with_bytes_in_last_entry ws
       (contents q)
-  last_is_written q ok ws some long =
-      let l = last_contents q ok ws some long in
-      l.4 ∙ sym (last_entry l.0 l.1 l.2 ws) ∙ ap (with_bytes_in_last_entry ws) (sym l.3)
+  last_is_written q ok ws some long = search (rules, last_contents, last_entry)
 
   -- the packet that was taken off is before the read index
   taken_bytes : (q : PacketsState H) → IsWellPlaced q → (s : ℕ) → s ≡ first_size q.packets
       → (last_dequeued_bytes (without_first_and_gap q) s ≡ first_bytes (without_gap q))
       × (length (last_dequeued_bytes (without_first_and_gap q) s) ≡ s)
-  taken_bytes q ok s is =
-      let f = off_go q.slot_count q.storage (without_gap q).read_at (without_first_gap q.packets) (skipped_well q ok)
-      (close_gap q.packets) in
-      let size : first_size (without_first_gap q.packets) ≡ s = (close_size q.packets).0 ∙ sym is in
-      let fits = subst (λ (n : ℕ). AreLastDequeued (without_first_and_gap q) n) size f.1 in
-      let at : last_dequeued_bytes_index (without_first_and_gap q) s ≡ (without_gap q).read_at = sym
-      (ap (last_dequeued_bytes_index (without_first_and_gap q)) size) ∙ f.0 in
-      let long = length-drop (last_dequeued_bytes_index (without_first_and_gap q) s) q.storage in (
-        ap₂ (λ (p n : ℕ). take n (drop p q.storage)) at (sym size),
-        length-take-le s (drop (last_dequeued_bytes_index (without_first_and_gap q) s) q.storage)
-            (omega (arith, fits.1)),
-      )
+  taken_bytes q ok s is = search (rules, off_go, skipped_well, close_gap, close_size, fits, length-drop, length-take-le)
 
   taken_contents : (q : PacketsState H) → IsWellPlaced q → (hd : H) (s : ℕ) → IsFirstSized q.packets hd s
       → contents q ≡ (hd, last_dequeued_bytes (without_first_and_gap q) s) ∷ contents (without_first_and_gap q)
-  taken_contents q ok hd s first =
-      let t = taken_bytes q ok s (sym (ap first_size first)) in
-      let sized = subst (λ (n : ℕ). IsFirstSized q.packets hd n) (sym t.1) first in
-      shown q ok hd (last_dequeued_bytes (without_first_and_gap q) s) (sized, t.0)
-      ∙ ap (λ l. (hd, last_dequeued_bytes (without_first_and_gap q) s) ∷ l) (sym (left q ok))
+  taken_contents q ok hd s first = grind (arith, nat_tests, taken_bytes, shown, left)
 
   -- the bytes before the read index are written over themselves
   pub last_dequeued_stay : (q : PacketsState H) (s : ℕ) (ws : List ℕ) → ws ≡ last_dequeued_bytes q s
       → with_bytes q (last_dequeued_bytes_index q s) ws ≡ q
-  last_dequeued_stay q s ws is = ap (with_bytes q (last_dequeued_bytes_index q s)) is
-      ∙ ap (λ (st : List ℕ). mk q.slot_count st q.read_at q.packets)
-      (overwrite-same q.storage (last_dequeued_bytes_index q s) s)
+  last_dequeued_stay q s ws is = search (rules, mk, overwrite-same)
 
   pub peeked_contents : (q : PacketsState H) → IsWellPlaced q → contents (without_first_and_gap (without_gap q)) ≡ drop
       1 (contents q)
@@ -503,20 +462,14 @@ module _ {H : Type 0} where
 
   -- ---- what clauses of the calls say
   pub is_empty_none : (q : PacketsState H) (b : Bool) → b ≡ (length q.packets == 0) → (b ≡ true) ↔ (contents q ≡ [])
-  is_empty_none q b is =
-      let n = contents_none q in (
-        λ t. n.1 (eqb-true (length q.packets) 0 (sym is ∙ t)),
-        λ e. is ∙ eq-eqb (length q.packets) 0 (n.0 e),
-      )
+  is_empty_none q b is = search (rules, contents_none, eqb-true, eq-eqb)
 
   pub no_contents : (slots : ℕ) (storage : List ℕ) → contents {H = H} (no_packets slots storage) ≡ []
   unfolding contents
   no_contents slots storage = refl
 
   pub none_of : {P : Type 0} (q : PacketsState H) → P ↔ (length q.packets ≡ 0) → P ↔ (contents q ≡ [])
-  none_of q e =
-      let n = contents_none q in
-      (λ h. n.1 (e.0 h), λ h. e.1 (n.0 h))
+  none_of q e = search (rules, contents_none)
 
   last_any : (n : ℕ) (st : List ℕ) (r : ℕ) (ps : List (Packet H)) (ws : List ℕ) → IsWellPlaced (mk n st r ps)
       → length ws ≡ first_size (only_last ps)
@@ -557,9 +510,7 @@ module _ {H : Type 0} where
   pub last_dequeued_unseen : (q : PacketsState H) → IsWellPlaced q → (s : ℕ) → AreLastDequeued q s → (ws : List ℕ)
       → length ws ≡ s
       → contents (with_bytes q (last_dequeued_bytes_index q s) ws) ≡ contents q
-  last_dequeued_unseen q ok s free ws long =
-      ap (λ (n : ℕ). contents (with_bytes q (last_dequeued_bytes_index q n) ws)) (sym long) ∙ last_dequeued_contents q
-      ok ws (subst (λ (n : ℕ). AreLastDequeued q n) (sym long) free)
+  last_dequeued_unseen q ok s free ws long = search (rules, last_dequeued_contents)
 
   pub handed_contents : (q : PacketsState H) → IsWellPlaced q → (hd : H) (ws : List ℕ) (new : H) (news : List ℕ)
       (gone : Bool)
@@ -580,11 +531,7 @@ module _ {H : Type 0} where
 
   pub enqueue_call : (q : PacketsState H) (s : ℕ) (hd : H) (ws : List ℕ) → placement q s ≢ None → length ws ≡ s
       → Makes (Enqueue hd ws) q (with_last_bytes (with_packet_if_room q s hd) ws)
-  enqueue_call q s hd ws some long = (
-    subst (λ k. placement q k ≢ None) (sym long) some,
-    ap (λ k. with_last_bytes (with_packet_if_room q k hd) ws)
-        (sym long),
-  )
+  enqueue_call q s hd ws some long = search (rules)
 
   pub enqueue_with_call : (q : PacketsState H) (s : ℕ) (hd : H) (k : ℕ) (ws : List ℕ) → placement q s ≢ None
       → length ws ≡ s → k ≤ s
@@ -596,10 +543,7 @@ module _ {H : Type 0} where
   pub take_call : (q : PacketsState H) → IsWellPlaced q → (hd : H) (s : ℕ) → IsFirstSized q.packets hd s
       → (n : PacketsState H)
       → n ≡ without_first_and_gap q → Makes (Take hd (last_dequeued_bytes n s)) q n
-  take_call q ok hd s first n is =
-      let t = taken_bytes q ok s (sym (ap first_size first)) in
-      let same = ap (λ o. last_dequeued_bytes o s) is in
-      ((subst (IsFirstSized q.packets hd) (sym (ap length same ∙ t.1)) first, same ∙ t.0), is)
+  take_call q ok hd s first n is = search (rules, taken_bytes)
 
   pub last_dequeued_call : (q : PacketsState H) (s : ℕ) → AreLastDequeued q s → (ws : List ℕ) → length ws ≡ s
       → Makes (WriteLastDequeued ws) q (with_bytes q (last_dequeued_bytes_index q s) ws)
@@ -701,9 +645,7 @@ module _ {H : Type 0} where
 
 -- all free bytes of an empty ring are contiguous
 contiguous_all : (storage : List ℕ) → contiguous_window (ring storage 0 0) ≡ length storage
-contiguous_all storage =
-    let at = storage_index-zero (ring storage 0 0) (inl refl, omega arith) in
-    omega arith
+contiguous_all storage = search (rules, storage_index-zero)
 
 gap_taken : (size n : ℕ) → size ≤ n → gap_for size n n ≡ Some 0
 gap_taken size n le = cond-true _ _ _ (le-leb size n le)
@@ -733,14 +675,10 @@ module _ {H : Type 0} where
 
   pub empty_taken : (q : PacketsState H) (size : ℕ) → contents q ≡ [] → 0 < q.slot_count → size ≤ length q.storage
       → placement q size ≡ Some 0
-  empty_taken q size none slot le =
-      placement_empty q size none ∙ ap (if_slots q.slot_count) (gap_taken size (length q.storage) le)
-      ∙ cond-true _ _ _ (le-leb 1 q.slot_count slot)
+  empty_taken q size none slot le = search (rules, placement_empty, gap_taken, cond-true, le-leb)
 
   pub empty_no_slot : (q : PacketsState H) (size : ℕ) → contents q ≡ [] → q.slot_count ≡ 0 → placement q size ≡ None
-  empty_no_slot q size none slot =
-      let free : ℕ → Option ℕ = λ n. if_slots n (gap_for size (length q.storage) (length q.storage)) in
-      placement_empty q size none ∙ ap free slot ∙ no_slots (gap_for size (length q.storage) (length q.storage))
+  empty_no_slot q size none slot = search (rules, placement_empty, no_slots)
 
   pub empty_too_long : (q : PacketsState H) (size : ℕ) → contents q ≡ [] → length q.storage < size
       → placement q size ≡ None

@@ -2,7 +2,7 @@
 -- What a queue of packets is after a step on its two rings.
 use Rattle.std.proofs.Common.{◌≢◌, zero, suc, ◌≡◌, ℕ, ◌+◌, ◌-◌, ◌<◌, ◌≤◌, List, [], ◌∷◌, ◌++◌, length, min, refl, sym}
 use Rattle.std.proofs.Common.{ap, ap₂, ◌∙◌, subst, inl, inr, arith, ◌⊎◌, append_assoc, length-append, nat_le}
-use Rattle.std.proofs.Common.{if◌then◌else◌, Bool, drop}
+use Rattle.std.proofs.Common.{drop}
 use Rattle.std.proofs.lemmas.Bool.{cases_lt, cases_Bool, cond-true, cond-false, leb-true, lt-ltb, le-ltb}
 use Rattle.std.proofs.lemmas.Bool.Decides.{nat_tests}
 use Rattle.std.proofs.lemmas.Option.{none-some, cond_some}
@@ -11,12 +11,12 @@ use Rattle.std.specs.Prelude.{Option, true, filter, is_some}
 use Rattle.std.specs.declared.option.Option.TheVariants.{Some, None}
 use Rattle.net_ring.specs.Ring.{RingState, index_after, capacity, window, queue, write_at, IsWellFormed, Enqueues}
 use Rattle.net_ring.specs.Ring.{with_enqueued, with_dequeued, with_elements, contiguous_window, ring, rewind_if_empty}
-use Rattle.net_ring.specs.RingHead.{place, rewound, contiguous_free}
+use Rattle.net_ring.specs.RingHead.{place}
 use Rattle.net_ring.specs.Overwrite.{overwrite}
 use Rattle.net_ring.specs.declared.head.RingHead.{RingHead}
 use Rattle.net_packets.specs.{Packet, packet, bytes_used, slots_used, slots_for, IsPlaced, ArePlaced, PacketsState}
 use Rattle.net_packets.specs.{gap_for, if_slots, placement, byte_ring, with_packet, with_packet_if_room, with_packet_if}
-use Rattle.net_packets.specs.{only_last, before_last, last_index, with_last_bytes, with_last_size, with_first_size}
+use Rattle.net_packets.specs.{only_last, before_last, last_index, with_last_bytes, with_last_size}
 use Rattle.net_packets.specs.{first_gap, first_size, without_first_gap, without_gap, IsFirstSized, with_first_header}
 use Rattle.net_packets.specs.{with_first_bytes, without_first, IsWellPlaced, with_bytes, packets_head, placement_in}
 use Rattle.net_packets.specs.{slot, gap_slot, packet_slots, packets_in, Represents, packets_state}
@@ -25,6 +25,7 @@ use Rattle.net_ring.proofs.RingFacts.{rewound_ring, rewind_cases, rewind_wf, rew
 use Rattle.net_ring.proofs.Rotations.{length-queue, length-overwrite, with_dequeued_parts}
 use Rattle.std.proofs.lemmas.List.{take_at, drop_at}
 use Rattle.std.specs.List.{slice_get}
+use Rattle.std.proofs.Common.{rules}
 
 -- a list that is not empty ends in an element
 pub ends_in : {X : Type 0} (xs : List X) → xs ≢ [] → (ys : List X) × (y : X) × (xs ≡ ys ++ (y ∷ []))
@@ -37,29 +38,17 @@ ends_in (x ∷ (o ∷ xs)) some =
 -- ---- places of a ring of c elements that is read from r on
 pub place_cases : (c r i : ℕ) → ((i < c - r) × (index_after c r i ≡ r + i))
     ⊎ ((c - r ≤ i) × (index_after c r i ≡ i - (c - r)))
-place_cases c r i = elim (cases_lt i (c - r)) [
-  | inl h ↦ inl (h, ap (λ (t : Bool). if t then r + i else i - (c - r)) (lt-ltb i (c - r) h))
-  | inr h ↦ inr (h, ap (λ (t : Bool). if t then r + i else i - (c - r)) (le-ltb i (c - r) h))
-]
+place_cases c r i = search (rules, cases_lt, lt-ltb, le-ltb)
 
 pub place_place : (c r k j : ℕ) → (r ≡ 0) ⊎ (r < c) → k + j ≤ c → index_after c (index_after c r k) j ≡ index_after c r
     (k + j)
-place_place c r k j wf le = omega (
-  arith,
-  place_cases c r k,
-  place_cases c r (k + j),
-  place_cases c (index_after c r k)
-      j,
-)
+place_place c r k j wf le = search (rules, place_cases)
 
 pub place_le_in : (c r i : ℕ) → (r ≡ 0) ⊎ (r < c) → i ≤ c → index_after c r i ≤ c
 place_le_in c r i wf le = omega (arith, place_cases c r i)
 
 pub place_wf : (c r i : ℕ) → (r ≡ 0) ⊎ (r < c) → i ≤ c → (index_after c r i ≡ 0) ⊎ (index_after c r i < c)
-place_wf c r i wf le = elim (place_cases c r i) [
-  | inl a ↦ inr (omega arith)
-  | inr a ↦ elim wf [ inl z ↦ inl (omega arith) | inr l ↦ inr (omega arith) ]
-]
+place_wf c r i wf le = search (rules, place_cases)
 
 pub place_zero : (c r : ℕ) → (r ≡ 0) ⊎ (r < c) → index_after c r 0 ≡ r
 place_zero c r wf = omega (arith, place_cases c r 0)
@@ -86,17 +75,7 @@ gap_some s c w gap e = grind (arith, nat_tests)
 pub placed_here : (c r n s gap : ℕ) → (r ≡ 0) ⊎ (r < c) → n ≤ c → gap_for s (min (c - n) (c - index_after c r n))
     (c - n) ≡ Some gap
     → (index_after c r (n + gap) + s ≤ c) × (gap ≢ 0 → index_after c r n + gap ≡ c) × (n + gap + s ≤ c)
-placed_here c r n s gap wf le e =
-    let at = place_le_in c r n wf le in
-    elim (gap_some s (min (c - n) (c - index_after c r n)) (c - n) gap e) [
-      | inl h ↦
-          let z : n + gap ≡ n = omega (arith, h.0) in
-          (omega (arith, ap (index_after c r) z, h.1, at), λ k. absurd (k h.0), omega (arith, h.0, h.1))
-      | inr h ↦
-          let ends : index_after c r n + gap ≡ c = omega (arith, h.0, h.1, h.2) in
-          let fits : n + gap + s ≤ c = omega (arith, h.0, h.1, h.2) in
-          (omega (arith, place_cases c r n, place_cases c r (n + gap), ends, fits, h), λ k. ends, fits)
-    ]
+placed_here c r n s gap wf le e = search (rules, place_le_in, gap_some, place_cases)
 
 module _ {H : Type 0} where
   -- ---- slots
@@ -226,11 +205,7 @@ pub placed_alike : {H : Type 0} (q : PacketsState H) (n c : ℕ) (m b : RingHead
     → m.length ≡ slots_used q.packets
     → c ≡ length q.storage → b ≡ place q.read_at (bytes_used q.packets) → placement_in n c (packets_head m b)
     s ≡ placement q s
-placed_alike q n c m b s en em ec eb =
-    ap₂ if_slots (ap₂ (λ x y. x - y) en em)
-    (ap₂ (λ (k : ℕ) (p : RingHead). gap_for s (contiguous_free k (rewound p)) (k - (rewound p).length)) ec eb
-    ∙ ap (λ o. gap_for s (contiguous_window o) (window o))
-    (rewound_ring q.storage (place q.read_at (bytes_used q.packets))))
+placed_alike q n c m b s en em ec eb = search (rules, rewound_ring)
 
 -- ---- how many packets slots have
 module _ {H : Type 0} where
@@ -250,11 +225,7 @@ module _ {H : Type 0} where
   -- in two parts
   pub packets_in_parts : (a b ms : List (PacketMetadata H)) → a ++ b ≡ ms →
       length (filter (λ m. is_some m.header) a) + length (filter (λ m. is_some m.header) b) ≡ length (packets_in 0 ms)
-  packets_in_parts a b ms e =
-      sym (length-append (filter (λ m. is_some m.header) a) (filter (λ m. is_some m.header) b))
-      ∙ ap length (sym (filter-append (λ m. is_some m.header) a b))
-      ∙ ap (λ l. length (filter (λ m. is_some m.header) l)) e
-      ∙ sym (length-packets_in 0 ms)
+  packets_in_parts a b ms e = search (rules, length-append, filter-append, length-packets_in)
 
 -- the first element of a list
 module _ {X : Type 0} where
@@ -311,10 +282,7 @@ module _ {H : Type 0} where
       }
 
   pub with_bytes_well : (q : PacketsState H) → IsWellPlaced q → (p : ℕ) (ws : List ℕ) → IsWellPlaced (with_bytes q p ws)
-  with_bytes_well q ok p ws =
-      subst (λ (n : ℕ). (((q.read_at ≡ 0) ⊎ (q.read_at < n)) × (bytes_used q.packets ≤ n)) × ArePlaced n q.read_at 0
-      q.packets
-      × (slots_used q.packets ≤ q.slot_count)) (sym (length-overwrite q.storage p ws)) ok
+  with_bytes_well q ok p ws = search (rules, length-overwrite)
 
   -- ---- a packet at the end of a list
   pub last_append : (ps : List (Packet H)) (p : Packet H) → only_last (ps ++ (p ∷ [])) ≡ p ∷ []
@@ -349,32 +317,27 @@ module _ {H : Type 0} where
     count_g = (rewound_is (byte_ring q)).1
 
     placed_g : ArePlaced (capacity g) g.read_at 0 q.packets
-    placed_g = elim (rewind_cases (byte_ring q)) [
-      | inl k ↦ placed_anew (capacity g) g.read_at 0 q.packets k.0 (place_le_in (capacity g) g.read_at 0 wfg.0
-          (omega arith))
-      | inr k ↦ subst (λ (o : RingState ℕ). ArePlaced (capacity o) o.read_at 0 q.packets) (sym k.1) ok.1
-    ]
+    placed_g = search (rules, rewind_cases, placed_anew, place_le_in, wfg)
 
     module _ (hd : H) where
       -- the ring of bytes after it
       pub enqueued_is : (k : ℕ) → with_enqueued (gap + k) g ≡ byte_ring (with_packet q gap k hd)
-      enqueued_is k =
-          let all = bytes_append q.packets (packet hd k gap) in
-          ap₂ (λ (st : List ℕ) (n : ℕ). ring st g.read_at n) (rewound_is (byte_ring q)).2 (omega (arith, count_g))
+      enqueued_is k = search (rules, bytes_append, rewound_is, count_g)
 
       pub push_well : (k : ℕ) → k ≤ s → IsWellPlaced (with_packet q gap k hd)
       push_well k le =
-          let all = bytes_append q.packets (packet hd k gap) in
-          let more = slots_of_append q.packets (packet hd k gap) in
-          let some = slots_for_pos gap in
-          let end : g.count ≡ 0 + bytes_used q.packets = omega (arith, count_g) in
-          let at : IsPlaced (capacity g) g.read_at (0 + bytes_used q.packets) (packet hd k gap) =
-          subst (λ (n : ℕ). IsPlaced (capacity g) g.read_at n (packet hd k gap)) end (omega (arith, here.0), here.1) in
-          subst IsWellPlaced (ap (λ (st : List ℕ). mk q.slot_count st g.read_at (q.packets ++ (packet hd k gap ∷ [])))
-          (rewound_is (byte_ring q)).2) (
-            (wfg.0, omega (arith, here.2, count_g)),
-            placed_append (capacity g) g.read_at 0 q.packets (packet hd k gap) placed_g at,
-            omega (arith, parts.1),
+          search (
+            rules,
+            bytes_append,
+            slots_of_append,
+            slots_for_pos,
+            count_g,
+            here,
+            rewound_is,
+            wfg,
+            placed_append,
+            placed_g,
+            parts,
           )
 
       pub pushed_is : with_packet_if_room q s hd ≡ with_packet q gap s hd
@@ -384,21 +347,12 @@ module _ {H : Type 0} where
       end_size = ap first_size (last_append q.packets (packet hd s gap))
 
       pub push_place : index_after (capacity g) g.read_at (g.count + gap) ≡ last_index (with_packet q gap s hd)
-      push_place =
-          let sum = bytes_append q.packets (packet hd s gap) in
-          ap₂ (λ (st : List ℕ) (n : ℕ). index_after (length st) g.read_at n) (rewound_is (byte_ring q)).2
-          (omega (arith, end_size, count_g))
+      push_place = search (rules, bytes_append, rewound_is, end_size, count_g)
 
       -- bytes are written to it, and the first k of them stay
       pub cut_is : (k : ℕ) (ws : List ℕ) → with_bytes (with_packet q gap k hd) (last_index (with_packet q gap s hd)) ws
           ≡ with_last_size k (with_last_bytes (with_packet_if_room q s hd) ws)
-      cut_is k ws =
-          let all = with_packet q gap s hd in
-          ap₂ (λ (before back : List (Packet H)). mk q.slot_count (overwrite q.storage (last_index all) ws) all.read_at
-          (before ++ back))
-          (sym (before_append q.packets (packet hd s gap)))
-          (sym (ap (with_first_size k) (last_append q.packets (packet hd s gap))))
-          ∙ ap (λ o. with_last_size k (with_last_bytes o ws)) (sym pushed_is)
+      cut_is k ws = search (rules, before_append, last_append, pushed_is)
 
     -- what two rings of q hold after it
     pub push_left : {m : RingState (PacketMetadata H)} {b : RingState ℕ} → Holds m b q → (b1 : RingState ℕ)
@@ -417,10 +371,7 @@ module _ {H : Type 0} where
   last_one p = last_append [] p
 
   last_cons : (p q : Packet H) (ps : List (Packet H)) → only_last (p ∷ (q ∷ ps)) ≡ only_last (q ∷ ps)
-  last_cons p q ps =
-      let one : length (p ∷ (q ∷ ps)) - 1 ≡ suc (length ps) = omega arith in
-      let two : length ps ≡ length (q ∷ ps) - 1 = omega arith in
-      ap (λ (n : ℕ). drop n (p ∷ (q ∷ ps))) one ∙ ap (λ (n : ℕ). drop n (q ∷ ps)) two
+  last_cons p q ps = search (rules)
 
   -- where the last packet is
   pub last_fits : (c r o : ℕ) (ps : List (Packet H)) → (r ≡ 0) ⊎ (r < c) → o + bytes_used ps ≤ c → ArePlaced c r o ps
@@ -466,24 +417,13 @@ module _ {H : Type 0} where
       ++ (p ∷ []))
       (j : ℕ) (le : j ≤ p.size) where
     pub shorter_is : with_last_size j q ≡ mk q.slot_count q.storage q.read_at (ps ++ (packet p.header j p.gap ∷ []))
-    shorter_is =
-        ap (λ l. mk q.slot_count q.storage q.read_at (before_last l ++ with_first_size j (only_last l))) is
-        ∙ ap₂ (λ (before back : List (Packet H)). mk q.slot_count q.storage q.read_at
-        (before ++ with_first_size j back))
-        (before_append ps p) (last_append ps p)
+    shorter_is = search (rules, before_append, last_append)
 
     pub shorter_bytes : bytes_used (ps ++ (packet p.header j p.gap ∷ [])) + (p.size - j) ≡ bytes_used q.packets
     shorter_bytes = omega (arith, bytes_append ps p, bytes_append ps (packet p.header j p.gap), ap bytes_used is)
 
     pub shorter_well : IsWellPlaced (with_last_size j q)
-    shorter_well =
-        let bytes = shorter_bytes in
-        let one = slots_of_append ps p in
-        let two = slots_of_append ps (packet p.header j p.gap) in
-        let all = ap slots_used is in
-        let placed = shrunk (length q.storage) q.read_at 0 j ps p le (subst (ArePlaced (length q.storage) q.read_at 0)
-        is ok.1) in
-        subst IsWellPlaced (sym shorter_is) ((ok.0.0, omega (arith, ok.0.1)), placed, omega (arith, ok.2))
+    shorter_well = search (rules, shorter_bytes, slots_of_append, shrunk, shorter_is)
 
   -- ---- the gap before the first packet goes
   pub skipped_well : (q : PacketsState H) → IsWellPlaced q → IsWellPlaced (without_gap q)
@@ -646,9 +586,7 @@ module _ {H : Type 0} where
     module _ (m2 : RingState (PacketMetadata H)) (wfm : IsWellFormed m2) (long : capacity m2 ≡ q.slot_count)
         (b2 : RingState ℕ) where
       pub take_left : queue m2 ≡ drop 1 (queue m) → b2 ≡ with_dequeued s b → Holds m2 b2 (without_first q)
-      take_left em after =
-          popped q (well_placed h) z m2 wfm long (em ∙ is_first.1) b2 (after ∙ ap₂ with_dequeued (sym size)
-          (bytes_are h))
+      take_left em after = search (rules, popped, well_placed, is_first, size, bytes_are)
 
       module _ (ws : List ℕ) (new : H) where
         over_is : with_elements b b.read_at ws ≡ byte_ring (with_first_bytes q new ws)
@@ -664,11 +602,7 @@ module _ {H : Type 0} where
 
         pub on_left : queue m2 ≡ slot s (Some new) ∷ drop 1 (queue m) → b2 ≡ with_elements b b.read_at ws
             → Holds m2 b2 (with_first_bytes q new ws)
-        on_left em after =
-            let slots = ap (λ l. packet_slots (with_first_header new l)) is_first.0
-            ∙ head_slots (drop 1 q.packets) (packet new s (first_gap q.packets)) z in
-            held (with_first_bytes q new ws) (headed_well q (well_placed h) new ws) m2 wfm long
-            (em ∙ ap (λ l. slot s (Some new) ∷ l) is_first.1 ∙ sym slots) b2 (after ∙ over_is)
+        on_left em after = search (rules, is_first, head_slots, held, headed_well, well_placed, over_is)
 
 -- ---- the last element of a list
 module _ {X : Type 0} where
