@@ -29,6 +29,7 @@ use Rattle.net_ring.proofs.Rotations.{with_dequeued_parts, take_sum}
 use Rattle.net_ring.specs.declared.head.Span.{Span}
 use Rattle.std.proofs.lemmas.List.Elements.{AllZip-push}
 use Rattle.std.specs.List.{AllZip}
+use Rattle.std.proofs.Common.{rules}
 
 -- what a closure that was lent x at p left there, and gave
 pub returned : {F T R : Type 0} {g : Once F (MutBor T × Unit {0}) (R × (MutBor T × Unit {0}))} {f : F} {x : T} {r : R}
@@ -42,10 +43,7 @@ module _ {T : Type 0} where
   overwrite_head : (s ws : List T) (k : ℕ) → k ≤ length ws → length ws ≤ length s
       → (take k (overwrite s 0 ws) ≡ take k ws)
       × (drop (length ws) (overwrite s 0 ws) ≡ drop (length ws) s)
-  overwrite_head s ws k e le = (
-    same_lists _ _ (grind (arith, places)) (λ m d h. grind (arith, places)),
-    same_lists _ _ (grind (arith, places)) (λ m d h. grind (arith, places)),
-  )
+  overwrite_head s ws k e le = search (rules, same_lists, places)
 
   pub overwrite_none : (s : List T) (i : ℕ) → overwrite s i [] ≡ s
   overwrite_none s i = ap (take (length s)) (take-append-drop i s) ∙ take_all (length s) s (omega arith)
@@ -65,9 +63,7 @@ module _ {T : Type 0} where
   -- what a part of the storage is shown as
   pub part_is : (b : List T) (p m k : ℕ) → m ≡ k → p + k ≤ length b → (now : List T) → now ≡ take m (drop p b)
       → (length now ≡ k) × (now ≡ take k (drop p b))
-  part_is b p m k em le now e =
-      let is : now ≡ take k (drop p b) = e ∙ ap (λ (j : ℕ). take j (drop p b)) em in
-      (ap length is ∙ length-take-le k (drop p b) (omega (arith, length-drop p b)), is)
+  part_is b p m k em le now e = search (rules, length-take-le, length-drop)
 
   pub take_one : (s : List T) (i : ℕ) (x : T) → i < length s → x ≡ get_or s i x → take 1 (drop i s) ≡ x ∷ []
   take_one s i x h e = ap (take 1) (drop_more s i x h) ∙ ap (λ (z : T). z ∷ []) (sym e)
@@ -235,9 +231,7 @@ module _ {T : Type 0} where
 
     -- ---- an index that is found within the window, or within the queue
     pub spare_at : (i : ℕ) → i ≤ window g → At (g.count + i) (spare_index g i)
-    spare_at i le =
-        let same : g.count + min i (window g) ≡ g.count + i = omega arith in
-        subst (λ (j : ℕ). At j (spare_index g i)) same (storage_index_is g (g.count + min i (window g)))
+    spare_at i le = search (rules, storage_index_is)
 
     spare_index_le : (i : ℕ) → spare_index g i ≤ capacity g
     spare_index_le i = storage_index_le (g.count + min i (window g)) (omega (arith, wf.1))
@@ -266,9 +260,7 @@ module _ {T : Type 0} where
         (subst (At (min i g.count)) (sym ep) (storage_index_is g (min i g.count)))
 
     nothing_spare : (i p : ℕ) → WritesSpare g i [] (with_elements g p [])
-    nothing_spare i p =
-        let still : with_elements g p [] ≡ g = ap (λ b. ring b g.read_at g.count) (overwrite_none g.storage p) in
-        subst (WritesSpare g i []) (sym still) (refl, sym (overwrite_none (spare g) i), refl)
+    nothing_spare i p = search (rules, overwrite_none)
 
     -- the clause of `write_unallocated`
     pub wrapping_at : (i : ℕ) (ws : List T) → length ws ≤ window g - i
@@ -292,17 +284,10 @@ module _ {T : Type 0} where
     read_fits h = elim wf.0 [ inl e ↦ omega (arith, wf.1) | inr l ↦ omega arith ]
 
     pub write_fits : window g ≢ 0 → write_at g < capacity g
-    write_fits h = elim (storage_index_is g g.count) [
-      | inl p ↦ omega (arith, p.0, p.1, wf.1)
-      | inr p ↦ omega
-          (arith, p.0, p.1, wf.1, read_at_le g wf)
-    ]
+    write_fits h = search (rules, storage_index_is, read_at_le)
 
     pub queue_head : (x : T) → x ≡ get_or g.storage g.read_at x → g.count ≢ 0 → queue g ≡ x ∷ drop 1 (queue g)
-    queue_head x e h =
-        let fits = read_fits h in
-        first_of (queue g) x (sym (take_one g.storage g.read_at x fits e) ∙ queue_value 0 1 g.read_at (omega arith)
-        (omega arith) read_index_is)
+    queue_head x e h = search (rules, read_fits, first_of, take_one, queue_value, read_index_is)
 
     pub spare_head : (x : T) → x ≡ get_or g.storage (write_at g) x → window g ≢ 0 → spare g ≡ x ∷ drop 1 (spare g)
     spare_head x e h =
@@ -385,18 +370,12 @@ module _ {T : Type 0} where
     -- so does a write to the queue after which elements were dequeued
     pub off_wf : (k p m : ℕ) (a st : List T) → p ≡ storage_index g k → k ≤ capacity g → m ≤ v.count
         → st ≡ overwrite v.storage v.read_at a → IsWellFormed (ring st p m)
-    off_wf k p m a st ep le few e =
-        let long : length st ≡ length v.storage = ap length e ∙ length-overwrite v.storage v.read_at a in
-        let size : length v.storage ≡ length g.storage = ap (λ o. length o.storage) is in
-        (storage_index_is_one g well k p (length st) ep le (long ∙ size), omega (arith, wf'.1))
+    off_wf k p m a st ep le few e = search (rules, length-overwrite, storage_index_is_one, well)
 
     -- and one after which elements were enqueued
     pub in_wf : (p n : ℕ) (a st : List T) → n ≤ window g → st ≡ overwrite v.storage p a
         → IsWellFormed (ring st v.read_at (v.count + n))
-    in_wf p n a st le e =
-        let w = once_wf p a st e in
-        let long : length st ≡ length v.storage = ap length e ∙ length-overwrite v.storage p a in
-        (w.0, omega (arith, wf'.1, long, ap (λ o. o.count) is, ap (λ o. length o.storage) is, le))
+    in_wf p n a st le e = search (rules, once_wf, length-overwrite)
 
     same_storage : v.storage ≡ g.storage
     same_storage = ap (λ o. o.storage) is
@@ -416,16 +395,11 @@ module _ {T : Type 0} where
 
     pub left_in : (k m p : ℕ) → k ≡ m → p ≡ write_at g → (st w : List T) → st ≡ overwrite v.storage p w
         → ring st v.read_at (v.count + k) ≡ with_elements (with_enqueued m g) (write_at g) w
-    left_in k m p ek ep st w e = ap (λ b. ring b v.read_at (v.count + k)) e
-        ∙ ap (λ o. with_elements (with_enqueued k o) p w) is
-        ∙ ap₂ (λ i j. with_elements (with_enqueued i g) j w) ek ep
+    left_in k m p ek ep st w e = search (rules)
 
     pub left_off : (k m p : ℕ) → k ≡ m → p ≡ storage_index g k → (st w : List T) → st ≡ overwrite v.storage v.read_at w
         → ring st p (v.count - k) ≡ with_elements (with_dequeued m g) g.read_at w
-    left_off k m p ek ep st w e =
-        ap (λ b. ring b p (v.count - k)) e ∙ ap (λ o. ring (overwrite o.storage o.read_at w) p (o.count - k)) is
-        ∙ ap (λ j. ring (overwrite g.storage g.read_at w) j (g.count - k)) ep
-        ∙ ap (λ i. with_elements (with_dequeued i g) g.read_at w) ek
+    left_off k m p ek ep st w e = search (rules)
 
     -- ---- what a part that is lent or shown holds, at first: m elements from the index p on
     shown : (p m k : ℕ) → m ≡ k → p + k ≤ capacity g → (now : List T) → now ≡ take m (drop p v.storage)
@@ -437,10 +411,7 @@ module _ {T : Type 0} where
         → (now : List T)
         → now ≡ take m (drop p v.storage)
         → (length now ≡ k) × (now ≡ take (length now) ys) × (now ≡ take (length now) (drop q g.storage))
-    shown_as p q m k ys ep em le value now e =
-        let r = shown p m k em (omega arith) now e in
-        let stored : now ≡ take k (drop q g.storage) = r.1 ∙ ap (λ j. take k (drop j g.storage)) ep in
-        (r.0, stored ∙ value ∙ ap (λ j. take j ys) (sym r.0), stored ∙ ap (λ j. take j (drop q g.storage)) (sym r.0))
+    shown_as p q m k ys ep em le value now e = search (rules, shown)
 
     pub shown_spare : (i n p m : ℕ) → p ≡ spare_index g i → m ≡ contiguous_unallocated g i n → (now : List T)
         → now ≡ take m (drop p v.storage)
@@ -537,21 +508,10 @@ rewind_cases b = grind (arith, nat_tests)
 pub rewound_is : {T : Type 0} (g : RingState T) → (queue (rewind_if_empty g) ≡ queue g)
     × ((rewind_if_empty g).count ≡ g.count)
     × ((rewind_if_empty g).storage ≡ g.storage)
-rewound_is g = elim (rewind_cases g) [
-  | inl h ↦ (
-    ap queue h.1 ∙ sym (ap (λ n. take n (rotation g.storage g.read_at)) h.0),
-    ap (λ o. o.count) h.1 ∙ sym h.0,
-    ap (λ o. o.storage) h.1,
-  )
-  | inr h ↦ (ap queue h.1, ap (λ o. o.count) h.1, ap (λ o. o.storage) h.1)
-]
+rewound_is g = search (rules, rewind_cases)
 
 pub rewind_wf : {T : Type 0} (b : RingState T) → IsWellFormed b → IsWellFormed (rewind_if_empty b)
-rewind_wf b wf = elim (rewind_cases b) [
-  | inl h ↦ subst IsWellFormed (sym h.1) (inl refl, omega arith)
-  | inr h ↦ subst
-      IsWellFormed (sym h.1) wf
-]
+rewind_wf b wf = search (rules, rewind_cases)
 
 -- the same of the numbers of a ring
 pub rewound_ring : {T : Type 0} (xs : List T) (p : RingHead) → ring_at xs (rewound p) ≡ rewind_if_empty (ring_at xs p)
@@ -579,10 +539,7 @@ contiguous_next_some g l = let below = storage_index_below (length g.storage) g.
     arith
 
 pub contiguous_rewound_some : {T : Type 0} (g : RingState T) → window g ≢ 0 → 0 < contiguous_window (rewind_if_empty g)
-contiguous_rewound_some g l =
-    let same = rewound_is g in
-    contiguous_next_some (rewind_if_empty g)
-    (λ none. l (ap₂ (λ (s : List _) (n : ℕ). length s - n) (sym same.2) (sym same.1) ∙ none))
+contiguous_rewound_some g l = search (rules, rewound_is, contiguous_next_some)
 
 pub contiguous_head_some : {T : Type 0} (g : RingState T) → IsWellFormed g → g.count ≢ 0 → 0 < contiguous_queued g
 contiguous_head_some g wf l = omega (arith, read_fits g wf l)
@@ -597,10 +554,7 @@ first_shown xs now i e some = grind (arith, places, gets)
 pub first_in_queue : {T : Type 0} (g : RingState T) → IsWellFormed g → (i n : ℕ) (now : List T)
     → length now ≡ contiguous_allocated g i n → now ≡ take (length now) (drop i (queue g))
     → (i < g.count → 0 < n → 0 < length now) × (0 < n → slice_get now 0 ≡ slice_get (queue g) i)
-first_in_queue g wf i n now long is =
-    let some : i < g.count → 0 < n → 0 < length now = λ l m. (let h = contiguous_in_queue_some g i n wf.1 l m in omega
-    arith) in
-    (some, λ m. first_shown (queue g) now i is (λ l. some (omega (arith, length-queue g wf)) m))
+first_in_queue g wf i n now long is = search (rules, contiguous_in_queue_some, first_shown, length-queue)
 
 module _ {T : Type 0} where
   -- elements of the queue
@@ -614,9 +568,7 @@ module _ {T : Type 0} where
   pub lent_whole : (n : ℕ) (xs lent ws : List T) → n ≡ length xs → lent ≡ take (n - 0) (drop 0 xs)
       → length ws ≡ length lent
       → (lent ≡ xs) × (overwrite xs 0 ws ≡ ws)
-  lent_whole n xs lent ws en el ew =
-      let same : lent ≡ xs = el ∙ take_all (n - 0) xs (omega arith) in
-      (same, overwrite_whole xs ws (ew ∙ ap length same))
+  lent_whole n xs lent ws en el ew = search (rules, take_all, overwrite_whole)
 
 module _ {T : Type 0} (R : T → T → Type 0) where
   pub reset_more : (old xs : List T) (i : ℕ) (d y : T) → i < length xs → d ≡ get_or xs i d → AllZip R (take i old)
@@ -638,9 +590,7 @@ module _ {T : Type 0} (R : T → T → Type 0) where
 
   pub all_reset : (old xs : List T) (i : ℕ) → length old ≤ i → length xs ≡ length old → AllZip R (take i old)
       (take i xs) → AllZip R old xs
-  all_reset old xs i le long h =
-      subst (λ (l : List T). AllZip R l xs) (take_all i old le)
-      (subst (AllZip R (take i old)) (take_all i xs (omega (arith, long, le))) h)
+  all_reset old xs i le long h = search (rules, take_all)
 
 -- ---- by which the calls of heads and of rings are proved: of a storage b that is read from r on and holds n elements
 module _ {T : Type 0} where

@@ -2,6 +2,7 @@
 use Rattle.std.proofs.Common.{◌≡◌, ℕ, ◌+◌, ◌-◌, ◌≤◌, List, [], ◌∷◌, ◌++◌, length, take, drop, refl, sym, ap, ap₂, ◌∙◌}
 use Rattle.std.proofs.Common.{subst, inl, arith, append_assoc, length-drop}
 use Rattle.std.proofs.lemmas.List.{append-nil, take-take, take_all, places, same_lists}
+use Rattle.std.proofs.Common.{rules}
 use Rattle.net_ring.specs.{overwrite, RingState, IsWellFormed, ring, capacity, window, queue, write_at, storage_index}
 use Rattle.net_ring.specs.{contiguous_window, contiguous_queued, contiguous_queue, spare_index}
 use Rattle.net_ring.specs.{with_elements, with_elements_wrapping, with_enqueued, rewind_if_empty, RingCall, Clear}
@@ -28,10 +29,7 @@ module _ {X : Type 0} where
   over : (gone q came next ws : List X) (i : ℕ) → gone ++ q ≡ came → i + length ws ≤ length q →
       next ≡ overwrite q i ws →
       gone ++ next ≡ overwrite came (length gone + i) ws
-  over gone q came next ws i turn le is =
-      ap (λ (l : List X). gone ++ l) is
-      ∙ sym (overwrite-append_right gone q ws (length gone) i refl le)
-      ∙ ap (λ (l : List X). overwrite l (length gone + i) ws) turn
+  over gone q came next ws i turn le is = search (rules, overwrite-append_right, turn)
 
   -- the first ones were written over, and then some of these left
   drop-overwrite : (q ws : List X) (n : ℕ) → n ≤ length ws → length ws ≤ length q →
@@ -67,9 +65,7 @@ module _ {T : Type 0} where
   -- an empty ring that was moved to the storage's beginning
   moved : (g : RingState T) → IsWellFormed g → IsWellFormed (rewind_if_empty g) × (queue (rewind_if_empty g) ≡ queue g)
       × (window (rewind_if_empty g) ≡ window g)
-  moved g ok =
-      let same = facts.rewound_is g in
-      (facts.rewind_wf g ok, same.0, ap₂ (λ (s : List T) (n : ℕ). length s - n) same.2 same.1)
+  moved g ok = search (rules, ok)
 
   -- xs was written over the spare part, round the storage's end, and then enqueued
   in_wrapping : (g : RingState T) (xs : List T) → IsWellFormed g → length xs ≤ window g →

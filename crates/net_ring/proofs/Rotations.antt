@@ -11,6 +11,7 @@ use Rattle.net_ring.specs.{IsWellFormed, with_elements, with_enqueued, with_dequ
 use Rattle.std.specs.Prelude.{slice_get, slice_set}
 use Rattle.std.proofs.lemmas.Grind.{common_steps}
 use Rattle.std.proofs.lemmas.Option.{gets}
+use Rattle.std.proofs.Common.{rules}
 
 -- p is the index, in a list of c elements, of the element j of the list rotated by r
 abbrev pub IsStorageIndex : ℕ → ℕ → ℕ → ℕ → Type 0
@@ -69,12 +70,7 @@ module _ {T : Type 0} where
         (omega (arith, length-rotation g.storage g.read_at, wf.1))
 
     pub length-spare : length (spare g) ≡ window g
-    length-spare = omega (
-      arith,
-      length-drop g.count (rotation g.storage g.read_at),
-      length-rotation g.storage
-          g.read_at,
-    )
+    length-spare = search (rules, length-drop, length-rotation)
 
     -- what is written to the spare part
     pub spare-written : (i p : ℕ) (ws : List T) → i + length ws ≤ window g → p + length ws ≤ capacity g
@@ -92,10 +88,7 @@ module _ {T : Type 0} where
 
     pub with_enqueued_parts : (k : ℕ) → k ≤ window g → (queue (with_enqueued k g) ≡ queue g ++ take k (spare g))
         × (spare (with_enqueued k g) ≡ drop k (spare g))
-    with_enqueued_parts k h = (
-      take_sum g.count k (rotation g.storage g.read_at),
-      sym (drop-drop k g.count (rotation g.storage g.read_at)),
-    )
+    with_enqueued_parts k h = search (rules, take_sum, drop-drop)
 
     pub with_dequeued_parts : (k : ℕ) → k ≤ g.count → (queue (with_dequeued k g) ≡ drop k (queue g))
         × (spare (with_dequeued k g) ≡ spare g ++ take k (queue g))

@@ -1,5 +1,5 @@
-use Rattle.std.proofs.Common.{List, ◌≡◌, ◌∙◌, refl, sym, ap, min, arith}
-use Rattle.net_ring.specs.{overwrite, capacity, contiguous_queued, with_elements, with_dequeued, ring_at}
+use Rattle.std.proofs.Common.{List, ◌≡◌, ◌∙◌, refl, ap, min, arith}
+use Rattle.net_ring.specs.{overwrite, capacity, contiguous_queued, ring_at}
 use Rattle.net_ring.proofs.RingFacts.{well, found, left_off, shown_head, dequeued_law, contiguous_head_some}
 use Rattle.net_ring.proofs.Rotations.{length-overwrite}
 use Rattle.net_ring.proofs.ring_buffer.RingOver.dequeue_many.Goals as goal

@@ -1,6 +1,6 @@
 use Rattle.std.proofs.Common.{List, ◌≡◌, ◌∙◌, refl, sym, subst, ap, length, min, arith}
 use Rattle.net_ring.specs.{IsWellFormed, index_after, capacity, rewind_if_empty, contiguous_window, write_at}
-use Rattle.net_ring.specs.{with_enqueued, with_elements, ring_at, rewound}
+use Rattle.net_ring.specs.{ring_at, rewound}
 use Rattle.net_ring.proofs.RingFacts.{well, found_next, rewind_wf, rewound_ring, left_in, shown_next, enqueued_law}
 use Rattle.net_ring.proofs.RingFacts.{contiguous_rewound_some, rewound_is}
 use Rattle.net_ring.proofs.Rotations.{length-overwrite}

@@ -1,4 +1,4 @@
-use Rattle.std.proofs.Common.{◌≡◌, ◌∙◌, ap, ◌-◌, take, drop, ℕ, List, length, min, length-take, arith}
+use Rattle.std.proofs.Common.{◌≡◌, ◌∙◌, ap, ◌-◌, take, drop, ℕ, List, length, min}
 use Rattle.net_ring.specs.{RingState, capacity, window, spare_index, with_elements_wrapping, ring_at, overwrite}
 use Rattle.net_ring.proofs.Rotations.{length-overwrite}
 use Rattle.net_ring.proofs.RingFacts.{ahead_clause, once_wf, lent_whole}
