@@ -101,22 +101,6 @@ module _ (b : RangesState) (d : Positions) (start from to : ℕ) (sound : IsSoun
       let less = forgets.less p in let gone = forgets.gone p in let front_is = front_has b.acknowledged p in
       grind (arith, nat_tests, less, gone, front_is)
 
-  pub other_told : (p : ℕ) → IsTrue (is_in_flight left p) → IsTrue (is_in_flight b p)
-  other_told p is = let less = forgets.less p in grind (arith, nat_tests, less)
-
-pub marked_is_sound : (b : RangesState) (d : Positions) (s to : ℕ) → IsSoundRanges b → to ≤ end_number b →
-    s ≡ max b.sent to →
-    ((p : ℕ) → IsTrue (contains b.settled p) → IsTrue (contains d p)) →
-    ((p : ℕ) → IsTrue (contains d p) → IsFalse (contains b.settled p) → p < to) →
-    IsSoundRanges (record b { sent = s; settled = d })
-marked_is_sound b d s to sound end is more less = record {
-  fits = sound.fits;
-  sent = let l = sound.sent in omega (arith, l, end, is);
-  below = λ p l. more p (sound.below p l);
-  acknowledged = λ p has. let l = sound.acknowledged p has in omega (arith, l, is);
-  settled = λ p has. let old = sound.settled p in let new = less p has in grind (arith, old, new, is);
-}
-
 -- ---- What is acknowledged: the set t has what was settled and no other but the range, and all before the front is added.
 module _ (a b d t e : Positions) (from to : ℕ) (taken : b ≡ with_range a from (to - from))
     (settled : e ≡ with_range t 0 (front b)) (more : (p : ℕ) → IsTrue (contains d p) → IsTrue (contains t p))
@@ -130,11 +114,6 @@ module _ (a b d t e : Positions) (from to : ℕ) (taken : b ≡ with_range a fro
   pub open_after : (p : ℕ) → (not (contains b p) && not (contains e p))
       ≡ ((not (contains a p) && not (contains d p)) && not (is_within from to p))
   open_after p =
-      let one = is_taken p in let other = is_settled p in let low = front_has b p in let old = more p in
-      let new = less p in grind (arith, nat_tests, one, other, low, old, new)
-
-  pub flight_after : (p : ℕ) → IsTrue (contains e p && not (contains b p)) → IsTrue (contains d p && not (contains a p))
-  flight_after p is =
       let one = is_taken p in let other = is_settled p in let low = front_has b p in let old = more p in
       let new = less p in grind (arith, nat_tests, one, other, low, old, new)
 

@@ -213,17 +213,6 @@ module _ {h : FiniteReceiverHead} {c : ℕ} {rs : List (ℕ × ℕ)} (s : HasSou
   end_holds end after true can is = (let below = s.below in let may = can refl in grind (arith, nat_tests))
   end_holds end after false can is = (let below = s.below in omega (arith, is))
 
-  -- the same ranges, with that end
-  pub with_after : (after : ℕ) → top_at h.receiver rs ≤ end_with after →
-      HasSoundRanges (finite_at h.receiver after) c rs
-  with_after after top = record {
-    held = s.held;
-    queued = s.queued;
-    within = s.within;
-    below = top;
-    number = s.number;
-  }
-
   -- whether a part has no room, by its offsets
   pub room_is : (f t : ℕ) → HasNoRoomFor stored (Some (n + f, n + t))
       ↔ ((0 < f) × MakesTooManyRuns (length rs) offsets f (t - f))
