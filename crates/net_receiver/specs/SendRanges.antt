@@ -1,18 +1,20 @@
 -- What a stream that ends sends, and sends again, where each range that was sent is answered for by itself, as in QUIC.
---     RangesState, new_ranges most first      what is known of its numbers, and of those of a stream to which nothing was
---         written
+--     RangesState, new_ranges most first      what is known of its numbers, and of those of a stream to which nothing
+--         was written
 --     end_number b      the number after the last byte's, or after the end's
 --     IsSoundRanges b      what is true of each
 --     is_open b p      number p is neither acknowledged nor in flight: below what was sent it is lost, else never sent
 --     is_lost b p, is_in_flight b p      of what was sent
 --     flight_count b p n      how many of the n numbers from p on are in flight
 --     is_within from to p      a number of a range
+--     NoneIsOpenBelow b n, NoneIsOpen b from to      no number below n is open, or none of a range
+--     LacksRoom most s from to      a range isn't added to a set
 --     data_top b limit      up to where numbers may be sent, if data may be below a limit
 --     IsNext b top size from to      the range to send next
 --     runs_beyond s      how many runs a set has beyond its front
 --     Loses b from to left      what is left once a range is lost
---     BufferCall, still_marked c p was, marked_by cs p was      what is said of ranges, and whether a number is marked by
---         that, and not lost since
+--     BufferCall, still_marked c p was, marked_by cs p was      what is said of ranges, and whether a number is marked
+--         by that, and not lost since
 --     Told c b left, AreTold b cs, buffer_after b cs      what a call leaves in flight, and what several leave
 --     Board, SendBuffer, IsSoundBuffer      a set whose runs are in storage; numbers and bytes of a stream
 -- NothingIsForgotten is a law.
@@ -25,7 +27,7 @@ use Rattle.net_assembler.specs.Positions.{Positions, contains, front, with_range
 use Rattle.net_receiver.specs.Finite.{no_end}
 use Rattle.net_receiver.specs.SenderState.{end_of}
 use Rattle.net_receiver.specs.FiniteSender.{FiniteSenderState, fresh_finite_sender, first_number}
-use Rattle.net_receiver.specs.Scoreboards.{beyond}
+use Rattle.net_receiver.specs.Scoreboards.{HasNoRoom, IsReport, beyond}
 
 -- the positions as a code
 abbrev pub positions_code : Coded Positions
@@ -61,8 +63,8 @@ new_ranges most first = record {
 abbrev pub end_number : RangesState → ℕ
 end_number b = b.written + from_bool b.closed
 
--- what was sent was written, the end counted, for which there is a number; all that is acknowledged in order is settled;
--- and nothing is acknowledged or settled that was never sent
+-- what was sent was written, the end counted, for which there is a number; all that is acknowledged in order is
+-- settled; and nothing is acknowledged or settled that was never sent
 pub record IsSoundRanges (b : RangesState) : Type 0 where
   pub fits : b.written < no_end
   pub sent : b.sent ≤ end_number b
@@ -86,6 +88,17 @@ flight_count b p (suc n) = from_bool (is_in_flight b p) + flight_count b (p + 1)
 abbrev pub is_within : ℕ → ℕ → ℕ → Bool
 is_within from to p = nat_le from p && nat_lt p to
 
+abbrev pub NoneIsOpenBelow : RangesState → ℕ → Type 0
+NoneIsOpenBelow b n = (p : ℕ) → p < n → IsFalse (is_open b p)
+
+abbrev pub NoneIsOpen : RangesState → ℕ → ℕ → Type 0
+NoneIsOpen b from to = (p : ℕ) → IsTrue (is_within from to p) → IsFalse (is_open b p)
+
+-- it begins beyond the front, and ends too far above that, or with it there would be too many runs
+abbrev pub LacksRoom : ℕ → Positions → ℕ → ℕ → Type 0
+LacksRoom most s from to =
+    (front s < from) × (IsReport (front s) to from to → HasNoRoom most s from (to - from))
+
 -- the end's number isn't data: it may be sent once all data may
 abbrev pub data_top : RangesState → ℕ → ℕ
 data_top b limit = if nat_le b.written limit then end_number b else limit
@@ -95,7 +108,7 @@ data_top b limit = if nat_le b.written limit then end_number b else limit
 pub record IsNext (b : RangesState) (top size from to : ℕ) : Type 0 where
   pub some : from < to
   pub within : to ≤ top
-  pub first : (p : ℕ) → p < from → IsFalse (is_open b p)
+  pub first : NoneIsOpenBelow b from
   pub all_open : (p : ℕ) → from ≤ p → p < to → IsTrue (is_open b p)
   pub one_kind : from < b.sent → to ≤ b.sent
   pub bytes : min to b.written ≤ from + size

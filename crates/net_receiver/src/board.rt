@@ -38,7 +38,8 @@ impl<R: Storage<Run>> Model for Board<R> {
       positions = reported_by b.head (R.elements b.runs);
     } };
 
-    ghost invariant = { λ b. IsSoundBoard b.head (R.elements b.runs) × IsCanonical b.head.reported };
+    ghost invariant = { λ b. IsSoundBoard b.head (R.elements b.runs)
+        × IsCanonical b.head.reported };
 }
 
 /// Written by hand, so that storage that isn't `Drop` can be used too.
@@ -102,7 +103,8 @@ impl<R: Storage<Run>> Board<R> {
             ↔ (IsReport (front self.old.positions) sent range.start range.end → ⊥) }
         ensures too_many { (result ≡ Err ReportError.TooManyHoles)
             ↔ (IsReport (front self.old.positions) sent range.start range.end
-            × HasNoRoom self.old.most_runs self.old.positions range.start (range.end - range.start)) }
+            × HasNoRoom self.old.most_runs self.old.positions range.start
+            (range.end - range.start)) }
         ensures ok { OnOk result (self.new.positions
             ≡ with_range self.old.positions range.start (range.end - range.start)) }
         ensures unchanged { OnErr result (self.new ≡ self.old) }
@@ -124,8 +126,8 @@ impl<R: Storage<Run>> Board<R> {
     /// Forgets the positions of `range`, as `ScoreboardHead::forget` does.
     pub(crate) fn forget(&mut self, range: Range<u64>)
         ensures runs { self.new.most_runs ≡ self.old.most_runs }
-        ensures forgets { Forgets (runs_beyond self.old.positions) self.old.most_runs self.old.positions range.start
-            range.end self.new.positions }
+        ensures forgets { Forgets (runs_beyond self.old.positions) self.old.most_runs
+            self.old.positions range.start range.end self.new.positions }
         ensures none { range.end ≤ range.start → self.new ≡ self.old }
     {
         let count = self.runs.count();
@@ -149,7 +151,8 @@ impl<R: Storage<Run>> Board<R> {
 
     /// Returns how many positions of `range` weren't reported.
     pub(crate) fn missing_between(&self, range: Range<u64>) -> u64
-        ensures count { result ≡ missing_count self.now.positions range.start (range.end - range.start) }
+        ensures count { result
+            ≡ missing_count self.now.positions range.start (range.end - range.start) }
         ensures few { result ≤ range.end - range.start }
     {
         self.head

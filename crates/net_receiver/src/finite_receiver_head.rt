@@ -126,7 +126,8 @@ pub(crate) fn after_end_with(
     is_last: bool,
 ) -> u64
     requires place { receiver.now.place.length ≤ capacity }
-    requires fits { receiver.now.first + receiver.now.count_read + receiver.now.place.length < 2 ^ 64 }
+    requires fits { receiver.now.first + receiver.now.count_read + receiver.now.place.length
+        < 2 ^ 64 }
     ensures { end_with result ≡ (if is_last && nat_le last
         (receiver.now.first + receiver.now.count_read + capacity)
         then last else end_with after_end) }
@@ -153,7 +154,8 @@ fn ends_in_order(
     ensures { result ≡ (nat_le pos (next_of (finite_at receiver.now after_end))
         && nat_le (next_of (finite_at receiver.now after_end)) last
         && nat_le last (receiver.now.first + receiver.now.count_read + capacity)
-        && nat_lt last no_end && not (next_of (finite_at receiver.now after_end) == end_with after_end)) }
+        && nat_lt last no_end
+        && not (next_of (finite_at receiver.now after_end) == end_with after_end)) }
 {
     let next = receiver.next();
     pos <= next
@@ -191,17 +193,21 @@ fn keep_usual(
     is_last: bool,
 ) -> Result<KeptBytes, FiniteError>
     requires { HasSoundFinite (finite_at receiver.old after_end.old) (length storage.old) runs.old }
-    ensures sound { HasSoundFinite (finite_at receiver.new after_end.new) (length storage.new) runs.new }
+    ensures sound { HasSoundFinite (finite_at receiver.new after_end.new)
+        (length storage.new) runs.new }
     ensures state { finite_of (finite_at receiver.new after_end.new) storage.new runs.new
-        ≡ usual_after (length runs.old) (finite_of (finite_at receiver.old after_end.old) storage.old runs.old)
+        ≡ usual_after (length runs.old)
+        (finite_of (finite_at receiver.old after_end.old) storage.old runs.old)
         pos bytes.now is_last }
     ensures value { result ≡ usual_result (length runs.old)
-        (finite_of (finite_at receiver.old after_end.old) storage.old runs.old) pos bytes.now is_last }
+        (finite_of (finite_at receiver.old after_end.old) storage.old runs.old)
+        pos bytes.now is_last }
     ensures stored { storage.new
         ≡ usual_storage_after (length runs.old) (finite_at receiver.old after_end.old) storage.old
-        (finite_of (finite_at receiver.old after_end.old) storage.old runs.old) pos bytes.now is_last }
-    ensures unchanged { OnErr result ((receiver.new ≡ receiver.old) × (after_end.new ≡ after_end.old)
-        × (storage.new ≡ storage.old) × (runs.new ≡ runs.old)) }
+        (finite_of (finite_at receiver.old after_end.old) storage.old runs.old)
+        pos bytes.now is_last }
+    ensures unchanged { OnErr result ((receiver.new ≡ receiver.old)
+        × (after_end.new ≡ after_end.old) × (storage.new ≡ storage.old) × (runs.new ≡ runs.old)) }
     ensures canonical { IsCanonical receiver.old.held → IsCanonical receiver.new.held }
 {
     // A sum above 64 bits becomes `u64::MAX`, which `can_end` refuses.
@@ -232,16 +238,20 @@ pub(crate) fn keep_ending(
     is_last: bool,
 ) -> Result<KeptBytes, FiniteError>
     requires { HasSoundFinite (finite_at receiver.old after_end.old) (length storage.old) runs.old }
-    ensures sound { HasSoundFinite (finite_at receiver.new after_end.new) (length storage.new) runs.new }
+    ensures sound { HasSoundFinite (finite_at receiver.new after_end.new)
+        (length storage.new) runs.new }
     ensures state { finite_of (finite_at receiver.new after_end.new) storage.new runs.new
-        ≡ finite_after (length runs.old) (finite_of (finite_at receiver.old after_end.old) storage.old runs.old)
+        ≡ finite_after (length runs.old)
+        (finite_of (finite_at receiver.old after_end.old) storage.old runs.old)
         pos bytes.now is_last }
     ensures value { result ≡ finite_result (length runs.old)
-        (finite_of (finite_at receiver.old after_end.old) storage.old runs.old) pos bytes.now is_last }
+        (finite_of (finite_at receiver.old after_end.old) storage.old runs.old)
+        pos bytes.now is_last }
     ensures stored { storage.new
-        ≡ finite_storage_after (finite_at receiver.old after_end.old) storage.old runs.old pos bytes.now is_last }
-    ensures unchanged { OnErr result ((receiver.new ≡ receiver.old) × (after_end.new ≡ after_end.old)
-        × (storage.new ≡ storage.old) × (runs.new ≡ runs.old)) }
+        ≡ finite_storage_after (finite_at receiver.old after_end.old) storage.old runs.old
+        pos bytes.now is_last }
+    ensures unchanged { OnErr result ((receiver.new ≡ receiver.old)
+        × (after_end.new ≡ after_end.old) × (storage.new ≡ storage.old) × (runs.new ≡ runs.old)) }
     ensures canonical { IsCanonical receiver.old.held → IsCanonical receiver.new.held }
 {
     // A sum above 64 bits becomes `u64::MAX`, where no stream ends.

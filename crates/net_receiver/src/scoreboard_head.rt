@@ -206,8 +206,8 @@ impl ScoreboardHead {
     /// Forgets the positions from `start` on and below `end`.
     ///
     /// If that would cut a run in two, and there are as many runs as the slice has elements, the shorter part of it is
-    /// forgotten too; of the positions below `base`, those at or after `end`. If `start` is below `base`, and a position
-    /// 2^32 or more above it was reported, all from `start` on are forgotten.
+    /// forgotten too; of the positions below `base`, those at or after `end`. If `start` is below `base`, and a
+    /// position 2^32 or more above it was reported, all from `start` on are forgotten.
     ///
     /// # Requires
     ///
@@ -215,8 +215,8 @@ impl ScoreboardHead {
     pub(crate) fn forget(&mut self, runs: &mut [Run], start: u64, end: u64)
         requires { IsSoundBoard self.old runs.old }
         ensures sound { IsSoundBoard self.new runs.new }
-        ensures forgets { Forgets self.old.reported.used (length runs.old) (reported_by self.old runs.old) start end
-            (reported_by self.new runs.new) }
+        ensures forgets { Forgets self.old.reported.used (length runs.old)
+            (reported_by self.old runs.old) start end (reported_by self.new runs.new) }
         ensures none { end ≤ start → (self.new ≡ self.old) × (runs.new ≡ runs.old) }
         ensures canonical { IsCanonical self.old.reported → IsCanonical self.new.reported }
     {
@@ -236,8 +236,8 @@ impl ScoreboardHead {
         requires some { start < end }
         requires below { start < self.old.base }
         ensures sound { IsSoundBoard self.new runs.new }
-        ensures forgets { Forgets self.old.reported.used (length runs.old) (reported_by self.old runs.old) start end
-            (reported_by self.new runs.new) }
+        ensures forgets { Forgets self.old.reported.used (length runs.old)
+            (reported_by self.old runs.old) start end (reported_by self.new runs.new) }
         ensures canonical { IsCanonical self.old.reported → IsCanonical self.new.reported }
     {
         let base = self.base;
@@ -266,8 +266,8 @@ impl ScoreboardHead {
         requires some { start < end }
         requires beyond { self.old.base ≤ start }
         ensures sound { IsSoundBoard self.new runs.new }
-        ensures forgets { Forgets self.old.reported.used (length runs.old) (reported_by self.old runs.old) start end
-            (reported_by self.new runs.new) }
+        ensures forgets { Forgets self.old.reported.used (length runs.old)
+            (reported_by self.old runs.old) start end (reported_by self.new runs.new) }
         ensures canonical { IsCanonical self.old.reported → IsCanonical self.new.reported }
     {
         let from = self.offset_of(start);
@@ -280,14 +280,15 @@ impl ScoreboardHead {
         let _ = self.reported.remove_range(runs, low, high);
     }
 
-    /// Returns a range of offsets with what is before it in its run, or with what is after it, whichever is less. Without
-    /// that the run isn't cut in two.
+    /// Returns a range of offsets with what is before it in its run, or with what is after it, whichever is less.
+    /// Without that the run isn't cut in two.
     fn part_of_run(&self, runs: &[Run], from: usize, to: usize) -> (usize, usize)
         requires sound { IsSoundBoard self.now runs.now }
         requires order { from ≤ to }
         ensures low { result.0 ≤ from }
         ensures high { to ≤ result.1 }
-        ensures whole { CutsRun (set_of self.now.reported runs.now) result.0 (result.1 - result.0) → ⊥ }
+        ensures whole { CutsRun (set_of self.now.reported runs.now)
+            result.0 (result.1 - result.0) → ⊥ }
     {
         let last = self.reported.first_missing(runs, to);
         let by = self.reported.runs_by(runs, from);

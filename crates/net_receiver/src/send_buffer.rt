@@ -2,14 +2,15 @@
 #![tactic(auto, using(crate::proofs::SendRanges::buffers))]
 
 ghost use Rattle.std.specs.Prelude.{◌≡◌, ◌↔◌, ◌-◌, ◌+◌, ◌<◌, ◌≤◌, ◌&&◌, ◌++◌, ◌==◌, ℕ, None, IsTrue, IsFalse};
-ghost use Rattle.std.specs.Prelude.{IfSome, IsErr, MatchResult, min, max, length, not, nat_le, nat_lt, true};
+ghost use Rattle.std.specs.Prelude.{IfSome, IsErr, IfOk, min, max, length, not, nat_le, nat_lt, true};
 ghost use Rattle.std.specs.Prelude.{if◌then◌else◌};
 ghost use Rattle.net_assembler.specs.Positions.{contains, front, missing_count, with_range};
 ghost use Rattle.net_receiver.specs.FiniteSender.{sender_after_command, Writes, Closes, Marks, Acknowledges};
 ghost use Rattle.net_receiver.specs.FiniteSender.{finite_room, first_number, moved_finite_sender};
 ghost use Rattle.net_receiver.specs.Finite.{no_end};
 ghost use Rattle.net_receiver.specs.Scoreboards.{HasNoRoom, IsReport};
-ghost use Rattle.net_receiver.specs.SendRanges.{new_send_buffer, end_number, is_open, is_within, data_top, IsNext, Loses};
+ghost use Rattle.net_receiver.specs.SendRanges.{new_send_buffer, end_number, is_open, is_within, data_top, IsNext};
+ghost use Rattle.net_receiver.specs.SendRanges.{LacksRoom, Loses, NoneIsOpen, NoneIsOpenBelow};
 ghost use Rattle.net_receiver.specs.SendRanges.{Told, IsMarked, IsLost, AllLost, IsOther, flight_count};
 ghost use Rattle.net_receiver.specs.Segments.{IsSegment};
 
@@ -114,15 +115,16 @@ impl<S: Storage<u8>, R: Storage<Run>> SendBufferOver<S, R> {
     ///
     /// # Requires
     ///
-    /// `acknowledged` and `settled` have as many runs, which may be none. `first` is below `u64::MAX`: an end there would
-    /// have no number after it.
+    /// `acknowledged` and `settled` have as many runs, which may be none. `first` is below `u64::MAX`: an end there
+    /// would have no number after it.
     #[must_use]
     #[track_caller]
     pub fn over_at(storage: S, acknowledged: R, settled: R, first: u64) -> Self
         requires runs { length (R.elements settled) ≡ length (R.elements acknowledged) }
         requires end { first < no_end }
         ensures { result
-            ≡ new_send_buffer (length (S.elements storage)) (length (R.elements acknowledged)) first }
+            ≡ new_send_buffer (length (S.elements storage)) (length (R.elements acknowledged))
+            first }
     {
         prove!(
             settled.count() == acknowledged.count(),
@@ -377,8 +379,8 @@ impl<S: Storage<u8>, R: Storage<Run>> SendBufferOver<S, R> {
         self.ranges.close();
     }
 
-    /// Lends the bytes of a range, in two parts, and returns whether the stream ends after them. If the range begins below
-    /// `numbers().first_unacknowledged`, it lends none. Bytes that are acknowledged beyond that are lent too.
+    /// Lends the bytes of a range, in two parts, and returns whether the stream ends after them. If the range begins
+    /// below `numbers().first_unacknowledged`, it lends none. Bytes that are acknowledged beyond that are lent too.
     ///
     /// ```
     /// # use net_base::finite::SendBuffer;
@@ -398,8 +400,8 @@ impl<S: Storage<u8>, R: Storage<Run>> SendBufferOver<S, R> {
         self.sender.segment_bytes(range)
     }
 
-    /// Returns how many numbers are in flight: marked, not lost since, and not acknowledged. It passes what is in flight
-    /// once, and searches at each run.
+    /// Returns how many numbers are in flight: marked, not lost since, and not acknowledged. It passes what is in
+    /// flight once, and searches at each run.
     ///
     /// ```
     /// # use net_base::finite::SendBuffer;
@@ -451,8 +453,8 @@ impl<S: Storage<u8>, R: Storage<Run>> SendBufferOver<S, R> {
     }
 
     /// Returns the range to send next, as `SendRangesOver::next` does: what is lost, else what was never sent. All its
-    /// bytes are below `limit`, such as QUIC's MAX_STREAM_DATA, and there are at most `size` (at most one, if that is 0).
-    /// `None` exactly if there is none.
+    /// bytes are below `limit`, such as QUIC's MAX_STREAM_DATA, and there are at most `size` (at most one, if that is
+    /// 0). `None` exactly if there is none.
     ///
     /// ```
     /// # use net_base::finite::SendBuffer;
@@ -470,8 +472,8 @@ impl<S: Storage<u8>, R: Storage<Run>> SendBufferOver<S, R> {
     pub fn next(&self, limit: u64, size: usize) -> Option<Range<u64>>
         ensures some { IfSome result (λ r.
             IsNext self.now.ranges (data_top self.now.ranges limit) (max 1 size) r.start r.end) }
-        ensures none { result ≡ None → (p : ℕ) → p < data_top self.now.ranges limit →
-            IsFalse (is_open self.now.ranges p) }
+        ensures none { result ≡ None →
+            NoneIsOpenBelow self.now.ranges (data_top self.now.ranges limit) }
     {
         self.ranges.next(limit, size)
     }
@@ -481,7 +483,8 @@ impl<S: Storage<u8>, R: Storage<Run>> SendBufferOver<S, R> {
     ///
     /// Pass what `next` returned, or a part of that from its start on, or what was sent before, as a probe. All below
     /// the range's end counts as sent then, and what of it was never marked counts as lost. A range beyond the first
-    /// that is open isn't noted if that would make more than `most_runs` runs: what of it was open stays so, and is sent again.
+    /// that is open isn't noted if that would make more than `most_runs` runs: what of it was open stays so, and is
+    /// sent again.
     ///
     /// ```
     /// # use net_base::finite::SendBuffer;
@@ -506,13 +509,15 @@ impl<S: Storage<u8>, R: Storage<Run>> SendBufferOver<S, R> {
             self.new.sender ≡ sender_after_command self.old.sender (Marks range.end) }
         ensures others { (p : ℕ) → IsFalse (is_within range.start range.end p) →
             is_open self.new.ranges p ≡ is_open self.old.ranges p }
-        ensures sent { (p : ℕ) → IsTrue (is_open self.new.ranges p) → IsTrue (is_open self.old.ranges p) }
-        ensures first { IsTrue result → ((p : ℕ) → p < range.start → IsFalse (is_open self.old.ranges p)) →
-            (p : ℕ) → IsTrue (is_within range.start range.end p) → IsFalse (is_open self.new.ranges p) }
+        ensures sent { (p : ℕ) →
+            IsTrue (is_open self.new.ranges p) → IsTrue (is_open self.old.ranges p) }
+        ensures first { IsTrue result → NoneIsOpenBelow self.old.ranges range.start →
+            NoneIsOpen self.new.ranges range.start range.end }
         ensures told { Told (IsMarked range.start range.end) self.old.ranges self.new.ranges }
-        ensures room { IsTrue result → IsReport (front self.old.ranges.settled) range.end range.start range.end →
-            (HasNoRoom self.old.ranges.most_runs self.old.ranges.settled range.start (range.end - range.start) → ⊥) →
-            (p : ℕ) → IsTrue (is_within range.start range.end p) → IsFalse (is_open self.new.ranges p) }
+        ensures room { IsTrue result →
+            IsReport (front self.old.ranges.settled) range.end range.start range.end →
+            (HasNoRoom self.old.ranges.most_runs self.old.ranges.settled range.start
+            (range.end - range.start) → ⊥) → NoneIsOpen self.new.ranges range.start range.end }
     {
         let end = range.end;
         if !self.ranges.mark(range) {
@@ -526,8 +531,8 @@ impl<S: Storage<u8>, R: Storage<Run>> SendBufferOver<S, R> {
     /// sent again. Room for its bytes is free once all before them are acknowledged.
     ///
     /// A range that begins beyond the first number that isn't acknowledged isn't remembered if that would make more
-    /// than `most_runs` runs, or if it ends 2^32 or more above that number: then it is lost, and `sent_again` is set. An
-    /// old acknowledgement, whose numbers all were acknowledged, has nothing that is new, and is no error.
+    /// than `most_runs` runs, or if it ends 2^32 or more above that number: then it is lost, and `sent_again` is set.
+    /// An old acknowledgement, whose numbers all were acknowledged, has nothing that is new, and is no error.
     ///
     /// ```
     /// # use net_base::finite::{NotSent, SendBuffer};
@@ -548,27 +553,28 @@ impl<S: Storage<u8>, R: Storage<Run>> SendBufferOver<S, R> {
         ensures refused { IsErr result ↔ (self.old.ranges.sent < range.end) }
         ensures unchanged { IsErr result → self.new ≡ self.old }
         ensures none { range.end ≤ range.start → self.new ≡ self.old }
-        ensures again { MatchResult result (λ it. IsTrue it.sent_again ↔ ((range.start < range.end)
-            × (front self.old.ranges.acknowledged < range.start)
-            × (IsReport (front self.old.ranges.acknowledged) range.end range.start range.end →
-            HasNoRoom self.old.ranges.most_runs self.old.ranges.acknowledged range.start (range.end - range.start)))) (λ _. Unit {0}) }
-        ensures new { MatchResult result (λ it. it.new ≡ (if it.sent_again then 0
-            else missing_count self.old.ranges.acknowledged range.start (range.end - range.start))) (λ _. Unit {0}) }
-        ensures freed { MatchResult result (λ it. it.freed
-            ≡ front self.new.ranges.acknowledged - front self.old.ranges.acknowledged) (λ _. Unit {0}) }
+        ensures again { IfOk result (λ it. IsTrue it.sent_again ↔ ((range.start < range.end)
+            × LacksRoom self.old.ranges.most_runs self.old.ranges.acknowledged
+            range.start range.end)) }
+        ensures new { IfOk result (λ it. it.new ≡ (if it.sent_again then 0 else
+            missing_count self.old.ranges.acknowledged range.start (range.end - range.start))) }
+        ensures freed { IfOk result (λ it. it.freed
+            ≡ front self.new.ranges.acknowledged - front self.old.ranges.acknowledged) }
         ensures numbers { self.new.ranges ≡ record self.old.ranges {
           acknowledged = self.new.ranges.acknowledged;
           settled = self.new.ranges.settled;
         } }
-        ensures sender { MatchResult result (λ it. 0 < it.freed → self.new.sender ≡ sender_after_command self.old.sender
-            (Acknowledges (front self.new.ranges.acknowledged))) (λ _. Unit {0}) }
-        ensures stays { MatchResult result (λ it. it.freed ≡ 0 → self.new.sender ≡ self.old.sender) (λ _. Unit {0}) }
-        ensures taken { MatchResult result (λ it. IsFalse it.sent_again → self.new.ranges.acknowledged
-            ≡ with_range self.old.ranges.acknowledged range.start (range.end - range.start)) (λ _. Unit {0}) }
-        ensures rest { MatchResult result (λ it. IsFalse it.sent_again → (p : ℕ) →
-            is_open self.new.ranges p ≡ (is_open self.old.ranges p && not (is_within range.start range.end p))) (λ _. Unit {0}) }
-        ensures lost { MatchResult result (λ it. IsTrue it.sent_again →
-            Loses self.old.ranges range.start range.end self.new.ranges) (λ _. Unit {0}) }
+        ensures sender { IfOk result (λ it. 0 < it.freed → self.new.sender
+            ≡ sender_after_command self.old.sender
+            (Acknowledges (front self.new.ranges.acknowledged))) }
+        ensures stays { IfOk result (λ it. it.freed ≡ 0 → self.new.sender ≡ self.old.sender) }
+        ensures taken { IfOk result (λ it. IsFalse it.sent_again → self.new.ranges.acknowledged
+            ≡ with_range self.old.ranges.acknowledged range.start (range.end - range.start)) }
+        ensures rest { IfOk result (λ it. IsFalse it.sent_again → (p : ℕ) →
+            is_open self.new.ranges p
+            ≡ (is_open self.old.ranges p && not (is_within range.start range.end p))) }
+        ensures lost { IfOk result (λ it. IsTrue it.sent_again →
+            Loses self.old.ranges range.start range.end self.new.ranges) }
         ensures told { Told IsOther self.old.ranges self.new.ranges }
     {
         match self.ranges.acknowledge(range) {
@@ -586,8 +592,8 @@ impl<S: Storage<u8>, R: Storage<Run>> SendBufferOver<S, R> {
     /// acknowledged is sent again. Any number of ranges may be lost at a time, in any order. Returns true, or false if
     /// the range ends above what was sent: then nothing changes.
     ///
-    /// If `most_runs` runs are in flight beyond what was lost first, and this would be one more, the shorter part of the
-    /// run that the range is in is lost too.
+    /// If `most_runs` runs are in flight beyond what was lost first, and this would be one more, the shorter part of
+    /// the run that the range is in is lost too.
     ///
     /// ```
     /// # use net_base::finite::SendBuffer;
@@ -606,7 +612,8 @@ impl<S: Storage<u8>, R: Storage<Run>> SendBufferOver<S, R> {
         ensures sender { self.new.sender ≡ self.old.sender }
         ensures none { range.end ≤ range.start → self.new ≡ self.old }
         ensures lost { IsTrue result → Loses self.old.ranges range.start range.end self.new.ranges }
-        ensures told { IsTrue result → Told (IsLost range.start range.end) self.old.ranges self.new.ranges }
+        ensures told { IsTrue result →
+            Told (IsLost range.start range.end) self.old.ranges self.new.ranges }
     {
         self.ranges.lose(range)
     }
@@ -627,7 +634,8 @@ impl<S: Storage<u8>, R: Storage<Run>> SendBufferOver<S, R> {
         ensures others { self.new ≡ record self.old {
           ranges = record self.old.ranges { settled = self.new.ranges.settled };
         } }
-        ensures lost { (p : ℕ) → is_open self.new.ranges p ≡ not (contains self.old.ranges.acknowledged p) }
+        ensures lost { (p : ℕ) →
+            is_open self.new.ranges p ≡ not (contains self.old.ranges.acknowledged p) }
         ensures told { Told AllLost self.old.ranges self.new.ranges }
     {
         self.ranges.lose_all();

@@ -9,19 +9,20 @@
 //! Two sets of numbers are kept. What is `settled` was sent, and not lost since; what of it isn't acknowledged is in
 //! flight. A number that neither set has is open: below `sent` it is lost, and else it was never sent.
 
-// Why: Where a set has no room for one more run, a range isn't added, or more is taken out. Both make more numbers open,
-// and never fewer. So no number is forgotten, whatever the number of runs: at worst it is sent twice. What `next` returns
-// is the first that is open, so all below it may be settled with it, which takes no run: `mark` of that is never refused,
-// and a loop over `next` ends.
+// Why: Where a set has no room for one more run, a range isn't added, or more is taken out. Both make more numbers
+// open, and never fewer. So no number is forgotten, whatever the number of runs: at worst it is sent twice. What `next`
+// returns is the first that is open, so all below it may be settled with it, which takes no run: `mark` of that is
+// never refused, and a loop over `next` ends.
 #![tactic(auto, using(crate::proofs::SendRanges::buffers))]
 
 ghost use Rattle.std.specs.Prelude.{◌≡◌, ◌↔◌, ◌-◌, ◌+◌, ◌<◌, ◌≤◌, ◌&&◌, ◌||◌, ◌==◌, ℕ, None, IsTrue, IsFalse};
-ghost use Rattle.std.specs.Prelude.{IfSome, IsErr, MatchResult, min, max, length, not, nat_le, nat_lt, true};
+ghost use Rattle.std.specs.Prelude.{IfSome, IsErr, IfOk, min, max, length, not, nat_le, nat_lt, true};
 ghost use Rattle.std.specs.Prelude.{if◌then◌else◌, ◌≢◌};
 ghost use Rattle.net_assembler.specs.Positions.{contains, front, missing_count, with_range};
 ghost use Rattle.net_receiver.specs.Finite.{no_end};
 ghost use Rattle.net_receiver.specs.Scoreboards.{HasNoRoom, IsReport};
 ghost use Rattle.net_receiver.specs.SendRanges.{new_ranges, end_number, is_open, is_within, data_top, IsNext, Loses};
+ghost use Rattle.net_receiver.specs.SendRanges.{LacksRoom, NoneIsOpen, NoneIsOpenBelow};
 ghost use Rattle.net_receiver.specs.SendRanges.{Told, IsMarked, IsLost, AllLost, IsOther, flight_count};
 
 use crate::board::Board;
@@ -82,15 +83,17 @@ pub struct NotSent;
 ///
 /// It knows the numbers of a stream's bytes and of its end, and keeps no byte: the program does, by position. Of the
 /// numbers that were sent it knows which are acknowledged, in flight and lost, as its caller says: `mark`,
-/// `acknowledge` and `lose` take ranges in any order. It finds no loss itself, and has no clock, no window and no size of
-/// a packet: these are its connection's. `next` returns what is lost, and then what was never sent. (Not in smoltcp.)
+/// `acknowledge` and `lose` take ranges in any order. It finds no loss itself, and has no clock, no window and no size
+/// of a packet: these are its connection's. `next` returns what is lost, and then what was never sent. (Not in
+/// smoltcp.)
 ///
 /// No number is forgotten, however few runs have room. There are at most `most_runs` of what is acknowledged beyond the
 /// first number that isn't, and as many of what is in flight beyond the first number that was lost. Where there would
 /// be more, some numbers are sent twice, but none is left out. So if each range that was marked is at last acknowledged
 /// or lost, all that was written is acknowledged in the end. A quarter of the packets in flight is enough. With 128
 /// packets in flight and one in ten lost, 32 repeat nothing, 16 make a few percent more packets, and 8 about twice as
-/// many. Without a run, a loss loses all that was sent from there on, and what is acknowledged out of order is sent again.
+/// many. Without a run, a loss loses all that was sent from there on, and what is acknowledged out of order is sent
+/// again.
 ///
 /// Positions are absolute, and the end has the number after the last byte's, as a `FiniteSender` counts them. No call
 /// allocates.
@@ -109,7 +112,8 @@ pub struct SendRangesOver<R: Storage<Run>> {
 /// use net_base::finite::SendRanges;
 /// use net_base::storage::Run;
 ///
-/// // A stream of QUIC, whose bytes are kept elsewhere. Its peer's MAX_STREAM_DATA is 19, and a frame has room for 8 bytes.
+/// // A stream of QUIC, whose bytes are kept elsewhere. Its peer's MAX_STREAM_DATA is 19, and a frame has room for
+/// // 8 bytes.
 /// let text = b"nineteen bytes here";
 /// let mut ranges = SendRanges::new_at(vec![Run::EMPTY; 4], vec![Run::EMPTY; 4], 0);
 /// assert_eq!(ranges.write(19), 19);
@@ -151,14 +155,15 @@ impl<R: Storage<Run>> Model for SendRangesOver<R> {
       settled = b.settled.positions;
     } };
 
-    ghost invariant = { λ b. (b.settled.most_runs ≡ b.acknowledged.most_runs) × IsSoundRanges (record {
-      most_runs = b.acknowledged.most_runs;
-      written = b.written;
-      closed = b.closed;
-      sent = b.sent;
-      acknowledged = b.acknowledged.positions;
-      settled = b.settled.positions;
-    }) };
+    ghost invariant = { λ b. (b.settled.most_runs ≡ b.acknowledged.most_runs)
+        × IsSoundRanges (record {
+          most_runs = b.acknowledged.most_runs;
+          written = b.written;
+          closed = b.closed;
+          sent = b.sent;
+          acknowledged = b.acknowledged.positions;
+          settled = b.settled.positions;
+        }) };
 }
 
 /// Written by hand, so that storage that isn't `Drop` can be used too.
@@ -188,8 +193,8 @@ impl<R: Storage<Run>> SendRangesOver<R> {
     ///
     /// # Requires
     ///
-    /// Both storages have as many runs, which may be none. `first` is below `u64::MAX`: an end there would have no number
-    /// after it.
+    /// Both storages have as many runs, which may be none. `first` is below `u64::MAX`: an end there would have no
+    /// number after it.
     #[must_use]
     #[track_caller]
     pub fn over_at(acknowledged: R, settled: R, first: u64) -> Self
@@ -261,8 +266,8 @@ impl<R: Storage<Run>> SendRangesOver<R> {
         self.closed = false;
     }
 
-    /// Moves the runs to larger storages, and returns those from before, whose runs can be any. What is acknowledged, in
-    /// flight and lost stays so.
+    /// Moves the runs to larger storages, and returns those from before, whose runs can be any. What is acknowledged,
+    /// in flight and lost stays so.
     ///
     /// ```
     /// # use net_base::finite::SendRanges;
@@ -282,7 +287,8 @@ impl<R: Storage<Run>> SendRangesOver<R> {
     pub fn grow_runs(&mut self, acknowledged: R, settled: R) -> (R, R)
         requires runs { length (R.elements settled) ≡ length (R.elements acknowledged) }
         requires more { self.old.most_runs ≤ length (R.elements acknowledged) }
-        ensures state { self.new ≡ record self.old { most_runs = length (R.elements acknowledged) } }
+        ensures state { self.new
+            ≡ record self.old { most_runs = length (R.elements acknowledged) } }
         ensures acknowledged { length (R.elements result.0) ≡ self.old.most_runs }
         ensures settled { length (R.elements result.1) ≡ self.old.most_runs }
     {
@@ -325,7 +331,8 @@ impl<R: Storage<Run>> SendRangesOver<R> {
     /// ```
     #[must_use]
     pub fn is_done(&self) -> bool
-        ensures { result ≡ (self.now.closed && nat_lt self.now.written (front self.now.acknowledged)) }
+        ensures { result
+            ≡ (self.now.closed && nat_lt self.now.written (front self.now.acknowledged)) }
     {
         self.closed && self.acknowledged.first_unreported() > self.written
     }
@@ -362,8 +369,8 @@ impl<R: Storage<Run>> SendRangesOver<R> {
         }
     }
 
-    /// Returns how many numbers are in flight: marked, not lost since, and not acknowledged. It passes what is in flight
-    /// once, and searches at each run.
+    /// Returns how many numbers are in flight: marked, not lost since, and not acknowledged. It passes what is in
+    /// flight once, and searches at each run.
     ///
     /// ```
     /// # use net_base::finite::SendRanges;
@@ -401,8 +408,8 @@ impl<R: Storage<Run>> SendRangesOver<R> {
         self.written + u64::from(self.closed)
     }
 
-    /// Notes that so many bytes are written, and returns how many have numbers: all, as far as numbers of 64 bits go, and
-    /// none of a closed stream.
+    /// Notes that so many bytes are written, and returns how many have numbers: all, as far as numbers of 64 bits go,
+    /// and none of a closed stream.
     ///
     /// ```
     /// # use net_base::finite::SendRanges;
@@ -413,7 +420,8 @@ impl<R: Storage<Run>> SendRangesOver<R> {
     /// ```
     #[must_use]
     pub fn write(&mut self, count: u64) -> u64
-        ensures count { result ≡ if self.old.closed then 0 else min count (no_end - 1 - self.old.written) }
+        ensures count { result
+            ≡ if self.old.closed then 0 else min count (no_end - 1 - self.old.written) }
         ensures state { self.new ≡ record self.old { written = self.old.written + result } }
         ensures told { Told IsOther self.old self.new }
     {
@@ -522,9 +530,9 @@ impl<R: Storage<Run>> SendRangesOver<R> {
     #[must_use]
     #[tactic(auto, using(crate::proofs::SendRanges::next))]
     pub fn next(&self, limit: u64, size: usize) -> Option<Range<u64>>
-        ensures some { IfSome result (λ r. IsNext self.now (data_top self.now limit) (max 1 size) r.start r.end) }
-        ensures none { result ≡ None →
-            (p : ℕ) → p < data_top self.now limit → IsFalse (is_open self.now p) }
+        ensures some { IfSome result (λ r.
+            IsNext self.now (data_top self.now limit) (max 1 size) r.start r.end) }
+        ensures none { result ≡ None → NoneIsOpenBelow self.now (data_top self.now limit) }
     {
         let end = self.written;
         let top = if end <= limit {
@@ -564,7 +572,8 @@ impl<R: Storage<Run>> SendRangesOver<R> {
     ///
     /// Pass what `next` returned, or a part of that from its start on, or what was sent before, as a probe. All below
     /// the range's end counts as sent then, and what of it was never marked counts as lost. A range beyond the first
-    /// that is open isn't noted if that would make more than `most_runs` runs: what of it was open stays so, and is sent again.
+    /// that is open isn't noted if that would make more than `most_runs` runs: what of it was open stays so, and is
+    /// sent again.
     ///
     /// ```
     /// # use net_base::finite::SendRanges;
@@ -588,12 +597,13 @@ impl<R: Storage<Run>> SendRangesOver<R> {
         ensures others { (p : ℕ) → IsFalse (is_within range.start range.end p) →
             is_open self.new p ≡ is_open self.old p }
         ensures sent { (p : ℕ) → IsTrue (is_open self.new p) → IsTrue (is_open self.old p) }
-        ensures first { IsTrue result → ((p : ℕ) → p < range.start → IsFalse (is_open self.old p)) →
-            (p : ℕ) → IsTrue (is_within range.start range.end p) → IsFalse (is_open self.new p) }
+        ensures first { IsTrue result → NoneIsOpenBelow self.old range.start →
+            NoneIsOpen self.new range.start range.end }
         ensures told { Told (IsMarked range.start range.end) self.old self.new }
-        ensures room { IsTrue result → IsReport (front self.old.settled) range.end range.start range.end →
-            (HasNoRoom self.old.most_runs self.old.settled range.start (range.end - range.start) → ⊥) →
-            (p : ℕ) → IsTrue (is_within range.start range.end p) → IsFalse (is_open self.new p) }
+        ensures room { IsTrue result →
+            IsReport (front self.old.settled) range.end range.start range.end →
+            (HasNoRoom self.old.most_runs self.old.settled range.start
+            (range.end - range.start) → ⊥) → NoneIsOpen self.new range.start range.end }
     {
         if range.start >= range.end {
             return false;
@@ -615,8 +625,8 @@ impl<R: Storage<Run>> SendRangesOver<R> {
     /// sent again.
     ///
     /// A range that begins beyond the first number that isn't acknowledged isn't remembered if that would make more
-    /// than `most_runs` runs, or if it ends 2^32 or more above that number: then it is lost, and `sent_again` is set. An
-    /// old acknowledgement, whose numbers all were acknowledged, has nothing that is new, and is no error.
+    /// than `most_runs` runs, or if it ends 2^32 or more above that number: then it is lost, and `sent_again` is set.
+    /// An old acknowledgement, whose numbers all were acknowledged, has nothing that is new, and is no error.
     ///
     /// ```
     /// # use net_base::finite::{NotSent, SendRanges};
@@ -638,25 +648,23 @@ impl<R: Storage<Run>> SendRangesOver<R> {
         ensures refused { IsErr result ↔ (self.old.sent < range.end) }
         ensures unchanged { IsErr result → self.new ≡ self.old }
         ensures none { range.end ≤ range.start → self.new ≡ self.old }
-        ensures again { MatchResult result (λ it. IsTrue it.sent_again ↔ ((range.start < range.end)
-            × (front self.old.acknowledged < range.start)
-            × (IsReport (front self.old.acknowledged) range.end range.start range.end →
-            HasNoRoom self.old.most_runs self.old.acknowledged range.start (range.end - range.start)))) (λ _. Unit {0}) }
-        ensures new { MatchResult result (λ it. it.new ≡ (if it.sent_again then 0
-            else missing_count self.old.acknowledged range.start (range.end - range.start))) (λ _. Unit {0}) }
+        ensures again { IfOk result (λ it. IsTrue it.sent_again ↔ ((range.start < range.end)
+            × LacksRoom self.old.most_runs self.old.acknowledged range.start range.end)) }
+        ensures new { IfOk result (λ it. it.new ≡ (if it.sent_again then 0
+            else missing_count self.old.acknowledged range.start (range.end - range.start))) }
         ensures grows { front self.old.acknowledged ≤ front self.new.acknowledged }
-        ensures freed { MatchResult result (λ it. it.freed
-            ≡ front self.new.acknowledged - front self.old.acknowledged) (λ _. Unit {0}) }
+        ensures freed { IfOk result (λ it. it.freed
+            ≡ front self.new.acknowledged - front self.old.acknowledged) }
         ensures numbers { self.new ≡ record self.old {
           acknowledged = self.new.acknowledged;
           settled = self.new.settled;
         } }
-        ensures taken { MatchResult result (λ it. IsFalse it.sent_again → self.new.acknowledged
-            ≡ with_range self.old.acknowledged range.start (range.end - range.start)) (λ _. Unit {0}) }
-        ensures rest { MatchResult result (λ it. IsFalse it.sent_again → (p : ℕ) →
-            is_open self.new p ≡ (is_open self.old p && not (is_within range.start range.end p))) (λ _. Unit {0}) }
-        ensures lost { MatchResult result (λ it. IsTrue it.sent_again →
-            Loses self.old range.start range.end self.new) (λ _. Unit {0}) }
+        ensures taken { IfOk result (λ it. IsFalse it.sent_again → self.new.acknowledged
+            ≡ with_range self.old.acknowledged range.start (range.end - range.start)) }
+        ensures rest { IfOk result (λ it. IsFalse it.sent_again → (p : ℕ) →
+            is_open self.new p ≡ (is_open self.old p && not (is_within range.start range.end p))) }
+        ensures lost { IfOk result (λ it. IsTrue it.sent_again →
+            Loses self.old range.start range.end self.new) }
         ensures told { Told IsOther self.old self.new }
     {
         if self.sent < range.end {
@@ -693,8 +701,8 @@ impl<R: Storage<Run>> SendRangesOver<R> {
     /// acknowledged is sent again. Any number of ranges may be lost at a time, in any order. Returns true, or false if
     /// the range ends above what was sent: then nothing changes.
     ///
-    /// If `most_runs` runs are in flight beyond what was lost first, and this would be one more, the shorter part of the
-    /// run that the range is in is lost too.
+    /// If `most_runs` runs are in flight beyond what was lost first, and this would be one more, the shorter part of
+    /// the run that the range is in is lost too.
     ///
     /// ```
     /// # use net_base::finite::SendRanges;
@@ -761,15 +769,18 @@ fn with_room(from: u64, to: u64, size: usize, end: u64) -> u64
 #[tactic(auto, using(crate::proofs::SendRanges::remembers))]
 fn remember<R: Storage<Run>>(board: &mut Board<R>, start: u64, end: u64) -> bool
     requires { start < end }
-    ensures refused { IsFalse result ↔ ((front board.old.positions < start) × (IsReport (front board.old.positions) end start end →
-        HasNoRoom board.old.most_runs board.old.positions start (end - start))) }
+    ensures refused { IsFalse result ↔ LacksRoom board.old.most_runs board.old.positions start end }
     ensures after { IsFalse result → front board.old.positions < start }
     ensures unchanged { IsFalse result → board.new ≡ board.old }
-    ensures taken { IsTrue result → board.new ≡ record board.old { positions = with_range board.old.positions start (end - start) } }
+    ensures taken { IsTrue result → board.new ≡ record board.old {
+      positions = with_range board.old.positions start (end - start);
+    } }
     ensures grows { IsTrue result → front board.old.positions ≤ front board.new.positions }
-    ensures below { (n : ℕ) → end ≤ n → ((p : ℕ) → IsTrue (contains board.old.positions p) → p < n) →
+    ensures below { (n : ℕ) → end ≤ n →
+        ((p : ℕ) → IsTrue (contains board.old.positions p) → p < n) →
         (p : ℕ) → IsTrue (contains board.new.positions p) → p < n }
-    ensures within { (n : ℕ) → end ≤ n → ((p : ℕ) → IsTrue (contains board.old.positions p) → p < n) →
+    ensures within { (n : ℕ) → end ≤ n →
+        ((p : ℕ) → IsTrue (contains board.old.positions p) → p < n) →
         front board.new.positions ≤ n }
 {
     board.report(start..end, end).is_ok()
@@ -787,7 +798,8 @@ fn next_open<R: Storage<Run>>(
     ensures from { pos ≤ result }
     ensures before { (p : ℕ) → pos ≤ p → p < result →
         IsTrue (contains settled.now.positions p || contains acknowledged.now.positions p) }
-    ensures here { result ≡ pos → IsFalse (contains settled.now.positions pos || contains acknowledged.now.positions pos) }
+    ensures here { result ≡ pos →
+        IsFalse (contains settled.now.positions pos || contains acknowledged.now.positions pos) }
 {
     let from = hole_start(settled, pos, limit);
     hole_start(acknowledged, from, limit)
@@ -825,9 +837,10 @@ fn hole_end<R: Storage<Run>>(board: &Board<R>, pos: u64, limit: u64) -> u64
 /// Adds a range, if there is room.
 fn add<R: Storage<Run>>(board: &mut Board<R>, start: u64, end: u64)
     ensures runs { board.new.most_runs ≡ board.old.most_runs }
-    ensures less { (p : ℕ) → IsTrue (contains board.new.positions p) → IsFalse (contains board.old.positions p) →
-        IsTrue (is_within start end p) }
-    ensures more { (p : ℕ) → IsTrue (contains board.old.positions p) → IsTrue (contains board.new.positions p) }
+    ensures less { (p : ℕ) → IsTrue (contains board.new.positions p) →
+        IsFalse (contains board.old.positions p) → IsTrue (is_within start end p) }
+    ensures more { (p : ℕ) → IsTrue (contains board.old.positions p) →
+        IsTrue (contains board.new.positions p) }
     ensures added { IsReport (front board.old.positions) end start end →
         (HasNoRoom board.old.most_runs board.old.positions start (end - start) → ⊥) →
         board.new.positions ≡ with_range board.old.positions start (end - start) }

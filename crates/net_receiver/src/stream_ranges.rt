@@ -26,9 +26,9 @@ use std::ops::Range;
 
 /// [`StreamRanges`] over any storage.
 ///
-/// It is a `StreamReceiver` without bytes, for a program that keeps them itself: QUIC's frames share the memory of their
-/// datagram. The program stores the bytes of each part that `keep` returns at the part's positions. Those below `next`
-/// can then be read, and each position comes in one part alone. No call allocates. smoltcp has no such type.
+/// It is a `StreamReceiver` without bytes, for a program that keeps them itself: QUIC's frames share the memory of
+/// their datagram. The program stores the bytes of each part that `keep` returns at the part's positions. Those below
+/// `next` can then be read, and each position comes in one part alone. No call allocates. smoltcp has no such type.
 pub struct StreamRangesOver<R: Storage<Run>> {
     // Invariant: head and runs are sound for the capacity. Of the head's ring only the length is used.
     head: FiniteReceiverHead,
@@ -410,7 +410,8 @@ impl<R: Storage<Run>> StreamRangesOver<R> {
     #[inline]
     #[must_use]
     pub fn window_end(&self) -> Option<u64>
-        ensures some { limit_of_ranges self.now < 2 ^ 64 → result ≡ Some (limit_of_ranges self.now) }
+        ensures some { limit_of_ranges self.now < 2 ^ 64 →
+            result ≡ Some (limit_of_ranges self.now) }
         ensures none { 2 ^ 64 ≤ limit_of_ranges self.now → result ≡ None }
     {
         self.head.receiver.window_end(self.capacity)
@@ -493,7 +494,8 @@ fn keep_new(
     fin: bool,
 ) -> Result<Option<Range<u64>>, FiniteError>
     requires sound { HasSoundRanges head.old capacity runs.old }
-    requires end { IsTrue fin → IsTrue (ranges_can_end (ranges_of head.old capacity runs.old) range.end) }
+    requires end { IsTrue fin →
+        IsTrue (ranges_can_end (ranges_of head.old capacity runs.old) range.end) }
     ensures sound { HasSoundRanges head.new capacity runs.new }
     ensures keeps { KeepsNew (ranges_of head.old capacity runs.old) range.start range.end fin result
         (ranges_of head.new capacity runs.new) }
@@ -519,8 +521,8 @@ fn keep_new(
     Ok(Some(next + from as u64..next + to as u64))
 }
 
-/// Returns the first new part of a segment, as offsets from the first missing position: its end isn't above its start if
-/// there is none.
+/// Returns the first new part of a segment, as offsets from the first missing position: its end isn't above its start
+/// if there is none.
 #[inline]
 fn new_offsets(
     head: &FiniteReceiverHead,
@@ -530,7 +532,8 @@ fn new_offsets(
     end: u64,
 ) -> (usize, usize)
     requires { HasSoundRanges head.now capacity runs.now }
-    ensures none { result.1 ≤ result.0 → IsNewPart (ranges_of head.now capacity runs.now) start end None }
+    ensures none { result.1 ≤ result.0 →
+        IsNewPart (ranges_of head.now capacity runs.now) start end None }
     ensures some { result.0 < result.1 → IsNewPart (ranges_of head.now capacity runs.now) start end
         (Some (next_at head.now.receiver + result.0, next_at head.now.receiver + result.1)) }
     ensures in_order { start ≤ next_at head.now.receiver → 0 < result.0 → ⊥ }
@@ -570,7 +573,8 @@ fn first_hole(held: &AssemblerHead, runs: &[Run], from: usize, to: usize) -> (us
 #[inline]
 fn read_queued(head: &mut FiniteReceiverHead, count: usize)
     requires count { count ≤ head.old.receiver.place.length }
-    requires fits { head.old.receiver.first + head.old.receiver.count_read + head.old.receiver.place.length < 2 ^ 64 }
+    requires fits { head.old.receiver.first + head.old.receiver.count_read
+        + head.old.receiver.place.length < 2 ^ 64 }
     ensures sound { (capacity : ℕ) (runs : List (ℕ × ℕ)) → HasSoundRanges head.old capacity runs →
         HasSoundRanges head.new capacity runs }
     ensures state { (capacity : ℕ) (runs : List (ℕ × ℕ)) → ranges_of head.new capacity runs

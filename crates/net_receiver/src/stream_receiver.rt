@@ -1,8 +1,8 @@
 //! A receiver of a stream that ends, whose runs are in storage as its bytes are.
 
-// Why: It is a type of its own, and not a parameter of `FiniteReceiverOver`. The number of runs decides what is refused,
-// so contracts name it: there it is the type's `N`, and here a number of the model, `most_runs`. An array of runs in the
-// value also costs no call to reach. Both types call the same functions of a head.
+// Why: It is a type of its own, and not a parameter of `FiniteReceiverOver`. The number of runs decides what is
+// refused, so contracts name it: there it is the type's `N`, and here a number of the model, `most_runs`. An array of
+// runs in the value also costs no call to reach. Both types call the same functions of a head.
 #![tactic(auto, using(crate::proofs::Growth::streams))]
 
 ghost use Rattle.std.specs.Prelude.{◌≡◌, ◌≤◌, ◌<◌, ◌-◌, ◌^◌, length, take, drop, min, ◌++◌, Some, None};
@@ -130,7 +130,8 @@ impl<S: Storage<u8>, R: Storage<Run>> StreamReceiverOver<S, R> {
         (storage, runs)
     }
 
-    /// Begins again over the same storages: a receiver of a stream that begins at position `first`; nothing has arrived.
+    /// Begins again over the same storages: a receiver of a stream that begins at position `first`; nothing has
+    /// arrived.
     ///
     /// ```
     /// # use net_base::finite::StreamReceiver;
@@ -242,8 +243,8 @@ impl<S: Storage<u8>, R: Storage<Run>> StreamReceiverOver<S, R> {
         self.head.keep(storage, runs, pos, bytes, fin)
     }
 
-    /// Moves bytes from the head of the queue to the beginning of `into`, and returns how many: as many as are queued and
-    /// as `into` has room for. The rest of `into` stays as it is.
+    /// Moves bytes from the head of the queue to the beginning of `into`, and returns how many: as many as are queued
+    /// and as `into` has room for. The rest of `into` stays as it is.
     ///
     /// ```
     /// # use net_base::finite::StreamReceiver;
@@ -410,7 +411,8 @@ impl<S: Storage<u8>, R: Storage<Run>> StreamReceiverOver<S, R> {
     /// ```
     #[must_use]
     pub fn window(&self) -> usize
-        ensures { result ≡ self.now.stream.receiver.capacity - length self.now.stream.receiver.queue }
+        ensures { result
+            ≡ self.now.stream.receiver.capacity - length self.now.stream.receiver.queue }
     {
         self.head.receiver.window(self.storage.count())
     }
@@ -451,7 +453,8 @@ impl<S: Storage<u8>, R: Storage<Run>> StreamReceiverOver<S, R> {
     }
 
     /// Returns where the bytes of a segment of `len` bytes at `pos` are, as `FiniteReceiver::parts_of` does. A
-    /// receiver of QUIC asks before it keeps a frame: bytes `beyond` the free window, or `past_end`, are its peer's error.
+    /// receiver of QUIC asks before it keeps a frame: bytes `beyond` the free window, or `past_end`, are its peer's
+    /// error.
     ///
     /// ```
     /// # use net_base::finite::StreamReceiver;

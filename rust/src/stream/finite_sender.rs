@@ -105,8 +105,8 @@ impl<S: Storage<u8>> FiniteSenderOver<S> {
         self.head = FiniteSenderHead::new(first);
     }
 
-    /// Moves the queue to the beginning of a larger storage, and returns the one from before, whose bytes can be any. All
-    /// numbers stay, and `window` grows by as many bytes as the storage does, as far as positions go.
+    /// Moves the queue to the beginning of a larger storage, and returns the one from before, whose bytes can be any.
+    /// All numbers stay, and `window` grows by as many bytes as the storage does, as far as positions go.
     ///
     /// ```
     /// # use net_base::finite::FiniteSender;

@@ -131,8 +131,8 @@ impl<S: Storage<u8>, const N: usize> ReceiverOver<S, N> {
         self.head.reset_at(first);
     }
 
-    /// Moves what is stored to a larger storage, and returns the one from before, whose bytes can be any. What is queued
-    /// and held stays, and so do all positions. The window grows by as many bytes as the storage does.
+    /// Moves what is stored to a larger storage, and returns the one from before, whose bytes can be any. What is
+    /// queued and held stays, and so do all positions. The window grows by as many bytes as the storage does.
     ///
     /// So a receiver begins small, and a window that TCP or QUIC raises later costs memory only then. Each byte of the
     /// storage from before is copied once. smoltcp has no such call.

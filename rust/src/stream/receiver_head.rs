@@ -54,8 +54,8 @@ impl ReceiverHead {
         self.held = AssemblerHead::new();
     }
 
-    /// Copies the bytes of a storage to a larger one, for which the head then is, with the same runs. A byte has another
-    /// index there: the stream's byte number i is at i modulo the capacity.
+    /// Copies the bytes of a storage to a larger one, for which the head then is, with the same runs. A byte has
+    /// another index there: the stream's byte number i is at i modulo the capacity.
     ///
     /// # Requires
     ///

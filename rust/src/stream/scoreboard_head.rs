@@ -135,8 +135,8 @@ impl ScoreboardHead {
     /// Forgets the positions from `start` on and below `end`.
     ///
     /// If that would cut a run in two, and there are as many runs as the slice has elements, the shorter part of it is
-    /// forgotten too; of the positions below `base`, those at or after `end`. If `start` is below `base`, and a position
-    /// 2^32 or more above it was reported, all from `start` on are forgotten.
+    /// forgotten too; of the positions below `base`, those at or after `end`. If `start` is below `base`, and a
+    /// position 2^32 or more above it was reported, all from `start` on are forgotten.
     ///
     /// # Requires
     ///
@@ -184,8 +184,8 @@ impl ScoreboardHead {
         let _ = self.reported.remove_range(runs, low, high);
     }
 
-    /// Returns a range of offsets with what is before it in its run, or with what is after it, whichever is less. Without
-    /// that the run isn't cut in two.
+    /// Returns a range of offsets with what is before it in its run, or with what is after it, whichever is less.
+    /// Without that the run isn't cut in two.
     fn part_of_run(&self, runs: &[Run], from: usize, to: usize) -> (usize, usize) {
         let last = self.reported.first_missing(runs, to);
         let by = self.reported.runs_by(runs, from);

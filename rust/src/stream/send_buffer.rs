@@ -280,8 +280,8 @@ impl<S: Storage<u8>, R: Storage<Run>> SendBufferOver<S, R> {
         self.ranges.close();
     }
 
-    /// Lends the bytes of a range, in two parts, and returns whether the stream ends after them. If the range begins below
-    /// `numbers().first_unacknowledged`, it lends none. Bytes that are acknowledged beyond that are lent too.
+    /// Lends the bytes of a range, in two parts, and returns whether the stream ends after them. If the range begins
+    /// below `numbers().first_unacknowledged`, it lends none. Bytes that are acknowledged beyond that are lent too.
     ///
     /// ```
     /// # use net_base::finite::SendBuffer;
@@ -298,8 +298,8 @@ impl<S: Storage<u8>, R: Storage<Run>> SendBufferOver<S, R> {
         self.sender.segment_bytes(range)
     }
 
-    /// Returns how many numbers are in flight: marked, not lost since, and not acknowledged. It passes what is in flight
-    /// once, and searches at each run.
+    /// Returns how many numbers are in flight: marked, not lost since, and not acknowledged. It passes what is in
+    /// flight once, and searches at each run.
     ///
     /// ```
     /// # use net_base::finite::SendBuffer;
@@ -345,8 +345,8 @@ impl<S: Storage<u8>, R: Storage<Run>> SendBufferOver<S, R> {
     }
 
     /// Returns the range to send next, as `SendRangesOver::next` does: what is lost, else what was never sent. All its
-    /// bytes are below `limit`, such as QUIC's MAX_STREAM_DATA, and there are at most `size` (at most one, if that is 0).
-    /// `None` exactly if there is none.
+    /// bytes are below `limit`, such as QUIC's MAX_STREAM_DATA, and there are at most `size` (at most one, if that is
+    /// 0). `None` exactly if there is none.
     ///
     /// ```
     /// # use net_base::finite::SendBuffer;
@@ -370,7 +370,8 @@ impl<S: Storage<u8>, R: Storage<Run>> SendBufferOver<S, R> {
     ///
     /// Pass what `next` returned, or a part of that from its start on, or what was sent before, as a probe. All below
     /// the range's end counts as sent then, and what of it was never marked counts as lost. A range beyond the first
-    /// that is open isn't noted if that would make more than `most_runs` runs: what of it was open stays so, and is sent again.
+    /// that is open isn't noted if that would make more than `most_runs` runs: what of it was open stays so, and is
+    /// sent again.
     ///
     /// ```
     /// # use net_base::finite::SendBuffer;
@@ -396,8 +397,8 @@ impl<S: Storage<u8>, R: Storage<Run>> SendBufferOver<S, R> {
     /// sent again. Room for its bytes is free once all before them are acknowledged.
     ///
     /// A range that begins beyond the first number that isn't acknowledged isn't remembered if that would make more
-    /// than `most_runs` runs, or if it ends 2^32 or more above that number: then it is lost, and `sent_again` is set. An
-    /// old acknowledgement, whose numbers all were acknowledged, has nothing that is new, and is no error.
+    /// than `most_runs` runs, or if it ends 2^32 or more above that number: then it is lost, and `sent_again` is set.
+    /// An old acknowledgement, whose numbers all were acknowledged, has nothing that is new, and is no error.
     ///
     /// ```
     /// # use net_base::finite::{NotSent, SendBuffer};
@@ -430,8 +431,8 @@ impl<S: Storage<u8>, R: Storage<Run>> SendBufferOver<S, R> {
     /// acknowledged is sent again. Any number of ranges may be lost at a time, in any order. Returns true, or false if
     /// the range ends above what was sent: then nothing changes.
     ///
-    /// If `most_runs` runs are in flight beyond what was lost first, and this would be one more, the shorter part of the
-    /// run that the range is in is lost too.
+    /// If `most_runs` runs are in flight beyond what was lost first, and this would be one more, the shorter part of
+    /// the run that the range is in is lost too.
     ///
     /// ```
     /// # use net_base::finite::SendBuffer;

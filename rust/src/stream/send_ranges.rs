@@ -10,10 +10,10 @@
 //! Two sets of numbers are kept. What is `settled` was sent, and not lost since; what of it isn't acknowledged is in
 //! flight. A number that neither set has is open: below `sent` it is lost, and else it was never sent.
 
-// Why: Where a set has no room for one more run, a range isn't added, or more is taken out. Both make more numbers open,
-// and never fewer. So no number is forgotten, whatever the number of runs: at worst it is sent twice. What `next` returns
-// is the first that is open, so all below it may be settled with it, which takes no run: `mark` of that is never refused,
-// and a loop over `next` ends.
+// Why: Where a set has no room for one more run, a range isn't added, or more is taken out. Both make more numbers
+// open, and never fewer. So no number is forgotten, whatever the number of runs: at worst it is sent twice. What `next`
+// returns is the first that is open, so all below it may be settled with it, which takes no run: `mark` of that is
+// never refused, and a loop over `next` ends.
 
 use crate::storage::Run;
 use crate::storage::{ManagedSlice, Storage};
@@ -70,15 +70,17 @@ pub struct NotSent;
 ///
 /// It knows the numbers of a stream's bytes and of its end, and keeps no byte: the program does, by position. Of the
 /// numbers that were sent it knows which are acknowledged, in flight and lost, as its caller says: `mark`,
-/// `acknowledge` and `lose` take ranges in any order. It finds no loss itself, and has no clock, no window and no size of
-/// a packet: these are its connection's. `next` returns what is lost, and then what was never sent. (Not in smoltcp.)
+/// `acknowledge` and `lose` take ranges in any order. It finds no loss itself, and has no clock, no window and no size
+/// of a packet: these are its connection's. `next` returns what is lost, and then what was never sent. (Not in
+/// smoltcp.)
 ///
 /// No number is forgotten, however few runs have room. There are at most `most_runs` of what is acknowledged beyond the
 /// first number that isn't, and as many of what is in flight beyond the first number that was lost. Where there would
 /// be more, some numbers are sent twice, but none is left out. So if each range that was marked is at last acknowledged
 /// or lost, all that was written is acknowledged in the end. A quarter of the packets in flight is enough. With 128
 /// packets in flight and one in ten lost, 32 repeat nothing, 16 make a few percent more packets, and 8 about twice as
-/// many. Without a run, a loss loses all that was sent from there on, and what is acknowledged out of order is sent again.
+/// many. Without a run, a loss loses all that was sent from there on, and what is acknowledged out of order is sent
+/// again.
 ///
 /// Positions are absolute, and the end has the number after the last byte's, as a `FiniteSender` counts them. No call
 /// allocates.
@@ -98,7 +100,8 @@ pub struct SendRangesOver<R: Storage<Run>> {
 /// use net_base::finite::SendRanges;
 /// use net_base::storage::Run;
 ///
-/// // A stream of QUIC, whose bytes are kept elsewhere. Its peer's MAX_STREAM_DATA is 19, and a frame has room for 8 bytes.
+/// // A stream of QUIC, whose bytes are kept elsewhere. Its peer's MAX_STREAM_DATA is 19, and a frame has room for
+/// // 8 bytes.
 /// let text = b"nineteen bytes here";
 /// let mut ranges = SendRanges::new_at(vec![Run::EMPTY; 4], vec![Run::EMPTY; 4], 0);
 /// assert_eq!(ranges.write(19), 19);
@@ -187,8 +190,8 @@ impl<R: Storage<Run>> SendRangesOver<R> {
         self.closed = false;
     }
 
-    /// Moves the runs to larger storages, and returns those from before, whose runs can be any. What is acknowledged, in
-    /// flight and lost stays so.
+    /// Moves the runs to larger storages, and returns those from before, whose runs can be any. What is acknowledged,
+    /// in flight and lost stays so.
     ///
     /// ```
     /// # use net_base::finite::SendRanges;
@@ -262,8 +265,8 @@ impl<R: Storage<Run>> SendRangesOver<R> {
         SentNumbers { first_unacknowledged: self.acknowledged.first_unreported(), sent: self.sent }
     }
 
-    /// Returns how many numbers are in flight: marked, not lost since, and not acknowledged. It passes what is in flight
-    /// once, and searches at each run.
+    /// Returns how many numbers are in flight: marked, not lost since, and not acknowledged. It passes what is in
+    /// flight once, and searches at each run.
     ///
     /// ```
     /// # use net_base::finite::SendRanges;
@@ -292,8 +295,8 @@ impl<R: Storage<Run>> SendRangesOver<R> {
         self.written + u64::from(self.closed)
     }
 
-    /// Notes that so many bytes are written, and returns how many have numbers: all, as far as numbers of 64 bits go, and
-    /// none of a closed stream.
+    /// Notes that so many bytes are written, and returns how many have numbers: all, as far as numbers of 64 bits go,
+    /// and none of a closed stream.
     ///
     /// ```
     /// # use net_base::finite::SendRanges;
@@ -424,7 +427,8 @@ impl<R: Storage<Run>> SendRangesOver<R> {
     ///
     /// Pass what `next` returned, or a part of that from its start on, or what was sent before, as a probe. All below
     /// the range's end counts as sent then, and what of it was never marked counts as lost. A range beyond the first
-    /// that is open isn't noted if that would make more than `most_runs` runs: what of it was open stays so, and is sent again.
+    /// that is open isn't noted if that would make more than `most_runs` runs: what of it was open stays so, and is
+    /// sent again.
     ///
     /// ```
     /// # use net_base::finite::SendRanges;
@@ -458,8 +462,8 @@ impl<R: Storage<Run>> SendRangesOver<R> {
     /// sent again.
     ///
     /// A range that begins beyond the first number that isn't acknowledged isn't remembered if that would make more
-    /// than `most_runs` runs, or if it ends 2^32 or more above that number: then it is lost, and `sent_again` is set. An
-    /// old acknowledgement, whose numbers all were acknowledged, has nothing that is new, and is no error.
+    /// than `most_runs` runs, or if it ends 2^32 or more above that number: then it is lost, and `sent_again` is set.
+    /// An old acknowledgement, whose numbers all were acknowledged, has nothing that is new, and is no error.
     ///
     /// ```
     /// # use net_base::finite::{NotSent, SendRanges};
@@ -499,8 +503,8 @@ impl<R: Storage<Run>> SendRangesOver<R> {
     /// acknowledged is sent again. Any number of ranges may be lost at a time, in any order. Returns true, or false if
     /// the range ends above what was sent: then nothing changes.
     ///
-    /// If `most_runs` runs are in flight beyond what was lost first, and this would be one more, the shorter part of the
-    /// run that the range is in is lost too.
+    /// If `most_runs` runs are in flight beyond what was lost first, and this would be one more, the shorter part of
+    /// the run that the range is in is lost too.
     ///
     /// ```
     /// # use net_base::finite::SendRanges;

@@ -18,9 +18,9 @@ use core::ops::Range;
 
 /// [`StreamRanges`] over any storage.
 ///
-/// It is a `StreamReceiver` without bytes, for a program that keeps them itself: QUIC's frames share the memory of their
-/// datagram. The program stores the bytes of each part that `keep` returns at the part's positions. Those below `next`
-/// can then be read, and each position comes in one part alone. No call allocates. smoltcp has no such type.
+/// It is a `StreamReceiver` without bytes, for a program that keeps them itself: QUIC's frames share the memory of
+/// their datagram. The program stores the bytes of each part that `keep` returns at the part's positions. Those below
+/// `next` can then be read, and each position comes in one part alone. No call allocates. smoltcp has no such type.
 #[derive(Clone)]
 pub struct StreamRangesOver<R: Storage<Run>> {
     // Invariant: head and runs are sound for the capacity. Of the head's ring only the length is used.
@@ -421,8 +421,8 @@ fn keep_new(
     Ok(Some(next + from as u64..next + to as u64))
 }
 
-/// Returns the first new part of a segment, as offsets from the first missing position: its end isn't above its start if
-/// there is none.
+/// Returns the first new part of a segment, as offsets from the first missing position: its end isn't above its start
+/// if there is none.
 #[inline]
 fn new_offsets(
     head: &FiniteReceiverHead,

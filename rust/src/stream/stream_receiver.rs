@@ -1,9 +1,9 @@
 // Written by tools/erase.py from crates/net_receiver/src/stream_receiver.rt: a change here would be lost.
 //! A receiver of a stream that ends, whose runs are in storage as its bytes are.
 
-// Why: It is a type of its own, and not a parameter of `FiniteReceiverOver`. The number of runs decides what is refused,
-// so contracts name it: there it is the type's `N`, and here a number of the model, `most_runs`. An array of runs in the
-// value also costs no call to reach. Both types call the same functions of a head.
+// Why: It is a type of its own, and not a parameter of `FiniteReceiverOver`. The number of runs decides what is
+// refused, so contracts name it: there it is the type's `N`, and here a number of the model, `most_runs`. An array of
+// runs in the value also costs no call to reach. Both types call the same functions of a head.
 
 use crate::storage::Run;
 use crate::storage::{ManagedSlice, Storage};
@@ -80,7 +80,8 @@ impl<S: Storage<u8>, R: Storage<Run>> StreamReceiverOver<S, R> {
         (storage, runs)
     }
 
-    /// Begins again over the same storages: a receiver of a stream that begins at position `first`; nothing has arrived.
+    /// Begins again over the same storages: a receiver of a stream that begins at position `first`; nothing has
+    /// arrived.
     ///
     /// ```
     /// # use net_base::finite::StreamReceiver;
@@ -169,8 +170,8 @@ impl<S: Storage<u8>, R: Storage<Run>> StreamReceiverOver<S, R> {
         self.head.keep(storage, runs, pos, bytes, fin)
     }
 
-    /// Moves bytes from the head of the queue to the beginning of `into`, and returns how many: as many as are queued and
-    /// as `into` has room for. The rest of `into` stays as it is.
+    /// Moves bytes from the head of the queue to the beginning of `into`, and returns how many: as many as are queued
+    /// and as `into` has room for. The rest of `into` stays as it is.
     ///
     /// ```
     /// # use net_base::finite::StreamReceiver;
@@ -343,7 +344,8 @@ impl<S: Storage<u8>, R: Storage<Run>> StreamReceiverOver<S, R> {
     }
 
     /// Returns where the bytes of a segment of `len` bytes at `pos` are, as `FiniteReceiver::parts_of` does. A
-    /// receiver of QUIC asks before it keeps a frame: bytes `beyond` the free window, or `past_end`, are its peer's error.
+    /// receiver of QUIC asks before it keeps a frame: bytes `beyond` the free window, or `past_end`, are its peer's
+    /// error.
     ///
     /// ```
     /// # use net_base::finite::StreamReceiver;
