@@ -2,8 +2,8 @@
 use Rattle.std.proofs.Common.{◌≡◌, ℕ, List, ◌++◌, length, take, Option, Result, Ok, Err, OnOk, IfErr, refl, ◌∙◌, ap}
 use Rattle.std.proofs.Common.{append_assoc, length-append}
 use Rattle.std.specs.Io.{StartsWith}
-use Rattle.std.specs.Io.KnownBytes.{Appends, Keeps}
-use Rattle.std.proofs.KnownBytes.{Appends-trans, Appends-kept, starts_with_rest}
+use Rattle.std.specs.Io.KnownBytes.{Appends}
+use Rattle.std.proofs.KnownBytes.{Appends-trans, starts_with_rest}
 use Rattle.std.proofs.Transfers.{starts_with_of_eq, starts_with_of_append}
 use Rattle.std.proofs.Math.Seq.{take-append-add}
 use Rattle.net_bench_lib.specs.Writer.{AppendsPrefix}
@@ -42,12 +42,6 @@ AppendsPrefix-more a b xs more w =
       prefix = starts_with_of_append (xs ++ more) w.written _ (ap (λ t. t ++ more) e ∙ append_assoc w.written _ more);
       appended = w.appended;
     }
-
--- no byte more
-pub AppendsPrefix-kept : (a b c : Option (List ℕ)) (xs : List ℕ) → AppendsPrefix a b xs → Keeps b c →
-    AppendsPrefix a c xs
-AppendsPrefix-kept a b c xs w k =
-    record { written = w.written; prefix = w.prefix; appended = Appends-kept a b c w.written w.appended k }
 
 -- what `write_text` writes, however it ends
 pub AppendsPrefix-ended : (P : BenchError → Type 0) (a b : Option (List ℕ)) (text : List ℕ)

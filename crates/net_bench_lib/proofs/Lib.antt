@@ -8,4 +8,3 @@ pub mod SameText
 pub mod StreamStates
 pub mod StreamOutcomes
 pub mod StreamRun
-pub mod Flushed

@@ -1,13 +1,12 @@
 -- The parts of a text between bytes of one kind, and its lines.
 use Rattle.std.proofs.Common.{◌≡◌, ℕ, ◌+◌, ◌<◌, suc, List, [], ◌∷◌, ◌++◌, length, take, drop, Bool, true, false, ◌==◌}
 use Rattle.std.proofs.Common.{Some, None, refl, sym, ◌∙◌, ap, append_assoc, arith, cond, drop-cons, add-one, All}
-use Rattle.std.proofs.lemmas.Bool.{false_from_ne_true}
+use Rattle.std.proofs.lemmas.Bool.{false_from_ne_true, eqb-true}
 use Rattle.std.specs.List.{onto_first, slice_split}
 use Rattle.memchr.specs.Find.{IsFirstByte, is_byte}
 use Rattle.std.proofs.lemmas.List.Splits.{slice_split_at, slice_split_none, slice_split-cons_no}
 use Rattle.std.proofs.lemmas.List.{take-append-drop, get_or-take, length-take-le}
 use Rattle.std.proofs.lemmas.List.Elements.{All-head, All-tail, All-append, All-from_get_or}
-use Rattle.std.proofs.lemmas.Bool.{eqb-true}
 use Rattle.net_bench_lib.specs.Text.{parts_of, lines_of, ended_lines, unended_line, without_last, without_empty_last}
 use Rattle.net_bench_lib.specs.Text.{last_part}
 use Rattle.net_bench_lib.specs.Progress.{HasNoFeed}

@@ -1,15 +1,13 @@
 -- Numerals, and the numbers that they write.
 use Rattle.std.proofs.Common.{◌≡◌, ℕ, ◌+◌, ◌-◌, ◌*◌, ◌^◌, ◌<◌, ◌≤◌, List, length, take, get_or, true, false, nat_lt}
-use Rattle.std.proofs.Common.{Some, None, refl, ap, sym, arith}
-use Rattle.std.specs.List.{list_all}
+use Rattle.std.proofs.Common.{None, refl, arith}
 use Rattle.std.specs.Char.{is_ascii_digit, digit_value}
 use Rattle.std.specs.Str.Parse.{digits_value}
-use Rattle.std.proofs.lemmas.Bool.{le-ltb, lt-ltb, and_right, cond-false}
+use Rattle.std.proofs.lemmas.Bool.{le-ltb, and_right, cond-false}
 use Rattle.std.proofs.lemmas.Bool.Decides.{nat_tests}
 use Rattle.std.proofs.lemmas.Int.Digits.{digits_value_more}
-use Rattle.std.proofs.lemmas.List.{take_all}
 use Rattle.std.proofs.lemmas.Str.Parse.{digits_value-take-le}
-use Rattle.net_bench_lib.specs.Numeral.{begins_numeral, number_of}
+use Rattle.net_bench_lib.specs.Numeral.{number_of}
 
 -- one digit more
 pub digits-more : (word : List ℕ) (i value : ℕ) → i < length word →
@@ -28,12 +26,3 @@ number-large word i value inside written digit large =
     let small : nat_lt (digits_value 10 word) (2 ^ 64) ≡ false =
     le-ltb (digits_value 10 word) (2 ^ 64) (omega (arith, most, more, large)) in
     cond-false _ _ _ (and_right _ _ small)
-
--- a numeral whose number 64 bits hold
-pub number-whole : (word : List ℕ) (i value : ℕ) → length word ≤ i → begins_numeral word ≡ true →
-    list_all is_ascii_digit (take i word) ≡ true → value ≡ digits_value 10 (take i word) →
-    value < 2 ^ 64 → number_of word ≡ Some value
-number-whole word i value over begins digits written fits =
-    let whole = take_all i word over in
-    let e : value ≡ digits_value 10 word = rw whole at written in
-    rw (begins, rw whole at digits, lt-ltb _ (2 ^ 64) (rw e at fits)) (ap Some (sym e))

@@ -9,10 +9,9 @@ use Rattle.std.proofs.KnownBytes.{starts_with_rest}
 use Rattle.std.proofs.lemmas.List.{append-nil, take_rest, take-append-le, length-take-le, length-drop, drop-take}
 use Rattle.std.proofs.lemmas.List.Elements.{All-nil}
 use Rattle.std.proofs.lemmas.List.Edits.{take-paste}
-use Rattle.std.proofs.Math.Seq.{paste}
+use Rattle.std.proofs.Math.Seq.{paste, take-append-add, drop-append_seam}
 use Rattle.std.specs.List.{copy_within}
 use borrow.Rule.Slice.PartMut.{put_mid}
-use Rattle.std.proofs.Math.Seq.{take-append-add, drop-append_seam}
 use Rattle.std.proofs.lemmas.Bool.Decides.{nat_tests}
 use Rattle.net_bench_lib.specs.Text.{parts_of, lines_of, ended_lines, next_number}
 use Rattle.net_bench_lib.specs.Transcript.{Rules, by_step, line_step, text_of, replies_of, first_fault, Transcript}
@@ -31,10 +30,6 @@ use Rattle.net_bench_lib.proofs.LineParts.{lines-nonempty, lines-one, ended-from
 -- what `is_empty` returns for a slice
 pub nonempty : (xs : List ℕ) (r : _) → r ≡ (length xs == 0) → (r ≡ false) → 0 < length xs
 nonempty xs r e h = let t : (length xs == 0) ≡ false = sym e ∙ h in grind (arith, nat_tests)
-
-pub empty : (xs : List ℕ) (r : _) → r ≡ (length xs == 0) → (r ≡ true) → xs ≡ []
-empty [] r e h = refl
-empty (x ∷ xs) r e h = let t : (length (x ∷ xs) == 0) ≡ true = sym e ∙ h in absurd (grind (arith, nat_tests))
 
 none-in-none : HasNoFeed []
 none-in-none = All-nil (λ b. (b == 10) ≡ false)

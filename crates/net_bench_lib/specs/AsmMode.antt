@@ -2,17 +2,15 @@
 --     asm_line words      what a line says, if its words are a line of the mode
 --     asm_does most_runs set line      what a line does to the set, and its reply
 --     asm_rules most_runs      the rules of the mode
-use Rattle.std.specs.Prelude.{ℕ, ◌+◌, ◌^◌, ◌&&◌, nat_lt, List, [], ◌∷◌, ◌++◌, codes, bytes_eq}
-use Rattle.std.specs.Prelude.{decimal, if◌then◌else◌, Option, Some, None, Result, Ok, Err}
-use Rattle.std.specs.Prelude.{option_map}
+use Rattle.std.specs.Prelude.{ℕ, ◌+◌, ◌^◌, ◌&&◌, nat_lt, List, [], ◌∷◌, ◌++◌, codes, bytes_eq, decimal, if◌then◌else◌}
+use Rattle.std.specs.Prelude.{Option, Some, None, Result, Ok, Err, option_map}
 use Rattle.net_assembler.specs.Positions.{Positions, with_range, front, shift_down}
 use Rattle.net_assembler.specs.Assembler.{display_text, makes_too_many_runs}
 use Rattle.net_ring.specs.Width.{shortfall}
 use Rattle.net_bench_lib.specs.Numeral.{number_of}
 use Rattle.net_bench_lib.specs.Transcript.{Rules}
 use Rattle.net_bench_lib.specs.declared.asm.AsmLine.{AsmLine}
-use Rattle.net_bench_lib.specs.declared.asm.AsmLine.TheVariants.{Add, AddThenRemoveFront}
-use Rattle.net_bench_lib.specs.declared.asm.AsmLine.TheVariants.{RemoveFront, Print}
+use Rattle.net_bench_lib.specs.declared.asm.AsmLine.TheVariants.{Add, AddThenRemoveFront, RemoveFront, Print}
 use Rattle.net_bench_lib.specs.declared.fault.Fault.{Fault}
 use Rattle.net_bench_lib.specs.declared.fault.Fault.TheVariants as faults
 

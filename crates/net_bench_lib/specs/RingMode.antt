@@ -3,9 +3,8 @@
 --     RingCommand, ring_command words      what a line says, if its words are a line of the mode
 --     ring_does queue command      what it does to the queue, and the reply
 --     ring_rules      the rules of the mode
-use Rattle.std.specs.Prelude.{ℕ, ◌-◌, min, List, [], ◌∷◌, ◌++◌, length, take, drop, codes, bytes_eq}
-use Rattle.std.specs.Prelude.{decimal, if◌then◌else◌, Option, Some, None, Result, Ok, Err}
-use Rattle.std.specs.Prelude.{option_map}
+use Rattle.std.specs.Prelude.{ℕ, ◌-◌, min, List, [], ◌∷◌, ◌++◌, length, take, drop, codes, bytes_eq, decimal}
+use Rattle.std.specs.Prelude.{if◌then◌else◌, Option, Some, None, Result, Ok, Err, option_map}
 use Rattle.net_bench_lib.specs.Numeral.{number_of}
 use Rattle.net_bench_lib.specs.Text.{hex_bytes, hex_text}
 use Rattle.net_bench_lib.specs.Transcript.{Rules}

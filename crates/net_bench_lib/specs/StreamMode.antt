@@ -6,9 +6,8 @@
 --     Schedules S, first_schedule schedule_ops setting      the one or two schedules of an input
 --     stream_rules schedule_ops, stream_closing schedule_ops schedules      the rules of the mode, and what
 --         is written after the last line
-use Rattle.std.specs.Prelude.{ℕ, ◌+◌, ◌^◌, ◌&&◌, ◌==◌, nat_lt, if◌then◌else◌, Bool, true, List, []}
-use Rattle.std.specs.Prelude.{◌∷◌, ◌++◌, length, flat_map, codes, bytes_eq, decimal, Option, Some}
-use Rattle.std.specs.Prelude.{None, option_map, Result, Ok, Err}
+use Rattle.std.specs.Prelude.{ℕ, ◌+◌, ◌^◌, ◌&&◌, ◌==◌, nat_lt, if◌then◌else◌, Bool, true, List, [], ◌∷◌, ◌++◌, length}
+use Rattle.std.specs.Prelude.{flat_map, codes, bytes_eq, decimal, Option, Some, None, option_map, Result, Ok, Err}
 use Rattle.std.specs.Cmp.Lexicographic.{pointwise}
 use Rattle.net_receiver.specs.Headline.{Setting, KeptState, fresh_kept, CommandValue, Segment, Read, Show, ReplyValue}
 use Rattle.net_receiver.specs.Headline.{SegmentReply, ReadReply, ShowReply, missing, queue, held_runs, step}

@@ -3,8 +3,7 @@ use Rattle.std.specs.Prelude.{ℕ, Option, refl}
 use Rattle.std.specs.Coded.{Coded, code_by, coded×, coded_ℕ, coded_option}
 use Rattle.net_assembler.specs.Positions.{maximal_runs}
 use Rattle.net_receiver.specs.ReceiverState.{ReceiverState, fresh_receiver, next_position, domain}
-use Rattle.net_receiver.specs.ReceiverState.{receiver_after_command, receiver_reply}
-use Rattle.net_receiver.specs.ReceiverState.{receiver_code}
+use Rattle.net_receiver.specs.ReceiverState.{receiver_after_command, receiver_reply, receiver_code}
 use Rattle.net_bench_lib.specs.StreamMode.{Outcome, ScheduleOps, Schedules}
 
 -- the values that what a receiver stores is compared by

@@ -13,9 +13,8 @@ use Rattle.net_bench_lib.specs.declared.limits.TheConstants.{MAX_LINE}
 use Rattle.net_bench_lib.specs.declared.fault.Fault.{Fault}
 use Rattle.net_bench_lib.specs.declared.fault.Fault.TheVariants as faults
 use Rattle.net_bench_lib.specs.declared.error.BenchError.{BenchError}
-use Rattle.net_bench_lib.specs.declared.error.BenchError.TheVariants.{BadCommand, RangeTooLong}
-use Rattle.net_bench_lib.specs.declared.error.BenchError.TheVariants.{LineTooLong, TooManySchedules}
-use Rattle.net_bench_lib.specs.declared.error.BenchError.TheVariants.{OutOfMemory, ReadFailed}
+use Rattle.net_bench_lib.specs.declared.error.BenchError.TheVariants.{BadCommand, RangeTooLong, LineTooLong}
+use Rattle.net_bench_lib.specs.declared.error.BenchError.TheVariants.{TooManySchedules, OutOfMemory, ReadFailed}
 use Rattle.net_bench_lib.specs.declared.error.BenchError.TheVariants.{WriteFailed}
 
 -- the rules of a mode: from a state and a line's words, the next state and the reply, or the line's

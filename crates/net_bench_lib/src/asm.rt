@@ -1,13 +1,11 @@
 //! Mode `asm`: ranges are added to a set of positions, and its front is removed.
-ghost use Rattle.std.specs.Prelude.{◌≡◌, [], ◌≤◌, OnOk, IfErr, Ok};
-ghost use Rattle.std.specs.Prelude.{string_bytes};
+ghost use Rattle.std.specs.Prelude.{◌≡◌, [], ◌≤◌, OnOk, IfErr, Ok, string_bytes};
 ghost use Rattle.net_assembler.specs.Positions.{nothing};
 ghost use Rattle.net_bench_lib.specs.Numeral.{number_of};
 ghost use Rattle.net_bench_lib.specs.Text.{words_of};
 ghost use Rattle.net_bench_lib.specs.Refusal.{IsRefusalOf};
 ghost use Rattle.net_bench_lib.specs.AsmMode.{asm_rules, asm_line, range_of, asm_does};
-ghost use Rattle.net_bench_lib.specs.declared.asm.AsmLine.TheVariants.{Add, AddThenRemoveFront};
-ghost use Rattle.net_bench_lib.specs.declared.asm.AsmLine.TheVariants.{RemoveFront, Print};
+ghost use Rattle.net_bench_lib.specs.declared.asm.AsmLine.TheVariants.{Add, AddThenRemoveFront, RemoveFront, Print};
 
 use crate::fault::{Fault, Refusal};
 use crate::numeral::number;

@@ -1,6 +1,5 @@
 //! Lines in, replies out, for any mode.
-ghost use Rattle.std.specs.Prelude.{◌≡◌, ℕ, List, [], ◌∷◌, ◌++◌, Some, None, Ok};
-ghost use Rattle.std.specs.Prelude.{IfSome, IfOk, IfErr, OnOk};
+ghost use Rattle.std.specs.Prelude.{◌≡◌, ℕ, List, [], ◌∷◌, ◌++◌, Some, None, Ok, IfSome, IfOk, IfErr, OnOk};
 ghost use Rattle.std.specs.Io.KnownBytes.{Appends};
 ghost use Rattle.net_bench_lib.specs.Text.{lines_of, next_number};
 ghost use Rattle.net_bench_lib.specs.Transcript.{line_step, transcript, ErrorOfLines, ErrorOfInput};

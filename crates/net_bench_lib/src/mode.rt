@@ -1,6 +1,5 @@
 //! The modes of the bench.
-ghost use Rattle.std.specs.Prelude.{◌≡◌, [], ◌∷◌, map, string_bytes, Option, Some, option_map};
-ghost use Rattle.std.specs.Prelude.{option_and_then};
+ghost use Rattle.std.specs.Prelude.{◌≡◌, [], ◌∷◌, map, string_bytes, Option, Some, option_map, option_and_then};
 ghost use Rattle.net_bench_lib.specs.Kinds.{most_runs_value};
 ghost use Rattle.net_bench_lib.specs.Numeral.{number_of};
 ghost use Rattle.net_bench_lib.specs.Modes.{mode_of, stream_of, at_most_64k, four_or_32};

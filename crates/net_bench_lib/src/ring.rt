@@ -1,8 +1,7 @@
 //! Mode `ring`: bytes go in, and come out in order.
 ghost use Rattle.std.specs.Prelude.{◌≡◌, [], IfOk, OnOk, string_bytes, option_map, length};
 ghost use Rattle.net_bench_lib.specs.Text.{words_of};
-ghost use Rattle.net_bench_lib.specs.RingMode.{ring_rules, ring_command, ring_does, fresh_ring_mode};
-ghost use Rattle.net_bench_lib.specs.RingMode.{Write, Read};
+ghost use Rattle.net_bench_lib.specs.RingMode.{ring_rules, ring_command, ring_does, fresh_ring_mode, Write, Read};
 ghost use Rattle.net_bench_lib.specs.RingLines.{ring_command_value};
 
 use crate::fault::{Fault, Refusal};

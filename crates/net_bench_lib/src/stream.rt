@@ -1,13 +1,10 @@
 //! Mode `stream`: segments of a stream arrive in any order, and its bytes are read in order.
-ghost use Rattle.std.specs.Prelude.{◌≡◌, [], IfOk, OnOk, IfErr, Ok, string_bytes};
-ghost use Rattle.std.specs.Prelude.{option_map, ◌≤◌, length};
+ghost use Rattle.std.specs.Prelude.{◌≡◌, [], IfOk, OnOk, IfErr, Ok, string_bytes, option_map, ◌≤◌, length};
 ghost use Rattle.net_receiver.specs.Execution.{command_value};
 ghost use Rattle.net_bench_lib.specs.Numeral.{number_of};
 ghost use Rattle.net_bench_lib.specs.Text.{words_of, hex_bytes};
-ghost use Rattle.net_bench_lib.specs.StreamMode.{ToReceiver, NextSchedule, segment_command};
-ghost use Rattle.net_bench_lib.specs.StreamMode.{stream_command};
-ghost use Rattle.net_bench_lib.specs.StreamMode.{first_schedule, stream_does, stream_rules};
-ghost use Rattle.net_bench_lib.specs.StreamMode.{stream_closing, end_fits};
+ghost use Rattle.net_bench_lib.specs.StreamMode.{ToReceiver, NextSchedule, segment_command, stream_command};
+ghost use Rattle.net_bench_lib.specs.StreamMode.{first_schedule, stream_does, stream_rules, stream_closing, end_fits};
 ghost use Rattle.net_bench_lib.specs.Refusal.{IsRefusalOf};
 ghost use Rattle.net_bench_lib.specs.StreamLines.{stream_command_value};
 ghost use Rattle.net_bench_lib.specs.StreamReceivers.{receiver_schedule_ops};

@@ -2,8 +2,7 @@
 ghost use Rattle.std.specs.Prelude.{◌≡◌, [], Some, flat_map, OnOk, Ok, string_bytes};
 ghost use Rattle.net_receiver.specs.ReceiverState.{SegmentReply, ShowReply};
 ghost use Rattle.net_receiver.specs.Execution.{reply_value};
-ghost use Rattle.net_bench_lib.specs.StreamMode.{next_run_text, runs_text, accepted_line};
-ghost use Rattle.net_bench_lib.specs.StreamMode.{reply_text};
+ghost use Rattle.net_bench_lib.specs.StreamMode.{next_run_text, runs_text, accepted_line, reply_text};
 
 use crate::text;
 use net_receiver::{Kept, Reply};

@@ -1,8 +1,8 @@
-use Rattle.std.proofs.Common.{◌≡◌, true, get_or, sym, refl, arith, rules}
+use Rattle.std.proofs.Common.{◌≡◌, true, get_or, refl, arith, rules}
 use Rattle.std.specs.Char.{is_ascii_digit}
 use Rattle.std.proofs.lemmas.Bool.Decides.{nat_tests}
 use Rattle.std.proofs.lemmas.List.Folds.{list_all_more}
-use Rattle.net_bench_lib.proofs.Numerals.{digits-more, number-large, number-whole}
+use Rattle.net_bench_lib.proofs.Numerals.{digits-more, number-large}
 use Rattle.net_bench_lib.proofs.numeral.number.Goals as goal
 
 pub returns-in_err-checked_mul : goal.returns-in_err-checked_mul
@@ -26,7 +26,3 @@ loop-byte-preserved c =
           (grind (arith, nat_tests));
       fits = grind (arith, nat_tests);
     }
-
-pub returns : goal.returns
-returns c = sym (number-whole c.args.word.now c.loop-byte.byte-index c.loop-byte.value (omega arith) (search rules)
-    c.loop-byte.invariant.digits c.loop-byte.invariant.written c.loop-byte.invariant.fits)

@@ -1,20 +1,8 @@
-use Rattle.std.proofs.Common.{refl, [], Some}
-use Rattle.std.proofs.KnownBytes.{Appends-nil}
+use Rattle.std.proofs.Common.{[], Some}
 use Rattle.std.proofs.lemmas.Result.{err_from_is_err_and, on_ok_weaker, IfErr-weaker}
 use Rattle.net_bench_lib.proofs.LineParts.{lines-one}
-use Rattle.net_bench_lib.proofs.Progress.{last-ok, last-err, nonempty, empty}
+use Rattle.net_bench_lib.proofs.Progress.{last-ok, last-err, nonempty}
 use Rattle.net_bench_lib.proofs.bench.Bench.run_last_line.Goals as goal
-
-pub returns-then-is_empty-clause-ok : goal.returns-then-is_empty-clause-ok
-returns-then-is_empty-clause-ok g c =
-    rw (empty c.args.line.now _ c.is_empty.ensures c.if-is_empty.true)
-    (on_ok_weaker c.close.result (λ w. (refl, w)) c.close.ensures.ok)
-
-pub returns-then-is_empty-clause-err : goal.returns-then-is_empty-clause-err
-returns-then-is_empty-clause-err g c =
-    rw (empty c.args.line.now _ c.is_empty.ensures c.if-is_empty.true)
-    (IfErr-weaker c.close.result _ _ (λ e w. rw (w.0, w.1) (0, Appends-nil (Some c.args.self.now.replies.items)))
-    c.close.ensures.err)
 
 pub returns-in_err-run_line-clause-err : goal.returns-in_err-run_line-clause-err
 returns-in_err-run_line-clause-err g c =
