@@ -7,9 +7,7 @@ use std::hash::{Hash, Hasher};
 use std::sync::Mutex;
 
 use net_base::checksum::PartsSum;
-use net_base::finite::{
-    FiniteError, FiniteReceiver, FiniteReceiverOver, FiniteSender, FiniteSenderOver,
-};
+use net_base::finite::{FiniteError, FiniteReceiver, FiniteSender, FiniteSenderOver};
 use net_base::managed::ManagedSlice;
 use net_base::phy::{
     Checksum, ChecksumCapabilities, DeviceCapabilities, Medium, PacketLoopback, PacketMeta,
@@ -22,7 +20,7 @@ use net_base::sequence_number::{Numbering, SequenceNumber};
 use net_base::storage::fragment_table::FragmentSlot;
 use net_base::storage::{
     Assembler, Empty, FragmentBuffer, FragmentError, FragmentsOver, Full, PacketBuffer,
-    PacketMetadata, PacketsOver, RingBuffer, RingOver, Storage, TooManyHolesError,
+    PacketMetadata, PacketsOver, RingBuffer, RingOver, TooManyHolesError,
 };
 use net_base::time::{Duration, Instant};
 
@@ -317,27 +315,4 @@ fn lifetimes() {
         kept.insert(part).len()
     });
     assert_eq!((enqueued, kept), (Ok(3), Some(&mut [1, 8, 3][..])));
-}
-
-/// An array is a storage: of each call of that trait, what it shows and lends.
-#[test]
-fn arrays() {
-    let mut array = *b"wxyz";
-    assert_eq!(
-        (Storage::count(&array), array.part(1, 3), array.element(2)),
-        (4, &b"xy"[..], &b'y')
-    );
-    assert_eq!((array.part_mut(1, 3).len(), *array.element_mut(3)), (2, b'z'));
-    array.part_mut(1, 3)[1] = b'-';
-    assert_eq!(array, *b"wx-z");
-    let mut ring = RingOver::<u8, [u8; 4]>::over(*b"wxyz");
-    assert_eq!((ring.enqueue_many(2).to_vec(), ring.len()), (b"wx".to_vec(), 2));
-    let mut queue = PacketsOver::<u8, _, _>::over([PacketMetadata::EMPTY; 3], [0u8; 8]);
-    assert!(queue.push_slice(1, b"ab").is_ok() && queue.push_slice(2, b"cde").is_ok());
-    assert!(queue.dequeue().is_ok());
-    assert_eq!((queue.len(), queue.peek()), (1, Ok((&2, &b"cde"[..]))));
-    let mut receiver = FiniteReceiverOver::<[u8; 4], 2>::over_at([0; 4], 7);
-    assert!(receiver.keep(7, b"ab", true).is_ok() && receiver.acknowledged() == 10);
-    let mut sender = FiniteSenderOver::over_at([0u8; 4], 7);
-    assert_eq!((sender.write(b"ab"), sender.numbers_end()), (2, 9));
 }

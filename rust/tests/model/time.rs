@@ -159,6 +159,7 @@ fn play_moments(a: i64, b: i64, by: Duration) {
         (1000, Instant::fits_millis(a), moment(|| Instant::from_millis(a))),
         (1000, Instant::fits_millis(a), moment(|| Instant::from_millis_const(a))),
         (1_000_000, Instant::fits_secs(a), moment(|| Instant::from_secs(a))),
+        (1_000_000, Instant::fits_secs(a), moment(|| Instant::from_secs_const(a))),
     ] {
         assert_eq!((fits, of), (if_moment(wide * unit).is_some(), if_moment(wide * unit)));
     }
