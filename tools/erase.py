@@ -28,7 +28,7 @@ The rules:
    all of a type that users can't name but for `SHARED_CALLS`, and `CLOSED` of `erase_list.py`. What is closed has no
    example, since examples are another crate's. An export loses `extern "C"` and its documentation, and becomes
    `inline(always)`.
-5. `erase_list.py` has what else differs, with its files and how often: lifetimes, attributes, and types.
+5. `erase_texts.txt` has what else differs, with its files and how often: lifetimes, attributes, and types.
 6. What does nothing goes, as `erase_ghosts.py` finds it: modules of laws; a function that gives nothing, and whose body
    names places at most; a module with a type of snapshots alone; each parameter and argument of that type; and
    statements, with the comment before them: a call of a law or of such a function, one that makes or is of such a
