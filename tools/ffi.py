@@ -30,6 +30,7 @@ import sys
 import textwrap
 
 from parts import ROOT
+from parts.mir_text import split
 
 EXPORTS = ROOT / "crates/net_ffi"
 HEADER = ROOT / "c/net_base.h"
@@ -87,17 +88,6 @@ class Member:
     is_public: bool
 
 
-def split_top(text):
-    """The parts of a text between commas that are in no bracket."""
-    parts, depth, begin = [], 0, 0
-    for at, char in enumerate(text):
-        depth += (char in "([{<") - (char in ")]}>" and text[at - 1] != "-")
-        if char == "," and depth == 0:
-            parts.append(text[begin:at])
-            begin = at + 1
-    return [part for part in parts + [text[begin:]] if part.strip()]
-
-
 def doc_of(text):
     """The lines of the doc comment in a text."""
     return [line[1:] if line.startswith(" ") else line for line in re.findall(r"^\s*///(.*)$", text, flags=re.M)]
@@ -112,8 +102,8 @@ def members_of(text):
         return f"\0{len(docs) - 1}\0"
 
     code = re.sub(r"^\s*//(?!/).*$|#\[[^\]]*\]", "", text, flags=re.M)
-    for part in split_top(re.sub(r"(?:^\s*///.*\n)+", kept, code, flags=re.M)):
-        doc, member = re.fullmatch(r"\s*(?:\0(\d+)\0)?(.*)", part, flags=re.S).groups()
+    for part in split(re.sub(r"(?:^\s*///.*\n)+", kept, code, flags=re.M)):
+        doc, member = re.fullmatch(r"(?:\0(\d+)\0)?(.*)", part, flags=re.S).groups()
         public, name, kind = re.fullmatch(r"(pub )?(?:mut )?(\w+)\s*:\s*(.+)", member.strip(), flags=re.S).groups()
         found.append(Member(name, plain_type(kind), doc_of(docs[int(doc)]) if doc else [], bool(public)))
     return found
