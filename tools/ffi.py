@@ -443,22 +443,25 @@ def interface():
 def c_part(library, crate):
     """The header, by its template."""
     version, exports = version_of("rust"), library.exports()
-    sections = [[*[heading] * bool(heading), *[""] * bool(heading), *wrapped_text(c_text(text.splitlines(), library.structs), WIDTH - 3)]
+    sections = [[*[heading, ""] * bool(heading), *wrapped_text(c_text(text.splitlines(), library.structs), WIDTH - 3)]
                 for heading, text in root_sections(crate)]
     numbers = zip(("major", "minor", "patch"), version.partition("-")[0].split("."))
     told = [(item.name.removeprefix("net_base_"), " ".join(attributes(item))) for item in exports]
-    texts = {
-        "VERSION": [version], "NUMBER": [str(interface())], "DECLARATIONS": declarations(library),
-        "INDEX": starred(row for line in index_of(library) for row in wrapped_text(line, WIDTH - 3)),
-        "SECTIONS": starred(row for k, rows in enumerate(sections) for row in [*[""] * bool(k), *rows]),
-        "VERSIONS": [line for name, number in numbers for line in (
+    return filled_in(
+        TEMPLATE, VERSION=[version], NUMBER=[str(interface())], DECLARATIONS=declarations(library),
+        INDEX=starred(row for line in index_of(library) for row in wrapped_text(line, WIDTH - 3)),
+        SECTIONS=starred(row for k, rows in enumerate(sections) for row in [*[""] * bool(k), *rows]),
+        VERSIONS=[line for name, number in numbers for line in (
             f"/** The {name} number: until 1.0 names and structs may change with each minor one. */",
             f"#define NET_BASE_VERSION_{name.upper()} {number}")],
-        "NAMES": [f"#define {item.name} {link_name(item, interface())}" for item in exports],
-        "SLICES": [f"NET_BASE_SLICES({name}, {it})" for name, it in told if it],
-    }
-    template = re.sub(r"^// .*\n", "", TEMPLATE.read_text(), flags=re.M)
-    return re.sub("@([A-Z]+)@", lambda it: "\n".join(texts[it[1]]), template)
+        NAMES=[f"#define {item.name} {link_name(item, interface())}" for item in exports],
+        SLICES=[f"NET_BASE_SLICES({name}, {it})" for name, it in told if it])
+
+
+def filled_in(template, **texts):
+    """A template with these texts, each lines, in the places of their names; its own comments are left out."""
+    said = re.sub(r"^// .*\n", "", template.read_text(), flags=re.M)
+    return re.sub("@([A-Z]+)@", lambda it: "\n".join(texts[it[1]]), said)
 
 
 def starred(lines):

@@ -9,60 +9,7 @@ OUT = ffi.ROOT / "c/net_bound.h"
 # The memory that a struct keeps, by the parameter of a call: what it has, and the field of its length.
 MEMORY = {"storage": ("uint8_t", "capacity"), "runs": ("struct net_base_run", "runs_length"),
           "slots": ("struct net_base_packet_slot", "slots_length")}
-HEAD = """/* SPDX-License-Identifier: 0BSD */
-/** @file
- * Heads with their memory. Written by tools/ffi.py.
- *
- * Quick start
- *
-{start}
- *
- * A call `net_bound_..` is `net_base_..` of net_base.h, whose comment says what it does. Its struct has the head, and
- * where storage, runs or slots are. Only `.._init` is passed these, so duty 5 is kept. A struct of zeros but for its
- * memory is new too. Read its fields as you like, but let only these calls write them.
- *
- * What is refused is 0, where a call of net_base.h returns `NET_BASE_NONE` or `UINT64_MAX`. The place of a packet is
- * written to `place`, and false says that there is none.
- */
-#ifndef NET_BOUND_H
-#define NET_BOUND_H
-#include "net_base.h"
-
-/** @cond */
-#if defined __GNUC__ && !defined __clang__
-#pragma GCC diagnostic push
-#pragma GCC diagnostic ignored "-Wpedantic"
-#endif
-/* What a call of net_base.h is passed of a struct. Of a null one it is passed a null head, which it refuses. */
-#define NET_BOUND_HEAD(it) ((it) ? &(it)->head : NULL)
-#define NET_BOUND_CAPACITY(it) ((it) ? (it)->capacity : 0)
-#define NET_BOUND_STORAGE(it) ((it) ? (it)->storage : NULL), NET_BOUND_CAPACITY(it)
-#define NET_BOUND_RUNS(it) ((it) ? (it)->runs : NULL), ((it) ? (it)->runs_length : 0)
-#define NET_BOUND_SLOTS(it) ((it) ? (it)->slots : NULL), ((it) ? (it)->slots_length : 0)
-static inline size_t net_bound_or_0(size_t number) {
-    return number == NET_BASE_NONE ? 0 : number;
-}
-/** @endcond */
-"""
-TAIL = """
-/** @cond */
-#if defined __GNUC__ && !defined __clang__
-#pragma GCC diagnostic pop
-#endif
-/** @endcond */
-#endif
-"""
-THROUGH = """/* Has calls of net_base.h made by those of net_bound.h. Written by `python3 tools/ffi.py --through`. */
-#include "net_bound.h"
-#include <stdlib.h>
-#include <string.h>
-/* What `.._init` is passed. */
-static uint8_t bound_storage[3];
-static struct net_base_run bound_runs[2];
-static struct net_base_packet_slot bound_slots[1];
-#undef NET_BASE_NONE
-#define NET_BASE_NONE 0
-"""
+TEMPLATE, THROUGH = (ffi.ROOT / f"tools/parts/{name}.h.in" for name in ("net_bound", "net_bound_through"))
 
 
 def named(part):
@@ -174,8 +121,7 @@ def calls(library):
 def text(library):
     """The header, which begins with the first program of docs/C.md."""
     start = re.search(r"^    #include \"net_bound.h\"\n.*?^    \}$", ffi.PAGE.read_text(), flags=re.M | re.S)[0]
-    start = "\n".join(f" * {line}".rstrip() for line in start.splitlines())
-    lines = [HEAD.replace("{start}", start).rstrip("\n")]
+    lines = []
     for name, each in calls(library).items():
         lines += ["", f"/** `struct net_base_{name}` with its memory. */", f"struct net_bound_{name} {{",
                   f"    struct net_base_{name} head; /**< Its numbers. */"]
@@ -183,10 +129,10 @@ def text(library):
             lines += [f"    {MEMORY[field][0]} *{field}; /**< As `.._init` was passed it. */",
                       f"    size_t {length}; /**< How many elements that has. */"]
         lines += ["};", *[line for call in each for line in call.text()]]
-    return "\n".join(lines) + "\n" + TAIL
+    return ffi.filled_in(TEMPLATE, START=ffi.starred(start.splitlines()), CALLS=lines)
 
 
 def through(library):
     """The header for tests."""
     lines = [line for each in calls(library).values() for call in each for line in call.through()]
-    return "\n".join([THROUGH, *lines]) + "\n"
+    return ffi.filled_in(THROUGH, CALLS=["", *lines])
