@@ -3,9 +3,10 @@
 #
 # It compares the library's symbols with the header, and the structs' layouts; tries the headers in four languages by
 # each compiler that is here, and by doxygen; a program of another version, which must not link or load; pkg-config,
-# CMake, Meson and the lines of docs/C.md for rustc alone; and runs bare (no C library), hosted, edges, duties (over a library that tests them), those of programs, each export at the values of
-# tools/exports.txt and with each pointer null, and a sequence of 1,000,000 calls, whose digest is in c/sequence.txt. CC
-# and CXX name the compilers of C and C++. It wants cargo, Python and nothing else. --record writes the digest.
+# CMake, Meson and the lines of docs/C.md for rustc alone; and runs bare (no C library), hosted, duties (over a library
+# that tests them), those of programs, and a sequence of 1,000,000 calls, whose digest is in c/sequence.txt. By the calls
+# of both headers it runs edges, and each export at the values of tools/exports.txt and with each pointer null. CC and
+# CXX name the compilers of C and C++. It wants cargo, Python and nothing else. --record writes the digest.
 set -eu
 
 here=$(cd "$(dirname "$0")" && pwd)
