@@ -1,18 +1,18 @@
 #!/bin/sh
 # Prints how many bytes each struct of the header has that a program keeps: sh c/sizes.sh [LIBRARY]. Of 64 bits they
-# are those of this machine, of 32 bits those of a Cortex-M4, by clang; where there is none, a dash. c/run.sh compares
+# are those of this machine, of 32 bits those of a Cortex-M4, by clang or GCC; where there is none, a dash. c/run.sh compares
 # docs/C.md with it. Of a LIBRARY for a Cortex-M4 it also prints the code that a linker takes of the calls of each task.
 set -eu
 here=$(cd "$(dirname "$0")" && pwd)
-kept="base_ring bound_ring base_packets bound_packets base_packet_slot base_run base_fragments bound_fragments
-base_finite_receiver bound_finite_receiver base_answer_limit base_parts_sum base_receiving_end bound_receiving_end
-base_sending_end bound_sending_end"
+kept="net_base_ring net_bound_ring net_base_packets net_bound_packets net_base_packet_slot net_base_run
+net_base_fragments net_bound_fragments net_base_finite_receiver net_bound_finite_receiver net_base_answer_limit
+net_base_parts_sum net_base_receiving_end net_bound_receiving_end net_base_sending_end net_bound_sending_end byte_ring"
 folder=$(mktemp -d)
 trap 'rm -rf "$folder"' EXIT
 {
-    printf '#include "net_bound.h"\n'
+    printf '#include "net_bound.h"\n#include "programs/byte_ring.h"\n'
     for each in $kept; do
-        printf 'const unsigned %s = sizeof(struct net_%s);\n' "$each" "$each"
+        printf 'const unsigned %s = sizeof(struct %s);\n' "$each" "$each"
     done
 } > "$folder/sizes.c"
 {
@@ -23,11 +23,12 @@ trap 'rm -rf "$folder"' EXIT
     printf '    return 0;\n}\n'
 } > "$folder/main.c"
 "${CC:-cc}" -I "$here" "$folder/main.c" -o "$folder/main"
-clang --target=thumbv7em-none-eabi -ffreestanding -I "$here" -S -o "$folder/sizes.s" "$folder/sizes.c" \
-    2> "$folder/said" || : > "$folder/sizes.s"
+for compiler in "clang --target=thumbv7em-none-eabi" "arm-none-eabi-gcc -mcpu=cortex-m4 -mthumb" :; do
+    $compiler -ffreestanding -I "$here" -S -o "$folder/sizes.s" "$folder/sizes.c" 2> "$folder/said" && break
+done
 "$folder/main" | while read -r name size; do
     small=$(awk -v label="$name:" '$1 == label { getline; print $2 }' "$folder/sizes.s")
-    echo "| \`net_$name\` | $size | ${small:--} |"
+    echo "| \`$name\` | $size | ${small:--} |"
 done
 [ $# = 0 ] || {
     echo 'void _start(void); void _start(void) {}' > "$folder/start.c"

@@ -150,13 +150,17 @@ WAYS = [
     cortex_m("thumbv8m.main-none-eabi", "mps2-an505", ["-march=armv8-m.main"], SECURE),
     cortex_m("thumbv8m.main-none-eabihf", "mps2-an505", ["-march=armv8-m.main+fp", "-mfloat-abi=hard"], SECURE),
 ]
-# The rows of docs/C.md for parts of the library on a Cortex-M4, by the order in which c/sizes.sh prints their code, and
-# the rounds of instructions.c that they have.
+# The rows of docs/C.md for parts of the library on a Cortex-M4, by the order in which c/sizes.sh prints their code: the
+# rounds of instructions.c that they have, and the RAM.
 PAGE = ROOT / "docs/C.md"
-PARTS = {"`net_bound_ring_`": "ring: 16 bytes in and out", "`net_bound_packets_`": "packets: one in and out",
-         "`net_bound_fragments_`, `net_base_parts_sum_`": "fragments: two of 16 bytes, the size, the packet",
-         "`net_bound_finite_receiver_`": "receiver: a segment of 32 bytes and a read",
-         "`net_bound_receiving_end_`, `net_bound_sending_end_`": "sending end: 32 bytes written, sent and acknowledged"}
+PARTS = {"`net_bound_ring_`": ("ring: 16 bytes in and out", "{net_bound_ring}"),
+         "`net_bound_packets_`": ("packets: one in and out", "{net_bound_packets}, and {net_base_packet_slot} a packet"),
+         "`net_bound_fragments_`, `net_base_parts_sum_`":
+             ("fragments: two of 16 bytes, the size, the packet", "{net_bound_fragments}, and {net_base_run} a range"),
+         "`net_bound_finite_receiver_`":
+             ("receiver: a segment of 32 bytes and a read", "{net_bound_finite_receiver}, and {net_base_run} a range"),
+         "`net_bound_receiving_end_`, `net_bound_sending_end_`":
+             ("sending end: 32 bytes written, sent and acknowledged", "{both_ends}")}
 BYTE_RING = """#include "programs/byte_ring.h"
 bool put(struct byte_ring *ring, uint8_t byte) { return byte_ring_put(ring, byte); }
 bool take(struct byte_ring *ring, uint8_t *byte) { return byte_ring_take(ring, byte); }
@@ -432,17 +436,26 @@ def figures(programs, generated):
     their heads."""
     stack = "; ".join(f"{size} {name}" for size, name in stacks(programs, generated))
     found = {f"`{programs.way.target}`": {"Code, bytes": f"{programs.library.code_size():,}", "Stack, bytes": stack}}
-    if programs.way.target == CORTEX_M4:
-        rounds = instructions(programs)
-        codes = re.findall(r"^code of .*: (\d+)$", shell(["sh", C / "sizes.sh", programs.library.path])[1], flags=re.M)
-        for (key, name), code in zip(PARTS.items(), codes, strict=True):
-            found[key] = {"Code": f"{int(code):,}", "Instructions": f"{rounds[name]:,}"}
-        source = programs.folder / "byte_ring_size.c"
-        source.write_text(BYTE_RING)
-        found["copy `byte_ring.h`"] = {"Code": str(code_size(programs.way, programs.compiled(source, ["-Os"]))),
-                                       "Instructions": str(rounds["byte_ring.h: a byte in and out"])}
-        for name, (most, average) in longest(programs).items():
-            found[f"`{name}`"] = {"Most": f"{most:,}", "On average": f"{average:,}"}
+    return found | (figures_of_parts(programs) if programs.way.target == CORTEX_M4 else {})
+
+
+def figures_of_parts(programs):
+    """Those for parts of the library on a Cortex-M4, and for structs."""
+    rounds, said = instructions(programs), shell(["sh", C / "sizes.sh", programs.library.path])[1]
+    codes = re.findall(r"^code of .*: (\d+)$", said, flags=re.M)
+    sizes = re.findall(r"^\| `(\w+)` \| (\d+) \| (\d+) \|$", said, flags=re.M)
+    found = {f"`{name}`": {"64 bits": wide, "Cortex-M4": narrow} for name, wide, narrow in sizes}
+    ram = {name: int(narrow) for name, _, narrow in sizes}
+    ram["both_ends"] = ram["net_bound_receiving_end"] + ram["net_bound_sending_end"]
+    for (key, (name, kept)), code in zip(PARTS.items(), codes, strict=True):
+        found[key] = {"RAM": kept.format(**ram), "Code": f"{int(code):,}", "Instructions": f"{rounds[name]:,}"}
+    source = programs.folder / "byte_ring_size.c"
+    source.write_text(BYTE_RING)
+    found["copy `byte_ring.h`"] = {"RAM": str(ram["byte_ring"] - 256),
+                                   "Code": str(code_size(programs.way, programs.compiled(source, ["-Os"]))),
+                                   "Instructions": str(rounds["byte_ring.h: a byte in and out"])}
+    for name, (most, average) in longest(programs).items():
+        found[f"`{name}`"] = {"Most": f"{most:,}", "On average": f"{average:,}"}
     return found
 
 
