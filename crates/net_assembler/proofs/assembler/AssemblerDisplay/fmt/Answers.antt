@@ -33,12 +33,7 @@ text_is s from rs done e h =
     ap (λ t. (codes "[ " ++ t) ++ codes "]") (sym all)
 
 pub loop-start-init : goal.loop-start-init
-loop-start-init g c =
-    let is = c.into_iter-start-iterator.ensures.into_iter_gives ∙ c.iter_data-start-items.ensures.runs in
-    record {
-      rises = subst (IsRising 0) (sym is) (rising-maximal_runs c.args.self.now);
-      written = ([], ap (text_from 0) (sym is), search rules);
-    }
+loop-start-init g c = grind (arith, rising-maximal_runs)
 
 pub loop-start-preserved : goal.loop-start-preserved
 loop-start-preserved g c =

@@ -1,4 +1,5 @@
-use Rattle.std.proofs.Common.{◌<◌, arith, refl}
+use Rattle.std.proofs.Common.{rules}
+use Rattle.std.proofs.Common.{◌<◌, arith}
 use Rattle.net_assembler.proofs.Cuts.{cut_and_taken, cut_both, gap_after, gap_before, high_usize, is_inside, split_run}
 use Rattle.net_assembler.proofs.Cuts.{tail_fits}
 use Rattle.net_assembler.proofs.assembler.head.cut.Goals as goal
@@ -6,42 +7,16 @@ use Rattle.net_assembler.proofs.assembler.head.cut.Goals.{else-last_end-to-via-t
 use Rattle.net_assembler.proofs.assembler.head.cut.Goals.{else-last_end-to-via-else-last_end-to}
 
 pub returns-then-used-runs-clause-refused : goal.returns-then-used-runs-clause-refused
-returns-then-used-runs-clause-refused c = (
-  λ _. (
-    is_inside c.args.runs.now c.args.used c.requires.runs c.requires.used c.requires.fits c.args.from c.args.to
-        c.runs_starting_by-met.result c.runs_met-next.result c.requires.order c.requires.first c.requires.some
-        c.runs_met-next.ensures.from c.runs_met-next.ensures.within c.runs_starting_by-met.ensures.before
-        c.runs_starting_by-met.ensures.after c.runs_met-next.ensures.before c.runs_met-next.ensures.after
-        c.if-next-met.true (omega (arith, c.if-last_end-to.true, c.end_of-last_end.ensures)),
-    omega (arith, c.if-used-runs.true),
-  ),
-  λ _. refl,
-)
+returns-then-used-runs-clause-refused c = grind (arith, is_inside)
 
 pub insert_run-requires-clause-fits : goal.insert_run-requires-clause-fits
-insert_run-requires-clause-fits c =
-    tail_fits c.args.runs.now c.args.used c.requires.runs c.requires.used c.requires.fits c.args.from c.args.to
-    c.runs_starting_by-met.result c.runs_met-next.result c.requires.order c.requires.first c.requires.some
-    c.runs_met-next.ensures.from c.runs_met-next.ensures.within c.runs_starting_by-met.ensures.before
-    c.runs_starting_by-met.ensures.after c.runs_met-next.ensures.before c.runs_met-next.ensures.after
-    c.runs_starting_by-met.result _ (omega arith) (omega (arith, c.runs_met-next.ensures.from, c.runs_met-next.ensures.within))
+insert_run-requires-clause-fits c = search (rules, tail_fits)
 
 pub returns-then-next-met-clause-cut : goal.returns-then-next-met-clause-cut
-returns-then-next-met-clause-cut c =
-    split_run c.args.runs.now c.args.used c.requires.runs c.requires.used c.requires.fits c.args.from c.args.to
-    c.runs_starting_by-met.result c.runs_met-next.result c.requires.order c.requires.first c.requires.some
-    c.runs_met-next.ensures.from c.runs_met-next.ensures.within c.runs_starting_by-met.ensures.before
-    c.runs_starting_by-met.ensures.after c.runs_met-next.ensures.before c.runs_met-next.ensures.after
-    _ c.start_of.result c.end_of-last_end.result c.start_of.ensures c.end_of-last_end.ensures c.if-next-met.true
-    c.if-last_end-to.true c.insert_run.ensures.runs
+returns-then-next-met-clause-cut c = search (rules, split_run)
 
 pub take_out-requires-clause-fits : goal.take_out-requires-clause-fits
-take_out-requires-clause-fits c =
-    tail_fits c.args.runs.now c.args.used c.requires.runs c.requires.used c.requires.fits c.args.from c.args.to
-    c.runs_starting_by-met.result c.runs_met-next.result c.requires.order c.requires.first c.requires.some
-    c.runs_met-next.ensures.from c.runs_met-next.ensures.within c.runs_starting_by-met.ensures.before
-    c.runs_starting_by-met.ensures.after c.runs_met-next.ensures.before c.runs_met-next.ensures.after
-    c.runs_met-next.result _ c.runs_met-next.ensures.from c.runs_met-next.ensures.within
+take_out-requires-clause-fits c = search (rules, tail_fits)
 
 pub returns-then-last_end-to-2-clause-cut : goal.returns-then-last_end-to-2-clause-cut
 returns-then-last_end-to-2-clause-cut c =

@@ -1,8 +1,8 @@
-use Rattle.std.proofs.Common.{◌≡◌, ℕ, List, [], ◌∷◌, length, drop, refl, sym, ap, subst, ◌∙◌}
+use Rattle.std.proofs.Common.{arith}
+use Rattle.std.proofs.Common.{◌≡◌, ℕ, List, [], ◌∷◌, length, drop, refl, sym, ap, ◌∙◌}
 use Rattle.std.specs.Prelude.{Option, Some, None}
 use Rattle.std.proofs.Math.Seq.{drop-nil}
 use Rattle.net_assembler.specs.AssemblerLaws.{CallsNext, results_of_next}
-use Rattle.net_assembler.specs.Positions.{AreMaximalRuns}
 use Rattle.net_assembler.proofs.Runs.{are_maximal_runs}
 use Rattle.net_assembler.proofs.assembler.laws.iterating.Goals as goal
 
@@ -28,6 +28,4 @@ next_results (l ∷ left) last (Some r ∷ results) h =
     )
 
 pub returns : goal.returns
-returns c = λ most_runs s left last results listed few calls.
-    let given = next_results left last results calls in
-    (subst (AreMaximalRuns s) (sym listed) (are_maximal_runs s), few, given.0, given.1)
+returns c = grind (arith, next_results, are_maximal_runs)

@@ -1,3 +1,4 @@
+use Rattle.std.proofs.Common.{rules}
 use Rattle.std.proofs.Common.{◌≡◌, ◌==◌, ◌∙◌, ◌+◌, ◌-◌, ◌<◌, ◌≤◌, ℕ, true, false, ap, length, max, refl, set, subst}
 use Rattle.std.proofs.Common.{sym, take, arith}
 use Rattle.std.proofs.lemmas.Bool.{cases_lt}
@@ -14,13 +15,7 @@ use Rattle.net_assembler.proofs.ShiftedRuns.{some-runs_with_range}
 use Rattle.net_assembler.proofs.assembler.head.AssemblerHead.add_last.Goals as goal
 
 pub returns-then-size-eq0 : goal.returns-then-size-eq0
-returns-then-size-eq0 c = record {
-  sound = c.requires.sound;
-  added = none_added c.args.self.now c.args.runs.now c.requires.sound c.args.offset c.args.size (omega arith);
-  unchanged = tt;
-  canonical = λ none. none;
-  turns = no_turn _ _ _;
-}
+returns-then-size-eq0 c = search (rules, none_added, no_turn)
 
 pub returns-then-is_empty : goal.returns-then-is_empty
 returns-then-is_empty c =

@@ -1,4 +1,5 @@
-use Rattle.std.proofs.Common.{◌∙◌, ◌<◌, refl, sym, ap, arith}
+use Rattle.std.proofs.Common.{rules}
+use Rattle.std.proofs.Common.{◌∙◌, ◌<◌, refl, ap, arith}
 use Rattle.net_assembler.specs.RunLists.{set_of_runs}
 use Rattle.net_assembler.proofs.Sets.{too_many}
 use Rattle.net_assembler.proofs.SoundHeads.{contains-below, contains-none, dropped, few_held, lowered, lowered_set}
@@ -6,10 +7,7 @@ use Rattle.net_assembler.proofs.SoundHeads.{next_removed, shift_down-none}
 use Rattle.net_assembler.proofs.assembler.head.AssemblerHead.add_then_remove_front.Goals as goal
 
 pub returns-then-self-eq0-clause-both : goal.returns-then-self-eq0-clause-both
-returns-then-self-eq0-clause-both c =
-    let s = c.requires.sound in
-    next_removed _ c.args.offset c.args.size _ _ (omega arith) (contains-none _ _ s c.args.size (omega arith))
-    (sym (shift_down-none _ _ s c.args.size (omega arith))) (few_held _ _ s)
+returns-then-self-eq0-clause-both c = search (rules, next_removed, contains-none, shift_down-none, few_held)
 
 pub returns-then-size-self-clause-both : goal.returns-then-size-self-clause-both
 returns-then-size-self-clause-both c =

@@ -17,53 +17,13 @@ loop-k-init c =
     record { counted = omega (arith, skipped); looks = refl; moves = refl }
 
 pub overflow_add-count : goal.overflow_add-count
-overflow_add-count c =
-    let h = c.args.self.now in
-    let xs = c.args.runs.now in
-    let next = next_overlap xs h.used c.requires.runs c.requires.room c.loop-k.k c.saturating_sub-from.result
-    c.saturating_sub-to.result c.loop-k-test.true in
-    omega (
-      arith,
-      next,
-      c.loop-k.invariant.counted,
-      overlap_usize h xs c.requires c.saturating_sub-from.result c.saturating_sub-to.result,
-      c.saturating_sub-count.ensures,
-      c.min.ensures,
-      c.max.ensures,
-      c.end_of.ensures,
-      c.start_of-start.ensures,
-    )
+overflow_add-count c = grind (arith, next_overlap, overlap_usize)
 
 pub prove-unreachable-requires : goal.prove-unreachable-requires
-prove-unreachable-requires c =
-    let h = c.args.self.now in
-    let xs = c.args.runs.now in
-    let next = next_overlap xs h.used c.requires.runs c.requires.room c.loop-k.k c.saturating_sub-from.result
-    c.saturating_sub-to.result c.loop-k-test.true in
-    omega (
-      arith,
-      next,
-      c.loop-k.invariant.counted,
-      overlap_usize h xs c.requires c.saturating_sub-from.result c.saturating_sub-to.result,
-      c.saturating_sub-count.ensures,
-      c.min.ensures,
-      c.max.ensures,
-      c.end_of.ensures,
-      c.start_of-start.ensures,
-      c.most.ensures.greatest,
-      c.if-prove.true,
-    )
+prove-unreachable-requires c = grind (arith, next_overlap, overlap_usize)
 
 pub returns-then-start-to : goal.returns-then-start-to
-returns-then-start-to c =
-    let h = c.args.self.now in
-    let xs = c.args.runs.now in
-    let all = (λ i. overlap (used_runs h xs) (c.saturating_sub-from.ensures i) (c.saturating_sub-to.ensures i))
-    ∙ overlap_set h xs c.requires c.args.start c.args.end in
-    let none = no_overlap xs h.used c.requires.runs c.requires.room c.loop-k.k c.saturating_sub-from.result
-    c.saturating_sub-to.result (omega (arith, c.loop-k-test.true))
-    (λ _. omega (arith, c.if-start-to.true, c.start_of-start.ensures)) in
-    omega (arith, none, c.loop-k.invariant.counted) ∙ all
+returns-then-start-to c = grind (arith, overlap, overlap_set, no_overlap)
 
 pub returns : goal.returns
 returns c =

@@ -32,11 +32,4 @@ returns-then-self-other c =
 
 -- they start at different positions
 pub returns-else-self-other : goal.returns-else-self-other
-returns-else-self-other c =
-    let apart : Decides (c.args.self.now.first_start == c.args.other.now.first_start)
-    (set_of c.args.self.now c.args.runs.now ≡ set_of c.args.other.now c.args.other_runs.now) = (
-      λ t. absurd (c.if-self-other.false (eqb-true _ _ t)),
-      λ e. absurd
-          (c.if-self-other.false (same_first_start _ _ _ _ c.requires.sound c.requires.other_sound (omega arith) e)),
-    ) in
-    record { test = same_from_decides _ _ apart (are_same_decides _ _); same = apart }
+returns-else-self-other c = grind (arith, eqb-true, same_first_start, same_from_decides, are_same_decides)

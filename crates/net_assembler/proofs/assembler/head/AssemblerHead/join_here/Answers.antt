@@ -1,8 +1,8 @@
-use Rattle.std.proofs.Common.{◌≡◌, ◌∙◌, ℕ, ◌+◌, ◌-◌, ◌<◌, ◌≤◌, ◌++◌, ap, drop, length, refl, set, subst, sym, take}
+use Rattle.std.proofs.Common.{◌≡◌, ◌∙◌, ℕ, ◌+◌, ◌-◌, ◌<◌, ◌≤◌, ◌++◌, ap, drop, length, refl, set, sym, take}
 use Rattle.std.proofs.Common.{arith}
 use Rattle.std.proofs.lemmas.Bool.{cases_lt}
 use Rattle.std.proofs.lemmas.List.{length-set}
-use Rattle.net_assembler.specs.RunLists.{AreUsize, FitsFrom, end_at, runs_wrapped, start_at, used_runs, wrapped_run}
+use Rattle.net_assembler.specs.RunLists.{FitsFrom, end_at, runs_wrapped, start_at, used_runs, wrapped_run}
 use Rattle.net_assembler.proofs.Runs.{runs_with_range}
 use Rattle.net_assembler.proofs.Calls.{below_binary_digits, no_turn}
 use Rattle.net_assembler.proofs.SoundHeads.{joined_in_place, refused_in_place}
@@ -37,12 +37,7 @@ returns-then-used-runs-clause-added c =
     (λ _. refl) (λ z. absurd (omega arith)) _ _ c.requires.size (omega arith) (no_turn _ _ _) _
 
 pub insert_run-requires-clause-fits : goal.insert_run-requires-clause-fits
-insert_run-requires-clause-fits c =
-    let h = c.args.self.now in
-    let xs = c.args.runs.now in
-    let s = c.requires.sound in
-    tail_usize c.args.by c.args.first (used_runs h xs) s.runs
-    (fits-less c.args.by h.first_start (used_runs h xs) c.requires.by s.fits)
+insert_run-requires-clause-fits c = grind (arith, tail_usize, fits-less)
 
 pub returns-then-end-begin-clause-added : goal.returns-then-end-begin-clause-added
 returns-then-end-begin-clause-added c =
@@ -79,24 +74,10 @@ returns-then-end-begin-clause-added c =
     })
 
 pub take_out-self-requires-clause-fits : goal.take_out-self-requires-clause-fits
-take_out-self-requires-clause-fits c =
-    let h = c.args.self.now in
-    let xs = c.args.runs.now in
-    let s = c.requires.sound in
-    let next = c.runs_met-next in
-    subst (λ rs. AreUsize (runs_wrapped c.args.by rs))
-    (sym (rest_written xs c.args.first next.result h.used (
-      c.min.result,
-      c.max.result,
-    ) (omega (arith, next.ensures.from)) next.ensures.within))
-    (tail_usize c.args.by next.result (used_runs h xs) s.runs
-    (fits-less c.args.by h.first_start (used_runs h xs) c.requires.by s.fits))
+take_out-self-requires-clause-fits c = grind (arith, rest_written, tail_usize, fits-less)
 
 pub returns-then-next-first-clause-looks : goal.returns-then-next-first-clause-looks
-returns-then-next-first-clause-looks c =
-    let n = length c.args.runs.now in
-    let d = below_binary_digits n in
-    omega (arith, d, c.runs_met-next.ensures.looks)
+returns-then-next-first-clause-looks c = grind (arith, below_binary_digits)
 
 pub returns-then-next-first-clause-added : goal.returns-then-next-first-clause-added
 returns-then-next-first-clause-added c =
@@ -132,13 +113,7 @@ returns-then-next-first-clause-added c =
     })
 
 pub returns-clause-looks : goal.returns-clause-looks
-returns-clause-looks c =
-    let d = below_binary_digits (length c.args.runs.now) in
-    let turns : c.if-next-used.turns.0 ≡ c.runs_met-next.new.turns.0 = elim c.if-next-used.branch [
-      | then-next-used w ↦ ap (λ (t : ℕ × ℕ). t.0) w.turns-is
-      | else-next-used w ↦ omega (arith, ap (λ (t : ℕ × ℕ). t.0) w.turns-is, w.take_out-self.ensures.looks)
-    ] in
-    omega (arith, d, turns, c.runs_met-next.ensures.looks)
+returns-clause-looks c = grind (arith, below_binary_digits)
 
 pub returns-clause-added : goal.returns-clause-added
 returns-clause-added c =

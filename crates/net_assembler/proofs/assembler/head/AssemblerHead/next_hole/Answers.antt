@@ -10,11 +10,7 @@ returns-then-count-self-clause-begins c =
     c.end_of_first.result c.runs_by-count.ensures last.none last.some
 
 pub returns-then-count-self-clause-ends : goal.returns-then-count-self-clause-ends
-returns-then-count-self-clause-ends c = λ q from.
-    let last = c.end_of_first.ensures in
-    hole_open c.args.self.now c.args.runs.now c.requires c.args.position c.runs_by-count.result c.end_of_first.result
-    c.runs_by-count.ensures
-    last.none last.some c.if-count-self.true q (omega (arith, c.max-start.ensures, from))
+returns-then-count-self-clause-ends c = grind (arith, hole_open)
 
 pub returns-clause-begins : goal.returns-clause-begins
 returns-clause-begins c =

@@ -1,14 +1,11 @@
-use Rattle.std.proofs.Common.{◌≡◌, ℕ, ◌<◌, length, ap, refl, subst, sym, arith}
+use Rattle.std.proofs.Common.{◌≡◌, ℕ, length, subst, sym, arith}
 use Rattle.std.specs.Prelude.{Result, Ok, Err, IsErr, MatchResult}
 use Rattle.net_assembler.specs.declared.assembler.error.TooManyHolesError.{TooManyHolesError}
 use Rattle.net_assembler.specs.Heads.{FrontEnds}
-use Rattle.net_assembler.specs.Positions.{with_range}
 use Rattle.net_assembler.specs.RunLists.{set_of}
 use Rattle.net_assembler.proofs.SoundHeads.{added_more, first_reached, front_ends, reaches_some, runs-set_of}
 use Rattle.net_assembler.proofs.Sets.{too_many}
 use Rattle.net_assembler.proofs.assembler.head.AssemblerHead.reach_front.Goals as goal
-use Rattle.net_assembler.proofs.assembler.head.AssemblerHead.reach_front.Goals.{then-offset-eq0+else-end-gt0}
-use Rattle.net_assembler.proofs.assembler.head.AssemblerHead.reach_front.Goals.{else-offset-eq0}
 
 pub returns-then-end-gt0-clause-front : goal.returns-then-end-gt0-clause-front
 returns-then-end-gt0-clause-front c =
@@ -26,21 +23,7 @@ on_error A P (Ok n) f p = absurd (cc)
 on_error A P (Err e) f p = p
 
 pub returns-in_err-add-clause-front : goal.returns-in_err-add-clause-front
-returns-in_err-add-clause-front c =
-    let h = c.args.self.now in
-    let xs = c.args.runs.now in
-    let s = set_of h xs in
-    let over = c.in_err-add.ensures.added.refused.0 refl in
-    let past : 0 < c.args.offset = elim c.if-offset-eq0.branch [
-      | then-offset-eq0+else-end-gt0 w ↦
-          (let zeroth : c.args.offset ≡ 0 = w.if-offset-eq0.true in
-          let all = too_many (length xs) s c.args.offset c.args.size in
-          let few = reaches_some h xs c.requires.sound c.args.size (c.requires.some zeroth) (c.requires.reached zeroth)
-          (with_range s c.args.offset c.args.size) (ap (λ o. with_range s o c.args.size) zeroth) in
-          absurd (omega (arith, (all.0 over).1, few, c.requires.sound.room)))
-      | else-offset-eq0 w ↦ omega (arith, w.if-offset-eq0.false)
-    ] in
-    on_error _ _ c.from_residual.result c.from_residual.ensures.0 (past, over)
+returns-in_err-add-clause-front c = grind (arith, too_many, reaches_some, on_error)
 
 pub returns-clause-front : goal.returns-clause-front
 returns-clause-front c =

@@ -1,14 +1,11 @@
-use Rattle.std.proofs.Common.{◌∙◌, ◌+◌, ap, arith, sym}
-use Rattle.net_assembler.specs.Positions.{Positions, contains, shift_up}
+use Rattle.std.proofs.Common.{◌∙◌, ap, arith}
+use Rattle.net_assembler.specs.Positions.{Positions, shift_up}
 use Rattle.net_assembler.proofs.Cuts.{set_fits, without-below}
 use Rattle.net_assembler.proofs.Sets.{contains-shift_down}
 use Rattle.net_assembler.proofs.assembler.head.AssemblerHead.remove_below.Goals as goal
 
 pub raise-requires-clause-fits : goal.raise-requires-clause-fits
-raise-requires-clause-fits c = λ p is.
-    let old = sym (contains-shift_down _ c.args.end p) ∙ sym (ap (λ (t : Positions). contains t p) c.shift.ensures.set)
-    ∙ is in
-    omega (arith, set_fits _ _ c.requires (p + c.args.end) old)
+raise-requires-clause-fits c = grind (arith, contains-shift_down, set_fits)
 
 pub returns-clause-set : goal.returns-clause-set
 returns-clause-set c =

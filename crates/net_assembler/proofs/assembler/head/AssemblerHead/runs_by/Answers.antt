@@ -1,3 +1,4 @@
+use Rattle.std.proofs.Common.{rules}
 use Rattle.std.proofs.Common.{arith, length}
 use Rattle.net_assembler.proofs.Searches.{splits, splits_none}
 use Rattle.net_assembler.specs.Turns.{binary_digits}
@@ -9,10 +10,7 @@ returns-then-position-self c =
     splits_none c.args.self.now c.args.runs.now c.requires c.args.position (omega (arith, c.if-position-self.true))
 
 pub returns : goal.returns
-returns c =
-    let by = c.runs_starting_by-count.ensures in
-    splits c.args.self.now c.args.runs.now c.requires c.args.position c.runs_starting_by-count.result
-    (omega (arith, c.if-position-self.false)) by.within by.before by.after
+returns c = search (rules, splits)
 
 pub were_a_search-requires : goal.were_a_search-requires
 were_a_search-requires c =

@@ -26,14 +26,10 @@ pub drop_front-requires-clause-after : goal.drop_front-requires-clause-after
 drop_front-requires-clause-after c = λ l. omega (arith, after_split _ _ c.requires _ _ c.runs_by-met.ensures l)
 
 pub drop_front-requires-2-clause-runs : goal.drop_front-requires-2-clause-runs
-drop_front-requires-2-clause-runs c =
-    let e = (goal.at.drop_front-requires-2-clause-runs c).Else-end-by in
-    cut_rises _ _ c.requires (last e) (by e) c.end_of-end.result (within e) c.end_of-end.ensures (start e) (omega arith)
+drop_front-requires-2-clause-runs c = grind (arith, cut_rises, within, start)
 
 pub drop_front-requires-2-clause-fits : goal.drop_front-requires-2-clause-fits
-drop_front-requires-2-clause-fits c =
-    let e = (goal.at.drop_front-requires-2-clause-fits c).Else-end-by in
-    cut_fits _ _ c.requires (last e) (by e) c.end_of-end.result (within e) c.end_of-end.ensures (start e) (omega arith)
+drop_front-requires-2-clause-fits c = grind (arith, cut_fits, within, start)
 
 pub returns-clause-set : goal.returns-clause-set
 returns-clause-set c =
