@@ -1,18 +1,17 @@
 -- What is left of a scoreboard once a range is forgotten.
-use Rattle.std.specs.Prelude.{IsFalse, Ok, Err, Result, IsOk}
+use Rattle.std.specs.Prelude.{Ok, Err, Result, IsOk}
 use Rattle.net_assembler.proofs.Cuts.{contains-without_range}
-use Rattle.net_assembler.proofs.SoundHeads.{added_accepted, runs-set_of}
+use Rattle.net_assembler.proofs.SoundHeads.{added_accepted}
 use Rattle.net_assembler.specs.AssemblerLaws.{Adds, CutsRun, Removes}
 use Rattle.net_assembler.specs.Positions.{IsEnd, without_range}
 use Rattle.net_receiver.proofs.Scoreboards.{board_below, added_within, contains-board, front_board}
-use Rattle.net_receiver.proofs.Words.{◌≡◌, ℕ, ◌+◌, ◌-◌, ◌<◌, ◌≤◌, ◌^◌, ◌&&◌, ◌∙◌, ◌||◌, ◌⊎◌, min, not, nat_le, nat_lt, true, false, ap, arith}
+use Rattle.net_receiver.proofs.Words.{◌≡◌, ℕ, ◌+◌, ◌-◌, ◌<◌, ◌≤◌, ◌^◌, ◌&&◌, ◌∙◌, ◌||◌, ◌⊎◌, not, nat_le, nat_lt, true, false, ap, arith}
 use Rattle.net_receiver.proofs.Words.{sym, subst, refl, IsTrue, Positions, contains, front, nothing, runs, shift_up, with_range}
 use Rattle.net_receiver.proofs.Words.{board, both_ways, cases_lt, contains-nothing, contains-shift_up, contains-with_range}
 use Rattle.net_receiver.proofs.Words.{either, false_from_ne_true, first_missing, first_missing-misses, nat_tests}
 use Rattle.net_receiver.proofs.Words.{TooManyHolesError, List, [], ◌∷◌, All, All-head, All-tail, IsMaximalRun, Option, None}
 use Rattle.net_receiver.proofs.Words.{Some, zero, suc, slice_get, maximal_runs, first_missing-le, is_ok}
 use Rattle.net_assembler.proofs.Runs.{are_maximal_runs}
-use Rattle.std.specs.Prelude.{◌↔◌}
 use Rattle.net_receiver.specs.Scoreboards.{Forgets}
 use Rattle.net_ring.specs.Width.{shortfall}
 

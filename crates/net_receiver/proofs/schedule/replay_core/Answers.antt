@@ -6,11 +6,6 @@ use Rattle.std.specs.Result.{is_ok}
 use Rattle.net_receiver.proofs.Schedules.{state_more, replies_more, whole_appended}
 use Rattle.net_receiver.proofs.schedule.replay_core.Goals as goal
 
--- nothing was pushed at first
-nothing_pushed : {A : Type 0} (xs : List A) → xs ≡ xs ++ items_after xs xs
-nothing_pushed [] = refl
-nothing_pushed (x ∷ xs) = ap (λ l. x ∷ l) (nothing_pushed xs)
-
 pub loop-command-preserved : goal.loop-command-preserved
 loop-command-preserved g c =
     let more = c.push_reserved.ensures.items ∙ ap (λ xs. xs ++ c.in_ok-reply.reply ∷ []) c.reserve.ensures.items in
@@ -73,27 +68,4 @@ returns-clause-stored g c =
       };
       state = c.loop-command.invariant.state;
       replies = c.loop-command.invariant.replies;
-    }
-
--- the replies so far, of which a request for more room leaves all
-pub returns-in_err-reserve-clause-appends : goal.returns-in_err-reserve-clause-appends
-returns-in_err-reserve-clause-appends g c =
-    subst (λ xs. xs ≡ c.args.replies.now.items ++ items_after c.args.replies.now.items xs)
-    (sym c.reserve.ensures.items) c.loop-command.invariant.pushed
-
-pub returns-in_err-reply-clause-appends : goal.returns-in_err-reply-clause-appends
-returns-in_err-reply-clause-appends g c =
-    subst (λ xs. xs ≡ c.args.replies.now.items ++ items_after c.args.replies.now.items xs)
-    (sym c.reserve.ensures.items) c.loop-command.invariant.pushed
-
-pub returns-clause-appends : goal.returns-clause-appends
-returns-clause-appends g c = c.loop-command.invariant.pushed
-
-pub loop-command-init : goal.loop-command-init
-loop-command-init g c =
-    record {
-      state = refl;
-      pushed = nothing_pushed c.args.replies.now.items;
-      replies = ap (map reply_value)
-          (drop_all (length c.args.replies.now.items) c.args.replies.now.items (omega arith));
     }

@@ -1,15 +1,8 @@
-use Rattle.net_receiver.proofs.Words.{◌≡◌, ◌∙◌, ◌+◌, sym, subst, arith, Some, None, refl, false≢true}
+use Rattle.net_receiver.proofs.Words.{◌≡◌, ◌∙◌, ◌+◌, sym, subst, arith, Some, refl, false≢true}
 use Rattle.net_receiver.specs.Head.{next_at}
 use Rattle.net_receiver.specs.StreamRanges.{ranges_of, IsNewPart, HasNoRoomFor, with_end, with_part}
 use Rattle.net_receiver.proofs.StreamRanges.{keeps_part, keeps_none, kept_sound, kept_is, room_is}
 use Rattle.net_receiver.proofs.stream_ranges.keep_new.Goals as goal
-
-pub returns-then-from-to-clause-keeps : goal.returns-then-from-to-clause-keeps
-returns-then-from-to-clause-keeps c =
-    let s = ranges_of c.args.head.now c.args.capacity c.args.runs.now in
-    keeps_part s c.args.range.start c.args.range.end c.args.fin c.requires.end None _
-    (c.new_offsets-from.ensures.none c.if-from-to.true) (λ no. no)
-    (λ k. record s { end = c.after_end_with-after_end.ensures k })
 
 pub returns-in_default-clause-keeps : goal.returns-in_default-clause-keeps
 returns-in_default-clause-keeps c =

@@ -1,4 +1,4 @@
-use Rattle.net_receiver.proofs.Words.{◌≡◌, ◌∙◌, ℕ, List, ap, length, lent_whole, reported_by, subst, sym, IsSoundBoard}
+use Rattle.net_receiver.proofs.Words.{◌∙◌, ℕ, List, length, lent_whole, reported_by, subst, sym, IsSoundBoard}
 use Rattle.net_receiver.specs.Scoreboards.{Forgets}
 use Rattle.net_receiver.specs.SendRanges.{Board, runs_beyond}
 use Rattle.net_receiver.proofs.Scoreboards.{as_many}

@@ -1,4 +1,4 @@
-use Rattle.net_receiver.proofs.Words.{◌≡◌, ◌∙◌, ◌-◌, ◌<◌, ◌≤◌, ◌↔◌, ℕ, List, ap, length, lent_whole, reported_by, set_of, subst, sym, with_range}
+use Rattle.net_receiver.proofs.Words.{◌≡◌, ◌∙◌, ◌-◌, ◌↔◌, ℕ, List, ap, length, lent_whole, reported_by, set_of, subst, sym, with_range}
 use Rattle.net_receiver.proofs.Words.{HasNoRoom, IsSoundBoard, Result, Ok, Err, front}
 use Rattle.std.specs.Prelude.{OnOk, OnErr}
 use Rattle.net_receiver.specs.{IsReport}

@@ -1,7 +1,7 @@
 use Rattle.std.proofs.Common.{List, subst}
 use Rattle.net_receiver.specs.{sent_after, IsLent}
 use Rattle.net_receiver.proofs.Senders.{lent_later}
-use Rattle.net_receiver.proofs.Words.{ℕ, ◌+◌, ◌∙◌, sym, ap, refl, arith, length, from_bool, part_is, FiniteSenderHead}
+use Rattle.net_receiver.proofs.Words.{ℕ, ◌+◌, ◌∙◌, sym, ap, refl, arith, from_bool, part_is, FiniteSenderHead}
 use Rattle.net_receiver.proofs.Words.{FiniteSenderState, finite_sender_of}
 use Rattle.net_receiver.proofs.finite_sender.FiniteSenderOver.send_at.Goals as goal
 

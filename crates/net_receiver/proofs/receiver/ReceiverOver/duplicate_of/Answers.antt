@@ -25,8 +25,5 @@ tells g c =
     + c.count_existing-count.result) c.duplicate_of.result)
     (λ i. (next_is xs parts i, held_is xs parts i)) c.duplicate_of.ensures))
 
-pub returns-in-Some : goal.returns-in-Some
-returns-in-Some g c = subst (TellsPart _ _ _) c.in-Some.is (tells g c.before)
-
 pub returns-in-None : goal.returns-in-None
 returns-in-None g c = subst (TellsPart _ _ _) c.in-None.is (tells g c.before)

@@ -1,13 +1,9 @@
 use Rattle.net_receiver.proofs.Words.{◌≡◌, ◌∙◌, ap, subst, sym, length, piece, Segment, verdict, numbers}
 use Rattle.net_receiver.proofs.Words.{receiver_after_command, receiver_of, HasSoundParts}
 use Rattle.net_receiver.proofs.OneStream.{segment_receives, kept_any, kept_in_order, stays}
-use Rattle.net_receiver.proofs.Heads.{lent_view, lent_sound, part_is, whole_written, sound_for}
+use Rattle.net_receiver.proofs.Heads.{lent_view, part_is, whole_written, sound_for}
 use Rattle.net_receiver.proofs.receiver.ReceiverOver.keep_part.Given as given
 use Rattle.net_receiver.proofs.receiver.ReceiverOver.keep_part.Goals as goal
-
-pub keep-requires-clause-sound : goal.keep-requires-clause-sound
-keep-requires-clause-sound g c =
-    lent_sound _ _ _ _ (part_is _ _ _ c.count-count.ensures c.part_mut-storage.ensures.value) c.self.invariant.0
 
 -- what was stored, as the whole storage
 stored : (g : given.Over) (c : goal.After-self-2-1 g) →

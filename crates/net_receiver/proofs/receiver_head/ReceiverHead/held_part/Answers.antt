@@ -17,14 +17,6 @@ under_top h rs sound p has = let l = position_fits h.held rs sound.runs p has in
 offset : (p next most o : ℕ) → most + 1 + shortfall ≡ 2 ^ 64 → o ≡ min (p - next) most → o ≡ min (p - next) top
 offset p next most o greatest is = omega (arith, greatest, is)
 
-pub overflow_add-begin : goal.overflow_add-begin
-overflow_add-begin c =
-    let h = c.args.self.now in
-    let s = set_of h.held c.args.runs.now in
-    let first = subst (TellsFirst s c.min-offset.result) c.in-Some.is c.first_held.ensures in
-    let fits = c.requires.sound.fits c.in-Some.start first.1 in
-    omega (arith, fits, c.next-next.ensures)
-
 pub overflow_add-next : goal.overflow_add-next
 overflow_add-next c =
     let h = c.args.self.now in

@@ -1,9 +1,9 @@
-use Rattle.net_receiver.proofs.Words.{◌≡◌, ◌∙◌, ◌+◌, ◌-◌, ◌<◌, ◌≤◌, ◌&&◌, ◌^◌, ℕ, IsTrue, Positions, ap, arith, contains, min}
-use Rattle.net_receiver.proofs.Words.{not, nat_lt, nat_tests, position_fits, set_of, sym, cases_lt, either, runs, shift_up, subst}
+use Rattle.net_receiver.proofs.Words.{◌≡◌, ◌∙◌, ◌+◌, ◌-◌, ◌<◌, ◌&&◌, ◌^◌, ℕ, Positions, ap, arith, contains}
+use Rattle.net_receiver.proofs.Words.{not, nat_lt, nat_tests, position_fits, set_of, sym, cases_lt, either, shift_up, subst}
 use Rattle.net_assembler.specs.AssemblerLaws.{Adds}
 use Rattle.net_assembler.proofs.Cuts.{contains-without_range}
 use Rattle.net_assembler.proofs.SoundHeads.{runs-set_of}
-use Rattle.net_receiver.proofs.Forgetting.{cut_forgotten, far_forgotten, kept_forgotten, narrow, raised_begins}
+use Rattle.net_receiver.proofs.Forgetting.{cut_forgotten, far_forgotten, kept_forgotten, raised_begins}
 use Rattle.net_receiver.proofs.Forgetting.{raised_fits}
 use Rattle.net_receiver.proofs.Scoreboards.{added_begins, added_fits}
 use Rattle.net_receiver.proofs.scoreboard_head.ScoreboardHead.forget_below.Goals as goal
@@ -44,14 +44,6 @@ returns-then-base-start-clause-forgets c =
     far_forgotten c.args.self.now.base (s e) c.requires.sound.begins c.args.start c.args.end c.requires.some
     c.requires.below (t e) c.end.result (left e) c.end.ensures _ _ _ (c.new_at.ensures.empty c.remove_below.new.runs)
     (omega (arith, c.if-base-start.true, c.from.ensures))
-
-pub raise-requires-clause-fits : goal.raise-requires-clause-fits
-raise-requires-clause-fits c = λ p has.
-    let l = c.end.ensures.above p has in omega (arith, l, c.if-base-start.false, c.from.ensures, narrow)
-
-pub add-requires-clause-range : goal.add-requires-clause-range
-add-requires-clause-range c =
-    omega (arith, c.if-base-start.false, c.from.ensures, c.requires.some, c.if-end-base.true, narrow)
 
 pub returns-then-end-base-clause-sound : goal.returns-then-end-base-clause-sound
 returns-then-end-base-clause-sound c =

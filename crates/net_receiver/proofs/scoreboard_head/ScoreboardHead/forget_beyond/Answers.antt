@@ -1,5 +1,5 @@
-use Rattle.net_receiver.proofs.Words.{◌≡◌, ◌∙◌, ◌+◌, ◌-◌, ◌<◌, ◌≤◌, ◌^◌, ℕ, Positions, ap, arith, contains, position_fits, set_of}
-use Rattle.net_receiver.proofs.Words.{subst, sym, true}
+use Rattle.net_receiver.proofs.Words.{◌≡◌, ◌∙◌, ◌-◌, ◌<◌, ◌≤◌, ℕ, Positions, ap, arith, contains, position_fits, set_of}
+use Rattle.net_receiver.proofs.Words.{sym, true}
 use Rattle.net_assembler.specs.Positions.{without_range}
 use Rattle.net_assembler.proofs.SoundHeads.{runs-set_of}
 use Rattle.net_receiver.proofs.Forgetting.{beyond_begins, beyond_fits, beyond_forgotten, removed_err, removed_left}

@@ -1,4 +1,4 @@
-use Rattle.net_receiver.proofs.Words.{◌≡◌, ◌≤◌, ◌-◌, arith, first_missing-le, set_of}
+use Rattle.net_receiver.proofs.Words.{arith, first_missing-le, set_of}
 use Rattle.net_receiver.proofs.Forgetting.{whole_from_run, whole_to_missing}
 use Rattle.net_receiver.proofs.scoreboard_head.ScoreboardHead.part_of_run.Goals as goal
 

@@ -1,6 +1,6 @@
 use Rattle.net_receiver.proofs.Words.{◌≡◌, ◌+◌, ◌-◌, ◌∙◌, length, ap, arith, is_ok, refl, sym, false≢true, with_range}
 use Rattle.net_receiver.proofs.Words.{set_of, reported_by, board}
-use Rattle.net_receiver.proofs.Scoreboards.{front_board, with_range_below, with_range_beyond, no_room, added_begins}
+use Rattle.net_receiver.proofs.Scoreboards.{with_range_below, with_range_beyond, no_room, added_begins}
 use Rattle.net_receiver.proofs.Scoreboards.{added_fits}
 use Rattle.net_receiver.proofs.scoreboard_head.ScoreboardHead.report.Goals as goal
 
@@ -13,11 +13,6 @@ returns-then-start-self-clause-ok c =
     c.acknowledge.ensures.set
     ∙ ap (λ e. with_range (reported_by c.args.self.now c.args.runs.now) 0 e) end
     ∙ with_range_below b s c.args.start (c.args.end - c.args.start) (omega (arith, c.if-start-self.true))
-
-pub returns-then-start-self-clause-too_many : goal.returns-then-start-self-clause-too_many
-returns-then-start-self-clause-too_many c =
-    let at = front_board c.args.self.now.base (set_of c.args.self.now.reported c.args.runs.now) c.requires.begins in
-    (λ e. absurd (false≢true (sym (ap is_ok e))), λ both. absurd (omega (arith, at, both.1.0, c.if-start-self.true)))
 
 pub returns-in-Ok-clause-sound : goal.returns-in-Ok-clause-sound
 returns-in-Ok-clause-sound c =

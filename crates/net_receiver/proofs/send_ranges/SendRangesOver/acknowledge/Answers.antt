@@ -1,4 +1,4 @@
-use Rattle.net_receiver.proofs.Words.{◌≡◌, ◌∙◌, ◌<◌, ◌≤◌, ◌-◌, ℕ, IsTrue, Positions, ap, arith, contains, front, refl, subst, sym, not, ◌&&◌}
+use Rattle.net_receiver.proofs.Words.{◌≡◌, ◌∙◌, ◌-◌, ℕ, ap, arith, front, subst, sym, not, ◌&&◌}
 use Rattle.net_receiver.proofs.Words.{with_range}
 use Rattle.net_assembler.proofs.Sets.{with_range-none}
 use Rattle.net_receiver.specs.Scoreboards.{Forgets}

@@ -1,4 +1,4 @@
-use Rattle.std.proofs.Common.{◌≡◌, ◌+◌, ◌-◌, ◌<◌, ◌≤◌, ap, arith, subst}
+use Rattle.std.proofs.Common.{◌≡◌, ◌+◌, ◌-◌, ap, arith, subst}
 use Rattle.net_assembler.specs.Positions.{missing_count}
 use Rattle.net_receiver.specs.SendRanges.{RangesState, flight_count}
 use Rattle.net_receiver.proofs.SendRanges.{flight_more}

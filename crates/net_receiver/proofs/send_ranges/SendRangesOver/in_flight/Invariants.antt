@@ -1,4 +1,4 @@
-use Rattle.std.proofs.Common.{ℕ, ◌≡◌, ◌≤◌, ◌-◌}
+use Rattle.std.proofs.Common.{◌≡◌, ◌≤◌, ◌-◌}
 use Rattle.net_receiver.specs.SendRanges.{flight_count}
 use Rattle.net_receiver.proofs.send_ranges.SendRangesOver.in_flight.Given as goal
 

@@ -1,7 +1,7 @@
-use Rattle.net_receiver.proofs.Words.{◌≡◌, ◌∙◌, ◌<◌, ◌≤◌, ℕ, IsTrue, arith, front, subst}
+use Rattle.net_receiver.proofs.Words.{◌∙◌, ℕ, arith, subst}
 use Rattle.net_receiver.specs.Scoreboards.{Forgets}
-use Rattle.net_receiver.specs.SendRanges.{IsLost, Loses, RangesState, is_in_flight, runs_beyond, still_marked}
-use Rattle.net_receiver.proofs.SendRanges.{is_lost_from, lost_is_sound, lost_told}
+use Rattle.net_receiver.specs.SendRanges.{Loses, RangesState, runs_beyond}
+use Rattle.net_receiver.proofs.SendRanges.{is_lost_from, lost_is_sound}
 use Rattle.net_receiver.proofs.send_ranges.SendRangesOver.lose.Goals as goal
 
 pub returns-clause-lost : goal.returns-clause-lost
@@ -31,14 +31,3 @@ invariant_of-self g c =
       lost_is_sound _ _ c.max-start.result c.args.range.start c.args.range.end c.self.invariant.1
           (omega (arith, c.max-start.ensures, c.first_unreported.ensures)) forgets,
     )
-
-pub returns-clause-told : goal.returns-clause-told
-returns-clause-told g c = λ _ p is.
-    let inside = c.self.inside in
-    let forgets = subst (λ (n : ℕ). Forgets (runs_beyond inside.settled.positions) n inside.settled.positions
-    c.max-start.result c.args.range.end c.forget.new.self.positions) c.self.invariant.0 c.forget.ensures.forgets in
-    subst (λ (x : RangesState). IsTrue (still_marked (IsLost c.args.range.start c.args.range.end) p (is_in_flight x p)))
-    c.self.view_is
-    (lost_told _ _ c.max-start.result c.args.range.start c.args.range.end c.self.invariant.1
-    (omega (arith, c.max-start.ensures, c.first_unreported.ensures)) forgets (omega (arith, c.max-start.ensures))
-    (λ l. omega (arith, l, c.max-start.ensures, c.first_unreported.ensures)) p is)
