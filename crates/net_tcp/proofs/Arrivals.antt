@@ -4,8 +4,7 @@ use Rattle.std.proofs.lemmas.Bool.Decides.{nat_tests}
 use Rattle.std.specs.Prelude.{Bool, ◌&&◌, IsTrue, IsFalse}
 use Rattle.net_assembler.specs.Positions.{Positions}
 use Rattle.net_tcp.specs.LossRecovery.{is_active, after_report, is_answered, withdrawn, unsent_lost, blind_lost}
-use Rattle.net_tcp.specs.LossRecovery.{after_hearing, answers_copy, after_answer, after_arrival, after_copy}
-use Rattle.net_tcp.specs.LossRecovery.{Recovery}
+use Rattle.net_tcp.specs.LossRecovery.{after_hearing, answers_copy, after_answer, after_arrival, after_copy, Recovery}
 
 pub answered_loses : (size first sent : ℕ) (s : Positions) (lost highest : ℕ) (r : Recovery) →
     IsTrue (is_active r first) → IsFalse r.is_blind → IsTrue (is_answered s r.probe) →

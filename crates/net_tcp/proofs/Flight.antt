@@ -2,8 +2,7 @@
 use Rattle.std.proofs.Common.{◌≡◌, ℕ, ◌+◌, ◌-◌, ◌≤◌, zero, suc, true, sym, ap, ◌∙◌, arith}
 use Rattle.std.specs.Prelude.{if◌then◌else◌, max, min}
 use Rattle.net_assembler.specs.Positions.{Positions, missing_count}
-use Rattle.net_tcp.specs.LossRecovery.{is_active, resumed, gone_on, in_flight}
-use Rattle.net_tcp.specs.LossRecovery.{Recovery}
+use Rattle.net_tcp.specs.LossRecovery.{is_active, resumed, gone_on, in_flight, Recovery}
 
 missing_more : (s : Positions) (p n m : ℕ) → missing_count s p (n + m) ≡ missing_count s p n + missing_count s (p + n) m
 missing_more s p zero m =

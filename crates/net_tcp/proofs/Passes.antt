@@ -5,9 +5,8 @@ use Rattle.std.proofs.lemmas.Bool.{cases_Bool}
 use Rattle.std.specs.Prelude.{Bool, not, if◌then◌else◌, ◌*◌, ◌⊎◌, ◌&&◌, ◌-◌, nat_lt, nat_eq, min, IsTrue, IsFalse}
 use Rattle.net_assembler.specs.Positions.{Positions, missing_count}
 use Rattle.net_tcp.specs.LossRecovery.{is_active, was_sent_again, after_sending, after_report, after_silence}
-use Rattle.net_tcp.specs.LossRecovery.{is_answered, overtaken, begun, after_duplicate, after_answer}
-use Rattle.net_tcp.specs.LossRecovery.{after_copy, answers_copy, after_hearing, withdrawn, unsent_lost}
-use Rattle.net_tcp.specs.LossRecovery.{Recovery}
+use Rattle.net_tcp.specs.LossRecovery.{is_answered, overtaken, begun, after_duplicate, after_answer, after_copy}
+use Rattle.net_tcp.specs.LossRecovery.{answers_copy, after_hearing, withdrawn, unsent_lost, Recovery}
 
 pub sent_again : (r : Recovery) (first sent start end p : ℕ) → IsTrue (is_active r first) → start < min sent end →
     p < end → IsTrue (was_sent_again (after_sending first sent start end r) first p)

@@ -1,31 +1,26 @@
 -- Equal samples settle an estimate, and a timeout that passes again and again doubles up to the most; why a timed
 -- position was sent once, why and until when the timer runs, and when it expires.
 use Rattle.std.proofs.Common.{◌≡◌, ℕ, zero, suc, ◌+◌, ◌-◌, ◌*◌, ◌/◌, ◌^◌, ◌≤◌, min, inl, inr, refl, sym, ap, ◌∙◌}
-use Rattle.std.proofs.Common.{subst, arith, rules, suc-add, zero-add, List, [], ◌∷◌, true, false}
+use Rattle.std.proofs.Common.{subst, arith, rules, List, [], ◌∷◌, true, false}
 use Rattle.std.specs.Prelude.{◌⊎◌, Some, IsTrue, IsFalse, All, Bool, ℤ, ◌&&◌, nat_le, nat_lt, max, if◌then◌else◌}
 use Rattle.std.specs.Fn.{iterate}
 use Rattle.std.proofs.Math.Nat.{pow-suc}
 use Rattle.std.proofs.lemmas.Nat.{pow_pos, mul-le}
-use Rattle.std.proofs.lemmas.Bool.{cases_lt}
+use Rattle.std.proofs.lemmas.Bool.{cases_lt, and_parts}
+use Rattle.net_base.proofs.Draws.{iterate-add}
 use Rattle.std.proofs.lemmas.List.Elements.{All-head, All-tail}
 use Rattle.net_tcp.specs.Estimate.{Estimate}
 use Rattle.net_tcp.specs.Retransmission.{next_estimate, doubled, IsSettled, Event, Sends, Acknowledges, Reports}
-use Rattle.net_tcp.specs.Retransmission.{Samples}
-use Rattle.net_tcp.specs.Retransmission.{Looks, Starts, Stops, Connection, opened, after_event, after_events}
+use Rattle.net_tcp.specs.Retransmission.{Samples, Looks, Starts, Stops, Connection, opened, after_event, after_events}
 use Rattle.net_tcp.specs.Retransmission.{sends_over, runs, IsNoStart, IsNoStop, IsUnacknowledged, IsEnd, IsMove}
 use Rattle.net_tcp.specs.Retransmission.{IsUntil, expires_at, expiry, lasting, running, timed_after, after_sending}
-use Rattle.net_tcp.specs.Retransmission.{arms, due_after}
+use Rattle.net_tcp.specs.Retransmission.{arms, due_after, Timer}
 use Rattle.net_tcp.specs.declared.retransmission.TimeoutBounds.{TimeoutBounds}
 use Rattle.net_tcp.specs.declared.retransmission_timer.TimedSegment.{TimedSegment}
-use Rattle.net_tcp.specs.Retransmission.{Timer}
 use Rattle.net_tcp.specs.declared.retransmission_timer.Expiry.TheVariants.{Probe}
 
 -- ---- the timeout
 -- two runs in a row
-iterate-add : {A : Type 0} (h : A → A) (n m : ℕ) (x : A) → iterate h (n + m) x ≡ iterate h m (iterate h n x)
-iterate-add h zero m x = rw zero-add
-iterate-add h (suc n) m x = rw suc-add (iterate-add h n m (h x))
-
 -- how far eight times SRTT is from the eight numbers whose eighth is r
 abbrev off : ℕ → ℕ → ℕ
 off r s = (8 * r - s) + (s - (8 * r + 7))
@@ -106,9 +101,6 @@ sent_timed : (delay : ℕ) (alone new : Bool) (pos : ℕ) (now : ℤ) (t : Timer
     (lasting new pos (running delay alone new now t)).timed ≡ t.timed
 sent_timed delay alone new pos now t = search rules
 
-right_of : (a b : Bool) → (a && b) ≡ true → b ≡ true
-right_of a b both = search rules
-
 once_at : (c : Connection) (t : Timer) (pos end : ℕ) (now : ℤ) → IsKept c → t.timed ≡ c.timer.timed →
     nat_lt pos end ≡ true → (s : TimedSegment) →
     (if nat_lt pos end then timed_after pos end c.sent now t else c.timer).timed ≡ Some s →
@@ -129,7 +121,7 @@ once_sent b c pos end now is = once_by (nat_le c.first pos && nat_lt pos end) c
     (lasting (nat_lt c.sent end) pos
     (running b.ack_delay (nat_le c.sent c.first) (nat_lt c.sent end) now c.timer)) pos end now is
     (sent_timed b.ack_delay (nat_le c.sent c.first) (nat_lt c.sent end) pos now c.timer)
-    (right_of (nat_le c.first pos) (nat_lt pos end) g))
+    (and_parts (nat_le c.first pos) (nat_lt pos end) g).1)
     is.once
 
 stays : (b : TimeoutBounds) (c : Connection) (e : Event) → IsKept c → IsKept (after_event b c e)

@@ -3,10 +3,9 @@ ghost use Rattle.std.specs.Prelude.{◌≡◌, ℕ, ◌+◌, ◌-◌, ◌*◌, �
 ghost use Rattle.std.specs.Prelude.{◌/◌, List, [], ◌∷◌, ◌++◌, All, Some, Bool, ℤ, false, true};
 ghost use Rattle.std.specs.Fn.{iterate};
 ghost use Rattle.net_tcp.specs.Windows.{IsAcceptable, IsInTable, IsScaleFor, announced, field_for, gain, worth};
-ghost use Rattle.net_tcp.specs.Windows.{IsBehind, IsHeard, IsTaken};
-ghost use Rattle.net_tcp.specs.Windows.{window_from, with_segment, no_window, BothEnds, acknowledgement_number};
-ghost use Rattle.net_tcp.specs.Windows.{Announcement, Heard, acknowledged, updated, heard, heard_all, IsNoLater};
-ghost use Rattle.net_tcp.specs.Windows.{IsNoNewer, IsFromNoNewer};
+ghost use Rattle.net_tcp.specs.Windows.{IsBehind, IsHeard, IsTaken, window_from, with_segment, no_window, BothEnds};
+ghost use Rattle.net_tcp.specs.Windows.{acknowledgement_number, Announcement, Heard, acknowledged, updated, heard};
+ghost use Rattle.net_tcp.specs.Windows.{heard_all, IsNoLater, IsNoNewer, IsFromNoNewer};
 ghost use Rattle.net_tcp.specs.Estimate.{Estimate};
 ghost use Rattle.net_tcp.specs.Retransmission.{next_estimate, distance, doubled, IsSettled, Event, Connection};
 ghost use Rattle.net_tcp.specs.Retransmission.{opened, after_event, after_events, runs, sends_over, IsNoStart};
@@ -18,9 +17,8 @@ ghost use Rattle.net_tcp.specs.declared.retransmission_timer.Expiry.TheVariants.
 ghost use Rattle.net_assembler.specs.Positions.{Positions, contains};
 ghost use Rattle.net_tcp.specs.LossRecovery.{is_active, was_sent_again, after_sending, after_report};
 ghost use Rattle.net_tcp.specs.LossRecovery.{after_silence, is_answered, overtaken, begun};
-ghost use Rattle.net_tcp.specs.LossRecovery.{after_hearing, after_answer, answers_copy, withdrawn, unsent_lost, blind_lost};
-ghost use Rattle.net_tcp.specs.LossRecovery.{is_wrong, taken_back, after_copies};
-ghost use Rattle.net_tcp.specs.LossRecovery.{Recovery};
+ghost use Rattle.net_tcp.specs.LossRecovery.{after_hearing, after_answer, answers_copy, withdrawn};
+ghost use Rattle.net_tcp.specs.LossRecovery.{unsent_lost, blind_lost, is_wrong, taken_back, after_copies, Recovery};
 
 /// States how acceptable segments and the table of RFC 9293 are related: what the table accepts is
 /// acceptable, and what is acceptable is in the table, unless it begins before the window and ends after

@@ -10,28 +10,25 @@
 //!
 //! Each of these may be at or above the next one, where that part has no number. `first` is SND.UNA, `sent` HighData +
 //! 1, and `again` HighRxt + 1. The recovery lasts while `first` is below `until`, the RecoveryPoint. `duplicates` is
-//! DupThresh, and `round` RACK.dsack_round, up to which it stays. `probe.first` is a tail loss probe's first number, and
-//! `probe.asked` TLP.end_seq. Only what isn't reported is sent again: the parts above are of the numbers that the
+//! DupThresh, and `round` RACK.dsack_round, up to which it stays. `probe.first` is a tail loss probe's first number,
+//! and `probe.asked` TLP.end_seq. Only what isn't reported is sent again: the parts above are of the numbers that the
 //! scoreboard lacks.
 
 // Why: A range can't be lost while one before it isn't. Whether a probe repaired a loss itself (RFC 8985, section
 // 7.4) isn't decided: peers that report no copies answer alike where it did and where it didn't.
 
-ghost use Rattle.std.specs.Prelude.{◌≡◌, ℕ, ◌+◌, ◌<◌, ◌≤◌, ◌-◌, ◌&&◌, min, max, Option, IfSome, not, nat_lt};
-ghost use Rattle.std.specs.Prelude.{IsTrue, IsFalse, is_some, if◌then◌else◌};
+ghost use Rattle.std.specs.Prelude.{◌≡◌, ℕ, ◌+◌, ◌<◌, ◌≤◌, ◌-◌, ◌&&◌, min, max, Option, IfSome, not, nat_lt, IsTrue};
+ghost use Rattle.std.specs.Prelude.{IsFalse, is_some, if◌then◌else◌, None};
 ghost use Rattle.net_receiver.specs.Scoreboards.{IsHole, IsLossBound, IsEnd};
 ghost use Rattle.net_assembler.specs.Positions.{contains};
-ghost use Rattle.std.specs.Prelude.{None};
-ghost use Rattle.net_tcp.specs.LossRecovery.{recovery_of, new_recovery, no_loss, forgotten, begun};
-ghost use Rattle.net_tcp.specs.LossRecovery.{is_active, is_answered};
-ghost use Rattle.net_tcp.specs.LossRecovery.{with_pass, with_mark, later, after_pass, after_losses};
-ghost use Rattle.net_tcp.specs.LossRecovery.{after_report, found, after_silence};
-ghost use Rattle.net_tcp.specs.LossRecovery.{after_sending, after_duplicate, was_sent_again, in_flight};
-ghost use Rattle.net_tcp.specs.LossRecovery.{unsent_lost, after_hearing, blind_lost};
-ghost use Rattle.net_tcp.specs.LossRecovery.{most_later, heard_of, after_answer, answers_copy};
-ghost use Rattle.net_tcp.specs.LossRecovery.{unsent, next_range, next_segment, resumed, gone_on, begins_at, as_range};
-ghost use Rattle.net_tcp.specs.LossRecovery.{next_probe, after_copies, with_copies, is_wrong, taken_back};
-ghost use Rattle.net_tcp.specs.LossRecovery.{after_probe, after_arrival};
+ghost use Rattle.net_tcp.specs.LossRecovery.{recovery_of, new_recovery, no_loss, forgotten, begun, is_active};
+ghost use Rattle.net_tcp.specs.LossRecovery.{is_answered, with_pass, with_mark, later, after_pass, after_losses};
+ghost use Rattle.net_tcp.specs.LossRecovery.{after_report, found, after_silence, after_sending, after_duplicate};
+ghost use Rattle.net_tcp.specs.LossRecovery.{was_sent_again, in_flight, unsent_lost, after_hearing, blind_lost};
+ghost use Rattle.net_tcp.specs.LossRecovery.{most_later, heard_of, after_answer, answers_copy, unsent, next_range};
+ghost use Rattle.net_tcp.specs.LossRecovery.{next_segment, resumed, gone_on, begins_at, as_range, next_probe};
+ghost use Rattle.net_tcp.specs.LossRecovery.{after_copies, with_copies, is_wrong, taken_back, after_probe};
+ghost use Rattle.net_tcp.specs.LossRecovery.{after_arrival};
 ghost use Rattle.net_tcp.specs.Sack.{is_permitted};
 
 use crate::reported::Reported;
@@ -318,9 +315,10 @@ impl LossRecovery {
     /// ```
     #[must_use]
     pub fn take_back<B: Reported>(&mut self, numbers: SentNumbers, scoreboard: &B) -> bool
-        ensures value { result ≡ is_wrong (recovery_of self.old) numbers.first_unacknowledged (B.set scoreboard.now) }
-        ensures state { recovery_of self.new ≡ taken_back numbers.first_unacknowledged (B.set scoreboard.now)
-            (recovery_of self.old) }
+        ensures value { result
+            ≡ is_wrong (recovery_of self.old) numbers.first_unacknowledged (B.set scoreboard.now) }
+        ensures state { recovery_of self.new
+            ≡ taken_back numbers.first_unacknowledged (B.set scoreboard.now) (recovery_of self.old) }
     {
         let is_wrong = self.until > 0
             && self.copies.count == 0
@@ -407,7 +405,8 @@ impl LossRecovery {
 
     /// Returns how many positions are lost and weren't sent again, of this pass and above the mark.
     fn unsent_lost<B: Reported>(&self, numbers: SentNumbers, scoreboard: &B) -> u64
-        ensures { result ≡ unsent_lost (recovery_of self.now) numbers.first_unacknowledged (B.set scoreboard.now) }
+        ensures { result
+            ≡ unsent_lost (recovery_of self.now) numbers.first_unacknowledged (B.set scoreboard.now) }
     {
         let from = self.pass.again.max(numbers.first_unacknowledged);
         let of_pass = scoreboard.missing_between(from, self.pass.turn.min(self.lost));
@@ -415,8 +414,8 @@ impl LossRecovery {
         of_pass.saturating_add(others)
     }
 
-    /// Takes an acknowledgement, once the scoreboard has it: finds what is lost. `numbers` are the sender's after it, and
-    /// `answer` is what it answers.
+    /// Takes an acknowledgement, once the scoreboard has it: finds what is lost. `numbers` are the sender's after it,
+    /// and `answer` is what it answers.
     ///
     /// | This is lost | as soon as |
     /// |---|---|
@@ -509,7 +508,8 @@ impl LossRecovery {
     /// Finds that nothing is lost which wasn't sent again, if such a thing has arrived: more than the byte of a
     /// window's probe. There were `before` of these.
     fn withdraw<B: Reported>(&mut self, numbers: SentNumbers, scoreboard: &B, before: u64)
-        ensures { recovery_of self.new ≡ after_arrival before numbers.first_unacknowledged numbers.sent
+        ensures { recovery_of self.new
+            ≡ after_arrival before numbers.first_unacknowledged numbers.sent
             (B.set scoreboard.now) (recovery_of self.old) }
     {
         if before > 1 && !self.is_blind() && self.unsent_lost(numbers, scoreboard) < before - 1 {
@@ -638,8 +638,10 @@ impl LossRecovery {
     ) -> bool
         ensures state { recovery_of self.new ≡ after_report segment_size
             numbers.first_unacknowledged numbers.sent (B.set scoreboard.now) lost highest (recovery_of self.old) }
-        ensures begins { result ≡ (not (is_active (recovery_of self.old) numbers.first_unacknowledged)
-            && nat_lt numbers.first_unacknowledged (found (B.set scoreboard.now) lost highest (recovery_of self.old))) }
+        ensures begins { result
+            ≡ (not (is_active (recovery_of self.old) numbers.first_unacknowledged)
+            && nat_lt numbers.first_unacknowledged
+            (found (B.set scoreboard.now) lost highest (recovery_of self.old))) }
     {
         if self.has_probe && scoreboard.contains(self.probe.first) {
             self.probe.first = 0;
@@ -667,7 +669,8 @@ impl LossRecovery {
     ) -> bool
         ensures state { recovery_of self.new ≡ after_losses segment_size
             numbers.first_unacknowledged numbers.sent (B.set scoreboard.now) lost is_answered (recovery_of self.old) }
-        ensures begins { result ≡ (not (is_active (recovery_of self.old) numbers.first_unacknowledged)
+        ensures begins { result
+            ≡ (not (is_active (recovery_of self.old) numbers.first_unacknowledged)
             && nat_lt numbers.first_unacknowledged lost) }
     {
         if self.is_active(numbers) {
@@ -808,8 +811,8 @@ impl LossRecovery {
             IsTrue (is_some result) }
         ensures within { IfSome result (λ g. (g.start < g.end) × (g.end ≤ limit)
             × (g.end ≤ g.start + max 1 segment_size)) }
-        ensures unreported { IfSome result (λ g. (p : ℕ) → g.start ≤ p → p < g.end → p < numbers.sent →
-            IsFalse (contains (B.set scoreboard.now) p)) }
+        ensures unreported { IfSome result (λ g. (p : ℕ) → g.start ≤ p → p < g.end →
+            p < numbers.sent → IsFalse (contains (B.set scoreboard.now) p)) }
         ensures after { numbers.first_unacknowledged ≤ numbers.sent →
             IfSome result (λ g. numbers.first_unacknowledged ≤ g.start) }
     {
@@ -886,7 +889,8 @@ impl LossRecovery {
         ensures state { (highest : ℕ) → IsEnd (B.set scoreboard.now) highest →
             recovery_of self.new ≡ begun numbers.first_unacknowledged
             numbers.sent (max (recovery_of self.old).lost highest) (recovery_of self.old) }
-        ensures begins { result ≡ not (is_active (recovery_of self.old) numbers.first_unacknowledged) }
+        ensures begins { result
+            ≡ not (is_active (recovery_of self.old) numbers.first_unacknowledged) }
     {
         let begins = !self.is_active(numbers);
         let lost = self.lost.max(scoreboard.highest_reported());
@@ -908,8 +912,8 @@ impl LossRecovery {
     /// assert_eq!(recovery.next_segment(numbers, &scoreboard, 800, 100, 100), Some(0..100));
     /// ```
     pub fn timed_out(&mut self, numbers: SentNumbers)
-        ensures { recovery_of self.new ≡ begun numbers.first_unacknowledged numbers.sent numbers.sent
-            (forgotten (recovery_of self.old)) }
+        ensures { recovery_of self.new
+            ≡ begun numbers.first_unacknowledged numbers.sent numbers.sent (forgotten (recovery_of self.old)) }
     {
         self.duplicates = DUPLICATES;
         self.unknown = 0;
@@ -917,7 +921,8 @@ impl LossRecovery {
     }
 
     fn begin(&mut self, numbers: SentNumbers, lost: u64)
-        ensures { recovery_of self.new ≡ begun numbers.first_unacknowledged numbers.sent lost (recovery_of self.old) }
+        ensures { recovery_of self.new
+            ≡ begun numbers.first_unacknowledged numbers.sent lost (recovery_of self.old) }
     {
         let first = numbers.first_unacknowledged;
         if !self.is_active(numbers) {
@@ -956,8 +961,8 @@ impl LossRecovery {
     /// ```
     #[must_use]
     pub fn in_flight<B: Reported>(&self, numbers: SentNumbers, scoreboard: &B) -> u64
-        ensures { result ≡ in_flight (recovery_of self.now) numbers.first_unacknowledged numbers.sent
-            (B.set scoreboard.now) }
+        ensures { result
+            ≡ in_flight (recovery_of self.now) numbers.first_unacknowledged numbers.sent (B.set scoreboard.now) }
     {
         let first = numbers.first_unacknowledged;
         if !self.is_active(numbers) {
@@ -1018,8 +1023,8 @@ impl LossRecovery {
             (in_flight (recovery_of self.now) first numbers.sent (B.set scoreboard.now)) window
             (max 1 segment_size) (next_range (recovery_of self.now) first numbers.sent limit lost others)) }
         // Guarantee.
-        ensures within { IfSome result (λ segment. (segment.start < segment.end) × (segment.end ≤ limit)
-            × (segment.end ≤ segment.start + max 1 segment_size)) }
+        ensures within { IfSome result (λ segment. (segment.start < segment.end)
+            × (segment.end ≤ limit) × (segment.end ≤ segment.start + max 1 segment_size)) }
         ensures room { IfSome result (λ segment. numbers.first_unacknowledged < segment.start →
             in_flight (recovery_of self.now) numbers.first_unacknowledged numbers.sent (B.set scoreboard.now)
             + (segment.end - segment.start) ≤ window) }
@@ -1110,7 +1115,8 @@ impl LossRecovery {
     /// assert_eq!(recovery.next_segment(numbers, &scoreboard, 800, 200, 100), Some(100..200));
     /// ```
     pub fn sent(&mut self, numbers: SentNumbers, positions: Range<u64>)
-        ensures { recovery_of self.new ≡ after_sending numbers.first_unacknowledged numbers.sent positions.start
+        ensures { recovery_of self.new
+            ≡ after_sending numbers.first_unacknowledged numbers.sent positions.start
             positions.end (recovery_of self.old) }
     {
         if self.is_active(numbers) && positions.start < positions.end.min(numbers.sent) {

@@ -4,15 +4,13 @@
 // wait each of 100 requests was sent twice to Linux where answers came after 20 ms. With none of it after eight, one
 // or two were on a busy machine. With all of it always, the timeout comes before the probe.
 
-ghost use Rattle.std.specs.Prelude.{◌≡◌};
+ghost use Rattle.std.specs.Prelude.{◌≡◌, IsFalse, Some};
 ghost use Rattle.net_tcp.specs.Retransmission.{new_timer, restarted, started, stopped, times, timed_after};
 ghost use Rattle.net_tcp.specs.Retransmission.{after_sending, with_sample, after_acknowledged, has_expired};
 ghost use Rattle.net_tcp.specs.Retransmission.{after_report, after_expiry, expiry, expires_at, first_wait, allowance};
-ghost use Rattle.std.specs.Prelude.{IsFalse, Some};
+ghost use Rattle.net_tcp.specs.Retransmission.{new_fields, timer_of, untimed, running, probed, timed_out, waiting};
+ghost use Rattle.net_tcp.specs.Retransmission.{after_news, prompt_after};
 ghost use Rattle.net_base.specs.Time.{moment_after};
-ghost use Rattle.net_tcp.specs.Retransmission.{new_fields, timer_of, untimed, running, probed};
-ghost use Rattle.net_tcp.specs.Retransmission.{timed_out, waiting, after_news};
-ghost use Rattle.net_tcp.specs.Retransmission.{prompt_after};
 ghost use Rattle.net_tcp.specs.Sack.{is_permitted};
 
 use crate::retransmission::{RetransmissionTimeout, RttEstimate, TimeoutBounds};
@@ -327,7 +325,8 @@ impl RetransmissionTimer {
     /// Starts the timer if it doesn't run, or one segment `is_alone`: what it ran for is no longer waited for.
     /// Otherwise a second segment that `is_new` brings the probe of one that was alone.
     fn run(&mut self, ack_delay: Duration, is_alone: bool, is_new: bool, now: Instant)
-        ensures state { timer_of self.new ≡ running ack_delay is_alone is_new now (timer_of self.old) }
+        ensures state { timer_of self.new
+            ≡ running ack_delay is_alone is_new now (timer_of self.old) }
     {
         if !self.is_running || is_alone {
             self.restart(ack_delay, is_alone, now);

@@ -11,8 +11,8 @@
 //!
 //! Each of these may be at or above the next one, where that part has no number. `first` is SND.UNA, `sent` HighData +
 //! 1, and `again` HighRxt + 1. The recovery lasts while `first` is below `until`, the RecoveryPoint. `duplicates` is
-//! DupThresh, and `round` RACK.dsack_round, up to which it stays. `probe.first` is a tail loss probe's first number, and
-//! `probe.asked` TLP.end_seq. Only what isn't reported is sent again: the parts above are of the numbers that the
+//! DupThresh, and `round` RACK.dsack_round, up to which it stays. `probe.first` is a tail loss probe's first number,
+//! and `probe.asked` TLP.end_seq. Only what isn't reported is sent again: the parts above are of the numbers that the
 //! scoreboard lacks.
 
 // Why: A range can't be lost while one before it isn't. Whether a probe repaired a loss itself (RFC 8985, section
@@ -350,8 +350,8 @@ impl LossRecovery {
         of_pass.saturating_add(others)
     }
 
-    /// Takes an acknowledgement, once the scoreboard has it: finds what is lost. `numbers` are the sender's after it, and
-    /// `answer` is what it answers.
+    /// Takes an acknowledgement, once the scoreboard has it: finds what is lost. `numbers` are the sender's after it,
+    /// and `answer` is what it answers.
     ///
     /// | This is lost | as soon as |
     /// |---|---|
