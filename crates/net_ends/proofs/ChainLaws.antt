@@ -1,39 +1,33 @@
 -- Why answers end: an answer is answered only where something has come since.
 use Rattle.std.proofs.Common.{◌≡◌, ℕ, ◌+◌, ◌≤◌, refl, ap, ◌∙◌, true, false, arith, rules, List, [], ◌∷◌}
-use Rattle.std.specs.Prelude.{Bool, length, if◌then◌else◌}
-use Rattle.std.proofs.lemmas.Bool.Decides.{nat_tests}
-use Rattle.std.proofs.lemmas.Int.{ints}
-use Rattle.std.specs.Prelude.{ℤ, pos, ◌-◌, ◌*◌, ◌^◌, ◌⊎◌, ◌≤ℤ◌, ◌+ℤ◌, ◌-ℤ◌, ◌&&◌, ◌||◌, not, int_le}
-use Rattle.std.specs.Int.{from_bool}
 use Rattle.std.proofs.Common.{inl, inr, subst}
+use Rattle.std.specs.Prelude.{Bool, length, if◌then◌else◌}
+use Rattle.std.specs.Prelude.{ℤ, pos, ◌-◌, ◌*◌, ◌^◌, ◌⊎◌, ◌≤ℤ◌, ◌+ℤ◌, ◌-ℤ◌, ◌&&◌, ◌||◌, not, int_le}
+use Rattle.std.proofs.lemmas.Int.{ints}
+use Rattle.std.specs.Int.{from_bool}
 use Rattle.net_base.specs.Time.{moment_after}
 use Rattle.net_tcp.specs.AnswerLimit.{is_limited}
 use Rattle.net_tcp.specs.declared.answer_limit.AnswerLimit.{AnswerLimit}
 use Rattle.net_tcp.specs.declared.arriving.Segment.{Segment}
-use Rattle.net_ends.specs.Chains.{AreWithin, answered}
+use Rattle.net_ends.specs.Chains.{AreWithin, answered, Host, number, next, HostEvent, Sends, Receives, after_event}
+use Rattle.net_ends.specs.Chains.{after_events, Turn, after_turn, IsTurn, AreTurns, new_numbers}
 use Rattle.net_tcp.specs.Windows.{acknowledgement_number}
 use Rattle.net_receiver.specs.OneStream.{LimitGrows}
 use Rattle.net_receiver.specs.Finite.{SoundEndStays, AcknowledgedGrows}
 use Rattle.net_receiver.specs.FiniteSender.{FiniteSenderState, first_number, accepts, acknowledged_below}
 use Rattle.net_ends.specs.Ends as sending
-use Rattle.net_ends.specs.Ends.{End, first, Heard}
+use Rattle.net_ends.specs.Ends.{End, first}
 use Rattle.net_ends.specs.Receiving.{IsSoundReceiving}
-use Rattle.net_ends.specs.Chains.{Host, number, next, HostEvent, Sends, Receives, after_event, after_events, Turn}
-use Rattle.net_ends.specs.Chains.{after_turn, IsTurn, AreTurns, new_numbers}
+use Rattle.net_ends.proofs.Progress.{accept_says}
+use Rattle.net_ends.proofs.PairLaws.{acknowledged_first}
 use Rattle.net_ends.proofs.ReceivingLaws.{number_stays, stays_sound}
 
 -- ---- the number of an answer
-accept_high : (s : FiniteSenderState) (n : ℕ) → accepts s n ≡ true → n ≤ s.sent
-accept_high s n is = grind (arith, nat_tests, is)
-
-below_number : (s : FiniteSenderState) (n : ℕ) → first_number (acknowledged_below s n) ≡ n
-below_number s n = omega arith
-
 number_by : (b : Bool) (s : FiniteSenderState) (g h : End) (n : ℕ) → b ≡ true → n ≤ s.sent →
     g.sender ≡ (if b then acknowledged_below s n else s) →
     let e = if b then g else h in n ≤ acknowledgement_number e.peer (first e) e.sender.sent
 number_by true s g h n on fits of =
-    let low : first g ≡ n = ap first_number of ∙ below_number s n in
+    let low : first g ≡ n = ap first_number of ∙ acknowledged_first s n in
     let sent : g.sender.sent ≡ s.sent = ap (λ t. t.sent) of in
     omega (arith, low, sent, fits)
 number_by false s g h n on fits of = absurd (search (rules, on))
@@ -75,7 +69,7 @@ module _ (sound : SoundEndStays) (grows : AcknowledgedGrows) (limits : LimitGrow
         rises = before.rises;
         sound_then = before.sound_then;
         reaches = number_by (accepts e.sender (next near)) e.sender heard (record e { recovery = t.r }) (next near)
-            of.accepted (accept_high e.sender (next near) of.accepted) refl;
+            of.accepted (accept_says e.sender (next near) of.accepted).1 refl;
       }
 
   -- ---- turns

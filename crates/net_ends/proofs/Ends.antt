@@ -1,11 +1,9 @@
 -- Why nothing is sent beyond what the peer allowed, and the timer runs.
-use Rattle.std.proofs.Common.{◌≡◌, ℕ, ℤ, ◌-◌, ◌<◌, ◌≤◌, refl, sym, ap, ◌∙◌, ◌+◌, inl, inr}
-use Rattle.std.proofs.Common.{arith, rules, List, [], ◌∷◌, ◌++◌}
-use Rattle.std.proofs.Common.{true, false}
+use Rattle.std.proofs.Common.{◌≡◌, ℕ, ℤ, ◌-◌, ◌<◌, ◌≤◌, refl, sym, ap, ◌∙◌, ◌+◌, inl, inr, arith, rules, List, [], ◌∷◌}
+use Rattle.std.proofs.Common.{◌++◌, true, false}
 use Rattle.std.specs.Prelude.{◌⊎◌, All, Bool, IsTrue, min, ◌&&◌, nat_le, nat_lt, is_some, if◌then◌else◌}
-use Rattle.net_tcp.specs.Retransmission.{running, lasting, timed_after, after_sending}
+use Rattle.net_tcp.specs.Retransmission.{running, lasting, timed_after, after_sending, Timer as RetransmissionTimer}
 use Rattle.net_tcp.specs.declared.retransmission.TimeoutBounds.{TimeoutBounds}
-use Rattle.net_tcp.specs.Retransmission.{Timer as RetransmissionTimer}
 use Rattle.std.proofs.lemmas.List.{length-drop}
 use Rattle.std.proofs.lemmas.Bool.Decides.{nat_tests}
 use Rattle.net_receiver.specs.SenderState.{end_of}
@@ -15,11 +13,9 @@ use Rattle.net_receiver.specs.FiniteSender.{FiniteSenderState, first_number, ack
 use Rattle.net_receiver.specs.FiniteSender.{sender_after_commands, sender_after_command, numbers_end, IsSoundSent}
 use Rattle.net_receiver.specs.FiniteSender.{Marks}
 use Rattle.net_ends.specs.Ends.{End, Event, Opened, Forgot, Enabled, Opening, Wrote, Shut, Heard, Looked, Sent, Rested}
-use Rattle.net_ends.specs.Ends.{Resumed}
-use Rattle.net_ends.specs.Ends.{after_event, after_events}
-use Rattle.net_ends.specs.Ends.{commands, commands_of, Run, run, run_on, begun, IsAllowed, first, rest}
-use Rattle.net_ends.specs.Ends.{IsUnacknowledged}
-use Rattle.net_ends.specs.Ends.{runs, end, may_send, limit, SentRange, asks, is_due}
+use Rattle.net_ends.specs.Ends.{Resumed, after_event, after_events, commands, commands_of, Run, run, run_on, begun}
+use Rattle.net_ends.specs.Ends.{IsAllowed, first, rest, IsUnacknowledged, runs, end, may_send, limit, SentRange, asks}
+use Rattle.net_ends.specs.Ends.{is_due}
 
 -- ---- the sender's commands
 appended : (s : FiniteSenderState) (cs ds : List SenderCommand) →

@@ -5,6 +5,7 @@ use Rattle.std.specs.Prelude.{Bool, IsTrue, IsFalse, ◌↔◌, ◌&&◌, ◌||�
 use Rattle.std.specs.Prelude.{if◌then◌else◌}
 use Rattle.std.proofs.lemmas.Grind.{common_steps}
 use Rattle.std.proofs.lemmas.Int.{ints}
+use Rattle.std.proofs.lemmas.Bool.{and_parts}
 use Rattle.net_receiver.specs.Scoreboards.{IsEnd}
 use Rattle.net_tcp.specs.LossRecovery.{Recovery as LossRecovery}
 use Rattle.net_tcp.specs.Retransmission.{has_expired, has_ended, expiry, after_expiry, is_due, expires_from}
@@ -180,14 +181,10 @@ due : (b : Bool) (p end now : ℤ) → (b ≡ true → int_lt p end ≡ true) �
 due false p end now before is = is
 due true p end now before is = let low = before refl in grind (arith, ints, common_steps)
 
-both : (a b : Bool) → (a && b) ≡ true → b ≡ true
-both true b is = is
-both false b is = cc
-
 late : (t : RetransmissionTimer) (now : ℤ) (o : Option ℤ) → is_due now o ≡ true → is_due now (expires_from t o) ≡ true
 late t now None is = is
 late t now (Some end) is =
-    due (t.reports && int_lt t.probe_at end) t.probe_at end now (λ on. both t.reports (int_lt t.probe_at end) on) is
+    due (t.reports && int_lt t.probe_at end) t.probe_at end now (λ on. (and_parts t.reports (int_lt t.probe_at end) on).1) is
 
 pub ends_late : (t : RetransmissionTimer) (now : ℤ) → has_ended t now ≡ true → has_expired t now ≡ true
 ends_late t now is = late t now t.ends_at is

@@ -1,32 +1,24 @@
 -- Why each of two ends takes what the other acknowledges, whatever the path between them does.
-use Rattle.std.proofs.Common.{◌≡◌, ℕ, ℤ, ◌+◌, ◌-◌, ◌<◌, ◌≤◌, inl, inr, refl, sym, ap, ◌∙◌, subst}
-use Rattle.std.proofs.Common.{true, false, arith, rules, List, [], ◌∷◌, ◌++◌}
-use Rattle.std.specs.Prelude.{Bool, min, max, ◌⊎◌, length, if◌then◌else◌, ◌&&◌}
-use Rattle.std.specs.Prelude.{nat_lt, nat_le, nat_eq, is_ok}
+use Rattle.std.proofs.Common.{◌≡◌, ℕ, ℤ, ◌+◌, ◌-◌, ◌<◌, ◌≤◌, inl, inr, refl, sym, ap, ◌∙◌, subst, true, false, arith}
+use Rattle.std.proofs.Common.{rules, List, [], ◌∷◌, ◌++◌, length-take, zero, suc}
+use Rattle.std.specs.Prelude.{Bool, min, max, ◌⊎◌, length, if◌then◌else◌, ◌&&◌, nat_lt, nat_le, nat_eq, is_ok, is_some}
 use Rattle.std.specs.Int.{from_bool}
-use Rattle.std.proofs.lemmas.Bool.{cases_lt, both_ways}
+use Rattle.std.proofs.lemmas.Bool.{cases_lt, both_ways, and_parts, cond_both}
 use Rattle.std.proofs.lemmas.Bool.Decides.{nat_tests}
 use Rattle.std.proofs.lemmas.List.{length-drop}
-use Rattle.std.proofs.Common.{length-take}
-use Rattle.net_tcp.specs.Windows.{IsTaken, IsHeard, shift_count}
-use Rattle.net_tcp.specs.Windows.{window_from, replaces}
+use Rattle.net_tcp.specs.Windows.{IsTaken, IsHeard, shift_count, window_from, replaces}
 use Rattle.net_tcp.specs.declared.peer_window.PeerWindow.{PeerWindow}
 use Rattle.net_receiver.specs.ReceiverState.{ReceiverState, limit_of, next_position, receiver_after_command, Segment}
 use Rattle.net_receiver.specs.ReceiverState.{Verdict, state_after, KeepsNone, Refuses, Keeps, verdict}
-use Rattle.net_receiver.specs.ReceiverState.{receiver_after_read}
+use Rattle.net_receiver.specs.ReceiverState.{receiver_after_read, fresh_receiver}
 use Rattle.net_receiver.specs.OneStream.{LimitGrows}
 use Rattle.net_receiver.specs.Schedule.{piece}
-use Rattle.net_receiver.specs.Finite.{FiniteState, finite_after}
-use Rattle.net_receiver.specs.Finite.{acknowledged, no_end, IsSoundEnd, top_of, queue_only, queue_alone}
-use Rattle.net_receiver.specs.Finite.{SoundEndStays, AcknowledgedGrows, FreshEndIsSound}
-use Rattle.net_receiver.specs.Finite.{fresh_finite, has_other_end, below_end, before_segment, ends_in_order, bytes_result}
-use Rattle.net_receiver.specs.Finite.{bytes_end}
-use Rattle.net_receiver.proofs.FiniteReceivers.{top_le, top_after}
-use Rattle.net_receiver.specs.ReceiverState.{fresh_receiver}
+use Rattle.net_receiver.specs.Finite.{FiniteState, finite_after, acknowledged, no_end, IsSoundEnd, top_of, queue_only}
+use Rattle.net_receiver.specs.Finite.{queue_alone, SoundEndStays, AcknowledgedGrows, FreshEndIsSound, fresh_finite}
+use Rattle.net_receiver.specs.Finite.{has_other_end, below_end, before_segment, ends_in_order, bytes_result, bytes_end}
+use Rattle.net_receiver.proofs.FiniteReceivers.{top_le, top_after, meets}
 use Rattle.std.specs.Ordering.{nat_cmp}
-use Rattle.std.specs.Prelude.{is_some}
 use Rattle.std.specs.FinMap as fin
-use Rattle.std.proofs.Common.{zero, suc}
 use Rattle.net_tcp.specs.Retransmission.{has_expired}
 use Rattle.net_receiver.specs.SenderState.{with_written}
 use Rattle.net_receiver.specs.FiniteSender.{FiniteSenderState, first_number, accepts, acknowledged_below, Marks}
@@ -35,14 +27,13 @@ use Rattle.net_assembler.specs.Positions.{Positions}
 use Rattle.net_tcp.specs.LossRecovery.{Recovery as LossRecovery}
 use Rattle.net_ends.specs.Ends as sending
 use Rattle.net_ends.specs.Ends.{End, Opened, Forgot, Enabled, Opening, Wrote, Shut, Heard, Looked, Sent, Rested, first}
-use Rattle.net_ends.specs.Ends.{Resumed}
-use Rattle.net_ends.specs.Ends.{peer_after, greatest_after, may_send, limit, asks, end, is_due}
+use Rattle.net_ends.specs.Ends.{Resumed, may_send, asks, end, is_due}
 use Rattle.net_ends.specs.Receiving as receiving
-use Rattle.net_ends.specs.Receiving.{Receiving, Arrived, Answered, Announced, Acknowledged, Took, promise, field_of}
-use Rattle.net_ends.specs.Receiving.{free_end, IsSoundReceiving, is_worth, announced_end, opening_field, after_arrival}
-use Rattle.net_ends.specs.Receiving.{is_empty}
+use Rattle.net_ends.specs.Receiving.{Receiving, Arrived, Answered, Announced, Acknowledged, Took, free_end}
+use Rattle.net_ends.specs.Receiving.{IsSoundReceiving, is_worth, announced_end, opening_field, after_arrival, is_empty}
 use Rattle.net_ends.specs.Pair.{Pair, Told, Step, AtSender, AtReceiver, begun, said, told_by, after_step, after_steps}
 use Rattle.net_ends.specs.Pair.{WasTold, IsHonest, AreHonest, number, has_come, IsAnswerTaken}
+use Rattle.net_ends.proofs.Progress.{accept_says}
 use Rattle.net_ends.proofs.ReceivingLaws.{field_within, opened_is_sound, stays_sound, edge_stays, end_within}
 
 -- ---- nothing is kept that wasn't sent
@@ -70,11 +61,6 @@ met_end : (b : Bool) (s : FiniteState) (m : ℕ) → (s.end < m) ⊎ (s.end ≡ 
 met_end true s m is = inr refl
 met_end false s m is = is
 
-top_if : (b : Bool) (met : FiniteState) (r : ReceiverState) (end m : ℕ) → top_of met.receiver ≤ m → top_of r ≤ m →
-    top_of (if b then met else record { receiver = r; end = end }).receiver ≤ m
-top_if true met r end m was now = was
-top_if false met r end m was now = now
-
 end_if : (b ok l : Bool) (met : FiniteState) (r : ReceiverState) (e m : ℕ) → (l ≡ true → e < m) →
     (met.end < m) ⊎ (met.end ≡ no_end) →
     let t : FiniteState = if b then met else record {
@@ -87,10 +73,6 @@ end_if false true true met r e m new was = inl (new refl)
 end_if false true false met r e m new was = was
 end_if false false l met r e m new was = was
 
-last_of : (last fits : Bool) → (last && fits) ≡ true → last ≡ true
-last_of true fits is = refl
-last_of false fits is = is
-
 number_fits : (last : Bool) (e m : ℕ) → e + from_bool last ≤ m → last ≡ true → e < m
 number_fits true e m fits is = omega (arith, fits)
 number_fits false e m fits is = absurd (search (rules, is))
@@ -99,16 +81,6 @@ capacity_by : (v : ReceiverState) (x : Verdict) → (state_after v x).capacity �
 capacity_by v KeepsNone = refl
 capacity_by v Refuses = refl
 capacity_by v (Keeps part) = refl
-
-met_capacity : (b : Bool) (s : FiniteState) →
-    (if b then queue_alone s else s).receiver.capacity ≡ s.receiver.capacity
-met_capacity true s = refl
-met_capacity false s = refl
-
-capacity_if : (b : Bool) (met : FiniteState) (r : ReceiverState) (end c : ℕ) → met.receiver.capacity ≡ c →
-    r.capacity ≡ c → (if b then met else record { receiver = r; end = end }).receiver.capacity ≡ c
-capacity_if true met r end c was now = was
-capacity_if false met r end c was now = now
 
 -- a segment of which all numbers are below m
 below_after : (n : ℕ) (s : FiniteState) (pos m : ℕ) (xs : List ℕ) (last : Bool) → IsBelow s m →
@@ -121,12 +93,12 @@ below_after n s pos m xs last below fits =
     let was = below.bytes in
     let few = length-take (bytes_end met - pos) xs in
     let next = receiver_after_command n met.receiver (Segment pos (below_end met pos xs)) in record {
-      bytes = top_if (has_other_end met at last) met next _ m (omega (arith, low, was))
-          (top_after met.receiver m (omega (arith, low, was)) n pos (below_end met pos xs)
-          (λ q from to. omega (arith, few, fits, to)));
+      bytes = cond_both (has_other_end met at last) met _ (λ (t : FiniteState). top_of t.receiver ≤ m)
+          (λ _. omega (arith, low, was)) (λ _. top_after met.receiver m (omega (arith, low, was)) n pos
+          (below_end met pos xs) (λ q from to. omega (arith, few, fits, to)));
       end = end_if (has_other_end met at last) (is_ok (bytes_result n met pos xs last))
           (last && nat_le at (limit_of met.receiver)) met next at m
-          (λ l. number_fits last at m fits (last_of last _ l)) (met_end in_order s m below.end);
+          (λ l. number_fits last at m fits (and_parts last _ l).0) (met_end in_order s m below.end);
     }
 
 capacity_after : (n : ℕ) (s : FiniteState) (pos : ℕ) (xs : List ℕ) (last : Bool) →
@@ -134,10 +106,10 @@ capacity_after : (n : ℕ) (s : FiniteState) (pos : ℕ) (xs : List ℕ) (last :
 capacity_after n s pos xs last =
     let at = pos + length xs in
     let met = before_segment s pos at last in
-    let same = met_capacity (last && ends_in_order s pos at) s in
-    capacity_if (has_other_end met at last) met
-    (receiver_after_command n met.receiver (Segment pos (below_end met pos xs))) _ _ same
-    (capacity_by met.receiver (verdict n met.receiver (piece pos (below_end met pos xs))) ∙ same)
+    let P = λ (t : FiniteState). t.receiver.capacity ≡ s.receiver.capacity in
+    let same : P met = meets P s pos at last refl (λ _ _. refl) in
+    cond_both (has_other_end met at last) met _ P (λ _. same)
+    (λ _. capacity_by met.receiver (verdict n met.receiver (piece pos (below_end met pos xs))) ∙ same)
 
 read_top : (v : ReceiverState) (n : ℕ) → top_of (receiver_after_read v n) ≡ top_of v
 read_top v n = let len = length-drop n v.queue in omega (arith, len)
@@ -253,22 +225,19 @@ update_by true c w greatest first sent seq ack window most capacity on is low fi
     window_by c w greatest first sent seq ack window most capacity is low fits few
 update_by false c w greatest first sent seq ack window most capacity on is low fits few = absurd (search (rules, on))
 
-acknowledged_first : (s : FiniteSenderState) (n : ℕ) → first_number (acknowledged_below s n) ≡ n
+pub acknowledged_first : (s : FiniteSenderState) (n : ℕ) → first_number (acknowledged_below s n) ≡ n
 acknowledged_first s n = omega arith
 
-numbers_if : (b : Bool) (s : FiniteSenderState) (n : ℕ) → b ≡ true →
+pub numbers_if : (b : Bool) (s : FiniteSenderState) (n : ℕ) → b ≡ true →
     (first_number (if b then acknowledged_below s n else s) ≡ n) × ((if b then acknowledged_below s n else s).sent ≡ s.sent)
 numbers_if true s n on = (acknowledged_first s n, refl)
 numbers_if false s n on = absurd (search (rules, on))
-
-accept_low : (s : FiniteSenderState) (n : ℕ) → accepts s n ≡ true → first_number s ≤ n
-accept_low s n is = grind (arith, nat_tests, is)
 
 heard_near : (e : End) (s : Positions) (r : LossRecovery) (says : Bool) (seq ack window : ℕ) (now : ℤ)
     (edge capacity : ℕ) → accepts e.sender ack ≡ true → IsNear e edge capacity → ack + window ≤ edge →
     window ≤ capacity → IsNear (sending.heard e s r says seq ack window now) edge capacity
 heard_near e s r says seq ack window now edge capacity on is fits few =
-    let low = accept_low e.sender ack on in
+    let low = (accept_says e.sender ack on).0 in
     let numbers = numbers_if (accepts e.sender ack) e.sender ack on in
     let was : IsNearBy e.peer.edge e.greatest (first e) e.sender.sent edge capacity = record {
       told = is.told;
@@ -340,7 +309,7 @@ sent_near true e f to edge capacity of peer most fits is =
 sent_near false e f to edge capacity of peer most fits is = (is, omega arith)
 
 -- ---- bytes are written
-wrote_first : (b : Bool) (s : FiniteSenderState) (xs : List ℕ) →
+pub wrote_first : (b : Bool) (s : FiniteSenderState) (xs : List ℕ) →
     first_number (record {
       sender = if b then with_written s.sender xs else s.sender;
       closed = s.closed;
@@ -419,10 +388,6 @@ pub record Later (p q : Pair) : Type 0 where
 -- what has come was sent, and what was said was promised
 pub come_sent : (p : Pair) → Agree p → has_come p ≤ p.sender.sender.sent
 come_sent p is = number_below p.receiver.receiver p.sender.sender.sent is.sound.end is.kept
-
-pub said_promised : (p : Pair) (ack window : ℕ) → Agree p → WasTold p.told ack window →
-    ack + window ≤ p.receiver.edge
-said_promised p ack window is was = (was_promised _ _ p.told ack window is.told was).0
 
 kept_more : (s : FiniteState) (m more : ℕ) → m ≤ more → IsBelow s m → IsBelow s more
 kept_more s m more grows is = let a = is.bytes in record {

@@ -1,9 +1,7 @@
 -- Why what is read of a receiving end is what was written to a sending one.
 use Rattle.std.proofs.Common.{◌≡◌, ℕ, ◌+◌, ◌-◌, ◌<◌, ◌≤◌, inl, inr, refl, sym, ap, ◌∙◌, subst, true, false, arith}
-use Rattle.std.proofs.Common.{rules}
-use Rattle.std.proofs.Common.{List, [], ◌∷◌, ◌++◌, append_assoc, length-take}
-use Rattle.std.specs.Prelude.{Bool, IsTrue, IsFalse, min, take, drop, length, All}
-use Rattle.std.specs.Prelude.{if◌then◌else◌}
+use Rattle.std.proofs.Common.{rules, List, [], ◌∷◌, ◌++◌, append_assoc, length-take}
+use Rattle.std.specs.Prelude.{Bool, IsTrue, IsFalse, min, take, drop, length, All, if◌then◌else◌}
 use Rattle.std.proofs.lemmas.Bool.{cases_lt}
 use Rattle.std.proofs.lemmas.Bool.Decides.{nat_tests}
 use Rattle.std.proofs.lemmas.List.{take_min}
@@ -11,16 +9,13 @@ use Rattle.std.proofs.lemmas.List.Elements.{All-nil, All-cons, All-head, All-tai
 use Rattle.net_receiver.specs.SenderState.{end_of, Sends}
 use Rattle.net_receiver.specs.ReceiverState.{next_position}
 use Rattle.net_receiver.specs.FiniteSender.{FiniteSenderState, SenderCommand, sender_after_command}
-use Rattle.net_receiver.specs.FiniteSender.{sender_after_commands}
-use Rattle.net_receiver.specs.FiniteSender.{bytes_written, written_of}
-use Rattle.net_receiver.specs.FiniteSender.{has_end_at, IsLentIn, ComesFrom, ClosedStays, LentIsOfStream}
-use Rattle.net_receiver.specs.FiniteSender.{fresh_finite_sender, Marks, AnyPathCarries, SaysAtMost as SenderSaysAtMost}
+use Rattle.net_receiver.specs.FiniteSender.{sender_after_commands, bytes_written, written_of, has_end_at, IsLentIn}
+use Rattle.net_receiver.specs.FiniteSender.{ComesFrom, ClosedStays, LentIsOfStream, fresh_finite_sender, Marks}
+use Rattle.net_receiver.specs.FiniteSender.{AnyPathCarries, SaysAtMost as SenderSaysAtMost}
 use Rattle.net_receiver.specs.Finite.{FiniteState, FiniteCommand, Arrives, Reads, MatchesFinite, bytes_taken}
-use Rattle.net_receiver.specs.Finite.{fresh_finite}
-use Rattle.net_receiver.specs.Finite.{finite_after_commands, acknowledged, is_complete, has_read_all}
+use Rattle.net_receiver.specs.Finite.{fresh_finite, finite_after_commands, acknowledged, is_complete, has_read_all}
 use Rattle.net_ends.specs.Ends.{End, Event, Opened, Forgot, Enabled, Opening, Wrote, Shut, Heard, Looked, Sent, Rested}
-use Rattle.net_ends.specs.Ends.{Resumed}
-use Rattle.net_ends.specs.Ends.{after_event, after_events, commands, commands_of, IsSegment, may_send}
+use Rattle.net_ends.specs.Ends.{Resumed, after_event, after_events, commands, commands_of, IsSegment, may_send}
 use Rattle.net_ends.specs.Path.{written, WasLent, IsUnforged, SaysAtMost, LentIsWritten, EndsCarry}
 use Rattle.net_ends.specs.Receiving as receiving
 use Rattle.net_ends.specs.Receiving.{Receiving, Arrived, Answered, Announced, Acknowledged, Took, is_empty}

@@ -1,20 +1,15 @@
 -- Why all is acknowledged in the end: what isn't yet never grows while nothing is written, and falls with each
 -- acknowledgement that says something new.
-use Rattle.std.proofs.Common.{◌≡◌, ℕ, ◌+◌, ◌-◌, ◌≤◌, true, false, refl, sym, subst, arith}
-use Rattle.std.proofs.Common.{List, [], ◌∷◌}
-use Rattle.std.specs.Prelude.{Bool, All, ◌&&◌, nat_lt, nat_le, min, max, if◌then◌else◌}
+use Rattle.std.proofs.Common.{◌≡◌, ℕ, ◌+◌, ◌-◌, ◌≤◌, true, false, refl, sym, subst, arith, List, [], ◌∷◌, length-append}
+use Rattle.std.specs.Prelude.{Bool, All, ◌&&◌, nat_lt, nat_le, min, max, if◌then◌else◌, nat_eq, length, take}
 use Rattle.std.specs.Int.{from_bool}
 use Rattle.std.proofs.lemmas.List.{length-drop}
-use Rattle.std.proofs.Common.{length-append}
-use Rattle.std.specs.Prelude.{nat_eq, length, take}
 use Rattle.net_receiver.specs.SenderState.{with_written, end_of}
-use Rattle.net_receiver.specs.FiniteSender.{closed_sender, finite_room}
+use Rattle.net_receiver.specs.FiniteSender.{closed_sender, finite_room, FiniteSenderState, first_number, numbers_end}
+use Rattle.net_receiver.specs.FiniteSender.{acknowledged_below, accepts, IsSoundSent, Marks, sender_after_commands}
 use Rattle.std.proofs.lemmas.List.Elements.{All-head, All-tail}
 use Rattle.std.proofs.lemmas.Bool.Decides.{nat_tests}
-use Rattle.net_receiver.specs.FiniteSender.{FiniteSenderState, first_number, numbers_end, acknowledged_below, accepts}
-use Rattle.net_receiver.specs.FiniteSender.{IsSoundSent, Marks, sender_after_commands}
-use Rattle.net_ends.specs.Ends.{End, Event, Opened, Forgot, Opening, Wrote, Shut, Heard, Looked, Sent, Rested}
-use Rattle.net_ends.specs.Ends.{Resumed}
+use Rattle.net_ends.specs.Ends.{End, Event, Opened, Forgot, Opening, Wrote, Shut, Heard, Looked, Sent, Rested, Resumed}
 use Rattle.net_ends.specs.Ends.{after_event, after_events, rest, may_send, is_news, news, IsNoWrite, Enabled}
 use Rattle.net_ends.proofs.Ends.{step_refines, less}
 
@@ -32,7 +27,7 @@ sound_ack s n is low high =
       high = omega (arith, len, low, high, is.high);
     }
 
-accept_says : (s : FiniteSenderState) (n : ℕ) → accepts s n ≡ true → (first_number s ≤ n) × (n ≤ s.sent)
+pub accept_says : (s : FiniteSenderState) (n : ℕ) → accepts s n ≡ true → (first_number s ≤ n) × (n ≤ s.sent)
 accept_says s n is = (grind (arith, nat_tests, is), grind (arith, nat_tests, is))
 
 heard_step : (b : Bool) (s : FiniteSenderState) (n : ℕ) →

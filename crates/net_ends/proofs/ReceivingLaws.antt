@@ -1,23 +1,21 @@
 -- Why an end announces no less than it did, and no more than there is room for.
 use Rattle.std.proofs.Common.{◌≡◌, ℕ, ◌+◌, ◌-◌, ◌*◌, ◌/◌, ◌^◌, ◌<◌, ◌≤◌, inl, inr, refl, sym, ap, ◌∙◌, subst}
 use Rattle.std.proofs.Common.{true, false, arith, rules, List, [], ◌∷◌, ◌++◌}
-use Rattle.std.specs.Prelude.{◌&&◌, Bool, IsTrue, min, max, if◌then◌else◌, ◌⊎◌, All, length, take, Option}
-use Rattle.std.proofs.lemmas.Bool.{cases_lt}
+use Rattle.std.specs.Prelude.{Bool, IsTrue, min, max, if◌then◌else◌, ◌⊎◌, All, length, take, Option}
+use Rattle.std.proofs.lemmas.Bool.{cases_lt, cond_both}
+use Rattle.net_receiver.proofs.FiniteReceivers.{meets}
 use Rattle.std.proofs.lemmas.Bool.Decides.{nat_tests}
 use Rattle.std.proofs.lemmas.Nat.{div-add-mod', mod_below, pow_pos, mul-le}
 use Rattle.net_tcp.specs.Windows.{field_for, announced, shift_count}
-use Rattle.net_receiver.specs.ReceiverState.{ReceiverState, limit_of, next_position, receiver_after_command, Segment}
-use Rattle.net_receiver.specs.ReceiverState.{Read}
+use Rattle.net_receiver.specs.ReceiverState.{limit_of, next_position, Segment, Read}
 use Rattle.net_receiver.specs.OneStream.{LimitGrows}
-use Rattle.net_receiver.specs.Finite.{FiniteState, FiniteCommand, finite_after_command}
-use Rattle.net_receiver.specs.Finite.{finite_after_commands, acknowledged, no_end, IsSoundEnd}
-use Rattle.net_receiver.specs.Finite.{SoundEndStays, AcknowledgedGrows, FreshEndIsSound, Arrives, Reads}
-use Rattle.net_receiver.specs.Finite.{fresh_finite, has_other_end, below_end, ReadsTheStream, CommandMatches}
-use Rattle.net_receiver.specs.Finite.{bytes_taken, has_read_all, before_segment, ends_in_order, queue_alone}
+use Rattle.net_receiver.specs.Finite.{FiniteState, FiniteCommand, finite_after_command, finite_after_commands}
+use Rattle.net_receiver.specs.Finite.{acknowledged, no_end, IsSoundEnd, SoundEndStays, AcknowledgedGrows}
+use Rattle.net_receiver.specs.Finite.{FreshEndIsSound, Arrives, Reads, fresh_finite, has_other_end, below_end}
+use Rattle.net_receiver.specs.Finite.{ReadsTheStream, CommandMatches, bytes_taken, has_read_all, before_segment}
 use Rattle.net_ends.specs.Receiving.{Receiving, Event, Arrived, Answered, Announced, Acknowledged, Took, after_event}
 use Rattle.net_ends.specs.Receiving.{after_events, commands, commands_of, free_end, promise, announced_end}
-use Rattle.net_ends.specs.Receiving.{IsSoundReceiving, is_worth, new_receiving, opened, is_empty}
-use Rattle.net_ends.specs.Receiving.{after_arrival}
+use Rattle.net_ends.specs.Receiving.{IsSoundReceiving, is_worth, new_receiving, opened, is_empty, after_arrival}
 
 -- ---- the receiver's commands
 appended : (n : ℕ) (s : FiniteState) (cs ds : List FiniteCommand) →
@@ -114,26 +112,16 @@ record Follows (e f : Receiving) : Type 0 where
   sound : IsSoundReceiving f
 
 -- a segment meets a state whose free window ends where that of s does
-limit_if : (b : Bool) (s met : FiniteState) (r : ReceiverState) (end : ℕ) →
-    limit_of met.receiver ≡ limit_of s.receiver → limit_of met.receiver ≤ limit_of r →
-    limit_of s.receiver ≤ limit_of (if b then met else record { receiver = r; end = end }).receiver
-limit_if true s met r end same rises = omega (arith, same)
-limit_if false s met r end same rises = omega (arith, same, rises)
-
-before_limit : (b : Bool) (s : FiniteState) →
-    limit_of (if b then queue_alone s else s).receiver ≡ limit_of s.receiver
-before_limit true s = refl
-before_limit false s = refl
-
 module _ (sound : SoundEndStays) (grows : AcknowledgedGrows) (limits : LimitGrows) where
   limit_by : (n : ℕ) (s : FiniteState) (c : FiniteCommand) →
       limit_of s.receiver ≤ limit_of (finite_after_command n s c).receiver
   limit_by n s (Arrives pos xs last) =
-      let met = before_segment s pos (pos + length xs) last in
-      let same = before_limit (last && ends_in_order s pos (pos + length xs)) s in
-      limit_if (has_other_end met (pos + length xs) last) s met
-      (receiver_after_command n met.receiver (Segment pos (below_end met pos xs))) _ same
-      (limits n met.receiver (Segment pos (below_end met pos xs)))
+      let at = pos + length xs in
+      let met = before_segment s pos at last in
+      let P = λ (t : FiniteState). limit_of s.receiver ≤ limit_of t.receiver in
+      let grown : P met = meets P s pos at last (omega arith) (λ _ _. omega arith) in
+      cond_both (has_other_end met at last) met _ P (λ _. grown) (λ _.
+      let rises = limits n met.receiver (Segment pos (below_end met pos xs)) in omega (arith, grown, rises))
   limit_by n s (Reads k) = limits n s.receiver (Read k)
 
   -- where no lower number is named, a promise is as far within what a number can say

@@ -4,7 +4,7 @@ use Rattle.std.proofs.Common.{true, false, arith, rules, List, [], ◌∷◌, �
 use Rattle.std.specs.Prelude.{Bool, min, max, ◌⊎◌, length, if◌then◌else◌, ◌&&◌, not, IsTrue, IsFalse}
 use Rattle.std.specs.Prelude.{nat_lt, nat_le, nat_eq, is_ok, Option}
 use Rattle.std.specs.Int.{from_bool}
-use Rattle.std.proofs.lemmas.Bool.{cases_lt, both_ways}
+use Rattle.std.proofs.lemmas.Bool.{cases_lt, both_ways, cond_both}
 use Rattle.std.proofs.lemmas.Bool.Decides.{nat_tests}
 use Rattle.std.proofs.lemmas.List.Elements.{All-nil}
 use Rattle.std.proofs.lemmas.Nat.{pow_pos, mul-le}
@@ -21,8 +21,7 @@ use Rattle.net_receiver.specs.Finite.{IsSoundEnd, bytes_end, below_end, has_othe
 use Rattle.net_receiver.specs.Finite.{SoundEndStays, AcknowledgedGrows, FreshEndIsSound, SegmentOfStream, EndInOrder}
 use Rattle.net_receiver.specs.Finite.{ReadsTheStream, ReceivesFinite, MatchesFinite, Arrives, finite_after_read}
 use Rattle.net_receiver.specs.Finite.{fresh_finite, CommandMatches, bytes_result, end_after}
-use Rattle.net_receiver.specs.SenderState.{with_written}
-use Rattle.net_receiver.specs.FiniteSender.{FiniteSenderState, first_number, accepts, acknowledged_below}
+use Rattle.net_receiver.specs.FiniteSender.{FiniteSenderState, first_number, accepts}
 use Rattle.net_ends.specs.Ends as sending
 use Rattle.net_ends.specs.Ends.{End, Opened, Forgot, Enabled, Opening, Wrote, Shut, Heard, Looked, Sent, Rested, first}
 use Rattle.net_ends.specs.Ends.{Resumed, may_send, is_shut, is_due, asks}
@@ -35,7 +34,9 @@ use Rattle.net_ends.specs.Rounds.{IsOfStream, IsCarried, AreCarried, IsReached, 
 use Rattle.net_ends.specs.Rounds.{comes, hears, after_of, steps_of, steps, IsRound, AreRounds}
 use Rattle.net_ends.proofs.Expiries.{ends_late}
 use Rattle.net_ends.proofs.ReceivingLaws.{kept, free_fits, number_stays}
-use Rattle.net_ends.proofs.PairLaws.{Agree, goes, begins, come_sent}
+use Rattle.net_ends.proofs.Progress.{accept_says}
+use Rattle.net_ends.proofs.Small.{at_most_1}
+use Rattle.net_ends.proofs.PairLaws.{Agree, goes, begins, come_sent, numbers_if, wrote_first}
 
 -- ---- a test, either way
 by : {A : Type 0} (b : Bool) → (b ≡ true → A) → (b ≡ false → A) → A
@@ -52,10 +53,6 @@ far_says : (a b : ℕ) → nat_lt a b ≡ false → b ≤ a
 far_says a b is = grind (arith, nat_tests, is)
 
 -- ---- a segment with the first missing number
-one_at_most : (b : Bool) → from_bool b ≤ 1
-one_at_most true = omega arith
-one_at_most false = omega arith
-
 number_done : (b : Bool) (e next : ℕ) → b ≡ true → (if b then e + 1 else next) ≡ e + 1
 number_done true e next is = refl
 number_done false e next is = absurd (search (rules, is))
@@ -152,7 +149,7 @@ module _ (grows : AcknowledgedGrows) (segment : SegmentOfStream) (in_order : End
         let there = equal_says (next_position s.receiver) s.end done in
         let known = is.number in
         let end = of.end (grind (arith, nat_tests, known, there)) in
-        let one = one_at_most last in
+        let one = at_most_1 last in
         absurd (omega (arith, same, number, end, one, to, within)))
         (λ more.
         let number = number_open (is_complete s) s.end (next_position s.receiver) more in
@@ -249,9 +246,6 @@ peer_new true true w seq ack window on new = refl
 peer_new true false w seq ack window on new = absurd (search (rules, new))
 peer_new false c w seq ack window on new = absurd (search (rules, on))
 
-accept_low : (s : FiniteSenderState) (n : ℕ) → accepts s n ≡ true → first_number s ≤ n
-accept_low s n is = grind (arith, nat_tests, is)
-
 accept_all : (s : FiniteSenderState) (n : ℕ) → first_number s ≤ n → n ≤ s.sent → accepts s n ≡ true
 accept_all s n low high = grind (arith, nat_tests, low, high)
 
@@ -260,24 +254,6 @@ accept_none s n high is = elim (cases_lt n (first_number s)) [
   | inl below ↦ below
   | inr low ↦ absurd (both_ways (accepts s n) is (accept_all s n low high))
 ]
-
-below_number : (s : FiniteSenderState) (n : ℕ) → first_number (acknowledged_below s n) ≡ n
-below_number s n = omega arith
-
-number_if : (b : Bool) (s : FiniteSenderState) (n : ℕ) → b ≡ true →
-    first_number (if b then acknowledged_below s n else s) ≡ n
-number_if true s n on = below_number s n
-number_if false s n on = absurd (search (rules, on))
-
-wrote_first : (b : Bool) (s : FiniteSenderState) (xs : List ℕ) →
-    first_number (record {
-      sender = if b then with_written s.sender xs else s.sender;
-      closed = s.closed;
-      finished = s.finished;
-      sent = s.sent;
-    }) ≡ first_number s
-wrote_first true s xs = refl
-wrote_first false s xs = refl
 
 marked_first : (b : Bool) (s : FiniteSenderState) (to : ℕ) →
     first_number (if b then record {
@@ -293,8 +269,8 @@ heard_hears : (e : End) (s : Positions) (r : LossRecovery) (says : Bool) (seq ac
     accepts e.sender ack ≡ true → ack ≤ a → e.peer.ack ≤ first e →
     Hears e (sending.heard e s r says seq ack window now) a
 heard_hears e s r says seq ack window now a on most is =
-    let low = accept_low e.sender ack on in
-    let number = number_if (accepts e.sender ack) e.sender ack on in
+    let low = (accept_says e.sender ack on).0 in
+    let number = (numbers_if (accepts e.sender ack) e.sender ack on).0 in
     let peer = peer_low (accepts e.sender ack) (replaces e.peer seq ack) e.peer seq ack window (first e) is low in record {
       rises = omega (arith, number, low);
       most = omega (arith, number, most);
@@ -391,10 +367,6 @@ said_none_below r Announced = (omega arith, tt)
 said_none_below r Acknowledged = (omega arith, tt)
 said_none_below r (Took m) = tt
 
-either_holds : (P : Receiving → Type 0) (b : Bool) (e g : Receiving) → P e → P g → P (if b then e else g)
-either_holds P true e g one other = one
-either_holds P false e g one other = other
-
 -- ---- both
 record Carries (f : ℕ) (x : List ℕ) (p : Pair) : Type 0 where
   agree : Agree p
@@ -443,7 +415,7 @@ heard_rises : (p : Pair) (s : Positions) (r : LossRecovery) (says : Bool) (seq a
 heard_rises p s r says seq ack window now k fits above =
     let e = p.sender in
     first_by (accepts e.sender ack) (sending.heard e s r says seq ack window now) (record e { recovery = r }) k
-    (λ on. let number = number_if (accepts e.sender ack) e.sender ack on in omega (arith, number, above))
+    (λ on. let number = (numbers_if (accepts e.sender ack) e.sender ack on).0 in omega (arith, number, above))
     (λ off. let more = accept_none e.sender ack fits off in omega (arith, more, above))
 
 module _ (sound : SoundEndStays) (grows : AcknowledgedGrows) (limits : LimitGrows) (fresh : FreshEndIsSound)
@@ -453,8 +425,8 @@ module _ (sound : SoundEndStays) (grows : AcknowledgedGrows) (limits : LimitGrow
   streams : (n f : ℕ) (x : List ℕ) (r : Receiving) (p : Pair) (u : receiving.Event) → IsOfStream f x (AtReceiver u) →
       ReceivesFinite f x r.receiver → ReceivesFinite f x (receiving.after_event n r u).receiver
   streams n f x r p (Arrived pos xs last d) of is =
-      either_holds (λ g. ReceivesFinite f x g.receiver) (is_empty xs last) r (after_arrival n r pos xs last d) is
-      (segment n f x r.receiver pos xs last is of.0).1
+      cond_both (is_empty xs last) r (after_arrival n r pos xs last d) (λ g. ReceivesFinite f x g.receiver)
+      (λ _. is) (λ _. (segment n f x r.receiver pos xs last is of.0).1)
   streams n f x r p Answered of is = is
   streams n f x r p Announced of is = is
   streams n f x r p Acknowledged of is = is

@@ -6,12 +6,10 @@ use Rattle.std.proofs.lemmas.Bool.Decides.{nat_tests}
 use Rattle.net_tcp.specs.Retransmission.{has_expired, after_expiry, has_ended, after_sending}
 use Rattle.net_receiver.specs.FiniteSender.{accepts, sender_after_command, Marks}
 use Rattle.net_ends.specs.Ends.{End, Event, Opened, Forgot, Enabled, Opening, Wrote, Shut, Heard, Looked, Sent, Rested}
-use Rattle.net_ends.specs.Ends.{Resumed}
-use Rattle.net_ends.specs.Ends.{after_event}
-use Rattle.net_ends.specs.Ends.{first, limit, may_send, is_worth, hurries, heard, is_shut, is_small, small_sends}
-use Rattle.net_ends.specs.Ends.{is_expiry, expiries}
+use Rattle.net_ends.specs.Ends.{Resumed, after_event, first, limit, may_send, is_worth, hurries, heard, is_shut}
+use Rattle.net_ends.specs.Ends.{is_small, small_sends, is_expiry, expiries}
 
-at_most_1 : (b : Bool) → from_bool b ≤ 1
+pub at_most_1 : (b : Bool) → from_bool b ≤ 1
 at_most_1 true = omega arith
 at_most_1 false = omega arith
 

@@ -1,7 +1,6 @@
 -- What is accepted or may be sent changes an end, and nothing else does.
 use Rattle.std.proofs.Common.{◌≡◌, ℕ, ℤ, ◌<◌, ◌≤◌, false, arith, rules}
-use Rattle.std.specs.Prelude.{Bool, IsTrue, IsFalse, ◌||◌, ◌&&◌}
-use Rattle.std.specs.Prelude.{nat_lt, nat_le}
+use Rattle.std.specs.Prelude.{Bool, IsTrue, IsFalse, ◌||◌, ◌&&◌, nat_lt, nat_le}
 use Rattle.std.proofs.lemmas.Bool.Decides.{nat_tests}
 use Rattle.net_receiver.specs.FiniteSender.{accepts, sender_after_command, Marks}
 use Rattle.net_tcp.specs.LossRecovery.{Recovery as LossRecovery}

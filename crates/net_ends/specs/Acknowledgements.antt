@@ -14,7 +14,7 @@
 --     IsLeft, Recovers      the recovery that is left, and whether it begins
 --     is_sought, begins_by, after_wait, loses_nothing, expiry_of      what the timer's end does, and means
 --     after_segment      the recovery once a range is sent
-use Rattle.std.specs.Prelude.{◌≡◌, ℕ, ℤ, ◌+◌, ◌-◌, ◌^◌, max, Bool, true, false, not, ◌&&◌, ◌||◌, nat_lt, nat_le}
+use Rattle.std.specs.Prelude.{◌≡◌, ℕ, ℤ, ◌+◌, ◌-◌, ◌^◌, max, Bool, false, not, ◌&&◌, ◌||◌, nat_lt, nat_le}
 use Rattle.std.specs.Prelude.{IsTrue, IsFalse, if◌then◌else◌, List, [], ◌∷◌, slice_get, fold}
 use Rattle.std.specs.List.{list_any}
 use Rattle.std.specs.declared.ops.Range.{Range}
@@ -23,11 +23,9 @@ use Rattle.net_assembler.specs.Positions.{Positions, first_missing, front, with_
 use Rattle.net_receiver.specs.declared.sent_numbers.SentNumbers.{SentNumbers}
 use Rattle.net_receiver.specs.Scoreboards.{beyond, IsLossBound, IsEnd}
 use Rattle.net_tcp.specs.LossRecovery.{is_active, unsent_lost, is_equal_acknowledgement, is_duplicate_block}
-use Rattle.net_tcp.specs.LossRecovery.{after_answer, after_report, after_silence, blind_lost}
-use Rattle.net_tcp.specs.LossRecovery.{found, begun, after_copies, after_probe}
-use Rattle.net_tcp.specs.LossRecovery.{after_sending, forgotten}
+use Rattle.net_tcp.specs.LossRecovery.{after_answer, after_report, after_silence, blind_lost, found, begun}
+use Rattle.net_tcp.specs.LossRecovery.{after_copies, after_probe, after_sending, forgotten, Recovery as LossRecovery}
 use Rattle.net_tcp.specs.declared.loss_recovery.Answer.{Answer}
-use Rattle.net_tcp.specs.LossRecovery.{Recovery as LossRecovery}
 use Rattle.net_tcp.specs.Retransmission.{has_ended}
 use Rattle.net_ends.specs.declared.sending_end.Expired.{Expired}
 use Rattle.net_ends.specs.declared.sending_end.Expired.TheVariants.{No, Overdue, Probe, Lost}
@@ -39,7 +37,8 @@ use Rattle.net_ends.specs.Ends.{known, End, is_overdue, has_dropped}
 -- it begins above the first position that isn't reported, and has positions, which were sent and end less than 2 ^ 32
 -- above that one; and what is reported beyond that one has no more than n runs then
 abbrev pub is_taken : ℕ → ℕ → Positions → Range ℕ → Bool
-is_taken n sent s b = nat_lt (front s) b.start && nat_lt b.start b.end && nat_le b.end sent && nat_lt b.end (front s + 2 ^ 32)
+is_taken n sent s b =
+    nat_lt (front s) b.start && nat_lt b.start b.end && nat_le b.end sent && nat_lt b.end (front s + 2 ^ 32)
     && not (makes_too_many_runs n (beyond s) b.start (b.end - b.start))
 
 abbrev pub with_block : ℕ → ℕ → Positions → Range ℕ → Positions

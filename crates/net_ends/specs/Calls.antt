@@ -3,9 +3,8 @@
 --     Takes expiry f said left      the timer's end, once it has started again: Silent, TimesOut
 --     Looks e now said left      the timer
 --     Chooses e window now said left      a segment
-use Rattle.std.specs.Prelude.{◌≡◌, ◌↔◌, ℕ, ℤ, ◌+◌, ◌-◌, ◌<◌, ◌≤◌, ◌==◌, ◌&&◌, Option, is_some}
-use Rattle.std.specs.Prelude.{IfSome, IfNone, Bool, nat_lt, if◌then◌else◌, IsTrue, IsFalse, List}
-use Rattle.std.specs.Prelude.{false}
+use Rattle.std.specs.Prelude.{◌≡◌, ◌↔◌, ℕ, ℤ, ◌+◌, ◌-◌, ◌<◌, ◌≤◌, ◌==◌, ◌&&◌, Option, is_some, IfSome, IfNone, Bool}
+use Rattle.std.specs.Prelude.{nat_lt, if◌then◌else◌, IsTrue, IsFalse, List, false}
 use Rattle.std.specs.Option.{option_or}
 use Rattle.std.specs.declared.ops.Range.{Range}
 use Rattle.net_assembler.specs.Positions.{contains}
@@ -14,15 +13,13 @@ use Rattle.net_receiver.specs.Scoreboards.{IsEnd}
 use Rattle.net_tcp.specs.LossRecovery.{is_active}
 use Rattle.net_tcp.specs.Retransmission.{has_ended, has_expired}
 use Rattle.net_ends.specs.Acknowledgements.{reported_by, numbers_of, unsent_of, Recovers, expiry_of, after_wait}
-use Rattle.net_ends.specs.Acknowledgements.{doubted}
-use Rattle.net_ends.specs.Acknowledgements.{is_sought, after_segment, begins_by, loses_nothing}
+use Rattle.net_ends.specs.Acknowledgements.{doubted, is_sought, after_segment, begins_by, loses_nothing}
 use Rattle.net_tcp.specs.declared.retransmission_timer.Expiry.{Expiry}
 use Rattle.net_tcp.specs.declared.retransmission_timer.Expiry.TheVariants as timer
 use Rattle.net_ends.specs.Ends.{End, first, end, is_acceptable, new_of, reports_of, begins_of, kept, is_overdue}
 use Rattle.net_ends.specs.Ends.{has_timed_out, timed_out, all_lost, after_event, Heard, Looked, Sent, Rested, asks}
-use Rattle.net_ends.specs.Ends.{hurries}
-use Rattle.net_ends.specs.Ends.{AreHoles, open_to, found, due_of, range_of, IsProbed, probe_of, is_probe, is_worth}
-use Rattle.net_ends.specs.Ends.{may_send}
+use Rattle.net_ends.specs.Ends.{hurries, AreHoles, open_to, found, due_of, range_of, IsProbed, probe_of, is_probe}
+use Rattle.net_ends.specs.Ends.{is_worth, may_send}
 use Rattle.net_ends.specs.declared.sending_end.Acknowledged.{Acknowledged}
 use Rattle.net_ends.specs.declared.sending_end.Acknowledged.TheVariants.{Refused, Old}
 use Rattle.net_ends.specs.declared.sending_end.Expired.{Expired}

@@ -66,7 +66,8 @@ after_turn most_runs near far t = after_event most_runs (after_events most_runs 
 -- what is acknowledged is accepted
 pub record IsTurn (most_runs : ℕ) (near far : Host) (t : Turn) : Type 0 where
   pub accepted : IsTrue (accepts (after_events most_runs far t.before).sender.sender (next near))
-  pub answered : IsBehind (next (after_turn most_runs near far t)) far.receiver.receiver.receiver.capacity (number near) 0
+  pub answered : IsBehind (next (after_turn most_runs near far t)) far.receiver.receiver.receiver.capacity
+      (number near) 0
 
 -- the one that answered is near then, and the other far
 abbrev pub AreTurns : ℕ → Host → Host → List Turn → Type 0

@@ -22,34 +22,31 @@
 --     commands      the sender's commands that they come to
 --     Run, run      an end, the greatest edge that the peer gave, and what was sent
 --     small_sends, expiries      how many small segments are sent for the timer, and how often it ends
-use Rattle.std.specs.Prelude.{◌≡◌, ℕ, ℤ, ◌+◌, ◌-◌, ◌/◌, ◌<◌, ◌≤◌, ◌⊎◌, min, max, Option, Some, None, is_some}
-use Rattle.std.specs.Prelude.{Bool, true, false, not, ◌&&◌, nat_lt, nat_le, IsTrue, if◌then◌else◌, List, []}
-use Rattle.std.specs.Prelude.{◌||◌, ◌↔◌, take, drop, length}
+use Rattle.std.specs.Prelude.{◌≡◌, ℕ, ℤ, ◌+◌, ◌-◌, ◌/◌, ◌<◌, ◌≤◌, ◌⊎◌, max, Option, Some, None, is_some, Bool}
+use Rattle.std.specs.Prelude.{true, false, not, ◌&&◌, nat_lt, nat_le, if◌then◌else◌, List, [], ◌||◌}
 use Rattle.std.specs.Prelude.{◌∷◌, ◌++◌}
 use Rattle.std.specs.Coded.{Coded, coded_ℕ}
 use Rattle.std.specs.Int.{from_bool}
 use Rattle.std.specs.FinSet as set
 use Rattle.std.specs.declared.ops.Range.{Range}
 use Rattle.net_assembler.specs.Positions.{Positions, contains, with_range, nothing}
-use Rattle.net_tcp.specs.LossRecovery.{begun as begun_recovery, forgotten, new_recovery}
+use Rattle.net_tcp.specs.LossRecovery.{begun as begun_recovery, forgotten, new_recovery, Recovery as LossRecovery}
 use Rattle.net_ends.specs.Rules.{Known, queued_of, renewed_by, window_shut, asks_window, room_to, most_to, in_hurry}
 use Rattle.net_ends.specs.Rules.{nagle_waits, enough}
 use Rattle.net_ends.specs.Rules.{worth_sending, due, HolesOf, next_of, due_part, ProbedOf, probe_part, is_probing}
 use Rattle.net_tcp.specs.Estimate.{Estimate}
 use Rattle.net_tcp.specs.Retransmission.{after_acknowledged, with_sample, after_expiry, after_sending, started}
 use Rattle.net_tcp.specs.Retransmission.{after_report, has_expired, has_ended, new_timer, stopped}
+use Rattle.net_tcp.specs.Retransmission.{Timer as RetransmissionTimer}
 use Rattle.net_tcp.specs.Windows.{after_update, replaces, window_from, no_window}
 use Rattle.net_tcp.specs.declared.peer_window.PeerWindow.{PeerWindow}
 use Rattle.net_tcp.specs.declared.retransmission.TimeoutBounds.{TimeoutBounds}
 use Rattle.net_tcp.specs.declared.retransmission_timer.TimedSegment.{TimedSegment}
-use Rattle.net_tcp.specs.Retransmission.{Timer as RetransmissionTimer}
-use Rattle.net_tcp.specs.LossRecovery.{Recovery as LossRecovery}
 use Rattle.net_ends.specs.declared.sending_end.Outgoing.{Outgoing}
 use Rattle.net_ends.specs.declared.sending_end.AckSegment.{AckSegment}
 use Rattle.net_ends.specs.declared.sending_end.AckSegment.TheVariants.{Pure, WithData}
 use Rattle.net_ends.specs.declared.sending_end.Acknowledged.{Acknowledged}
 use Rattle.net_ends.specs.declared.sending_end.Acknowledged.TheVariants.{Refused, Old, Taken}
-use Rattle.net_receiver.specs.SenderState.{end_of}
 use Rattle.net_receiver.specs.FiniteSender.{FiniteSenderState, first_number, numbers_end, accepts, SenderCommand}
 use Rattle.net_receiver.specs.FiniteSender.{Writes, Closes, Marks, Acknowledges, sender_after_command}
 use Rattle.net_receiver.specs.FiniteSender.{fresh_finite_sender}

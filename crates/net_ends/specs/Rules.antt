@@ -15,15 +15,13 @@
 --     renewed_by at timeout reports now      the timer of an end that begins with a peer, or without one
 --     seeks k, nothing_lost k      whether what is overdue is sought; whether a timeout loses nothing
 use Rattle.std.specs.Prelude.{ℕ, ◌+◌, ◌-◌, ◌*◌, min, max, Option, Some, None, is_none, Bool, not, ◌&&◌, ◌||◌, nat_lt}
-use Rattle.std.specs.Prelude.{nat_le}
-use Rattle.std.specs.Prelude.{nat_eq, if◌then◌else◌, List, [], ℤ}
+use Rattle.std.specs.Prelude.{nat_le, nat_eq, if◌then◌else◌, List, [], ℤ}
 use Rattle.net_assembler.specs.Positions.{Positions}
 use Rattle.net_receiver.specs.Scoreboards.{IsEnd, IsHole, reported_by}
 use Rattle.net_receiver.specs.FiniteSender.{FiniteSenderState, first_number, numbers_end}
-use Rattle.net_tcp.specs.LossRecovery.{Recovery, recovery_of, next_segment, next_range, in_flight, resumed}
-use Rattle.net_tcp.specs.LossRecovery.{gone_on, as_range}
+use Rattle.net_tcp.specs.LossRecovery.{Recovery, recovery_of, next_segment, next_range, in_flight, resumed, gone_on}
+use Rattle.net_tcp.specs.LossRecovery.{as_range, next_probe}
 use Rattle.std.specs.declared.ops.Range.{Range}
-use Rattle.net_tcp.specs.LossRecovery.{next_probe}
 use Rattle.net_receiver.specs.declared.sent_numbers.SentNumbers.{SentNumbers}
 use Rattle.net_tcp.specs.Retransmission.{Timer, started, new_timer}
 use Rattle.net_tcp.specs.declared.peer_window.PeerWindow.{PeerWindow}

@@ -1,21 +1,17 @@
 //! What receives a stream that ends.
-ghost use Rattle.std.specs.Prelude.{◌≡◌, ◌-◌, ◌+◌, ◌<◌, ◌≤◌, ℕ, min, max, length, take, drop, ◌++◌};
-ghost use Rattle.std.specs.Prelude.{nat_eq, nat_lt, nat_le, ◌&&◌, ◌||◌, not, if◌then◌else◌};
-ghost use Rattle.std.specs.Prelude.{None, List, false};
-ghost use Rattle.std.specs.Option.{option_to_list};
+ghost use Rattle.std.specs.Prelude.{◌≡◌, ◌-◌, ◌+◌, ◌<◌, ◌≤◌, ℕ, min, max, length, take, drop, ◌++◌, nat_eq, nat_lt};
+ghost use Rattle.std.specs.Prelude.{nat_le, ◌&&◌, ◌||◌, not, if◌then◌else◌, None, List, false, [], ◌∷◌};
+ghost use Rattle.std.specs.Option.{option_to_list, option_or};
 ghost use Rattle.std.specs.Fn.{FnOnceTakesAt, FnOnceReturnsAt};
 ghost use Rattle.net_tcp.specs.Windows.{IsArrival, announced, field_for};
 ghost use Rattle.net_receiver.specs.ReceiverState.{first_part, contiguous_count, pair_of};
 ghost use Rattle.net_receiver.specs.NewestRuns.{with_starts};
 ghost use Rattle.net_receiver.specs.Finite.{no_end, acknowledged, is_complete, finite_result};
 ghost use Rattle.net_ends.specs.Receiving.{new_receiving, opened, opening_field, is_worth, field_of, promise};
-ghost use Rattle.net_ends.specs.Receiving.{sack_blocks, range_at, count_of};
-ghost use Rattle.net_ends.specs.Receiving.{listed, blocks_of, arrival_result, after_event, Arrived, Answered};
-ghost use Rattle.net_ends.specs.Receiving.{Announced, Acknowledged, Took, after_arrival, adds};
-ghost use Rattle.net_ends.specs.Receiving.{reported, part_reported, WaitsAfter};
+ghost use Rattle.net_ends.specs.Receiving.{sack_blocks, range_at, count_of, listed, blocks_of, arrival_result};
+ghost use Rattle.net_ends.specs.Receiving.{after_event, Arrived, Answered, Announced, Acknowledged, Took};
+ghost use Rattle.net_ends.specs.Receiving.{after_arrival, adds, reported, part_reported, WaitsAfter};
 ghost use Rattle.net_ends.specs.ReceivingRules.{room_of, waiting, worth_at, field_at, promise_at};
-ghost use Rattle.std.specs.Option.{option_or};
-ghost use Rattle.std.specs.Prelude.{[], ◌∷◌};
 
 use net_receiver::{FiniteError, FiniteReceiverOver, HeldRun, KeptBytes};
 use net_ring::{ManagedSlice, Storage};
@@ -512,10 +508,10 @@ impl<S: Storage<u8>, const N: usize> ReceivingEndOver<S, N> {
         )
     }
 
-    /// Takes the bytes of a segment, and the stream's end after them if `fin` says so. A segment out of order, one with the end, and
-    /// one that is refused are answered at once; of the others each second one is. What of its bytes came before is
-    /// reported by the next acknowledgement, as `Receiver::duplicate_of` tells it. One with neither bytes nor the end
-    /// changes nothing.
+    /// Takes the bytes of a segment, and the stream's end after them if `fin` says so. A segment out of order, one with
+    /// the end, and one that is refused are answered at once; of the others each second one is. What of its bytes came
+    /// before is reported by the next acknowledgement, as `Receiver::duplicate_of` tells it. One with neither bytes nor
+    /// the end changes nothing.
     ///
     /// # Errors
     ///

@@ -20,30 +20,23 @@
 // `acknowledged`), and a timeout sends it again.
 
 ghost use Rattle.std.specs.Prelude.{◌≡◌, ◌↔◌, ◌-◌, ◌+◌, ◌<◌, ◌≤◌, ◌&&◌, ◌==◌, ℕ, Option, Some, IsTrue, IsFalse, min};
-ghost use Rattle.std.specs.Prelude.{IfSome, IfNone, is_some, is_none, ◌||◌, ◌++◌, nat_lt};
-ghost use Rattle.std.specs.Prelude.{length, Bool};
+ghost use Rattle.std.specs.Prelude.{IfSome, IfNone, is_some, is_none, ◌||◌, ◌++◌, nat_lt, length, Bool};
 ghost use Rattle.net_assembler.specs.Positions.{contains};
 ghost use Rattle.net_tcp.specs.LossRecovery.{is_active, is_wrong, taken_back};
 ghost use Rattle.net_receiver.specs.FiniteSender.{accepts, finite_room};
 ghost use Rattle.net_receiver.specs.Finite.{no_end};
 ghost use Rattle.net_tcp.specs.Sack.{is_permitted};
-ghost use Rattle.net_ends.specs.Ends.{new_end, is_pure, first, end, is_acceptable, asks};
-ghost use Rattle.net_ends.specs.Ends.{may_send, after_event, Wrote, Shut, Heard, Looked, Sent, Rested};
-ghost use Rattle.net_ends.specs.Ends.{Resumed};
-ghost use Rattle.net_ends.specs.Ends.{IsSegment, round_trip, Opened, Forgot, Opening};
-ghost use Rattle.net_ends.specs.Ends.{timed_out, has_timed_out, is_overdue, reports_of, new_of, kept};
-ghost use Rattle.net_ends.specs.Ends.{begins_of, is_worth, hurries, Enabled};
-ghost use Rattle.net_ends.specs.Acknowledgements.{reported_by};
-ghost use Rattle.net_ends.specs.Acknowledgements.{numbers_of, unsent_of, doubted, Recovers};
-ghost use Rattle.net_ends.specs.Acknowledgements.{is_sought, after_segment, after_wait};
-ghost use Rattle.net_ends.specs.Acknowledgements.{expiry_of};
-ghost use Rattle.net_receiver.specs.Scoreboards.{IsEnd};
+ghost use Rattle.net_ends.specs.Ends.{new_end, is_pure, first, end, is_acceptable, asks, may_send, after_event, Wrote};
+ghost use Rattle.net_ends.specs.Ends.{Shut, Heard, Looked, Sent, Rested, Resumed, IsSegment, round_trip, Opened};
+ghost use Rattle.net_ends.specs.Ends.{Forgot, Opening, timed_out, has_timed_out, is_overdue, reports_of, new_of, kept};
+ghost use Rattle.net_ends.specs.Ends.{begins_of, is_worth, hurries, Enabled, AreHoles, open_to, found, due_of};
+ghost use Rattle.net_ends.specs.Ends.{range_of, IsProbed, probe_of, is_probe};
+ghost use Rattle.net_ends.specs.Acknowledgements.{reported_by, numbers_of, unsent_of, doubted, Recovers, is_sought};
+ghost use Rattle.net_ends.specs.Acknowledgements.{after_segment, after_wait, expiry_of};
+ghost use Rattle.net_receiver.specs.Scoreboards.{IsEnd, IsSoundBoard};
 ghost use Rattle.net_ends.specs.Parts.{end_of};
 ghost use Rattle.net_ends.specs.Rules.{queued_of};
-ghost use Rattle.net_receiver.specs.Scoreboards.{IsSoundBoard};
-ghost use Rattle.net_tcp.specs.Retransmission.{has_ended, has_expired};
-ghost use Rattle.net_tcp.specs.Retransmission.{expires_at};
-ghost use Rattle.net_ends.specs.Ends.{AreHoles, open_to, found, due_of, range_of, IsProbed, probe_of, is_probe};
+ghost use Rattle.net_tcp.specs.Retransmission.{has_ended, has_expired, expires_at};
 ghost use Rattle.std.specs.Option.{option_or};
 ghost use Rattle.net_tcp.specs.Windows.{acknowledgement_number};
 

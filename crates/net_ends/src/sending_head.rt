@@ -1,43 +1,27 @@
 //! The rules of a sending end, of numbers alone: what a sender of TCP does with an acknowledgement, with the end of its
 //! timer, and with what is to be sent. Rust and C have the same.
 
-ghost use Rattle.std.specs.Prelude.{◌≡◌, ◌-◌, ◌+◌, ◌<◌, ◌≤◌, ◌&&◌, ◌==◌, ℕ, Option, Some, IsTrue, IsFalse, min};
-ghost use Rattle.std.specs.Prelude.{IfSome, is_some, is_none, ◌||◌, not, false};
-ghost use Rattle.std.specs.Prelude.{length};
-ghost use Rattle.net_assembler.specs.Positions.{contains};
-ghost use Rattle.net_tcp.specs.LossRecovery.{is_active};
-ghost use Rattle.net_receiver.specs.FiniteSender.{sender_after_command, Acknowledges};
-ghost use Rattle.net_ends.specs.Ends.{first, end, greatest_of, is_shut, asks, told};
-ghost use Rattle.net_ends.specs.Ends.{limit};
-ghost use Rattle.net_ends.specs.Ends.{round_trip, synchronized, sampled};
-ghost use Rattle.net_ends.specs.Ends.{timed_out, is_overdue, kept};
-ghost use Rattle.net_ends.specs.Ends.{is_due, is_worth, is_enough, hurries};
-ghost use Rattle.net_ends.specs.Acknowledgements.{reported_by};
-ghost use Rattle.net_ends.specs.Acknowledgements.{numbers_of, unsent_at, Recovers};
-ghost use Rattle.net_receiver.specs.Scoreboards.{IsEnd, IsHole};
-ghost use Rattle.net_tcp.specs.LossRecovery.{next_probe, as_range};
+ghost use Rattle.std.specs.Prelude.{◌≡◌, ◌-◌, ◌+◌, ◌<◌, ◌≤◌, ◌&&◌, ◌==◌, ℕ, Option, Some, IsTrue, IsFalse, min, IfSome};
+ghost use Rattle.std.specs.Prelude.{is_some, is_none, ◌||◌, not, false, length, List, max, true};
+ghost use Rattle.net_assembler.specs.Positions.{contains, with_range, nothing};
+ghost use Rattle.net_tcp.specs.LossRecovery.{is_active, next_probe, as_range, new_recovery, no_loss, recovery_of};
+ghost use Rattle.net_receiver.specs.FiniteSender.{sender_after_command, Acknowledges, FiniteSenderState};
+ghost use Rattle.net_ends.specs.Ends.{first, end, greatest_of, is_shut, asks, told, limit, round_trip, synchronized};
+ghost use Rattle.net_ends.specs.Ends.{sampled, timed_out, is_overdue, kept, is_due, is_worth, is_enough, hurries};
+ghost use Rattle.net_ends.specs.Acknowledgements.{reported_by, numbers_of, unsent_at, Recovers};
+ghost use Rattle.net_receiver.specs.Scoreboards.{IsEnd, IsHole, IsSoundBoard};
 ghost use Rattle.net_tcp.specs.Sack.{is_permitted};
 ghost use Rattle.net_ends.specs.Parts.{end_of, marked};
 ghost use Rattle.net_ends.specs.Calls.{Hears, Silent, TimesOut, Chooses};
 ghost use Rattle.net_ends.specs.Rules.{queued_of, known_of, known_by, low, high, window_shut, asks_window, room_to};
-ghost use Rattle.net_ends.specs.Rules.{most_to};
-ghost use Rattle.net_ends.specs.Rules.{in_hurry, enough, worth_sending, due, HolesOf, next_of, due_part};
+ghost use Rattle.net_ends.specs.Rules.{most_to, in_hurry, enough, worth_sending, due, HolesOf, next_of, due_part};
 ghost use Rattle.net_ends.specs.Rules.{ProbedOf, probe_part, is_probing, renewed_by};
-ghost use Rattle.net_ends.specs.Buffers.{board_of};
-ghost use Rattle.net_receiver.specs.FiniteSender.{FiniteSenderState};
-ghost use Rattle.net_receiver.specs.Scoreboards.{IsSoundBoard};
-ghost use Rattle.net_assembler.specs.Positions.{with_range, nothing};
-ghost use Rattle.net_tcp.specs.LossRecovery.{new_recovery, no_loss, recovery_of};
-ghost use Rattle.net_tcp.specs.Retransmission.{new_timer, new_fields, started};
-ghost use Rattle.net_receiver.specs.NewHeads.{scoreboard_head};
-ghost use Rattle.net_tcp.specs.Windows.{no_window, window_from};
-ghost use Rattle.std.specs.Prelude.{List, max, true};
-ghost use Rattle.net_tcp.specs.Retransmission.{timer_of};
-ghost use Rattle.net_ends.specs.Buffers.{is_window_probe, is_tail_probe};
-ghost use Rattle.net_tcp.specs.Retransmission.{has_expired, after_expiry};
+ghost use Rattle.net_ends.specs.Buffers.{board_of, is_window_probe, is_tail_probe};
+ghost use Rattle.net_tcp.specs.Retransmission.{new_timer, new_fields, started, timer_of, has_expired, after_expiry};
 ghost use Rattle.net_tcp.specs.Retransmission.{after_acknowledged, expires_at};
+ghost use Rattle.net_receiver.specs.NewHeads.{scoreboard_head};
+ghost use Rattle.net_tcp.specs.Windows.{no_window, window_from, after_update};
 ghost use Rattle.std.specs.Option.{option_or};
-ghost use Rattle.net_tcp.specs.Windows.{after_update};
 
 use crate::sending_end::{Acknowledged, Expired, Outgoing};
 use crate::tcp_buffer::{AckKind, BufferHead, Queued, Sending, TakenAck};
@@ -52,8 +36,8 @@ use std::ops::Range;
 /// All of a sending end but its sender and the times that were set: what was reported and what is lost, the timer, and
 /// what the peer announced. Its calls are given the sender's numbers; who holds both has the sender take what they say.
 ///
-/// It is numbers and flags alone, so that C has it as it is. One of zeros is new. It is sound if the scoreboard is, with
-/// its runs.
+/// It is numbers and flags alone, so that C has it as it is. One of zeros is new. It is sound if the scoreboard is,
+/// with its runs.
 #[repr(C)]
 #[derive(Copy, Clone, Debug)]
 pub struct SendingHead {
@@ -146,7 +130,8 @@ impl SendingHead {
         ensures scoreboard { self.new.buffer.scoreboard ≡ self.old.buffer.scoreboard }
         ensures recovery { recovery_of self.new.buffer.recovery
             ≡ record (recovery_of self.old.buffer.recovery) { is_blind = not (is_permitted sack); unknown = 0 } }
-        ensures timer { timer_of self.new.timer ≡ renewed_by numbers first_timeout (is_permitted sack) now }
+        ensures timer { timer_of self.new.timer
+            ≡ renewed_by numbers first_timeout (is_permitted sack) now }
     {
         self.buffer.recovery.opened(sack);
         self.renew(numbers, first_timeout, sack, now);
@@ -171,7 +156,8 @@ impl SendingHead {
     #[inline]
     fn renew(&mut self, numbers: SentNumbers, first_timeout: Duration, sack: Sack, now: Instant)
         ensures rest { self.new ≡ record self.old { timer = self.new.timer; is_open = false } }
-        ensures timer { timer_of self.new.timer ≡ renewed_by numbers first_timeout (is_permitted sack) now }
+        ensures timer { timer_of self.new.timer
+            ≡ renewed_by numbers first_timeout (is_permitted sack) now }
     {
         self.timer = RetransmissionTimer::new(first_timeout, sack);
         if numbers.first_unacknowledged < numbers.sent {
@@ -366,8 +352,9 @@ impl SendingHead {
           is_overdue = self.new.is_overdue;
         } }
         ensures scoreboard { self.new.buffer.scoreboard ≡ self.old.buffer.scoreboard }
-        ensures silent { (s : FiniteSenderState) (timeout : ℕ) (bounds : TimeoutBounds) → queued_of s ≡ queued →
-            Silent (end_of s self.old runs.now timeout bounds) result (end_of s self.new runs.now timeout bounds) }
+        ensures silent { (s : FiniteSenderState) (timeout : ℕ) (bounds : TimeoutBounds) →
+            queued_of s ≡ queued → Silent (end_of s self.old runs.now timeout bounds) result
+            (end_of s self.new runs.now timeout bounds) }
     {
         self.is_window_probe_due = false;
         self.is_overdue = false;
@@ -393,8 +380,8 @@ impl SendingHead {
           is_overdue = false;
         } }
         ensures scoreboard { self.new.buffer.scoreboard ≡ self.old.buffer.scoreboard }
-        ensures late { (s : FiniteSenderState) (runs : List (ℕ × ℕ)) (timeout : ℕ) (bounds : TimeoutBounds) →
-            queued_of s ≡ queued →
+        ensures late { (s : FiniteSenderState) (runs : List (ℕ × ℕ)) (timeout : ℕ)
+            (bounds : TimeoutBounds) → queued_of s ≡ queued →
             TimesOut (end_of s self.old runs timeout bounds) result (end_of s self.new runs timeout bounds) }
     {
         self.buffer.recovery.timed_out(queued.numbers);

@@ -1,25 +1,18 @@
 //! What a sending end of TCP has sent, without a clock: what was reported of it, and what is lost by TCP's rules. (A
 //! stream of QUIC has `net_receiver`'s `SendBuffer`, which is told of each loss.)
-ghost use Rattle.std.specs.Prelude.{◌≡◌, ◌-◌, ◌+◌, ◌<◌, ◌≤◌, ◌&&◌, ℕ, Option, IsTrue, IsFalse, min, max};
-ghost use Rattle.std.specs.Prelude.{IfSome, is_some, true, false, length};
-ghost use Rattle.net_assembler.specs.Positions.{contains};
-ghost use Rattle.net_tcp.specs.LossRecovery.{is_wrong, taken_back, was_sent_again};
-ghost use Rattle.net_tcp.specs.LossRecovery.{is_active, in_flight, next_segment, next_range};
-ghost use Rattle.net_tcp.specs.LossRecovery.{resumed, recovery_of, as_range};
-ghost use Rattle.net_tcp.specs.LossRecovery.{gone_on, begins_at, next_probe};
-ghost use Rattle.net_receiver.specs.Scoreboards.{IsEnd, IsHole, IsSoundBoard};
-ghost use Rattle.net_receiver.specs.Scoreboards.{reported_by as reported_to};
-ghost use Rattle.net_assembler.specs.Positions.{with_range, nothing};
-ghost use Rattle.net_tcp.specs.LossRecovery.{new_recovery, no_loss};
+ghost use Rattle.std.specs.Prelude.{◌≡◌, ◌-◌, ◌+◌, ◌<◌, ◌≤◌, ◌&&◌, ℕ, Option, IsTrue, IsFalse, min, max, IfSome};
+ghost use Rattle.std.specs.Prelude.{is_some, true, false, length, ◌↔◌, List};
+ghost use Rattle.net_assembler.specs.Positions.{contains, with_range, nothing};
+ghost use Rattle.net_tcp.specs.LossRecovery.{is_wrong, taken_back, was_sent_again, is_active, in_flight, next_segment};
+ghost use Rattle.net_tcp.specs.LossRecovery.{next_range, resumed, recovery_of, as_range, gone_on, begins_at};
+ghost use Rattle.net_tcp.specs.LossRecovery.{next_probe, new_recovery, no_loss};
+ghost use Rattle.net_receiver.specs.Scoreboards.{IsEnd, IsHole, IsSoundBoard, reported_by as reported_to};
 ghost use Rattle.net_receiver.specs.NewHeads.{scoreboard_head};
-ghost use Rattle.std.specs.Prelude.{◌↔◌, List};
 ghost use Rattle.net_ends.specs.Ends.{kept, has_dropped};
-ghost use Rattle.net_ends.specs.Buffers.{board_of, is_repeat};
-ghost use Rattle.net_ends.specs.Buffers.{is_window_probe, is_tail_probe};
-ghost use Rattle.net_ends.specs.Acknowledgements.{with_block, is_new, after_blocks, reported_by, has_block};
-ghost use Rattle.net_ends.specs.Acknowledgements.{doubted, is_duplicated};
-ghost use Rattle.net_ends.specs.Acknowledgements.{unsent_at, IsLeft, Recovers, begins_by};
-ghost use Rattle.net_ends.specs.Acknowledgements.{after_segment, after_wait};
+ghost use Rattle.net_ends.specs.Buffers.{board_of, is_repeat, is_window_probe, is_tail_probe};
+ghost use Rattle.net_ends.specs.Acknowledgements.{with_block, is_new, after_blocks, reported_by, has_block, doubted};
+ghost use Rattle.net_ends.specs.Acknowledgements.{is_duplicated, unsent_at, IsLeft, Recovers, begins_by, after_segment};
+ghost use Rattle.net_ends.specs.Acknowledgements.{after_wait};
 
 use net_assembler::Run;
 use net_receiver::{ScoreboardHead, SentNumbers};
@@ -223,8 +216,8 @@ impl BufferHead {
     pub fn take_back(&mut self, runs: &[Run], numbers: SentNumbers) -> bool
         requires { IsSoundBoard self.old.scoreboard runs.now }
         ensures rest { self.new.scoreboard ≡ self.old.scoreboard }
-        ensures value { result ≡ is_wrong (recovery_of self.old.recovery) numbers.first_unacknowledged
-            (board_of self.old runs.now) }
+        ensures value { result
+            ≡ is_wrong (recovery_of self.old.recovery) numbers.first_unacknowledged (board_of self.old runs.now) }
         ensures state { recovery_of self.new.recovery ≡ taken_back numbers.first_unacknowledged
             (board_of self.old runs.now) (recovery_of self.old.recovery) }
     {
@@ -246,8 +239,8 @@ impl BufferHead {
         self.recovery.fell_silent(numbers, &board)
     }
 
-    /// Returns the range to send next below `limit`, at most a segment: what is lost, else what was never sent. `None` if
-    /// there is none, or if with a whole segment more than the congestion window would be in flight. The first
+    /// Returns the range to send next below `limit`, at most a segment: what is lost, else what was never sent. `None`
+    /// if there is none, or if with a whole segment more than the congestion window would be in flight. The first
     /// unacknowledged number is sent whatever is in flight.
     pub fn next(
         &self,
@@ -296,7 +289,8 @@ impl BufferHead {
         segment_size: usize,
     ) -> Option<Range<u64>>
         requires { IsSoundBoard self.now.scoreboard runs.now }
-        ensures value { (highest : ℕ) (hole : Option (ℕ × ℕ)) → let low = numbers.first_unacknowledged in
+        ensures value { (highest : ℕ) (hole : Option (ℕ × ℕ)) →
+            let low = numbers.first_unacknowledged in
             IsEnd (board_of self.now runs.now) highest →
             IsHole (board_of self.now runs.now) low (min numbers.sent limit) hole →
             result ≡ as_range (next_probe (recovery_of self.now.recovery) (max 1 segment_size) low
@@ -304,8 +298,8 @@ impl BufferHead {
         ensures progress { numbers.first_unacknowledged < min numbers.sent limit →
             IsFalse (contains (board_of self.now runs.now) numbers.first_unacknowledged) →
             IsTrue (is_some result) }
-        ensures unreported { IfSome result (λ r. (p : ℕ) → r.start ≤ p → p < r.end → p < numbers.sent →
-            IsFalse (contains (board_of self.now runs.now) p)) }
+        ensures unreported { IfSome result (λ r. (p : ℕ) → r.start ≤ p → p < r.end →
+            p < numbers.sent → IsFalse (contains (board_of self.now runs.now) p)) }
         ensures within { IfSome result (λ r. (r.start < r.end) × (r.end ≤ limit)
             × (r.end ≤ r.start + max 1 segment_size)) }
         ensures after { numbers.first_unacknowledged ≤ numbers.sent →
@@ -364,7 +358,8 @@ fn find_losses(
 /// Returns whether the peer has dropped what it had reported: it acknowledges up to such a number.
 fn has_dropped(board: &ScoreboardHead, runs: &[Run], after: SentNumbers) -> bool
     requires { IsSoundBoard board.now runs.now }
-    ensures { result ≡ has_dropped (reported_to board.now runs.now) after.first_unacknowledged after.sent }
+    ensures { result
+        ≡ has_dropped (reported_to board.now runs.now) after.first_unacknowledged after.sent }
 {
     after.first_unacknowledged < after.sent && board.contains(runs, after.first_unacknowledged)
 }
@@ -402,7 +397,8 @@ fn report_block(board: &mut ScoreboardHead, runs: &mut [Run], block: &Range<u64>
     ensures length { length runs.new ≡ length runs.old }
     ensures state { reported_to board.new runs.new
         ≡ with_block (length runs.old) sent (reported_to board.old runs.old) block.now }
-    ensures value { result ≡ is_new (length runs.old) sent (reported_to board.old runs.old) block.now }
+    ensures value { result
+        ≡ is_new (length runs.old) sent (reported_to board.old runs.old) block.now }
 {
     if block.start <= board.first_unreported() {
         return false;

@@ -384,10 +384,10 @@ impl<S: Storage<u8>, const N: usize> ReceivingEndOver<S, N> {
         )
     }
 
-    /// Takes the bytes of a segment, and the stream's end after them if `fin` says so. A segment out of order, one with the end, and
-    /// one that is refused are answered at once; of the others each second one is. What of its bytes came before is
-    /// reported by the next acknowledgement, as `Receiver::duplicate_of` tells it. One with neither bytes nor the end
-    /// changes nothing.
+    /// Takes the bytes of a segment, and the stream's end after them if `fin` says so. A segment out of order, one with
+    /// the end, and one that is refused are answered at once; of the others each second one is. What of its bytes came
+    /// before is reported by the next acknowledgement, as `Receiver::duplicate_of` tells it. One with neither bytes nor
+    /// the end changes nothing.
     ///
     /// # Errors
     ///

@@ -15,8 +15,8 @@ use net_base::time::{Duration, Instant};
 /// All of a sending end but its sender and the times that were set: what was reported and what is lost, the timer, and
 /// what the peer announced. Its calls are given the sender's numbers; who holds both has the sender take what they say.
 ///
-/// It is numbers and flags alone, so that C has it as it is. One of zeros is new. It is sound if the scoreboard is, with
-/// its runs.
+/// It is numbers and flags alone, so that C has it as it is. One of zeros is new. It is sound if the scoreboard is,
+/// with its runs.
 #[repr(C)]
 #[derive(Copy, Clone, Debug)]
 pub struct SendingHead {

@@ -145,8 +145,8 @@ impl BufferHead {
         self.recovery.fell_silent(numbers, &board)
     }
 
-    /// Returns the range to send next below `limit`, at most a segment: what is lost, else what was never sent. `None` if
-    /// there is none, or if with a whole segment more than the congestion window would be in flight. The first
+    /// Returns the range to send next below `limit`, at most a segment: what is lost, else what was never sent. `None`
+    /// if there is none, or if with a whole segment more than the congestion window would be in flight. The first
     /// unacknowledged number is sent whatever is in flight.
     pub(crate) fn next(
         &self,
