@@ -98,6 +98,7 @@ static void send_segments(int64_t now) {
         next.status == NET_BASE_OUTGOING_DONE) {
         struct net_base_segment_parts parts =
             net_bound_sending_end_bytes(&from, next.position, next.end);
+        must(parts.count > 0 || parts.is_last, "bytes");
         struct segment segment = {.number = initial + (uint32_t)next.position,
             .is_last = parts.is_last,
             .size = parts.count + parts.rest_count};
