@@ -25,6 +25,7 @@ use Rattle.net_assembler.specs.AssemblerLaws.{MembersOfNothing, MembersWithRange
 use Rattle.std.specs.Ordering.{is_lt, int_cmp}
 use Rattle.std.proofs.lemmas.Int.{ints}
 use Rattle.std.proofs.lemmas.List.Sums.{position_or_len_is}
+use Rattle.std.proofs.Common.{rules}
 
 -- ---- a storage of bytes that is lent whole, and written over whole
 -- a whole storage of n elements, lent as a part
@@ -42,15 +43,10 @@ first_part xs part n is = is ∙ ap (λ k. take k xs) (omega arith)
 -- ---- positions of a set, and its maximal runs
 -- each maximal run ends within what the set is below
 pub run_within : (s : Positions) (r : ℕ × ℕ) (n : ℕ) → IsMaximalRun s r → IsBelow s n → r.1 ≤ n
-run_within s r n run below =
-    let some = run.some in
-    let last = below (r.1 - 1) (run.inside (r.1 - 1) (omega (arith, some)) (omega (arith, some))) in
-    omega (arith, some, last)
+run_within s r n run below = search rules
 
 below_nothing : (s : Positions) (n : ℕ) → s ≡ nothing → IsBelow s n
-below_nothing s n empty p is =
-    absurd (both_ways (contains nothing p) (contains-nothing p)
-    (subst (λ (t : Positions). IsTrue (contains t p)) empty is))
+below_nothing s n empty p is = search (rules, both_ways, contains-nothing)
 
 -- a head without a run or a size is that of an empty buffer, whatever its bytes
 pub no_parts : (h : FragmentsHead) (bytes : List ℕ) (runs : List (ℕ × ℕ)) → HasSoundRuns h.present runs →
@@ -188,14 +184,7 @@ module _ (s : Positions) (rs : List (ℕ × ℕ)) (known : AreMaximalRuns s rs) 
   pub passed_more : (k : ℕ) (r : ℕ × ℕ) → get_or rs k (0, 0) ≡ r → PassedTo rs D k →
       ((p : ℕ) → r.0 ≤ p → p < r.1 → D p → ⊥) →
       PassedTo rs D (k + 1)
-  passed_more k r at passed none j p l here d = ⊎_elim
-      (λ (before : j < k). passed j p before here d)
-      (λ (from : k ≤ j).
-      let same : j ≡ k = omega (arith, from, l) in
-      let there : IsTrue (lies_in p r) =
-      subst (λ (q : ℕ × ℕ). IsTrue (lies_in p q)) (ap (λ (i : ℕ). get_or rs i (0, 0)) same ∙ at) here in
-      none p (grind (arith, nat_tests, there)) (grind (arith, nat_tests, there)) d)
-      (cases_lt j k)
+  passed_more k r at passed none j p l here d = search (rules, ⊎_elim, nat_tests, cases_lt)
 
   -- runs from the first one on that starts after it have none
   pub passed_all : (k : ℕ) (r : ℕ × ℕ) → get_or rs k (0, 0) ≡ r → PassedTo rs D k → length data' ≤ r.0 - o →
@@ -276,23 +265,14 @@ present_byte long at empty members b fs p d new h some =
 pub refused_adds : {T : Type 0} (n : ℕ) (b : FragmentsState) (o : ℕ) (xs : List ℕ) (last : Bool) (f : FragmentError)
     (u v : FragmentsState) →
     Adds {T = T} n b o xs last (Err f) u → Adds {T = T} n b o xs last (Err f) v
-refused_adds n b o xs last f u v a = record {
-  ok = tt;
-  too_long = a.too_long;
-  other_size = a.other_size;
-  too_many =
-      a.too_many;
-}
+refused_adds n b o xs last f u v a = search rules
 
 -- ---- the first element that passes a test, and the first of the earliest, as loops find them
 module _ {X : Type 0} (p : X → Bool) where
   -- the element at i passes, and none before it
   pub first_found : (xs : List X) (i : ℕ) (d : X) → i < length xs → ((k : ℕ) → k < i → p (get_or xs k d) ≡ false) →
       p (get_or xs i d) ≡ true → Some i ≡ position p xs
-  first_found xs i d within before at =
-      let is = position_or_len_is p xs i d (omega (arith, within)) before (λ _. at) in
-      let below : nat_lt i (length xs) ≡ true = grind (arith, nat_tests) in
-      sym (ap (λ (n : ℕ). cond (nat_lt n (length xs)) (Some n) None) is ∙ ap (λ (b : Bool). cond b (Some i) None) below)
+  first_found xs i d within before at = search (rules, position_or_len_is, within, nat_tests)
 
   -- none passes
   pub none_found : (xs : List X) → ((k : ℕ) (d : X) → k < length xs → p (get_or xs k d) ≡ false) → None ≡ position p xs

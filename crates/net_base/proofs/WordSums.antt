@@ -1,12 +1,14 @@
 -- Sums of words, and what folding keeps of them: the number modulo 65535, and whether it is 0.
 use Rattle.std.proofs.Common.{◌≡◌, ℕ, zero, suc, ◌+◌, ◌-◌, ◌*◌, ◌/◌, ◌%◌, ◌^◌, ◌<◌, ◌≤◌, List, [], ◌∷◌, ◌++◌, length}
-use Rattle.std.proofs.Common.{take, drop, refl, sym, ap, ◌∙◌, inl, inr, subst, arith, length-append, append-nil, All}
-use Rattle.std.proofs.Common.{true, false, cond, Bool, nat_eq}
+use Rattle.std.proofs.Common.{take, drop, refl, sym, ap, ◌∙◌, subst, arith, length-append, append-nil, All}
+use Rattle.std.proofs.Common.{true, false, Bool, nat_eq}
 use Rattle.std.specs.Prelude.{◌⊎◌, Option, Some, None, if◌then◌else◌}
 use Rattle.std.specs.List.{slice_get}
 use Rattle.std.specs.Int.{w16, w32, w64, from_le_bytes}
 use Rattle.std.proofs.lemmas.List.{take-append-drop}
 use Rattle.std.proofs.lemmas.Bool.{cases_lt, cond_both, eqb-true, eqb-false}
+use Rattle.std.proofs.lemmas.Bool.Decides.{nat_tests}
+use Rattle.std.proofs.Common.{rules}
 use Rattle.net_base.specs.InternetChecksum.{word_sum, folded, internet_checksum, updated, word_bytes, IsEven}
 use Rattle.net_base.specs.InternetChecksum.{add_words, carried_sum, Sums, sum_with}
 use Rattle.net_base.specs.declared.checksum.internet_sum.PartsSum.{PartsSum}
@@ -165,10 +167,7 @@ le_2 _ l = absurd (omega arith)
 both_parts : (n : ℕ) (rest part after : List ℕ) →
     (part ≡ take n rest) × (after ≡ drop n rest) × (length after + n ≡ length rest) →
     (part ++ after ≡ rest) × (length part ≡ n)
-both_parts n rest part after parts =
-    let whole : part ++ after ≡ rest = ap (λ l. l ++ after) parts.0 ∙ ap (λ l. take n rest ++ l) parts.1
-    ∙ take-append-drop n rest
-    in (whole, omega (arith, length-append part after, ap length whole, parts.2))
+both_parts n rest part after parts = search (rules, take-append-drop, length-append)
 
 -- ---- halves of a number
 pub halves_32 : (n : ℕ) → folded (n / 2 ^ 32 + n % 2 ^ 32) ≡ folded n
@@ -187,18 +186,12 @@ eight_more x word rest part after is parts =
 pub four_more : (x w word : ℕ) (rest part after : List ℕ) → folded w ≡ folded word → word ≡ from_le_bytes w32 part →
     (part ≡ take 4 rest) × (after ≡ drop 4 rest) × (length after + 4 ≡ length rest) →
     folded (256 * (x + w) + word_sum after) ≡ folded (256 * x + word_sum rest)
-four_more x w word rest part after same is parts =
-    let at = both_parts 4 rest part after parts in
-    part_more x w part after (omega (arith, at.1)) (same ∙ ap folded (is ∙ le_4 part at.1))
-    ∙ ap (λ l. folded (256 * x + word_sum l)) at.0
+four_more x w word rest part after same is parts = search (rules, both_parts, part_more, le_4)
 
 pub two_more : (x word : ℕ) (rest part after : List ℕ) → word ≡ from_le_bytes w16 part →
     (part ≡ take 2 rest) × (after ≡ drop 2 rest) × (length after + 2 ≡ length rest) →
     folded (256 * (x + word) + word_sum after) ≡ folded (256 * x + word_sum rest)
-two_more x word rest part after is parts =
-    let at = both_parts 2 rest part after parts in
-    part_more x word part after (omega (arith, at.1)) (ap folded (is ∙ le_2 part at.1))
-    ∙ ap (λ l. folded (256 * x + word_sum l)) at.0
+two_more x word rest part after is parts = search (rules, both_parts, part_more, le_2)
 
 -- a turn of the loop over blocks
 pub block_more : (s r t : ℕ) (rest part after : List ℕ) → folded (256 * r) ≡ folded (256 * s + word_sum part) →
@@ -222,10 +215,7 @@ odd_start s low y = folded_same _ _ (s % 256 + low) (omega arith) (λ z. omega a
 -- a word at an even offset
 pub field_sum : (xs ys : List ℕ) (w : ℕ) → IsEven xs → word_sum (xs ++ word_bytes w ++ ys) ≡ word_sum xs
     + word_sum ys + w
-field_sum xs ys w h =
-    let outer = groups_add (xs ++ word_bytes w) ys (omega (arith, length-append xs (word_bytes w))) in
-    let inner = groups_add xs (word_bytes w) h in
-    omega (arith, outer, inner)
+field_sum xs ys w h = search (rules, groups_add, length-append)
 
 -- the checksum of the rest makes the whole 65535
 sum_valid : (s : ℕ) → folded (s + (65535 - folded s)) ≡ 65535
@@ -235,15 +225,7 @@ sum_valid s = folded_same (s + (65535 - folded s)) 65535 ((s - 1) / 65535) (omeg
 -- and only it, but for the other zero
 sum_only : (s c : ℕ) → c ≤ 65535 → folded (s + c) ≡ 65535 →
     (c ≡ 65535 - folded s) ⊎ ((c ≡ 65535) × (65535 - folded s ≡ 0))
-sum_only s c h valid =
-    let few = folded_le s in let of_sum = folded_is s in let of_all = folded_is (s + c) in
-    elim (cases_lt (folded s + c) 65536) [
-      | inl l ↦ elim (cases_lt 0 (s + c)) [
-        | inl some ↦ inl (omega (arith, few, of_sum, of_all))
-        | inr none ↦ let e : s + c ≡ 0 = omega arith in absurd (omega (arith, ap folded e))
-      ]
-      | inr m ↦ inr (omega (arith, few, of_sum, of_all), omega (arith, few, of_sum, of_all))
-    ]
+sum_only s c h valid = search (rules, folded_le, folded_is, cases_lt)
 
 positive : (s m n : ℕ) → m ≤ 65535 → 0 < (65535 - (65535 - folded (s + m))) + (65535 - m) + n
 positive s zero n h = omega arith
@@ -252,19 +234,12 @@ positive s (suc m) n h = omega (arith, folded_some (s + suc m) (omega arith), fo
 -- an update of the sum of all
 sum_updated : (s m n : ℕ) → m ≤ 65535 → n ≤ 65535 → 0 < s + n →
     folded ((65535 - (65535 - folded (s + m))) + (65535 - m) + n) ≡ folded (s + n)
-sum_updated s m n h l some =
-    let few = folded_le (s + m) in let is = folded_is (s + m) in
-    folded_alike ((65535 - (65535 - folded (s + m))) + (65535 - m) + n) (s + n) ((s + m - 1) / 65535) 1
-    (positive s m n h) some (omega (arith, few, is))
+sum_updated s m n h l some = search (rules, folded_le, folded_is, folded_alike, positive)
 
 -- the same, with the checksum's own field among the words
 sum_kept : (s c m n : ℕ) → c ≤ 65535 → m ≤ 65535 → n ≤ 65535 → 0 < s + n → folded (s + c + m) ≡ 65535 →
     folded (s + (65535 - folded ((65535 - c) + (65535 - m) + n)) + n) ≡ 65535
-sum_kept s c m n hc hm hn some valid =
-    let t = (65535 - c) + (65535 - m) + n in
-    let few = folded_le t in let is = folded_is t in let was = folded_is (s + c + m) in
-    folded_alike (s + (65535 - folded t) + n) 65535 1 ((s + c + m - 1) / 65535 + (t - 1) / 65535) (omega arith)
-    (omega arith) (omega (arith, few, is, was, valid))
+sum_kept s c m n hc hm hn some valid = search (rules, folded_le, folded_is, folded_alike)
 
 -- ---- laws
 pub checksum_verifies : (xs ys : List ℕ) → IsEven xs →
@@ -291,30 +266,19 @@ only_checksum xs ys c h few valid =
 pub update_is_checksum : (xs ys : List ℕ) (m n : ℕ) → IsEven xs → m ≤ 65535 → n ≤ 65535 →
     0 < word_sum (xs ++ word_bytes n ++ ys) →
     updated (internet_checksum (xs ++ word_bytes m ++ ys)) m n ≡ internet_checksum (xs ++ word_bytes n ++ ys)
-update_is_checksum xs ys m n h few less some =
-    let s = word_sum xs + word_sum ys in
-    let old = field_sum xs ys m h in let new = field_sum xs ys n h in
-    ap (λ k. 65535 - folded ((65535 - (65535 - folded k)) + (65535 - m) + n)) old
-    ∙ ap (λ k. 65535 - k) (sum_updated s m n few less (omega (arith, new)) ∙ ap folded (sym new))
+update_is_checksum xs ys m n h few less some = search (rules, field_sum, sum_updated)
 
 -- two fields
 fields_sum : (xs ys zs : List ℕ) (c m : ℕ) → IsEven xs → IsEven ys →
     word_sum (xs ++ word_bytes c ++ ys ++ word_bytes m ++ zs) ≡ word_sum xs + word_sum ys + word_sum zs + c + m
-fields_sum xs ys zs c m h l =
-    let before : IsEven (xs ++ word_bytes c ++ ys) = omega
-    (arith, length-append (xs ++ word_bytes c) ys, length-append xs (word_bytes c)) in
-    omega (arith, field_sum (xs ++ word_bytes c ++ ys) zs m before, field_sum xs ys c h)
+fields_sum xs ys zs c m h l = search (rules, length-append, field_sum)
 
 pub update_keeps_valid : (xs ys zs : List ℕ) (c m n : ℕ) → IsEven xs → IsEven ys → c ≤ 65535 → m ≤ 65535 → n ≤ 65535 →
     0 < word_sum (xs ++ ys ++ word_bytes n ++ zs) → folded
     (word_sum (xs ++ word_bytes c ++ ys ++ word_bytes m ++ zs)) ≡ 65535 →
     folded (word_sum (xs ++ word_bytes (updated c m n) ++ ys ++ word_bytes n ++ zs)) ≡ 65535
 update_keeps_valid xs ys zs c m n h l hc hm hn some valid =
-    let s = word_sum xs + word_sum ys + word_sum zs in
-    let even : IsEven (xs ++ ys) = omega (arith, length-append xs ys) in
-    let rest = field_sum (xs ++ ys) zs n even in let both = groups_add xs ys h in
-    ap folded (fields_sum xs ys zs (updated c m n) n h l)
-    ∙ sum_kept s c m n hc hm hn (omega (arith, rest, both)) (ap folded (sym (fields_sum xs ys zs c m h l)) ∙ valid)
+    search (rules, length-append, field_sum, groups_add, fields_sum, sum_kept)
 
 -- ---- sums of parts that begin with a low byte
 abbrev low_sum : List ℕ → ℕ
@@ -338,11 +302,7 @@ odd_of : (s : PartsSum) (xs : List ℕ) → Sums s xs → s.odd ≡ true → len
 odd_of s xs sums odd = eqb-true (length xs % 2) 1 (sym sums.1 ∙ odd)
 
 even_of : (s : PartsSum) (xs : List ℕ) → Sums s xs → s.odd ≡ false → length xs % 2 ≡ 0
-even_of s xs sums even =
-    elim (cases_lt 0 (length xs % 2)) [
-      | inl some ↦ absurd (eqb-false (length xs % 2) 1 (sym sums.1 ∙ even) (omega arith))
-      | inr none ↦ omega arith
-    ]
+even_of s xs sums even = search (rules, cases_lt, eqb-false)
 
 sum_of : (s : PartsSum) (xs : List ℕ) → Sums s xs → folded s.sum ≡ folded (word_sum xs)
 sum_of s xs sums = ap folded sums.0 ∙ folded_twice (word_sum xs)
@@ -356,18 +316,20 @@ low_part ys = high_then_low 0 ys ∙ omega arith
 
 with_is : (s : PartsSum) (xs ys : List ℕ) → Sums s xs → Sums (sum_with s ys) (xs ++ ys)
 with_is s xs ys sums =
-    cond_both s.odd (0 ∷ ys) ys
-    (λ zs. (folded (s.sum + word_sum zs) ≡ folded (word_sum (xs ++ ys)))
-    × (nat_eq (length zs % 2) 1 ≡ nat_eq (length (xs ++ ys) % 2) 1))
-    (λ odd. (let at = odd_of s xs sums odd in (
-      ap (λ n. folded (s.sum + n)) (low_part ys) ∙ folded_more s.sum (word_sum xs) (low_sum ys) (sum_of s xs sums)
-          ∙ ap folded (sym (after_odd xs ys at)),
-      same_parity (length (0 ∷ ys)) (length (xs ++ ys)) (omega (arith, length-append xs ys, at)),
-    )))
-    (λ even. (let at = even_of s xs sums even in (
-      folded_more s.sum (word_sum xs) (word_sum ys) (sum_of s xs sums) ∙ ap folded (sym (groups_add xs ys at)),
-      same_parity (length ys) (length (xs ++ ys)) (omega (arith, length-append xs ys, at)),
-    )))
+    grind (
+      arith,
+      nat_tests,
+      cond_both,
+      odd_of,
+      low_part,
+      folded_more,
+      sum_of,
+      after_odd,
+      same_parity,
+      length-append,
+      even_of,
+      groups_add,
+    )
 
 -- the sum r that a call returns
 pub with_sums : (s r : PartsSum) (xs ys : List ℕ) → r ≡ sum_with s ys → Sums s xs → Sums r (xs ++ ys)
@@ -387,41 +349,17 @@ word_joins s w false =
 -- a part whose first byte is a low one
 pub low_first : (s r : PartsSum) (part words : List ℕ) (low : ℕ) → s.odd ≡ true → part ≡ low ∷ words →
     r.sum ≡ folded (s.sum + low + word_sum words) → r.odd ≡ nat_eq (length words % 2) 1 → r ≡ sum_with s part
-low_first s r part words low odd cut sum rest =
-    let all : (s.sum + low) + word_sum words ≡ s.sum + word_sum (0 ∷ low ∷ words) = omega arith in
-    let sum_is : r.sum ≡ folded (s.sum + word_sum (0 ∷ part)) = sum ∙ ap folded all
-    ∙ ap (λ l. folded (s.sum + word_sum (0 ∷ l))) (sym cut) in
-    let odd_is : r.odd ≡ nat_eq (length (0 ∷ part) % 2) 1 =
-    rest ∙ same_parity (length words) (length (0 ∷ part)) (omega (arith, ap length cut)) in
-    (λ i. record { sum = sum_is i; odd = odd_is i })
-    ∙ (λ i. record {
-      sum = folded (s.sum + word_sum (cond (sym odd i) (0 ∷ part) part));
-      odd = nat_eq (length (cond (sym odd i) (0 ∷ part) part) % 2) 1;
-    })
+low_first s r part words low odd cut sum rest = search (rules, same_parity)
 
 -- a part whose first byte is a high one
 pub high_first : (s r : PartsSum) (part : List ℕ) → s.odd ≡ false →
     r.sum ≡ folded (256 * (s.sum % 256 * 256 + s.sum / 256) + word_sum part) → r.odd ≡ nat_eq (length part % 2) 1 →
     r ≡ sum_with s part
-high_first s r part odd sum rest =
-    let sum_is : r.sum ≡ folded (s.sum + word_sum part) = sum ∙ even_start s.sum (word_sum part) in
-    (λ i. record { sum = sum_is i; odd = rest i })
-    ∙ (λ i. record {
-      sum = folded (s.sum + word_sum (cond (sym odd i) (0 ∷ part) part));
-      odd = nat_eq (length (cond (sym odd i) (0 ∷ part) part) % 2) 1;
-    })
+high_first s r part odd sum rest = search (rules, even_start)
 
 -- no part
 pub none_last : (s : PartsSum) → s.odd ≡ true → s.sum ≤ 65535 → s ≡ sum_with s []
-none_last s odd few =
-    let same : s.sum ≡ folded (s.sum + word_sum (0 ∷ [])) =
-    sym (folded_small s.sum few) ∙ ap folded (let e : s.sum ≡ s.sum + word_sum (0 ∷ []) = omega arith in e) in
-    (λ i. record { sum = same i; odd = odd i })
-    ∙ (λ i. record {
-      sum = folded (s.sum + word_sum (cond (sym odd i) (0 ∷ []) []));
-      odd =
-          nat_eq (length {A = ℕ} (cond (sym odd i) (0 ∷ []) []) % 2) 1;
-    })
+none_last s odd few = search (rules, folded_small)
 
 -- what closes the goals of laws, and of sums in parts
 pub ruleset sums = (is_carried, groups_add)
