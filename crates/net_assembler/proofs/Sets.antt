@@ -321,7 +321,7 @@ are_same_decides s t = search (rules, same_positions, contains-positions)
 pub too_many : (most_runs : ℕ) (s : Positions) (o n : ℕ) →
     (MakesTooManyRuns most_runs s o n → (0 < n) × (most_runs < runs (with_range s o n)))
     × ((0 < n) × (most_runs < runs (with_range s o n)) → MakesTooManyRuns most_runs s o n)
-too_many most_runs s o n = search (rules)
+too_many most_runs s o n = search rules
 
 pub few_enough : (most_runs : ℕ) (s : Positions) (o n : ℕ) → 0 < n → makes_too_many_runs most_runs s o n ≡ false →
     runs (with_range s o n) ≤ most_runs

@@ -339,7 +339,7 @@ pub searched : (h : AssemblerHead) (xs : List (ℕ × ℕ)) (o k : ℕ) (r : Res
     (g : AssemblerHead) (ys : List (ℕ × ℕ)) (old counts new : ℕ × ℕ) → AddsInPlace h xs o k r g ys counts new →
     old.0 ≤ counts.0 → counts.0 ≤ old.0 + binary_digits (length xs) →
     counts.1 ≡ old.1 → new.0 ≤ counts.0 + binary_digits (length xs) → AddsInPlace h xs o k r g ys old new
-searched h xs o k r g ys old counts new all few most same looks = search (rules)
+searched h xs o k r g ys old counts new all few most same looks = search rules
 
 -- data that comes next, and reaches no run, is the front and removed
 pub next_removed : (most_runs o n : ℕ) (s t : Positions) → o ≡ 0 → contains s n ≡ false → t ≡ shift_down s n →

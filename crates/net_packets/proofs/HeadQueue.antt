@@ -209,7 +209,7 @@ pub both_steps : (c : ℕ) (h : PacketsHead) (ss : List PacketSlot) (k : Packets
     → k ≡ head_after_gap c h ss
     → (((1 ≤ h.slots.length) × ((first_slot h ss).is_gap ≢ 0 → CanTake c h (first_slot h ss)) → ⊥) → P) → (P → ⊥)
     → ((((first_slot k ss).is_gap ≡ 0) × CanTake c k (first_slot k ss) → ⊥) → Q) → (HasFirst c h ss → ⊥) → Q
-both_steps c h ss k is one not two none = search (rules)
+both_steps c h ss k is one not two none = search rules
 
 -- packets are left without the first gap
 used_skip : (ps : List (Packet ⊤)) → 1 ≤ slots_used ps → 1 ≤ slots_used (without_first_gap ps)

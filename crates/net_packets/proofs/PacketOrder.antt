@@ -531,7 +531,7 @@ module _ {H : Type 0} where
 
   pub enqueue_call : (q : PacketsState H) (s : ℕ) (hd : H) (ws : List ℕ) → placement q s ≢ None → length ws ≡ s
       → Makes (Enqueue hd ws) q (with_last_bytes (with_packet_if_room q s hd) ws)
-  enqueue_call q s hd ws some long = search (rules)
+  enqueue_call q s hd ws some long = search rules
 
   pub enqueue_with_call : (q : PacketsState H) (s : ℕ) (hd : H) (k : ℕ) (ws : List ℕ) → placement q s ≢ None
       → length ws ≡ s → k ≤ s

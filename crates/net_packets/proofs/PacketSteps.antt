@@ -371,7 +371,7 @@ module _ {H : Type 0} where
   last_one p = last_append [] p
 
   last_cons : (p q : Packet H) (ps : List (Packet H)) → only_last (p ∷ (q ∷ ps)) ≡ only_last (q ∷ ps)
-  last_cons p q ps = search (rules)
+  last_cons p q ps = search rules
 
   -- where the last packet is
   pub last_fits : (c r o : ℕ) (ps : List (Packet H)) → (r ≡ 0) ⊎ (r < c) → o + bytes_used ps ≤ c → ArePlaced c r o ps

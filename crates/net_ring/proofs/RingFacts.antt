@@ -395,11 +395,11 @@ module _ {T : Type 0} where
 
     pub left_in : (k m p : ℕ) → k ≡ m → p ≡ write_at g → (st w : List T) → st ≡ overwrite v.storage p w
         → ring st v.read_at (v.count + k) ≡ with_elements (with_enqueued m g) (write_at g) w
-    left_in k m p ek ep st w e = search (rules)
+    left_in k m p ek ep st w e = search rules
 
     pub left_off : (k m p : ℕ) → k ≡ m → p ≡ storage_index g k → (st w : List T) → st ≡ overwrite v.storage v.read_at w
         → ring st p (v.count - k) ≡ with_elements (with_dequeued m g) g.read_at w
-    left_off k m p ek ep st w e = search (rules)
+    left_off k m p ek ep st w e = search rules
 
     -- ---- what a part that is lent or shown holds, at first: m elements from the index p on
     shown : (p m k : ℕ) → m ≡ k → p + k ≤ capacity g → (now : List T) → now ≡ take m (drop p v.storage)
