@@ -324,3 +324,6 @@ module _ (h : AssemblerHead) (xs : List (ℕ × ℕ)) (s : HasSoundRuns h xs) wh
   end_is e zeroth last =
       last_end rs h.used e (are_runs h xs s) (sym count) zeroth
       (λ some. omega (arith, last some, ends (h.used - 1) (omega (arith, some))))
+
+-- what the loop of a count cites
+pub ruleset counts = (next_overlap, overlap_usize)

@@ -518,6 +518,7 @@ impl AssemblerHead {
     /// # Requires
     ///
     /// The head is sound with the runs, as `is_sound` tests.
+    #[tactic(auto, using(crate::proofs::SoundHeads::heads, crate::proofs::Searches::counts))]
     pub fn count_between(&self, runs: &[Run], start: usize, end: usize) -> usize
         requires { HasSoundRuns self.now runs.now }
         ensures { result ≡ present_count (set_of self.now runs.now) start (end - start) }

@@ -1,7 +1,6 @@
 use Rattle.std.proofs.Common.{◌∙◌, arith, refl}
 use Rattle.net_assembler.specs.RunLists.{used_runs}
-use Rattle.net_assembler.proofs.Searches.{before_split, few_split, next_overlap, no_overlap, overlap, overlap_set}
-use Rattle.net_assembler.proofs.Searches.{overlap_usize}
+use Rattle.net_assembler.proofs.Searches.{before_split, few_split, no_overlap, overlap, overlap_set}
 use Rattle.net_assembler.proofs.Searches.{skipped_overlap}
 use Rattle.net_assembler.proofs.assembler.head.AssemblerHead.count_between.Goals as goal
 
@@ -15,12 +14,6 @@ loop-k-init c =
     c.saturating_sub-first.ensures
     (λ k l. omega (arith, before k l, c.saturating_sub-from.ensures)) in
     record { counted = omega (arith, skipped); looks = refl; moves = refl }
-
-pub overflow_add-count : goal.overflow_add-count
-overflow_add-count c = grind (arith, next_overlap, overlap_usize)
-
-pub prove-unreachable-requires : goal.prove-unreachable-requires
-prove-unreachable-requires c = grind (arith, next_overlap, overlap_usize)
 
 pub returns-then-start-to : goal.returns-then-start-to
 returns-then-start-to c = grind (arith, overlap, overlap_set, no_overlap)
