@@ -1,6 +1,7 @@
 -- What a stream that ends sends, and sends again, where each range that was sent is answered for by itself, as in QUIC.
 --     RangesState, new_ranges most first      what is known of its numbers, and of those of a stream to which nothing
 --         was written
+--     ranges_of acknowledged settled written sent closed      what is known by two sets of numbers
 --     end_number b      the number after the last byte's, or after the end's
 --     IsSoundRanges b      what is true of each
 --     is_open b p      number p is neither acknowledged nor in flight: below what was sent it is lost, else never sent
@@ -57,6 +58,16 @@ new_ranges most first = record {
   sent = first;
   acknowledged = with_range nothing 0 first;
   settled = with_range nothing 0 first;
+}
+
+abbrev pub ranges_of : Board → Positions → ℕ → ℕ → Bool → RangesState
+ranges_of acknowledged settled written sent closed = record {
+  most_runs = acknowledged.most_runs;
+  written = written;
+  closed = closed;
+  sent = sent;
+  acknowledged = acknowledged.positions;
+  settled = settled;
 }
 
 -- the end has the number after the last byte's

@@ -140,30 +140,16 @@ pub type SendRanges<'a> = SendRangesOver<ManagedSlice<'a, Run>>;
 impl<R: Storage<Run>> Model for SendRangesOver<R> {
     ghost use Rattle.std.specs.Coded.{codes};
     ghost use Rattle.std.specs.Prelude.{◌≡◌};
-    ghost use Rattle.net_receiver.specs.SendRanges.{RangesState, IsSoundRanges, positions_code};
+    ghost use Rattle.net_receiver.specs.SendRanges.{RangesState, IsSoundRanges, positions_code, ranges_of};
 
     ghost Value = { RangesState };
 
     ghost coded = { Prim.hlevel (codes, positions_code) };
 
-    ghost view = { λ b. record {
-      most_runs = b.acknowledged.most_runs;
-      written = b.written;
-      closed = b.closed;
-      sent = b.sent;
-      acknowledged = b.acknowledged.positions;
-      settled = b.settled.positions;
-    } };
+    ghost view = { λ b. ranges_of b.acknowledged b.settled.positions b.written b.sent b.closed };
 
-    ghost invariant = { λ b. (b.settled.most_runs ≡ b.acknowledged.most_runs)
-        × IsSoundRanges (record {
-          most_runs = b.acknowledged.most_runs;
-          written = b.written;
-          closed = b.closed;
-          sent = b.sent;
-          acknowledged = b.acknowledged.positions;
-          settled = b.settled.positions;
-        }) };
+    ghost invariant = { λ b. (b.settled.most_runs ≡ b.acknowledged.most_runs) × IsSoundRanges
+        (ranges_of b.acknowledged b.settled.positions b.written b.sent b.closed) };
 }
 
 /// Written by hand, so that storage that isn't `Drop` can be used too.

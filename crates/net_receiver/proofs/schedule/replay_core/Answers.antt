@@ -1,6 +1,5 @@
-use Rattle.net_receiver.proofs.Words.{◌≡◌, ◌∙◌, ◌++◌, ◌∷◌, List, [], ap, sym, subst, refl, arith, map, length}
-use Rattle.net_receiver.proofs.Words.{false≢true, length-map, drop_all, command_value, reply_value, new_replies}
-use Rattle.net_receiver.proofs.Words.{items_after}
+use Rattle.net_receiver.proofs.Words.{◌∙◌, ◌++◌, ◌∷◌, [], ap, sym, arith}
+use Rattle.net_receiver.proofs.Words.{false≢true, length-map, command_value, new_replies}
 use Rattle.std.proofs.lemmas.Result.{err_from_is_err_and}
 use Rattle.std.specs.Result.{is_ok}
 use Rattle.net_receiver.proofs.Schedules.{state_more, replies_more, whole_appended}

@@ -2,7 +2,7 @@ use Rattle.net_receiver.proofs.Words.{◌≡◌, ◌∙◌, ◌-◌, ℕ, ap, ar
 use Rattle.net_receiver.proofs.Words.{with_range}
 use Rattle.net_assembler.proofs.Sets.{with_range-none}
 use Rattle.net_receiver.specs.Scoreboards.{Forgets}
-use Rattle.net_receiver.specs.SendRanges.{Board, IsSoundRanges, Loses, RangesState, is_open, is_within, runs_beyond}
+use Rattle.net_receiver.specs.SendRanges.{Board, IsSoundRanges, Loses, RangesState, is_open, is_within, runs_beyond, ranges_of}
 use Rattle.net_receiver.proofs.SendRanges.{is_lost_from, lost_is_sound, open_after, taken_is_sound}
 use Rattle.net_receiver.proofs.send_ranges.SendRangesOver.acknowledge.Goals as goal
 
@@ -15,22 +15,9 @@ returns-then-not-remember-clause-lost g c = λ _.
     let after = c.remember.ensures.after c.if-not-remember.true in
     let forgets = subst (λ (n : ℕ). Forgets (runs_beyond inside.settled.positions) n inside.settled.positions
     from to c.forget.new.self.positions) c.self.invariant.0 c.forget.ensures.forgets in
-    let b : RangesState = record {
-      most_runs = inside.acknowledged.most_runs;
-      written = inside.written;
-      closed = inside.closed;
-      sent = inside.sent;
-      acknowledged = inside.acknowledged.positions;
-      settled = inside.settled.positions;
-    } in
-    let left : Board → RangesState = λ a. record {
-      most_runs = a.most_runs;
-      written = inside.written;
-      closed = inside.closed;
-      sent = inside.sent;
-      acknowledged = a.positions;
-      settled = c.forget.new.self.positions;
-    } in
+    let b : RangesState = ranges_of inside.acknowledged inside.settled.positions inside.written inside.sent inside.closed in
+    let left : Board → RangesState = λ a.
+    ranges_of a c.forget.new.self.positions inside.written inside.sent inside.closed in
     subst (λ (x : RangesState). Loses x from to (left c.remember.new.board)) c.self.view_is
     (subst (λ (a : Board). Loses b from to (left a)) (sym same)
     (is_lost_from b _ from from to c.self.invariant.1 (omega (arith, after)) forgets (omega arith)
@@ -50,14 +37,8 @@ invariant_of-self g c =
     let after = c.remember.ensures.after c.if-not-remember.true in
     let forgets = subst (λ (n : ℕ). Forgets (runs_beyond inside.settled.positions) n inside.settled.positions
     from to c.forget.new.self.positions) c.self.invariant.0 c.forget.ensures.forgets in
-    subst (λ (a : Board). (c.forget.new.self.most_runs ≡ a.most_runs) × IsSoundRanges (record {
-      most_runs = a.most_runs;
-      written = inside.written;
-      closed = inside.closed;
-      sent = inside.sent;
-      acknowledged = a.positions;
-      settled = c.forget.new.self.positions;
-    })) (sym same) (
+    subst (λ (a : Board). (c.forget.new.self.most_runs ≡ a.most_runs) × IsSoundRanges
+    (ranges_of a c.forget.new.self.positions inside.written inside.sent inside.closed)) (sym same) (
       c.forget.ensures.runs ∙ c.self.invariant.0,
       lost_is_sound _ _ from from to c.self.invariant.1 (omega (arith, after)) forgets,
     )
@@ -72,14 +53,7 @@ invariant_of-self-2 g c =
     let settled : c.acknowledge.new.self.positions ≡ with_range c.add.new.board.positions 0 (front c.remember.new.board.positions) =
     ap (λ (b : Board). b.positions) c.acknowledge.ensures
     ∙ ap (λ n. with_range c.add.new.board.positions 0 n) c.first_unreported-next.ensures in
-    let b : RangesState = record {
-      most_runs = inside.acknowledged.most_runs;
-      written = inside.written;
-      closed = inside.closed;
-      sent = inside.sent;
-      acknowledged = inside.acknowledged.positions;
-      settled = inside.settled.positions;
-    } in (
+    let b : RangesState = ranges_of inside.acknowledged inside.settled.positions inside.written inside.sent inside.closed in (
       ap (λ (b : Board). b.most_runs) c.acknowledge.ensures ∙ c.add.ensures.runs ∙ c.self.invariant.0 ∙ sym most,
       subst IsSoundRanges (λ k. record {
         most_runs = sym most k;
@@ -102,14 +76,8 @@ returns-clause-rest g c = λ _ p.
     let taken = ap (λ (b : Board). b.positions) (c.remember.ensures.taken c.if-not-remember.false) in
     let settled = ap (λ (b : Board). b.positions) c.acknowledge.ensures
     ∙ ap (λ n. with_range c.add.new.board.positions 0 n) c.first_unreported-next.ensures in
-    let left : RangesState = record {
-      most_runs = c.remember.new.board.most_runs;
-      written = inside.written;
-      closed = inside.closed;
-      sent = inside.sent;
-      acknowledged = c.remember.new.board.positions;
-      settled = c.acknowledge.new.self.positions;
-    } in
+    let left : RangesState =
+    ranges_of c.remember.new.board c.acknowledge.new.self.positions inside.written inside.sent inside.closed in
     subst (λ (x : RangesState). is_open left p ≡ (is_open x p && not (is_within from to p))) c.self.view_is
     (open_after inside.acknowledged.positions c.remember.new.board.positions inside.settled.positions c.add.new.board.positions
     c.acknowledge.new.self.positions from to taken settled c.add.ensures.more c.add.ensures.less p)

@@ -1,6 +1,6 @@
 use Rattle.std.proofs.Common.{◌≡◌, ◌+◌, ◌-◌, ap, arith, subst}
 use Rattle.net_assembler.specs.Positions.{missing_count}
-use Rattle.net_receiver.specs.SendRanges.{RangesState, flight_count}
+use Rattle.net_receiver.specs.SendRanges.{RangesState, flight_count, ranges_of}
 use Rattle.net_receiver.proofs.SendRanges.{flight_more}
 use Rattle.net_receiver.proofs.send_ranges.SendRangesOver.in_flight.Goals as goal
 
@@ -10,14 +10,7 @@ loop-pos-preserved-then-end-self g c =
     let pos = c.loop-pos.pos in
     let end = c.hole_start-end.result in
     let next = c.hole_end-pos.result in
-    let b : RangesState = record {
-      most_runs = inside.acknowledged.most_runs;
-      written = inside.written;
-      closed = inside.closed;
-      sent = inside.sent;
-      acknowledged = inside.acknowledged.positions;
-      settled = inside.settled.positions;
-    } in
+    let b : RangesState = ranges_of inside.acknowledged inside.settled.positions inside.written inside.sent inside.closed in
     let more = subst (λ (x : RangesState). flight_count x 0 next
     ≡ flight_count x 0 pos + missing_count inside.acknowledged.positions pos (end - pos)) c.self.view_is
     (flight_more b pos end next c.hole_start-end.ensures.from (omega (arith, c.hole_end-pos.ensures.some))
