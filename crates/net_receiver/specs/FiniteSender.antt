@@ -216,8 +216,8 @@ abbrev pub greatest_within : ℕ → ℕ → List ℕ → ℕ
 greatest_within limit n [] = n
 greatest_within limit n (m ∷ ms) = greatest_within limit (if nat_le m limit then max n m else n) ms
 
--- after acknowledgements, in any order, all below the greatest of those that were sent is acknowledged, and no more; and
--- the queue is all bytes from there on
+-- after acknowledgements, in any order, all below the greatest of those that were sent is acknowledged, and no more;
+-- and the queue is all bytes from there on
 abbrev pub QueueFromGreatest : Type 0
 QueueFromGreatest = (s : FiniteSenderState) (ns : List ℕ) →
     let t = sender_after_commands s (map Acknowledges ns) in

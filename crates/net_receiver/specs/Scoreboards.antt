@@ -54,8 +54,8 @@ pub record IsReport (first sent start end : ℕ) : Type 0 where
   pub was_sent : end ≤ sent
   pub near : first < start → end < first + 2 ^ 32
 
--- nothing of the range is left, and nothing is new; what is below the range and the front stays; and if of the most runs
--- some have room, and each position ends less than 2 ^ 32 above the range's start and the front, all else stays
+-- nothing of the range is left, and nothing is new; what is below the range and the front stays; and if of the most
+-- runs some have room, and each position ends less than 2 ^ 32 above the range's start and the front, all else stays
 pub record Forgets (used most : ℕ) (s : Positions) (start end : ℕ) (left : Positions) : Type 0 where
   pub less : (p : ℕ) → IsTrue (contains left p) → IsTrue (contains s p)
   pub gone : (p : ℕ) → start ≤ p → p < end → IsFalse (contains left p)

@@ -14,11 +14,11 @@
 --     is_in_part c p      the call returned a part that has the position p
 --     noted notes cs      notes of bytes, and those of each part that calls returned at its positions
 -- EachOnce, NotesAreOfStream, AllArrives are laws.
-use Rattle.std.specs.Prelude.{◌≡◌, ◌↔◌, ℕ, ◌+◌, ◌-◌, ◌<◌, ◌≤◌, min, max, Bool, ◌||◌, ◌&&◌, nat_lt, nat_le, IsTrue, IsFalse}
+use Rattle.std.specs.Prelude.{◌≡◌, ◌↔◌, ℕ, ◌+◌, ◌-◌, ◌<◌, ◌≤◌, min, max, Bool, ◌||◌, ◌&&◌, nat_lt, nat_le, IsTrue}
 use Rattle.std.specs.Int.{from_bool}
 use Rattle.net_assembler.specs.Positions.{lies_in}
 use Rattle.net_receiver.specs.Schedule.{piece, piece_byte_at}
-use Rattle.std.specs.Prelude.{[], ◌∷◌, All, count_by, slice_get, false}
+use Rattle.std.specs.Prelude.{[], ◌∷◌, All, IsFalse, count_by, slice_get, false}
 use Rattle.std.specs.Prelude.{List, length, refl, Option, Some, None, Result, Ok, Err, IfOk, OnErr, if◌then◌else◌}
 use Rattle.std.specs.Coded.{Coded, code_by, coded×, coded_ℕ}
 use Rattle.std.specs.FinSet as set

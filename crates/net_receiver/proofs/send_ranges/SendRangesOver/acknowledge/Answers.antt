@@ -2,7 +2,8 @@ use Rattle.net_receiver.proofs.Words.{◌≡◌, ◌∙◌, ◌-◌, ℕ, ap, ar
 use Rattle.net_receiver.proofs.Words.{with_range}
 use Rattle.net_assembler.proofs.Sets.{with_range-none}
 use Rattle.net_receiver.specs.Scoreboards.{Forgets}
-use Rattle.net_receiver.specs.SendRanges.{Board, IsSoundRanges, Loses, RangesState, is_open, is_within, runs_beyond, ranges_of}
+use Rattle.net_receiver.specs.SendRanges.{Board, IsSoundRanges, Loses, RangesState, is_open, is_within, ranges_of}
+use Rattle.net_receiver.specs.SendRanges.{runs_beyond}
 use Rattle.net_receiver.proofs.SendRanges.{is_lost_from, lost_is_sound, open_after, taken_is_sound}
 use Rattle.net_receiver.proofs.send_ranges.SendRangesOver.acknowledge.Goals as goal
 
@@ -15,7 +16,8 @@ returns-then-not-remember-clause-lost g c = λ _.
     let after = c.remember.ensures.after c.if-not-remember.true in
     let forgets = subst (λ (n : ℕ). Forgets (runs_beyond inside.settled.positions) n inside.settled.positions
     from to c.forget.new.self.positions) c.self.invariant.0 c.forget.ensures.forgets in
-    let b : RangesState = ranges_of inside.acknowledged inside.settled.positions inside.written inside.sent inside.closed in
+    let b : RangesState =
+    ranges_of inside.acknowledged inside.settled.positions inside.written inside.sent inside.closed in
     let left : Board → RangesState = λ a.
     ranges_of a c.forget.new.self.positions inside.written inside.sent inside.closed in
     subst (λ (x : RangesState). Loses x from to (left c.remember.new.board)) c.self.view_is
@@ -53,7 +55,8 @@ invariant_of-self-2 g c =
     let settled : c.acknowledge.new.self.positions ≡ with_range c.add.new.board.positions 0 (front c.remember.new.board.positions) =
     ap (λ (b : Board). b.positions) c.acknowledge.ensures
     ∙ ap (λ n. with_range c.add.new.board.positions 0 n) c.first_unreported-next.ensures in
-    let b : RangesState = ranges_of inside.acknowledged inside.settled.positions inside.written inside.sent inside.closed in (
+    let b : RangesState =
+    ranges_of inside.acknowledged inside.settled.positions inside.written inside.sent inside.closed in (
       ap (λ (b : Board). b.most_runs) c.acknowledge.ensures ∙ c.add.ensures.runs ∙ c.self.invariant.0 ∙ sym most,
       subst IsSoundRanges (λ k. record {
         most_runs = sym most k;

@@ -10,7 +10,8 @@ loop-pos-preserved-then-end-self g c =
     let pos = c.loop-pos.pos in
     let end = c.hole_start-end.result in
     let next = c.hole_end-pos.result in
-    let b : RangesState = ranges_of inside.acknowledged inside.settled.positions inside.written inside.sent inside.closed in
+    let b : RangesState =
+    ranges_of inside.acknowledged inside.settled.positions inside.written inside.sent inside.closed in
     let more = subst (λ (x : RangesState). flight_count x 0 next
     ≡ flight_count x 0 pos + missing_count inside.acknowledged.positions pos (end - pos)) c.self.view_is
     (flight_more b pos end next c.hole_start-end.ensures.from (omega (arith, c.hole_end-pos.ensures.some))
