@@ -1,39 +1,20 @@
-//! Traits of std that are by hand: hashes, sums, comparisons, conversions, counts of iterators, readers and writers.
+//! Traits of std that are by hand: a hash, sums, comparisons, conversions, counts of iterators, readers and writers.
 //! Values are worked by hand.
 #![allow(clippy::op_ref)]
-use std::collections::HashSet;
 use std::fmt::Write as _;
 use std::hash::{Hash, Hasher};
 use std::iter::FusedIterator;
 
 use net_base::checksum::PartsSum;
-use net_base::finite::{FiniteError, FiniteReceiverOver, FiniteSenderOver, SendBufferOver};
+use net_base::finite::FiniteError;
 use net_base::managed::ManagedSlice;
-use net_base::phy::{Checksum, ChecksumCapabilities, DeviceCapabilities, SegmentationCapabilities};
-use net_base::rand::Rand;
-use net_base::receiver::{Receiver, ReceiverOver};
+use net_base::receiver::Receiver;
 use net_base::scoreboard::Scoreboard;
 use net_base::sequence_number::SequenceNumber;
-use net_base::storage::fragment_table::{accept, FragmentSlot};
 use net_base::storage::{
-    Assembler, Empty, FragmentError, FragmentsOver, Full, PacketMetadata, PacketsOver, RingBuffer,
-    RingOver, Run, Storage, TooManyHolesError,
+    Assembler, FragmentError, RingBuffer, RingOver, Storage, TooManyHolesError,
 };
-use net_base::time::{Duration, Instant};
-
-fn count<T: Hash + Eq>(values: impl IntoIterator<Item = T>) -> usize {
-    values.into_iter().collect::<HashSet<T>>().len()
-}
-
-#[test]
-fn hashes() {
-    assert_eq!(count([5, -5, 5].map(Instant::from_secs)), 2);
-    assert_eq!(count([5, 6, 5].map(Duration::from_secs)), 2);
-    assert_eq!(count([5, 1 << 16, 5].map(SequenceNumber::new)), 2);
-    assert_eq!(count([FiniteError::TooManyHoles, FiniteError::OtherEnd]), 2);
-    assert_eq!(count([FragmentError::TooLong, FragmentError::OtherSize]), 2);
-    assert_eq!((count([Full; 2]), count([Empty; 2]), count([TooManyHolesError; 2])), (1, 1, 1));
-}
+use net_base::time::Duration;
 
 /// A sequence number gives a hasher 32 bits.
 #[test]
@@ -98,20 +79,6 @@ fn storage_of_each_type() {
 }
 
 #[test]
-fn values_are_compared() {
-    assert!(Rand::new(1) == Rand::new(1).clone() && Rand::new(1) != Rand::new(2));
-    assert_ne!(Checksum::Both, Checksum::Tx);
-    let mut capabilities = DeviceCapabilities::default();
-    assert_eq!(capabilities, DeviceCapabilities::default());
-    capabilities.checksum.udp = Checksum::None;
-    assert_ne!(capabilities.checksum, ChecksumCapabilities::default());
-    assert_ne!(capabilities, DeviceCapabilities::default());
-    assert_eq!(capabilities.segmentation, SegmentationCapabilities::default());
-    let slots: [PacketMetadata<u8>; 2] = Default::default();
-    assert!(PacketsOver::over(slots, [0; 4]).is_empty());
-}
-
-#[test]
 fn sums_of_lengths() {
     let lengths = [3, 4, 5].map(Duration::from_secs);
     assert_eq!(lengths.iter().sum::<Duration>(), Duration::from_secs(12));
@@ -149,43 +116,6 @@ fn scoreboards() {
     one.acknowledge(20);
     other.acknowledge(21);
     assert!(one != other);
-}
-
-/// What is changed in a clone stays in the other.
-#[test]
-fn clones() {
-    let mut ring = RingOver::over([1u8, 2, 3]);
-    ring.enqueue_unallocated(2);
-    let mut other = ring.clone();
-    other.dequeue_allocated(1);
-    assert_eq!((ring.as_slices().0, other.as_slices().0), (&[1, 2][..], &[2][..]));
-    let mut queue = PacketsOver::over([PacketMetadata::EMPTY; 2], [0u8; 4]);
-    assert_eq!(queue.push_slice('h', b"abc"), Ok(()));
-    assert_eq!(queue.clone().dequeue(), Ok(('h', &mut b"abc"[..].to_vec()[..])));
-    assert_eq!((queue.payload_bytes_count(), queue.clone().is_empty()), (3, false));
-    let mut fragments = FragmentsOver::<_, 4>::over([0u8; 4], Instant::ZERO);
-    assert_eq!((fragments.clone().add(0, b"ab"), fragments.set_total_size(2)), (Ok(()), Ok(())));
-    assert_eq!((fragments.assemble(), fragments.total_size()), (None, Some(2)));
-    let mut sender = FiniteSenderOver::over(*b"....");
-    assert_eq!((sender.write(b"ab"), sender.clone().write(b"cde")), (2, 2));
-    assert_eq!((sender.peek_at(0, 9).bytes, sender.clone().into_storage()), (&b"ab"[..], *b"ab.."));
-    let mut finite = FiniteSenderOver::over([0u8; 4]);
-    finite.clone().close();
-    assert_eq!((finite.is_closed(), finite.write(b"a")), (false, 1));
-    let mut receiver = ReceiverOver::<_, 2>::over([0u8; 4]);
-    assert!(receiver.segment(1, b"b").is_ok() && receiver.clone().segment(0, b"a").is_ok());
-    assert_eq!((receiver.next(), receiver.clone().held().next()), (0, Some((1, 2))));
-    let mut finite = FiniteReceiverOver::<_, 2>::over([0u8; 4]);
-    assert!(finite.clone().keep(0, b"a", true).is_ok());
-    assert_eq!((finite.keep(0, b"b", false).is_ok(), finite.end()), (true, None));
-    let slots = [FragmentSlot::<u8, _, 2>::over([0u8; 4])];
-    let mut other = slots.clone();
-    assert_eq!(accept(&mut other, 7, 0, b"a", false, Instant::ZERO), Ok(0));
-    assert_eq!((slots[0].key, other[0].key), (None, Some(7)));
-    let mut newest = finite.receiver().newest_runs(0, &mut [0; 2]);
-    assert_eq!((newest.clone().count(), newest.next()), (0, None));
-    let mut buffer = SendBufferOver::over_at([0u8; 4], [Run::EMPTY; 2], [Run::EMPTY; 2], 0);
-    assert_eq!((buffer.clone().write(b"ab"), buffer.write(b"abc")), (2, 3));
 }
 
 #[test]

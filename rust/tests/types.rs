@@ -1,13 +1,10 @@
-//! What the public types' traits give: clones, defaults, comparisons, texts, errors, constants, threads, lifetimes.
+//! What the public types' traits give: clones, defaults, texts, constants, threads, lifetimes.
 //! Values are written by hand.
-#![allow(clippy::clone_on_copy)]
-use std::collections::hash_map::DefaultHasher;
 use std::fmt::Debug;
-use std::hash::{Hash, Hasher};
 use std::sync::Mutex;
 
 use net_base::checksum::PartsSum;
-use net_base::finite::{FiniteError, FiniteReceiver, FiniteSender, FiniteSenderOver};
+use net_base::finite::{FiniteReceiver, FiniteSender, FiniteSenderOver};
 use net_base::managed::ManagedSlice;
 use net_base::phy::{
     Checksum, ChecksumCapabilities, DeviceCapabilities, Medium, PacketLoopback, PacketMeta,
@@ -16,11 +13,11 @@ use net_base::phy::{
 use net_base::rand::Rand;
 use net_base::receiver::{Receiver, ReceiverOver};
 use net_base::scoreboard::Scoreboard;
-use net_base::sequence_number::{Numbering, SequenceNumber};
+use net_base::sequence_number::SequenceNumber;
 use net_base::storage::fragment_table::FragmentSlot;
 use net_base::storage::{
-    Assembler, Empty, FragmentBuffer, FragmentError, FragmentsOver, Full, PacketBuffer,
-    PacketMetadata, PacketsOver, RingBuffer, RingOver, TooManyHolesError,
+    Assembler, FragmentBuffer, FragmentError, FragmentsOver, PacketBuffer, PacketMetadata,
+    PacketsOver, RingBuffer, RingOver,
 };
 use net_base::time::{Duration, Instant};
 
@@ -125,46 +122,32 @@ fn texts_of_what_stores() {
     assert_eq!(debug(ManagedSlice::from(&mut [1u8, 2])), "Borrowed([1, 2])");
 }
 
-/// Equal values have equal hashes; a clone is equal, and another value is not.
+/// As smoltcp's: holes and data in turn, each by its size; unused runs are 0.
 #[test]
-fn comparisons() {
-    fn all<T: PartialEq + Eq + Clone + Debug>(one: T, other: T) {
-        assert_eq!(one.clone(), one);
-        assert_eq!(other.clone(), other);
-        assert_ne!(one, other);
-        assert_ne!(other, one);
-    }
-    all(Medium::Ethernet, Medium::Ip);
-    all(FragmentError::TooLong, FragmentError::OtherSize);
-    all(FiniteError::TooManyHoles, FiniteError::OtherEnd);
-    let kept = |pos, bytes| Receiver::<4>::new(&mut [0; 8][..]).keep(pos, bytes);
-    all(kept(0, b"a"), kept(0, b"ab"));
-    all(kept(0, b"a"), kept(1, b"a"));
-    let kept = |pos| Receiver::<4>::new(&mut [0; 8][..]).segment(pos, b"a");
-    all(kept(4), kept(5));
-    all(SequenceNumber::new(3), SequenceNumber::new(4));
-    let numbering = |number| Numbering { first: SequenceNumber::new(number) };
-    all(numbering(3), numbering(4));
-    let assembler = |at| {
-        let mut assembler = Assembler::<2>::empty();
-        assert_eq!(assembler.add(at, 1), Ok(()));
-        assembler
-    };
-    all(assembler(3), assembler(4));
-    all(Instant::from_micros(3), Instant::from_micros(4));
-    all(Duration::from_micros(3), Duration::from_micros(4));
+fn texts_of_assemblers() {
+    let (mut two, mut front) = (Assembler::<3>::empty(), Assembler::<1>::empty());
+    assert_eq!((two.add(4, 2), two.add(9, 3), front.add(0, 20)), (Ok(()), Ok(()), Ok(())));
     assert_eq!(
-        (Full.clone(), Empty.clone(), TooManyHolesError.clone()),
-        (Full, Empty, TooManyHolesError)
+        format!("{two:?}"),
+        "Assembler { contigs: [Contig { hole_size: 4, data_size: 2 }, Contig { hole_size: 3, data_size: 3 }, \
+         Contig { hole_size: 0, data_size: 0 }] }"
     );
-    let hash = |id| {
-        let (mut meta, mut hasher) = (PacketMeta::default(), DefaultHasher::new());
-        meta.id = id;
-        meta.hash(&mut hasher);
-        (meta, hasher.finish())
-    };
-    assert_eq!(hash(7), hash(7));
-    assert!(hash(7).0 != hash(8).0 && hash(7).1 != hash(8).1);
+    assert_eq!(
+        format!("{front:?}"),
+        "Assembler { contigs: [Contig { hole_size: 0, data_size: 20 }] }"
+    );
+    assert_eq!(
+        format!("{front:#?}"),
+        "Assembler {\n    contigs: [\n        Contig {\n            hole_size: 0,\n            data_size: 20,\n        \
+         },\n    ],\n}"
+    );
+    assert_eq!(
+        format!("{front:02?}"),
+        "Assembler { contigs: [Contig { hole_size: 00, data_size: 20 }] }"
+    );
+    assert_eq!((two.to_string(), front.to_string()), ("[ (4) 2 (3) 3 ]".into(), "[ 20 ]".into()));
+    assert_eq!(Assembler::new().to_string(), "[ ]");
+    assert_eq!(format!("{two:>40}|{two:+}|{two:.3}"), ["[ (4) 2 (3) 3 ]"; 3].join("|"));
 }
 
 #[test]

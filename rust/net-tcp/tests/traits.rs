@@ -1,5 +1,4 @@
-//! What the public types' traits give: clones, defaults, texts, threads; and a caller's own record. Values are worked by
-//! hand.
+//! What the public types' traits give: defaults and texts; and a caller's own record. Values are worked by hand.
 use std::fmt::Debug;
 
 use net_base::scoreboard::Scoreboard;
@@ -41,23 +40,6 @@ fn texts() {
 #[test]
 fn constants() {
     assert_eq!(net_tcp::MAX_SCALE, 14);
-}
-
-#[test]
-fn clones() {
-    let mut receiving = ReceivingEndOver::<_, 2>::over_at([0u8; 4], 0, 4);
-    assert!(receiving.clone().arrived(0, b"a", false).is_ok());
-    assert_eq!(receiving.read(&mut [0]), 0);
-    let (first_timeout, bounds) = (Duration::from_secs(1), TimeoutBounds::new());
-    let mut sending = SendingEndOver::<_, 2>::over_at([0u8; 4], 0, first_timeout, bounds);
-    assert_eq!((sending.clone().write(b"ab"), sending.write(b"abc")), (2, 3));
-}
-
-#[test]
-fn threads() {
-    fn both<T: Send + Sync>() {}
-    both::<(PeerWindow, AdvertisedWindow, RetransmissionTimeout, Segment, Arrival)>();
-    both::<RetransmissionTimer>();
 }
 
 /// An array is a storage.
