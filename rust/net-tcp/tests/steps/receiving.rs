@@ -133,18 +133,6 @@ fn what_came_twice_is_the_first_block() {
     step!(it.acknowledgement() => "8 32"; is_due = false, is_wanted = false);
 }
 
-/// An announcement that wasn't due has no list: what came twice waits for the next acknowledgement.
-#[test]
-fn what_came_twice_waits_for_an_acknowledgement() {
-    let mut it = Receiving::<1>::new(40, 100, 8);
-    step!(it.open(100, 0) => 40; is_wanted = false);
-    step!(it.arrived(100, 4, false) => Ok((4, 4)); is_wanted = true, next = 4, queued = 4);
-    step!(it.acknowledgement() => "4 36"; is_wanted = false);
-    step!(it.arrived(102, 4, false) => Ok((2, 2)); is_wanted = true, next = 6, queued = 6);
-    step!(it.announce() => (6, 34); is_wanted = false);
-    step!(it.acknowledgement() => "6 34 2-4");
-}
-
 /// The newest run is listed first, then those that were, at most four: one that wasn't is as if it never had been.
 /// Another stream knows none of them.
 #[test]
@@ -181,36 +169,6 @@ fn the_newest_run_is_listed_first() {
     step!(it.acknowledgement() => "0 40 8-9 2-3 4-5 6-7"; is_due = false, is_wanted = false);
 }
 
-/// A segment of which nothing is kept tells of the newest run too.
-#[test]
-fn a_segment_of_which_nothing_is_kept() {
-    let mut it = Receiving::<4>::new(40, 0, 8);
-    step!(it.open(0, 0) => 40; is_wanted = false);
-    step!(it.arrived(2, 1, false) => Ok((1, 0)); is_due = true, is_wanted = true, held = 1);
-    step!(it.arrived(6, 1, true) => Ok((1, 0)); held = 2, end = Some(7));
-    step!(it.acknowledgement() => "0 40 6-7 2-3"; is_due = false, is_wanted = false);
-    step!(it.arrived(2, 1, true) => Err(FiniteError::OtherEnd); is_due = true, is_wanted = true);
-    step!(it.acknowledgement() => "0 40 2-3 2-3 6-7"; is_due = false, is_wanted = false);
-}
-
-/// A forged end, and a forged byte beyond the true end, which comes in order, and is taken.
-#[test]
-fn a_forged_end_and_a_forged_byte() {
-    let mut it = Receiving::<1>::new(40, 0, 8);
-    step!(it.open(0, 0) => 40; is_wanted = false);
-    step!(it.arrived(9, 0, true) => Ok((0, 0)); is_due = true, is_wanted = true, end = Some(9));
-    step!(it.acknowledgement() => "0 40"; is_due = false, is_wanted = false);
-    step!(it.arrived(6, 1, false) => Ok((1, 0)); is_due = true, is_wanted = true, held = 1);
-    step!(it.acknowledgement() => "0 40 6-7"; is_due = false, is_wanted = false);
-    step!(it.arrived(0, 4, true) => Ok((4, 4));
-        is_due = true, is_wanted = true, next = 4, queued = 4, held = 0, end = Some(4));
-    step!(it.acknowledgement() => "5 35"; is_due = false, is_wanted = false);
-    step!(it.arrived(9, 0, true) => Err(FiniteError::OtherEnd); is_due = true, is_wanted = true);
-    step!(it.classify(4, 0) => Arrival::AcknowledgementOnly);
-    step!(it.arrived(2, 1, true) => Err(FiniteError::OtherEnd));
-    step!(it.acknowledgement() => "5 35 2-3"; is_due = false, is_wanted = false);
-}
-
 /// The window's edge moves by half of the capacity, or by a segment, and not by less (RFC 9293, 3.8.6.2.2); once
 /// all has come no update is sent.
 #[test]
@@ -233,29 +191,6 @@ fn the_windows_edge_moves_by_half_of_the_capacity() {
     step!(it.acknowledgement() => "18 0"; is_due = false, is_wanted = false);
     step!(it.read(9) => 9; queued = 3);
     step!(it.arrived(0, 0, false) => Ok((0, 0)));
-}
-
-/// What came twice is of one stream, and so is an answer that is due. It isn't told once the true end drops its
-/// bytes. No window ends above the last number.
-#[test]
-fn what_came_twice_is_of_one_stream() {
-    let mut it = Receiving::<1>::new(40, 100, 8);
-    step!(it.open(100, 0) => 40; is_wanted = false);
-    step!(it.arrived(100, 4, false) => Ok((4, 4)); is_wanted = true, next = 4, queued = 4);
-    step!(it.arrived(100, 4, false) => Ok((0, 0)); is_due = true);
-    step!(it.open(200, 0) => 40; is_due = false, is_wanted = false, next = 0, queued = 0);
-    step!(it.acknowledgement() => "0 40");
-
-    let mut it = Receiving::<1>::new(40, 0, 8);
-    step!(it.open(0, 0) => 40; is_wanted = false);
-    step!(it.arrived(0, 3, false) => Ok((3, 3)); is_wanted = true, next = 3, queued = 3);
-    step!(it.arrived(4, 2, false) => Ok((2, 0)); is_due = true, held = 1);
-    step!(it.arrived(4, 2, false) => Ok((2, 0)));
-    step!(it.arrived(3, 1, true) => Ok((1, 1)); next = 4, queued = 4, held = 0, end = Some(4));
-    step!(it.acknowledgement() => "5 35"; is_due = false, is_wanted = false);
-
-    let it = Receiving::<1>::new(40, u64::MAX - 10, 8);
-    assert_eq!(it.see(), it.seen);
 }
 
 /// Windows of a scale: 257 in units of 8 are 32; a SYN's has none.

@@ -218,18 +218,6 @@ fn one_position_teaches_nothing() {
     step!(it.came_twice(0..10));
 }
 
-/// What came twice makes the threshold four times as high once a round trip, up to 1024.
-#[test]
-fn the_threshold_rises() {
-    let mut it = Sender::<4>::new(0, 1);
-    for (pos, duplicates) in (0..).zip([12, 48, 192, 768, 1024, 1024, 1024]) {
-        step!(it.send(pos..pos + 1); in_flight = 1);
-        step!(it.duplicated(); duplicates = duplicates);
-        step!(it.duplicated());
-        step!(it.acknowledge(pos + 1); in_flight = 0);
-    }
-}
-
 /// Of segments of 6 bytes. More than 12 bytes that were sent later are reported, which tells that a copy is lost.
 /// Of the copy that is sent then they tell nothing: it is in flight.
 #[test]
@@ -273,19 +261,6 @@ fn all_is_acknowledged_again() {
     step!(it.acknowledge(10); is_active = false);
     step!(it.send(10..20); in_flight = 10);
     step!(it.acknowledged(10, 0, false, true) => false; duplicates = 12);
-}
-
-/// One of a peer that reports tells nothing: the path may have doubled it (RFC 6675, section 2).
-#[test]
-fn a_peer_that_reports_doubles_nothing() {
-    let mut it = Sender::<32>::new(0, 1);
-    step!(it.send(0..10); in_flight = 10);
-    step!(it.timed_out(); is_active = true, in_flight = 0);
-    step!(it.acknowledge(10); is_active = false);
-    step!(it.send(10..20); in_flight = 10);
-    step!(it.acknowledged(10, 0, false, true) => false);
-    step!(it.acknowledged(10, 0, false, true) => false);
-    step!(it.acknowledged(10, 0, false, true) => false);
 }
 
 /// Before any recovery nothing answers a copy, at position 0 either: the third one tells that the first segment is

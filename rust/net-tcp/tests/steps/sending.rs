@@ -87,11 +87,6 @@ impl<const N: usize> Sending<N> {
         self.end.is_opening_due(Instant::from_micros(now))
     }
 
-    fn bytes(&mut self, range: Range<u64>) -> (usize, bool) {
-        let it = self.end.bytes(range);
-        (it.front.len() + it.back.len(), it.fin)
-    }
-
     /// The segment that is sent next, in a congestion window.
     fn next_segment(&mut self, window: u64, now: i64) -> String {
         let it = self.end.next_segment(window, Instant::from_micros(now));
@@ -240,26 +235,6 @@ fn nagles_rule() {
     step!(it.close() => (), sends(1000, 0) "34-37"; sent = 37, window = 0, is_closed = true);
 }
 
-/// What is set stays for a peer. A probe that is due stays where the peer is forgotten.
-#[test]
-fn what_is_set_stays_for_a_peer() {
-    let mut it = Sending::<4>::new(100, 0);
-    step!(it.set_nagle_enabled(false));
-    step!(it.open(0, 0, 60, 20, true, 0));
-    step!(it.write(9) => 9, sends(1000, 0) "0-9"; sent = 9, window = 91, expires_at = Some(1_000_000));
-    step!(it.write(2) => 2, sends(1000, 0) "9-11"; sent = 11, window = 89);
-
-    let mut it = Sending::<4>::new(100, 0);
-    step!(it.open(0, 0, 10, 10, true, 0));
-    step!(it.write(20) => 20, sends(100, 0) "0-10"; sent = 10, window = 80, expires_at = Some(1_000_000));
-    step!(it.acknowledged(0, [1, 10, 0], &[]) => "taken 10", sends(100, 0) "";
-        first = 10, window = 90, trip = Some(0));
-    step!(it.expired(1_000_000) => "probe"; expires_at = Some(3_000_000), timeouts = 1);
-    step!(it.forget(1_000_000); expires_at = None, timeouts = 0, trip = None);
-    step!(it.next_segment(100, 1_000_000) => "10-11";
-        sent = 11, expires_at = Some(2_000_000), is_recovering = true, beyond = 1);
-}
-
 /// A window is shut after 10 bytes: one byte asks for it, first after a second, then after two. No answer comes for
 /// two round trips, but nothing more may be sent. A byte that isn't taken is sent again once the window opens, and
 /// then the rest. An acknowledgement's number is in the window.
@@ -337,24 +312,6 @@ fn three_equal_acknowledgements() {
         first = 20, window = 60);
 }
 
-/// Such a peer couldn't answer a probe for an answer: the timeout alone passes, and is counted.
-#[test]
-fn no_probe_where_nothing_is_reported() {
-    let mut it = Sending::<4>::new(100, 0);
-    step!(it.open(0, 0, 100, 10, false, 0));
-    step!(it.write(30) => 30; window = 70);
-    step!(it.next_segment(100, 0) => "0-10"; sent = 10, expires_at = Some(1_000_000));
-    step!(it.next_segment(100, 0) => "10-20"; sent = 20);
-    step!(it.acknowledged(10_000, [1, 10, 100], &[]) => "taken 10";
-        first = 10, window = 80, expires_at = Some(1_010_000), trip = Some(10_000));
-    step!(it.expired(1_009_999) => "no");
-    step!(it.expired(1_010_000) => "lost", sends(1, 1_010_000) "10-20 again";
-        expires_at = Some(3_010_000), timeouts = 1, is_recovering = true);
-    step!(it.expired(3_010_000) => "lost"; expires_at = Some(7_010_000), timeouts = 2);
-    step!(it.acknowledged(3_020_000, [1, 20, 100], &[]) => "taken 10";
-        first = 20, window = 90, expires_at = None, timeouts = 0, is_recovering = false);
-}
-
 /// Of six segments the third and fourth were reported, and are acknowledged up to: the peer has dropped them (RFC
 /// 2018, 8). What it reported is sent again, and nothing above.
 #[test]
@@ -372,20 +329,6 @@ fn what_was_reported_is_dropped() {
         first = 50, window = 90, expires_at = Some(202_000));
     step!(it.acknowledged(0, [5, 70, 100], &[]) => "taken 10";
         first = 60, window = 100, expires_at = None, is_recovering = false);
-}
-
-/// A block that begins where the first number that isn't reported is, before the acknowledgement or after it, says
-/// nothing.
-#[test]
-fn a_block_that_says_nothing() {
-    let mut it = Sending::<4>::new(100, 10);
-    step!(it.open(0, 10, 100, 10, true, 0));
-    step!(it.write(40) => 40, sends(40, 0) "10-20, 20-30, 30-40, 40-50";
-        sent = 40, window = 60, expires_at = Some(1_000_000));
-    step!(it.acknowledged_with_data(0, [1, 10, 100], &[10..20]) => "taken 0", sends(40, 0) "");
-    step!(it.acknowledged_with_data(0, [1, 20, 100], &[20..30]) => "taken 10", sends(40, 0) "";
-        first = 10, window = 70, expires_at = Some(2000), trip = Some(0));
-    step!(it.acknowledged_with_data(0, [1, 20, 100], &[30..40, 20..30]) => "taken 0, reports");
 }
 
 /// All is lost by the timeout, and the first segment is sent again. What arrives then wasn't (RFC 5682): the rest
@@ -460,22 +403,6 @@ fn a_window_is_shut_while_something_is_in_flight() {
     step!(it.expired(1_010_000) => "probe"; expires_at = Some(3_010_000), timeouts = 1, is_recovering = true);
 }
 
-/// Less than a segment waits by Nagle's rule, and goes once no answer comes. An answer to it is no answer to a
-/// probe.
-#[test]
-fn less_than_a_segment_goes_once_no_answer_comes() {
-    let mut it = Sending::<4>::new(100, 0);
-    step!(it.open(0, 0, 100, 10, true, 0));
-    step!(it.write(10) => 10, sends(100, 0) "0-10"; sent = 10, window = 90, expires_at = Some(1_000_000));
-    step!(it.acknowledged(10_000, [1, 10, 100], &[]) => "taken 10";
-        first = 10, window = 100, expires_at = None, trip = Some(10_000));
-    step!(it.write(25) => 25, sends(100, 20_000) "10-20, 20-30";
-        sent = 30, window = 75, expires_at = Some(40_000));
-    step!(it.expired(40_000) => "overdue", sends(100, 40_000) "30-35"; sent = 35, expires_at = Some(80_000));
-    step!(it.acknowledged(50_000, [2, 10, 100], &[30..35]) => "taken 0, reports", sends(100, 50_000) "";
-        expires_at = Some(70_000));
-}
-
 /// A forged acknowledgement, of what was never sent, and one too far below: nothing changes. An old one says
 /// nothing.
 #[test]
@@ -522,22 +449,6 @@ fn a_loss_that_was_none() {
     step!(it.take_back() => true; is_recovering = false);
 }
 
-/// What was never sent again, and came twice, tells nothing: the path has doubled it. It is below what is
-/// acknowledged, or also the second block.
-#[test]
-fn what_the_path_doubled() {
-    let mut it = Sending::<4>::new(100, 0);
-    step!(it.open(0, 0, 100, 10, true, 0));
-    step!(it.write(60) => 60; window = 40);
-    step!(it.write(0) => 0, sends(60, 0) "0-10, 10-20, 20-30, 30-40, 40-50, 50-60";
-        sent = 60, expires_at = Some(1_000_000));
-    step!(it.acknowledged(0, [1, 10, 100], &[20..30, 20..30]) => "taken 10, reports";
-        first = 10, window = 50, expires_at = Some(2000), trip = Some(0));
-    step!(it.acknowledged(0, [1, 10, 100], &[0..10, 20..60]) => "taken 0, reports, begins";
-        is_recovering = true);
-    step!(it.take_back() => false);
-}
-
 /// A SYN is sent, and again after a second; then its answer's timeout is the first one.
 #[test]
 fn a_syn_is_sent_again() {
@@ -558,22 +469,6 @@ fn a_syn_is_sent_again() {
         first = 8, sent = 9, expires_at = Some(3_700_000), trip = Some(100_000));
     step!(it.acknowledged(3_400_000, [3, 9, 0], &[]) => "taken 1";
         first = 9, expires_at = None, is_done = true, is_closed = false);
-}
-
-/// The last bytes go round the storage's end, and the end is after them.
-#[test]
-fn the_last_bytes_go_round_the_storages_end() {
-    let mut it = Sending::<1>::new(8, 0);
-    step!(it.open(0, 0, 8, 4, true, 0));
-    step!(it.write(8) => 8, sends(9, 0) "0-4, 4-8"; sent = 8, window = 0, expires_at = Some(1_000_000));
-    step!(it.acknowledged(0, [1, 4, 8], &[]) => "taken 4";
-        first = 4, window = 4, expires_at = Some(202_000), trip = Some(0));
-    step!(it.write(3) => 3; window = 1);
-    step!(it.close() => (), sends(9, 0) "8-12";
-        sent = 12, window = 0, expires_at = Some(2000), is_closed = true);
-    step!(it.bytes(4..12) => (7, true));
-    step!(it.bytes(8..12) => (3, true));
-    step!(it.bytes(11..12) => (0, true));
 }
 
 /// A listener sends its SYN again to another peer. What is in flight then has a timer, the first timeout.

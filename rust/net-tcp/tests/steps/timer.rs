@@ -70,19 +70,6 @@ impl Timer {
     }
 }
 
-/// Sent again while it is timed, in a range that has it; and one that ends before it, one after it.
-#[test]
-fn sent_again_while_it_is_timed() {
-    let mut it = Timer::new(Sack::Permitted);
-    step!(it.sent(0..10, 0, 0, 0); expires_at = Some(1_000_000), timed = Some(0));
-    step!(it.sent(0..10, 0, 10, 100_000); timed = None);
-    step!(it.acknowledged(0, 10, 10, 150_000); expires_at = None);
-    step!(it.sent(10..20, 10, 10, 200_000); expires_at = Some(1_200_000), timed = Some(10));
-    step!(it.sent(5..10, 10, 20, 300_000));
-    step!(it.sent(11..20, 10, 20, 300_000));
-    step!(it.sent(5..11, 10, 20, 300_000); timed = None);
-}
-
 /// A SACK block reports what is timed: the next one is timed; nothing is sent while a window is shut. What was
 /// never sent isn't acknowledged; a peer that reports delays nothing.
 #[test]
@@ -128,51 +115,6 @@ fn probes_up_to_the_timeout() {
     step!(it.sent(5..6, 3, 5, 7_500_000));
     step!(it.expire(12_000_000) => Some(Expiry::Timeout);
         timeout = 8_000_000, expires_at = Some(20_000_000), timed = None, timeouts = 1);
-}
-
-/// A clock that went back gives a sample of no time.
-#[test]
-fn a_clock_that_went_back() {
-    let mut it = Timer::new(Sack::Permitted);
-    step!(it.sent(0..1, 0, 0, 10_000_000); expires_at = Some(11_000_000), timed = Some(0));
-    step!(it.take_sample(0); timed = None);
-}
-
-/// The last moment.
-#[test]
-fn the_last_moment() {
-    let mut it = Timer::new(Sack::Permitted);
-    step!(it.start(9_223_372_036_853_775_807); expires_at = Some(9_223_372_036_854_775_807));
-    step!(it.stop(); expires_at = None);
-    step!(it.start(9_223_372_036_853_775_808); expires_at = Some(9_223_372_036_854_775_807));
-    step!(it.expire(9_223_372_036_854_775_806) => None);
-    step!(it.expire(9_223_372_036_854_775_807) => Some(Expiry::Timeout); timeout = 2_000_000, timeouts = 1);
-}
-
-/// The peer's window is shut, and nothing is on the way: what is acknowledged again doesn't stop the timer of a
-/// probe.
-#[test]
-fn a_shut_window_and_nothing_on_the_way() {
-    let mut it = Timer::new(Sack::Permitted);
-    step!(it.start(0); expires_at = Some(1_000_000));
-    step!(it.acknowledged(50, 50, 50, 10));
-    step!(it.sent(50..51, 50, 50, 20); expires_at = Some(1_000_020), timed = Some(50));
-    step!(it.acknowledged(50, 51, 50, 30));
-    step!(it.acknowledged(50, 51, 51, 40); expires_at = None, timed = None);
-}
-
-/// A round trip of 0.5 s. The window is shut, and the timeout of 1.5 s passes once. What is sent once it opens
-/// starts the timer anew: the doubled timeout of 3 s passes at 6 s, and a probe is due after 1 + 0.2 s.
-#[test]
-fn a_window_opens_after_a_timeout() {
-    let mut it = Timer::new(Sack::Permitted);
-    step!(it.sent(0..1, 0, 0, 0); expires_at = Some(1_000_000), timed = Some(0));
-    step!(it.acknowledged(0, 1, 1, 500_000); timeout = 1_500_000, expires_at = None, timed = None);
-    step!(it.start(600_000); expires_at = Some(2_100_000));
-    step!(it.expire(2_100_000) => Some(Expiry::Timeout);
-        timeout = 3_000_000, expires_at = Some(5_100_000), timeouts = 1);
-    step!(it.sent(1..2, 1, 1, 3_000_000); expires_at = Some(4_200_000), timed = Some(1));
-    step!(it.expire(4_200_000) => Some(Expiry::Probe); expires_at = Some(6_000_000));
 }
 
 /// Round trips of 0.1 s, one each second. The eighth segment's probe is due after 0.2 + 0.2 s, the next one's after
