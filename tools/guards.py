@@ -22,23 +22,8 @@ import libraries
 from parts import ROOT
 from parts import erase_list as given
 
-TOP = '''//! Checked calls of the functions with guards.
-#![tactic(auto)]
-
-use net_assembler::{Assembler, Run, Turns};
-use net_base::phy::DeviceCapabilities;
-use net_base::time::{Duration, Instant};
-use net_base::storage::FragmentsOver;
-use net_base::storage::fragments::table::FragmentSlot;
-use net_ends::{ReceivingEndOver, SendingEndOver};
-use net_receiver::{FiniteReceiverOver, FiniteSenderOver, ReceiverOver, Scoreboard, SendBufferOver, SendRangesOver};
-use net_receiver::{StreamRangesOver, StreamReceiverOver};
-use net_ring::laws::is_usize;
-use net_ring::{RingOver, SplitCounts, Storage};
-use net_tcp::{AdvertisedWindow, TimeoutBounds};
-use std::ops::{Add, AddAssign, Div, DivAssign, Mul, MulAssign, Shl, ShlAssign, Shr, ShrAssign, Sub, SubAssign};
-
-'''
+# What the crate of checked calls begins with.
+TOP = (ROOT / 'tools/parts/checked_calls.rt.in').read_text()
 # Functions with a precondition that no guard at their beginning tests, so that there is no checked call of them: why.
 # What a closure counted is known once it has returned. Of those of `TESTED` the body has a guard further on, which
 # tests in rust/tests break.
@@ -179,7 +164,7 @@ def main(arguments):
     is_faulty = arguments == ['--faults']
     functions = [*(faulty() if is_faulty else guarded())]
     names = [f'call_{k}_{re.sub("[^a-z]+", "_", function[0].lower())}' for k, function in enumerate(functions)]
-    text = TOP + '\n'.join(checked(name, *function[1:]) for name, function in zip(names, functions))
+    text = '\n'.join([TOP, *(checked(name, *function[1:]) for name, function in zip(names, functions))])
     if arguments == ['--print']:
         print(text, end='')
         return 0
