@@ -55,8 +55,7 @@ import textwrap
 from pathlib import Path
 
 sys.dont_write_bytecode = True
-from parts import ROOT, erase_says
-from parts import erase_list as given
+from parts import ROOT, erase_list as given, erase_says
 from parts.erase_ghosts import CALL, OF_TRAIT, OWNER, PLACES, Ghosts, around, is_ghost
 from parts.erase_tokens import SPACE, Refused, Text, words
 

@@ -543,11 +543,7 @@ def put(files, only_compares):
 
 
 def main():
-    from parts import bound  # which import this file
-    from parts import exports
-    from parts import layouts
-    from parts import sequence
-    from parts import shim
+    from parts import bound, exports, layouts, sequence, shim  # which import this file
 
     parser = argparse.ArgumentParser(description=__doc__.split("\n")[0])
     parser.add_argument("--check", action="store_true", help="compare, write nothing")

@@ -19,8 +19,7 @@ from pathlib import Path
 sys.dont_write_bytecode = True
 import erase
 import libraries
-from parts import ROOT
-from parts import erase_list as given
+from parts import ROOT, erase_list as given
 
 # What the crate of checked calls begins with.
 TOP = (ROOT / 'tools/parts/checked_calls.rt.in').read_text()

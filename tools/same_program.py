@@ -41,8 +41,7 @@ from pathlib import Path
 sys.dont_write_bytecode = True
 import libraries
 import widths
-from parts import erase_list as given
-from parts import ROOT, same_pair, stop
+from parts import ROOT, erase_list as given, same_pair, stop
 from parts.mir_text import Listed, tables
 from parts.same_body import CompiledSide
 from parts.same_compiled import Compiled

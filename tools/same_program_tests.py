@@ -25,8 +25,7 @@ import erase
 import libraries
 import same_program
 import widths
-from parts import ROOT
-from parts import erase_list as given
+from parts import ROOT, erase_list as given
 from parts.mir_text import Listed, cells, tables
 from parts.same_body import CompiledSide
 from parts.same_compiled import Compiled

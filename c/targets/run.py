@@ -21,10 +21,7 @@ sys.dont_write_bytecode = True
 
 import disassembly  # noqa: E402
 import ffi  # noqa: E402
-from parts import bound  # noqa: E402
-from parts import exports  # noqa: E402
-from parts import layouts  # noqa: E402
-from parts import sequence  # noqa: E402
+from parts import bound, exports, layouts, sequence  # noqa: E402
 
 FLAGS = ["-std=gnu11", "-O2", "-Wall", "-Wextra", "-Werror", "-ffunction-sections"]
 CXX_FLAGS = ["-std=gnu++17", *FLAGS[1:], "-fno-exceptions", "-fno-rtti"]
@@ -32,27 +29,18 @@ IS_X86_64 = platform.machine() == "x86_64"
 # Debian's packages of each program that is run.
 PACKAGES = {
     "x86_64-linux-gnu-gcc": "gcc libc6-dev" if IS_X86_64 else "gcc-x86-64-linux-gnu libc6-dev-amd64-cross",
-    "qemu-x86_64-static": "qemu-user-static",
-    "valgrind": "valgrind",
-    "i686-linux-gnu-gcc": "gcc-i686-linux-gnu libc6-dev-i386-cross",
-    "aarch64-linux-gnu-gcc": "gcc-aarch64-linux-gnu libc6-dev-arm64-cross",
-    "arm-linux-gnueabihf-gcc": "gcc-arm-linux-gnueabihf libc6-dev-armhf-cross",
     "arm-linux-gnueabihf-g++": "g++-arm-linux-gnueabihf",
-    "powerpc-linux-gnu-gcc": "gcc-powerpc-linux-gnu libc6-dev-powerpc-cross",
-    "riscv64-linux-gnu-gcc": "gcc-riscv64-linux-gnu libc6-dev-riscv64-cross",
     "arm-none-eabi-gcc": "gcc-arm-none-eabi libnewlib-arm-none-eabi",
     "arm-none-eabi-g++": "gcc-arm-none-eabi",
-    "riscv64-unknown-elf-g++": "gcc-riscv64-unknown-elf",
     "riscv64-unknown-elf-gcc": "gcc-riscv64-unknown-elf picolibc-riscv64-unknown-elf",
-    "qemu-aarch64-static": "qemu-user-static",
-    "qemu-arm-static": "qemu-user-static",
-    "qemu-i386-static": "qemu-user-static",
-    "qemu-ppc-static": "qemu-user-static",
-    "qemu-riscv64-static": "qemu-user-static",
-    "qemu-system-arm": "qemu-system-arm",
-    "qemu-system-riscv32": "qemu-system-misc",
-    "qemu-system-riscv64": "qemu-system-misc",
+    "riscv64-unknown-elf-g++": "gcc-riscv64-unknown-elf",
     "qemu-system-x86_64": "qemu-system-x86",
+    **{name: name for name in ("valgrind", "qemu-system-arm")},
+    **{f"qemu-system-riscv{bits}": "qemu-system-misc" for bits in (32, 64)},
+    **{f"qemu-{name}-static": "qemu-user-static" for name in ("x86_64", "aarch64", "arm", "i386", "ppc", "riscv64")},
+    **{f"{name}-gcc": f"gcc-{name} libc6-dev-{library}-cross" for name, library in (
+        ("i686-linux-gnu", "i386"), ("aarch64-linux-gnu", "arm64"), ("arm-linux-gnueabihf", "armhf"),
+        ("powerpc-linux-gnu", "powerpc"), ("riscv64-linux-gnu", "riscv64"))},
 }
 
 
