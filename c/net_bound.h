@@ -340,7 +340,8 @@ NET_BASE_MUST_USE static inline size_t net_bound_sending_end_write(
 static inline void net_bound_sending_end_close(struct net_bound_sending_end *end) {
     net_base_sending_end_close(NET_BOUND_HEAD(end));
 }
-NET_BASE_MUST_USE static inline struct net_base_taken_acknowledgement net_bound_sending_end_acknowledged(
+NET_BASE_MUST_USE static inline struct net_base_taken_acknowledgement
+net_bound_sending_end_acknowledged(
     struct net_bound_sending_end *end, const struct net_base_announcement *it,
     const struct net_base_held_run *blocks, size_t blocks_length, bool is_empty, int64_t now) {
     return net_base_sending_end_acknowledged(NET_BOUND_HEAD(end), NET_BOUND_STORAGE(end), it,
