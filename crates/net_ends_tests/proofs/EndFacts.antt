@@ -1,7 +1,6 @@
 -- What an acknowledgement leaves of an end that sends, and what is read of one that receives.
 use Rattle.std.proofs.Common.{◌≡◌, ◌<◌, ◌≤◌, ◌∙◌, ℕ, ℤ, refl, sym, ap, rules, arith, true, false, append-nil}
-use Rattle.std.proofs.Common.{length-take, subst}
-use Rattle.std.proofs.Common.{List, [], ◌∷◌, ◌++◌, length, take, drop}
+use Rattle.std.proofs.Common.{length-take, subst, List, [], ◌∷◌, ◌++◌, length, take, drop}
 use Rattle.std.specs.Prelude.{◌↔◌, ◌-◌, ◌&&◌, nat_lt, min, Bool, Option, Some, None, IsTrue, IsFalse, IsSome, is_some}
 use Rattle.std.specs.Prelude.{if◌then◌else◌, All}
 use Rattle.std.specs.Int.{from_bool}
@@ -9,13 +8,12 @@ use Rattle.std.proofs.lemmas.Bool.Decides.{nat_tests}
 use Rattle.std.proofs.lemmas.List.{take_min}
 use Rattle.std.proofs.lemmas.List.Elements.{All-nil, All-cons}
 use Rattle.net_receiver.specs.Finite.{Arrives, Reads, MatchesFinite, CommandMatches, bytes_taken}
-use Rattle.net_tcp.specs.Retransmission.{expires_from}
-use Rattle.net_tcp.specs.Retransmission.{Timer as RetransmissionTimer}
+use Rattle.net_tcp.specs.Retransmission.{expires_from, Timer as RetransmissionTimer}
 use Rattle.net_tcp.specs.LossRecovery.{is_active}
 use Rattle.net_ends.specs.Ends.{End, end, first, timed_out}
 use Rattle.net_ends.specs.declared.sending_end.Outgoing.{Outgoing}
 use Rattle.net_ends.specs.Receiving.{Receiving, after_arrival}
-use Rattle.net_examples.proofs.AnyPathFacts.{read_is}
+use Rattle.net_ends_tests.proofs.TextFacts.{read_is}
 
 -- a timer that runs ends at a moment
 pub ends : (t : RetransmissionTimer) (at : Option ℤ) → IsTrue (is_some at) → IsSome (expires_from t at)

@@ -9,23 +9,19 @@ use Rattle.std.proofs.lemmas.List.Edits.{length-between}
 use Rattle.net_receiver.specs.SenderState.{Sends}
 use Rattle.net_receiver.specs.FiniteSender.{FiniteSenderState, SenderCommand, Writes, Closes, Marks, Acknowledges}
 use Rattle.net_receiver.specs.FiniteSender.{sender_after_command, sender_after_commands, accepts, acknowledged_below}
-use Rattle.net_receiver.specs.FiniteSender.{numbers_end, finite_room}
-use Rattle.net_receiver.specs.FiniteSender.{SoundSentStays, ClosedStays}
+use Rattle.net_receiver.specs.FiniteSender.{numbers_end, finite_room, SoundSentStays, ClosedStays}
 use Rattle.net_receiver.specs.Finite.{FiniteState, MatchesFinite, SegmentOfStream, finite_after, before_segment}
-use Rattle.net_receiver.specs.Finite.{below_end}
-use Rattle.net_receiver.specs.Finite.{ends_in_order, queue_alone, has_other_end}
+use Rattle.net_receiver.specs.Finite.{below_end, ends_in_order, queue_alone, has_other_end}
 use Rattle.net_receiver.specs.ReceiverState.{ReceiverState, receiver_after_command, Segment}
-use Rattle.net_examples.specs.AnyPath.{IsReading}
+use Rattle.net_ends_tests.specs.Path.{IsReading, IsWriting}
 use Rattle.net_receiver.specs.OneStream.{MatchesStream, MatchesLonger, SegmentReadsNothing}
 use Rattle.net_assembler.specs.Positions.{Positions}
 use Rattle.net_tcp.specs.LossRecovery.{Recovery as LossRecovery}
 use Rattle.net_ends.specs.Ends.{End, Event, after_event, after_events, commands, IsSegment, may_send, first, limit}
-use Rattle.net_ends.specs.Ends.{is_due}
-use Rattle.net_ends.specs.Ends.{Sent, Heard}
+use Rattle.net_ends.specs.Ends.{is_due, Sent, Heard}
 use Rattle.net_ends.specs.Receiving.{Receiving, after_arrival}
 use Rattle.net_ends.specs.Path.{LentIsWritten}
-use Rattle.net_examples.proofs.AnyPathFacts.{wrote}
-use Rattle.net_ends_tests.specs.Path.{IsWriting}
+use Rattle.net_ends_tests.proofs.TextFacts.{wrote}
 
 -- ---- the sender
 same_closed : (b : Bool) (s t : FiniteSenderState) → t.closed ≡ s.closed → (if b then t else s).closed ≡ s.closed

@@ -2,16 +2,20 @@
 //! forges none. What is read is a prefix of the text, and all of it once the receiver says so, whatever is
 //! acknowledged, by forged segments too, and whatever the timer and the windows say.
 //!
-//! `carry` says so, in three clauses about the text and what was read. They hold for any list of events, in any order.
+//! `carry` says so, in three clauses about the text and what was read. They hold for any list of events, in any order,
+//! and for storages of any lengths. By `first_missing` what the receiver lacks can always be sent again, if no
+//! acknowledgement says more than arrived. Nothing says that a segment arrives: the path may lose each of them.
+//!
 //! `IsCarried` is what stays true from event to event, by the clauses of both ends and the laws over them.
-ghost use Rattle.std.specs.Prelude.{◌≡◌, ◌≤◌, ℕ, List, length, take, All, IfOk, IsTrue};
-ghost use Rattle.net_receiver.specs.Finite.{MatchesFinite};
-ghost use Rattle.net_examples.specs.AnyPath.{IsOfText, IsReading};
-ghost use Rattle.net_ends_tests.specs.Path.{IsCarried, IsWriting};
+ghost use Rattle.std.specs.Prelude.{◌≡◌, ◌≤◌, ◌<◌, ℕ, List, length, take, drop, All, IfOk, IsTrue, IsFalse};
+ghost use Rattle.net_receiver.specs.ReceiverState.{next_position};
+ghost use Rattle.net_receiver.specs.Finite.{MatchesFinite, acknowledged, is_complete};
+ghost use Rattle.net_receiver.specs.FiniteSender.{first_number};
+ghost use Rattle.net_ends_tests.specs.Path.{IsCarried, IsOfText, IsReading, IsSending, IsWriting};
 
 use net_base::time::{Duration, Instant};
 use net_ends::{AckSegment, ReceivingEnd, SendingEnd, laws};
-use net_examples::Segment;
+use net_receiver::{FiniteReceiver, FiniteSender};
 use net_ring::ManagedSlice;
 use net_tcp::{Announcement, TimeoutBounds};
 use std::alloc::{AllocError, Allocator};
@@ -43,6 +47,14 @@ pub enum Event {
     },
     /// All that is queued is read.
     Read,
+}
+
+/// A segment on its way.
+#[derive(Drop)]
+pub struct Segment<A: Allocator + Copy> {
+    pub pos: u64,
+    pub bytes: Vec<u8, A>,
+    pub is_last: bool,
 }
 
 /// Both ends, the segments that the path took, and how many bytes were written and read.
@@ -257,4 +269,23 @@ fn has_all(receiver: &ReceivingEnd<'_, 4>) -> bool
     net_receiver::laws::finite_receivers();
     net_receiver::laws::is_sound_end(receiver.receiver());
     receiver.receiver().has_read_all()
+}
+
+/// Lends the bytes from the receiver's first missing position on. What it acknowledged leaves the sender's storage;
+/// what it lacks is still there, once it was written.
+///
+/// # Requires
+///
+/// Not all has arrived, and the sender was told of nothing that hasn't.
+pub fn first_missing<'s>(sender: &'s FiniteSender<'_>, receiver: &FiniteReceiver<'_, 4>) -> &'s [u8]
+    requires more { IsFalse (is_complete receiver.now) }
+    requires kept { first_number sender.now ≤ acknowledged receiver.now }
+    ensures bytes { (text : List ℕ) (n : ℕ) → IsSending text n sender.now →
+        result.now ≡ take (length result.now) (drop (next_position receiver.now.receiver) (take n text)) }
+    ensures not_empty { (text : List ℕ) (n : ℕ) → IsSending text n sender.now →
+        next_position receiver.now.receiver < n → 0 < length result.now }
+{
+    net_receiver::laws::is_sound_sent(sender);
+    net_receiver::laws::lent_segments();
+    sender.peek_at(receiver.receiver().next(), u64::MAX).bytes
 }

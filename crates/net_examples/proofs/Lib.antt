@@ -1,2 +1,1 @@
-pub mod AnyPathFacts
 pub mod FrameFacts

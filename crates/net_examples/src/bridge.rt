@@ -1,6 +1,5 @@
 //! A bridge of two devices.
-ghost use Rattle.std.specs.Prelude.{◌≡◌, ◌≤◌, ◌+◌, ◌∷◌, ◌++◌, [], ℕ, List, OnErr, IfOk, Ok, true};
-ghost use Rattle.std.specs.Prelude.{false, length};
+ghost use Rattle.std.specs.Prelude.{◌≡◌, ◌≤◌, ◌+◌, ◌∷◌, ◌++◌, [], ℕ, List, OnErr, IfOk, Ok, true, false, length};
 ghost use Rattle.net_examples.specs.Frames.{ForwardsUpTo, Stops, ForwardsAndLoses};
 
 use net_base::phy::{Device, FrameLists, RxToken};

@@ -3,11 +3,7 @@
 
 mod acknowledgement;
 mod anew;
-mod any_path;
 mod bridge;
-mod descriptor;
-mod descriptors;
-mod device;
 mod endpoint;
 mod first_element;
 mod in_order;
@@ -22,11 +18,7 @@ mod timer;
 
 pub use acknowledgement::acknowledge;
 pub use anew::replay_anew;
-pub use any_path::{Event, Segment, Transfer, carry, first_missing, happen};
 pub use bridge::{forward, forward_lists, forward_one};
-pub use descriptor::{Descriptor, FRAME_SIZE};
-pub use descriptors::{DescriptorRings, Frame, Slot, bounce, send_now};
-pub use device::Undamaged;
 pub use endpoint::Endpoint;
 pub use first_element::set_first;
 pub use in_order::{receive, receive_halves};

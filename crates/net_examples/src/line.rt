@@ -1,8 +1,7 @@
 //! A struct with a ring, which lends a part of that ring.
 ghost use Rattle.std.specs.Prelude.{◌≡◌, length, List, ℕ};
 ghost use Rattle.std.specs.Borrow.{sem};
-ghost use Rattle.net_ring.specs.Ring.{contiguous_unallocated, spare_index, with_elements};
-ghost use Rattle.net_ring.specs.Ring.{WritesSpare};
+ghost use Rattle.net_ring.specs.Ring.{contiguous_unallocated, spare_index, with_elements, WritesSpare};
 
 use net_ring::{RingOver, Storage};
 

@@ -80,10 +80,9 @@ pub trait Device {
     /// The timestamp is the moment of the call. Any moment is allowed.
     ///
     /// ```rust
-    /// let Some(token) = device.transmit(now) else {
-    ///     return false;
+    /// let Some(token) = to.transmit(timestamp) else {
+    ///     return Ok(false);
     /// };
-    /// let sent = device.send(token, bytes.len(), |buffer| buffer.copy_from_slice(bytes));
     /// ```
     fn transmit(&mut self, timestamp: Instant) -> Option<Self::TxToken>
         ensures none { IfNone result (is_busy self.old) }

@@ -5,7 +5,7 @@ use Rattle.net_receiver.specs.FiniteSender.{IsSoundSent}
 use Rattle.net_receiver.specs.SenderState.{Sends}
 use Rattle.net_ends.specs.Ends.{End}
 use Rattle.net_ends.specs.Receiving.{Receiving}
-use Rattle.net_examples.specs.AnyPath.{IsOfText}
+use Rattle.net_ends_tests.specs.Path.{IsOfText}
 use Rattle.net_ends_tests.proofs.path.carry.Goals as goal
 
 pub returns-clause-whole : goal.returns-clause-whole

@@ -1,5 +1,5 @@
 use Rattle.std.proofs.Common.{All, subst, sym}
-use Rattle.net_examples.specs.AnyPath.{IsOfText}
+use Rattle.net_ends_tests.specs.Path.{IsOfText}
 use Rattle.net_ends_tests.proofs.path.happen.Goals as goal
 
 pub returns-in_ok-send-in-Send : goal.returns-in_ok-send-in-Send

@@ -1,7 +1,7 @@
 use Rattle.std.proofs.Common.{◌∙◌, ◌++◌, ap, sym, subst, All}
 use Rattle.std.proofs.lemmas.List.Elements.{All-push}
 use Rattle.net_receiver.specs.Finite.{MatchesFinite}
-use Rattle.net_examples.specs.AnyPath.{IsOfText}
+use Rattle.net_ends_tests.specs.Path.{IsOfText}
 use Rattle.net_ends_tests.proofs.PathFacts.{put_on}
 use Rattle.net_ends_tests.proofs.path.put.Goals as goal
 

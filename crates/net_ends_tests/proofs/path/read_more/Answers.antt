@@ -2,7 +2,7 @@ use Rattle.std.proofs.Common.{◌+◌, arith, ap, sym, ◌∙◌, subst}
 use Rattle.std.specs.Prelude.{slice_range}
 use Rattle.net_receiver.specs.Finite.{ReceivesFinite}
 use Rattle.net_ends.specs.Receiving.{Receiving}
-use Rattle.net_examples.proofs.AnyPathFacts.{read_on, read_is}
+use Rattle.net_ends_tests.proofs.TextFacts.{read_on, read_is}
 use Rattle.net_ends_tests.proofs.path.read_more.Goals as goal
 
 pub returns-clause-reading : goal.returns-clause-reading

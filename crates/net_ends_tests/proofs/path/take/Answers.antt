@@ -1,6 +1,5 @@
 use Rattle.std.proofs.Common.{sym, subst}
-use Rattle.net_examples.specs.AnyPath.{IsReading}
-use Rattle.net_receiver.specs.Finite.{MatchesFinite}
+use Rattle.net_ends_tests.specs.Path.{IsReading}
 use Rattle.net_ends.specs.Receiving.{Receiving, is_empty}
 use Rattle.net_ends_tests.proofs.PathFacts.{arrived_reads}
 use Rattle.net_ends_tests.proofs.path.take.Goals as goal

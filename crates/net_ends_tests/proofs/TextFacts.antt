@@ -1,9 +1,8 @@
--- A text that is written in parts, put on a path in segments, and read in parts.
-use Rattle.std.proofs.Common.{◌≡◌, ◌∙◌, sym, ap, subst, cond, ℕ, ◌+◌, ◌-◌, ◌≤◌, List, [], ◌∷◌, ◌++◌, length, take, drop}
-use Rattle.std.proofs.Common.{All, arith, take-add, length-take}
+-- A text that is written in parts, and read in parts.
+use Rattle.std.proofs.Common.{◌≡◌, ◌∙◌, sym, ap, subst, cond, ℕ, ◌+◌, ◌-◌, ◌≤◌, List, ◌++◌, length, take, drop}
+use Rattle.std.proofs.Common.{arith, take-add, length-take}
 use Rattle.std.specs.Prelude.{slice_range, IsFalse, min}
-use Rattle.std.proofs.lemmas.List.{take-append-le, take-append-drop, take_at, drop-drop, drop_all}
-use Rattle.std.proofs.lemmas.List.Elements.{All-push}
+use Rattle.std.proofs.lemmas.List.{take-append-le, take_at, drop-drop}
 use Rattle.std.proofs.lemmas.Slice.{between_to_end}
 use Rattle.std.proofs.Math.Seq.{take-append-add}
 use borrow.Rule.Slice.PartMut.{put_mid, post_of}
@@ -11,9 +10,7 @@ use Rattle.net_receiver.specs.SenderState.{Sends}
 use Rattle.net_receiver.specs.FiniteSender.{FiniteSenderState, first_number}
 use Rattle.net_receiver.specs.Finite.{FiniteState, acknowledged, is_complete}
 use Rattle.net_receiver.specs.ReceiverState.{next_position}
-use Rattle.net_receiver.specs.Finite.{MatchesFinite}
-use Rattle.net_examples.specs.declared.any_path.Segment.{Segment}
-use Rattle.net_examples.specs.AnyPath.{IsSending, IsOfText}
+use Rattle.net_ends_tests.specs.Path.{IsSending}
 
 -- n more bytes were written
 pub wrote : (text : List ℕ) (from n : ℕ) (s t : FiniteSenderState) → IsSending text from s → n ≤ length text - from →
@@ -28,18 +25,6 @@ wrote text from n s t is fits more same = record {
   closed = λ on. (let all = is.closed (sym same ∙ on) in omega arith);
   within = omega (arith, is.within);
 }
-
--- a segment of it was put on the path
-pub was_put : {A : Type 0} (text : List ℕ) (n : ℕ) (s : FiniteSenderState) (path : List (Segment A))
-    (one : Segment A) → IsSending text n s →
-    ((f : ℕ) (w more : List ℕ) → Sends f w s.sender → (s.closed ≡ 1 → more ≡ []) →
-    MatchesFinite f (w ++ more) one.pos one.bytes.items one.is_last) →
-    All (IsOfText text) path → All (IsOfText text) (path ++ (one ∷ []))
-was_put text n s path one is says before =
-    let new : MatchesFinite 0 (take n text ++ drop n text) one.pos one.bytes.items one.is_last =
-    says 0 (take n text) (drop n text) is.sends (λ on. drop_all n text (omega (arith, is.closed on))) in
-    All-push (IsOfText text) path one before
-    (subst (λ x. MatchesFinite 0 x one.pos one.bytes.items one.is_last) (take-append-drop n text) new)
 
 -- r more bytes were read
 pub read_on : (text into part : List ℕ) (k from r : ℕ) → from ≤ length into → r ≤ length part →

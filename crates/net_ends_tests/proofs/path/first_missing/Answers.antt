@@ -1,8 +1,8 @@
 use Rattle.std.proofs.Common.{◌≡◌, ◌∙◌, ◌<◌, ap, take, length, arith, length-take}
 use Rattle.net_receiver.specs.ReceiverState.{next_position}
 use Rattle.net_receiver.specs.SenderState.{end_of}
-use Rattle.net_examples.proofs.AnyPathFacts.{left_below, has_left}
-use Rattle.net_examples.proofs.any_path.first_missing.Goals as goal
+use Rattle.net_ends_tests.proofs.TextFacts.{left_below, has_left}
+use Rattle.net_ends_tests.proofs.path.first_missing.Goals as goal
 
 pub returns-clause-bytes : goal.returns-clause-bytes
 returns-clause-bytes c = λ text n is.
