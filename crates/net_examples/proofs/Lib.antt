@@ -1,1 +1,2 @@
 pub mod FrameFacts
+pub mod SendingFacts

@@ -14,6 +14,7 @@ mod line;
 mod packets;
 mod ranges;
 mod samples;
+mod sending;
 mod timer;
 
 pub use acknowledgement::acknowledge;
@@ -28,4 +29,5 @@ pub use line::Line;
 pub use packets::{push_packet, wipe_first};
 pub use ranges::came;
 pub use samples::Samples;
+pub use sending::send_all;
 pub use timer::Timer;
