@@ -1,3 +1,4 @@
+use Rattle.std.proofs.Common.{rules}
 use Rattle.std.proofs.Common.{sym, subst}
 use Rattle.net_packets.specs.{HasSoundSlots}
 use Rattle.net_packets.proofs.HeadQueue.{has_first, sound_dequeued, packet_dequeued, shown_first, if_some, either}
@@ -14,12 +15,7 @@ returns-clause-sound_slots c hs =
     (λ p some is. sound_dequeued c.args.capacity c.args.self.now c.args.slots.now some c.take_first.new.self is hs)
 
 pub returns-clause-state : goal.returns-clause-state
-returns-clause-state c =
-    if_some c.take_first.result
-    (λ p some is. packet_dequeued c.args.capacity c.args.self.now c.args.slots.now some c.take_first.new.self is)
-    c.take_first.ensures.some c.take_first.ensures.taken
+returns-clause-state c = search (rules, if_some, packet_dequeued)
 
 pub returns-clause-place : goal.returns-clause-place
-returns-clause-place c =
-    if_some c.take_first.result (λ p some is. shown_first c.args.capacity c.args.self.now c.args.slots.now some p is)
-    c.take_first.ensures.some c.take_first.ensures.first
+returns-clause-place c = search (rules, if_some, shown_first)

@@ -46,9 +46,7 @@ first g c =
     c.in-Some.ensures.value)
 
 pub overflow_add-from : goal.overflow_add-from
-overflow_add-from g c =
-    let fits = first_fits (first g (goal.at.overflow_add-from g c).In-Some) in
-    omega (arith, fits, c.count-capacity.ensures, c.count-capacity.type_inv)
+overflow_add-from g c = grind (arith, first_fits, first)
 
 pub part_mut-requires : goal.part_mut-requires
 part_mut-requires g c =
@@ -91,8 +89,7 @@ module _ (g : given.Over) (c : After-part_mut g) where
         (g.met.B.Storage.part_written c.self.inside.bytes c.self.inside.head.bytes.read_at ws)
 
 pub f-answer-requires : goal.f-answer-requires
-f-answer-requires g c =
-    c.requires c.in-Some.header.now c.part_mut.result.now (shown g c) c.in-Some.header c.part_mut.result refl refl
+f-answer-requires g c = grind (arith, shown g c)
 
 pub take-requires-clause-size : goal.take-requires-clause-size
 take-requires-clause-size g c = first_in (first g (goal.at.take-requires-clause-size g c).In-Some)
@@ -107,11 +104,7 @@ invariant_of-self-else-is_ok g c =
     (stays g (goal.at.invariant_of-self-else-is_ok g c).After-part_mut c.f-answer.new.arg2 c.f-answer.new.arg3).sound
 
 pub returns-clause-no_packet : goal.returns-clause-no_packet
-returns-clause-no_packet g c = (
-  λ e. absurd (false≢true e),
-  λ zero. absurd (some_in (first g (goal.at.returns-clause-no_packet g c).In-Some).queue
-      (omega (arith, c.if-self-eq0.false)) (still_there c.args.self.now ∙ zero)),
-)
+returns-clause-no_packet g c = search (rules, false≢true, some_in, first, still_there)
 
 pub returns-clause-empty : goal.returns-clause-empty
 returns-clause-empty g c = none_of c.args.self.now (returns-clause-no_packet g c)

@@ -56,11 +56,7 @@ pub invariant_of-self : goal.invariant_of-self
 invariant_of-self g c = (left g c).sound
 
 pub returns-clause-full : goal.returns-clause-full
-returns-clause-full g c = (
-  λ e. absurd (false≢true e),
-  λ none. absurd (has_place (at g (goal.at.returns-clause-full g c).After-part_mut)
-      none),
-)
+returns-clause-full g c = grind (arith, false≢true, has_place, at)
 
 pub returns-clause-wrote : goal.returns-clause-wrote
 returns-clause-wrote g c =
@@ -87,9 +83,4 @@ returns-clause-wrote g c =
     }
 
 pub returns-clause-capacity : goal.returns-clause-capacity
-returns-clause-capacity g c =
-    let k = queue_at _ _ _ c.self.invariant c.self.view_is in (
-      ap length c.write_slots.ensures ∙ slots_long c.in-Some.place c.f-count.result c.args.header _ ∙ slots_of k,
-      ap length (g.met.B.Storage.part_written c.self.inside.bytes c.in-Some.place.from c.f-count.new.arg2)
-          ∙ length-overwrite _ c.in-Some.place.from c.f-count.new.arg2 ∙ ap length (stored k),
-    )
+returns-clause-capacity g c = grind (arith, queue_at, slots_long, slots_of, length-overwrite, stored)

@@ -16,9 +16,7 @@ first g c =
     (c.element-slot.ensures ∙ ap (λ o. Some (slot c.element-slot.result.now.size o)) c.in-Some.is)
 
 pub overflow_add-from : goal.overflow_add-from
-overflow_add-from g c =
-    let fits = first_fits (first g c) in
-    omega (arith, c.count-capacity.ensures, c.count-capacity.type_inv)
+overflow_add-from g c = grind (arith, first_fits, first g c)
 
 pub part-requires : goal.part-requires
 part-requires g c = let fits = first_fits (first g c) in record { count = (omega arith, omega arith) }

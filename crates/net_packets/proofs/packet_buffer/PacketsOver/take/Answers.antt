@@ -17,8 +17,4 @@ returns-clause-taken g c =
     taken_as q c.skip.ensures.well_placed c.in-Some.header c.in-Some.size first c.take_first.new.self (search is)
 
 pub returns-clause-call : goal.returns-clause-call
-returns-clause-call g c =
-    let q = c.args.self.now in
-    let is : c.take_first.new.self ≡ without_first_and_gap q = search rules in
-    let first : IsFirstSized q.packets c.in-Some.header c.in-Some.size = search rules in
-    take_call q c.skip.ensures.well_placed c.in-Some.header c.in-Some.size first c.take_first.new.self (search is)
+returns-clause-call g c = search (rules, take_call)

@@ -1,3 +1,4 @@
+use Rattle.std.proofs.Common.{rules}
 use Rattle.std.proofs.Common.{ℕ, length, ap, ap₂, ◌∙◌, arith}
 use Rattle.std.proofs.lemmas.List.{length-set}
 use Rattle.net_packets.specs.{without_first, with_slot_taken}
@@ -7,9 +8,7 @@ use Rattle.net_packets.proofs.packet_buffer.PacketsOver.take_first.Given as give
 use Rattle.net_packets.proofs.packet_buffer.PacketsOver.take_first.Goals as goal
 
 pub take-requires-clause-size : goal.take-requires-clause-size
-take-requires-clause-size g c =
-    first_in (first_at (queue_at _ _ _ c.self.invariant c.self.view_is) c.requires (omega (arith, c.if-self-eq0.false))
-    c.in-Some.ensures.some)
+take-requires-clause-size g c = grind (arith, first_in, first_at, queue_at)
 
 left : (g : given.Over) (c : goal.After-take g)
     → IsQueue c.take.new.self (g.M.Storage.elements c.lift_header.new.slots) (g.B.Storage.elements c.self.inside.bytes)
@@ -25,9 +24,7 @@ pub invariant_of-self-2 : goal.invariant_of-self-2
 invariant_of-self-2 g c = (left g c).sound
 
 pub returns-clause-first : goal.returns-clause-first
-returns-clause-first g c =
-    sized (first_at (queue_at _ _ _ c.self.invariant c.self.view_is) c.requires (omega (arith, c.if-self-eq0.false))
-    c.in-Some.ensures.some)
+returns-clause-first g c = search (rules, sized, first_at, queue_at)
 
 pub returns-clause-left : goal.returns-clause-left
 returns-clause-left g c = (left g c).seen
