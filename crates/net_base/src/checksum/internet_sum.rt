@@ -200,6 +200,7 @@ const BLOCK: usize = 1 << 16;
 
 /// Adds the words of these bytes to a sum. It sums words whose low byte comes first: 256 times their sum folds to that
 /// of the words whose high byte does, since 256 times 256 is one more than a multiple of 65535.
+#[tactic(auto, using(crate::proofs::WordSums::block_more, crate::proofs::WordSums::folded_le))]
 fn sum_words(start: u32, bytes: &[u8]) -> u32
     requires { start < 2 ^ 17 }
     ensures { folded (256 * result) ≡ folded (256 * start + word_sum bytes.now) }
@@ -236,6 +237,7 @@ const fn has_wide_registers() -> bool {
 
 /// Adds the words of a block to a sum, eight bytes at a time. The loop has no carries, so that it is done by vectors.
 #[inline]
+#[tactic(auto, using(crate::proofs::WordSums::eight_more))]
 fn sum_eights(start: u32, bytes: &[u8]) -> u32
     requires start { start < 2 ^ 17 }
     requires few { length bytes.now ≤ BLOCK }
@@ -278,6 +280,7 @@ fn sum_few(start: u32, bytes: &[u8]) -> u32
 
 /// Adds the words of a block to a sum, four bytes at a time.
 #[inline]
+#[tactic(auto, using(crate::proofs::WordSums::four_more))]
 fn sum_fours(start: u32, bytes: &[u8]) -> u32
     requires start { start < 2 ^ 17 }
     requires few { length bytes.now ≤ BLOCK }

@@ -357,6 +357,7 @@ fn ends_above(limit: usize, offset: usize, len: usize) -> bool
 
 /// Returns whether the fragment at `offset` has another byte than one of a run from `start` to `end`, which is within
 /// the bytes.
+#[tactic(auto, using(crate::proofs::FragmentFacts::slices_differ))]
 fn run_differs(bytes: &[u8], start: usize, end: usize, offset: usize, data: &[u8]) -> bool
     requires { end ≤ length bytes.now }
     ensures { IsTrue result

@@ -1,4 +1,4 @@
-use Rattle.std.proofs.Common.{◌≡◌, ℕ, ◌∙◌, take, ap, refl, subst, true, false, arith}
+use Rattle.std.proofs.Common.{◌≡◌, ℕ, refl, subst, true, false, arith}
 use Rattle.net_base.specs.Fragments.{FragmentsState, IsComplete}
 use Rattle.net_base.proofs.FragmentFacts.{first_part}
 use Rattle.net_base.proofs.storage.fragments.FragmentsOver.assemble.Given as given
@@ -17,18 +17,10 @@ whole g c =
     (c.in-Some.ensures.size (g.B.Storage.elements c.self.inside.bytes))
 
 pub part-requires : goal.part-requires
-part-requires g c = record {
-  count =
-      (omega arith, c.in-Some.ensures.fits (g.B.Storage.elements c.self.inside.bytes) c.self.invariant.0);
-}
+part-requires g c = grind arith
 
 pub returns-in-Some-clause-complete : goal.returns-in-Some-clause-complete
 returns-in-Some-clause-complete g c = ((λ _. (c.in-Some.size, whole g c)), λ _. refl)
 
 pub returns-in-Some-clause-bytes : goal.returns-in-Some-clause-bytes
-returns-in-Some-clause-bytes g c = (
-  c.in-Some.size,
-  whole g c,
-  first_part _ _ _ c.part.ensures
-      ∙ ap (λ (v : FragmentsState). take c.in-Some.size v.bytes) c.self.view_is,
-)
+returns-in-Some-clause-bytes g c = grind (arith, whole g c, first_part)

@@ -1,6 +1,7 @@
-use Rattle.std.proofs.Common.{◌≡◌, ◌∙◌, ℕ, Bool, false, List, [], ◌∷◌, length, ◌==◌, OnOk, Result, Ok, Err, ap, refl}
+use Rattle.std.proofs.Common.{arith}
+use Rattle.std.proofs.Common.{◌≡◌, ℕ, Bool, false, List, [], ◌∷◌, length, ◌==◌, OnOk, Result, Ok, Err, refl}
 use Rattle.std.proofs.lemmas.Result.{on_err_weaker}
-use Rattle.std.proofs.Common.{set, slice_index_or}
+use Rattle.std.proofs.Common.{slice_index_or}
 use Rattle.std.proofs.lemmas.List.{set-get_or}
 use Rattle.std.proofs.lemmas.Option.{slice_get-get_or}
 use Rattle.net_base.proofs.storage.fragments.table.accept.Goals as goal
@@ -16,24 +17,13 @@ not_empty x [] p q e = absurd (cc)
 not_empty x (y ∷ ys) p q e = absurd (cc)
 
 pub returns-in-Some-clause-no_bytes : goal.returns-in-Some-clause-no_bytes
-returns-in-Some-clause-no_bytes g c = (
-  λ q. absurd (c.accept.ensures.no_bytes q),
-  λ e. absurd (not_empty c.is_empty.result c.args.data.now c.is_empty.ensures c.if-is_empty.false e),
-)
+returns-in-Some-clause-no_bytes g c = grind (arith, not_empty)
 
 pub returns-in-Some-clause-no_slot : goal.returns-in-Some-clause-no_slot
-returns-in-Some-clause-no_slot g c = (
-  λ q. absurd (c.accept.ensures.no_slot q),
-  λ h. let none = c.slot_for.ensures.none.1 h.1 in
-      let some = c.in-Some.is in absurd (cc),
-)
+returns-in-Some-clause-no_slot g c = grind arith
 
 pub returns-in-Some-clause-unchanged : goal.returns-in-Some-clause-unchanged
-returns-in-Some-clause-unchanged g c =
-    on_err_weaker c.accept.result
-    (λ same. ap (set c.args.slots.now c.in-Some.at) same
-    ∙ set-get_or c.args.slots.now c.in-Some.at c.index-slots-at.result)
-    c.accept.ensures.unchanged
+returns-in-Some-clause-unchanged g c = grind (arith, on_err_weaker, set-get_or)
 
 pub returns-in-Some-clause-slot : goal.returns-in-Some-clause-slot
 returns-in-Some-clause-slot g c = λ _ _. (
