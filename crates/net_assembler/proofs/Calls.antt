@@ -10,6 +10,7 @@ use Rattle.std.proofs.Math.Pow.{pow_mono}
 use Rattle.std.proofs.lemmas.Nat.{pow_pos}
 use Rattle.std.proofs.lemmas.Int.Digits.{length-digits_of_step, length-digits_of-le}
 use Rattle.std.proofs.lemmas.List.Sorted.{list_any-IsPermutation}
+use Rattle.std.proofs.Common.{rules}
 use Rattle.net_assembler.specs.declared.assembler.error.TooManyHolesError.{TooManyHolesError}
 use Rattle.net_assembler.specs.Positions.{Positions, contains, with_range, first_missing, front, runs}
 use Rattle.net_assembler.specs.Positions.{lies_in, IsFirstMissing}
@@ -24,11 +25,7 @@ use Rattle.net_assembler.proofs.Runs.{one_run_more}
 use Rattle.net_assembler.proofs.Joins.{runs-nothing, set_of_no_runs}
 
 pub first_missing_is_least : (s : Positions) (p : ℕ) → IsFirstMissing s p (first_missing s p)
-first_missing_is_least s p = record {
-  from = first_missing-le s p;
-  missing = first_missing-misses s p;
-  present = first_missing-has s p;
-}
+first_missing_is_least s p = search (rules, first_missing-le, first_missing-misses, first_missing-has)
 
 pub front_is_least_missing : (s : Positions) → IsFirstMissing s 0 (front s)
 unfolding front
@@ -85,12 +82,7 @@ adding_again most_runs o n s once twice (Err x) e l ok err refused =
 
 -- counts that stay as they are
 pub no_turn : (looks moves : ℕ) (t : ℕ × ℕ) → TurnsWithin looks moves t t
-no_turn looks moves t = record {
-  looks_few = omega arith;
-  moves_few = omega arith;
-  no_look_lost = omega arith;
-  no_move_lost = omega arith;
-}
+no_turn looks moves t = search rules
 
 -- ranges that are added one after another, in any order
 pub contains-with_ranges : (s : Positions) (ranges : List (ℕ × ℕ)) (p : ℕ) →
@@ -104,15 +96,11 @@ contains-with_ranges s (range ∷ ranges) p =
 pub same_ranges : (s : Positions) (ranges others : List (ℕ × ℕ)) →
     ((p : ℕ) → lies_in_some p ranges ≡ lies_in_some p others) →
     with_ranges s ranges ≡ with_ranges s others
-same_ranges s ranges others is =
-    same_positions _ _
-    (λ p. contains-with_ranges s ranges p ∙ ap (λ b. contains s p || b) (is p) ∙ sym (contains-with_ranges s others p))
+same_ranges s ranges others is = search (rules, same_positions, contains-with_ranges)
 
 pub reordered_ranges : (s : Positions) (ranges others : List (ℕ × ℕ)) → IsPermutation ranges others →
     with_ranges s ranges ≡ with_ranges s others
-reordered_ranges s ranges others moved =
-    same_ranges s ranges others
-    (λ p. list_any-IsPermutation (λ range. lies_in p (range.0, range.0 + range.1)) ranges others moved)
+reordered_ranges s ranges others moved = search (rules, same_ranges, list_any-IsPermutation)
 
 -- what closes the goals of laws
 pub ruleset members = (contains-nothing, contains-with_range, contains-shift_down)

@@ -5,6 +5,7 @@ use Rattle.std.specs.List.{slice_get}
 use Rattle.std.proofs.lemmas.Bool.{cond_both, cond-false, ne_eqb}
 use Rattle.std.proofs.lemmas.List.{length-drop}
 use Rattle.std.proofs.lemmas.Option.{slice_get_past}
+use Rattle.std.proofs.Common.{rules}
 use Rattle.net_assembler.specs.Positions.{holes_before}
 use Rattle.net_assembler.specs.RunLists.{start_at, end_at, IsRising, AreRuns}
 
@@ -30,9 +31,7 @@ hole_between low (r ∷ t ∷ rs) (suc k) h l =
 
 pub no_hole : (rs : List (ℕ × ℕ)) (k : ℕ) → length rs ≤ k + 1 →
     slice_get (holes_before (end_at rs 0) (drop 1 rs)) k ≡ None
-no_hole rs k l =
-    slice_get_past (holes_before (end_at rs 0) (drop 1 rs)) k
-    (omega (arith, few_holes (end_at rs 0) (drop 1 rs), length-drop 1 rs))
+no_hole rs k l = search (rules, slice_get_past, few_holes, length-drop)
 
 pub rises_after : (rs : List (ℕ × ℕ)) → AreRuns rs → (0 < length rs → 0 < start_at rs 0) → IsRising 1 rs
 rises_after [] h first = tt

@@ -7,6 +7,7 @@ use Rattle.std.proofs.lemmas.Bool.{cases_lt, lt-ltb, le-ltb, false≢true}
 use Rattle.std.proofs.lemmas.Bool.Decides.{nat_tests}
 use Rattle.std.specs.Prelude.{Some, None}
 use Rattle.std.specs.Int.{from_bool}
+use Rattle.std.proofs.Common.{rules}
 use Rattle.net_assembler.specs.declared.assembler.head.AssemblerHead.{AssemblerHead}
 use Rattle.net_assembler.specs.Positions.{EndsHole, IsEnd, contains, first_missing, maximal_runs}
 use Rattle.net_assembler.specs.Positions.{present_count, runs_shifted_up}
@@ -37,19 +38,11 @@ module _ (rs : List (ℕ × ℕ)) (p n : ℕ) (h : AreRuns rs) (s : SplitsRuns r
   -- from p and from the end of the last of them on, up to the next run, nothing is present
   lacks : (e q : ℕ) → (0 < n → e ≡ end_at rs (n - 1)) → p ≤ q → e ≤ q → (n < length rs → q < start_at rs n) →
       in_runs rs q ≡ false
-  lacks e q is from past before = either (cases_lt 0 n)
-      (λ some. within q some from before ∙ le-ltb q (end_at rs (n - 1)) (omega (arith, is some, past)))
-      (λ none. without q (omega (arith, none)) before)
+  lacks e q is from past before = search (rules, either, cases_lt, within, le-ltb, without)
 
   -- whether p is present
   pub here : (e : ℕ) → (n ≡ 0 → e ≡ 0) → (0 < n → e ≡ end_at rs (n - 1)) → nat_lt p e ≡ contains (set_of_runs rs) p
-  here e zeroth is =
-      let before : n < length rs → p < start_at rs n = λ l. s.after n (omega arith) l in
-      sym (contains-set_of_runs rs p ∙ either (cases_lt 0 n)
-      (λ some. within p some (omega arith) before ∙ ap (nat_lt p) (sym (is some)))
-      (λ none.
-      let zero : n ≡ 0 = omega (arith, none) in
-      without p zero before ∙ sym (le-ltb p e (omega (arith, zeroth zero)))))
+  here e zeroth is = search (rules, contains-set_of_runs, either, cases_lt, within, without, le-ltb)
 
   -- the first missing position from p on
   pub missing_from : (e : ℕ) → (n ≡ 0 → e ≡ 0) → (0 < n → e ≡ end_at rs (n - 1)) →
@@ -215,12 +208,7 @@ module _ (xs : List (ℕ × ℕ)) (used : ℕ) (h : AreRuns (take used xs)) (roo
   -- where n of them start at or before p, those before the last of these end by then
   pub skipped_overlap : (n j p e : ℕ) → n ≤ used → j ≡ n - 1 → ((k : ℕ) → k < n → start_at xs k ≤ p) →
       overlap (drop j cs) p e ≡ overlap cs p e
-  skipped_overlap n j p e few is before =
-      overlap-drop cs j p e (λ k a b.
-      let last = before (n - 1) (omega (arith, is, a)) in
-      let next = apart 0 cs k (n - 1) h (omega (arith, is, a)) (omega (arith, long, is, a, few)) in
-      let at = ap (λ (r : ℕ × ℕ). r.0) (pair (n - 1) (omega (arith, is, a, few))) in
-      omega (arith, last, next, at))
+  skipped_overlap n j p e few is before = search (rules, overlap-drop, apart, long, pair)
 
 word : shortfall < 2 ^ 64
 unfolding shortfall
@@ -264,18 +252,10 @@ module _ (h : AssemblerHead) (xs : List (ℕ × ℕ)) (s : HasSoundRuns h xs) wh
   -- a search finds how many start at or before p
   pub splits : (p n : ℕ) → h.first_start ≤ p → n ≤ h.used → ((k : ℕ) → k < n → start_at xs k ≤ p - h.first_start) →
       ((k : ℕ) → n ≤ k → k < h.used → p - h.first_start < start_at xs k) → SplitsRuns (maximal_runs (set_of h xs)) p n
-  splits p n from few before after = subst (λ ts. SplitsRuns ts p n) (sym (maximal_runs-set_of h xs s)) (record {
-    few = omega (arith, count, few);
-    before = λ k l. omega (arith, starts k (omega (arith, l, few)), before k l, from);
-    after = λ k a b. omega (arith, starts k (omega (arith, count, b)), after k a (omega (arith, count, b)), from);
-  })
+  splits p n from few before after = search (rules, maximal_runs-set_of, count, starts)
 
   pub splits_none : (p : ℕ) → p < h.first_start → SplitsRuns (maximal_runs (set_of h xs)) p 0
-  splits_none p below = subst (λ ts. SplitsRuns ts p 0) (sym (maximal_runs-set_of h xs s)) (record {
-    few = omega arith;
-    before = λ k l. absurd (omega (arith, l));
-    after = λ k a b. omega (arith, starts k (omega (arith, count, b)), below);
-  })
+  splits_none p below = search (rules, maximal_runs-set_of, starts, count)
 
   module _ (p n : ℕ) (is : SplitsRuns (maximal_runs (set_of h xs)) p n) where
     found : SplitsRuns rs p n
@@ -288,13 +268,7 @@ module _ (h : AssemblerHead) (xs : List (ℕ × ℕ)) (s : HasSoundRuns h xs) wh
     before_split k l = omega (arith, found.before k l, starts k (omega (arith, l, few_split)))
 
     pub some_split : h.first_start ≤ p → 0 < h.used → 0 < n
-    some_split from some = either (cases_lt 0 n) (λ l. l) (λ none.
-        absurd (omega (
-          arith,
-          found.after 0 (omega (arith, none)) (omega (arith, count, some)),
-          run_start h xs s some,
-          from,
-        )))
+    some_split from some = search (rules, either, cases_lt, found, count, run_start)
 
     pub after_split : n < h.used → p < h.first_start + start_at xs n
     after_split l = omega (arith, found.after n (omega arith) (omega (arith, count, l)), starts n l)
