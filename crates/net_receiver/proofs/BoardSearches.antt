@@ -1,4 +1,5 @@
 -- What a search in the offsets of a scoreboard says of its positions.
+use Rattle.net_receiver.proofs.Words.{common_steps}
 use Rattle.net_receiver.proofs.Words.{◌≡◌, ℕ, ◌+◌, ◌-◌, ◌<◌, ◌≤◌, ◌^◌, min, max, true, false, nat_tests, arith, sym}
 use Rattle.net_receiver.proofs.Words.{refl, ap, subst, ◌∙◌, zero, suc, cases_lt, either, both_ways, not, from_bool}
 use Rattle.net_receiver.proofs.Words.{cases_Bool, ◌⊎◌, inl, inr}
@@ -309,9 +310,7 @@ module _ (h : ScoreboardHead) (xs : List (ℕ × ℕ)) (sound : IsSoundBoard h x
   numbered = as_many h xs sound
 
   pub stored : (k : ℕ) → k < h.reported.used → slice_get (maximal_runs s) k ≡ Some (get_or (maximal_runs s) k (0, 0))
-  stored k l =
-      let same = length-up h.base (maximal_runs s) in
-      slice_get-get_or (maximal_runs s) k (0, 0) (omega (arith, l, numbered, same, ap length is_up))
+  stored k l = grind (arith, nat_tests, common_steps, length-up, slice_get-get_or, numbered, is_up)
 
   pub sizes_all : (k : ℕ) → sizes (drop k all) < 2 ^ 64
   sizes_all k =

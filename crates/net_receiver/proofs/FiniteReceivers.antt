@@ -32,7 +32,7 @@ use Rattle.net_receiver.proofs.Words.{sym, ap, ◌∙◌, arith, ⊎_elim, lengt
 use Rattle.net_receiver.proofs.Words.{None, slice_get, take_all, append_assoc, append-nil, take-add, max, subst}
 use Rattle.net_receiver.proofs.Words.{nat_cmp, both_ways, cases_lt, cond_both, and_parts, and_cases, not-false}
 use Rattle.net_receiver.proofs.Words.{or_cases, or_left, or_right, ltb-true, lt-ltb, and_from, cases_Bool, cond-false}
-use Rattle.net_receiver.proofs.Words.{ltb-false, nat_tests, common_steps, positions, contains, Positions, has}
+use Rattle.net_receiver.proofs.Words.{ltb-false, nat_tests, common_steps, positions, contains, has}
 use Rattle.net_receiver.proofs.Words.{contains-positions, Piece, piece, piece_byte_at, piece_within, Segment}
 use Rattle.net_receiver.proofs.Words.{state_after, verdict, numbers, domain, next_position, limit_of}
 use Rattle.net_receiver.proofs.Words.{receiver_with_piece, receiver_after_command, receiver_after_read}
@@ -41,7 +41,7 @@ use Rattle.net_receiver.proofs.Words.{has_other_end, finite_after, finite_after_
 use Rattle.net_receiver.proofs.Words.{IsSoundEnd, finite_of, HasSoundParts, storage_after, is_complete}
 use Rattle.net_receiver.proofs.Words.{acknowledged, has_read_all, FiniteCommand, Arrives, Reads}
 use Rattle.net_receiver.proofs.Words.{finite_after_commands, CommandMatches, ReceivesFinite, CommandValue, Read}
-use Rattle.net_receiver.proofs.Words.{SegmentReply, with_sack, setting, Refines, receiver_after_commands}
+use Rattle.net_receiver.proofs.Words.{SegmentReply, setting, Refines, receiver_after_commands}
 use Rattle.net_receiver.proofs.Words.{receiver_reply, receiver_replies, state_from, IsAccepted, bytes_read, Brings}
 use Rattle.net_receiver.proofs.Words.{MatchesFinite, ReceiverState, ReceiverHead, TooManyHolesError, KeptBytes}
 use Rattle.net_receiver.proofs.Words.{set_of, slice_get_within, take-take, All-head, slice_range, take_min}
@@ -414,9 +414,7 @@ alone_receives f x v r = (
 -- what a segment meets
 module _ (P : FiniteState → Type 0) (s : FiniteState) (pos e : ℕ) (last : Bool) where
   pub meets : P s → (last ≡ true → ends_in_order s pos e ≡ true → P (queue_alone s)) → P (before_segment s pos e last)
-  meets same alone =
-      cond_both (last && ends_in_order s pos e) (queue_alone s) s P
-      (λ on. (let both = and_parts _ _ on in alone both.0 both.1)) (λ _. same)
+  meets same alone = grind (arith, nat_tests, common_steps, and_parts)
 
   pub meets_any : P s → P (queue_alone s) → P (before_segment s pos e last)
   meets_any same alone = meets same (λ _ _. alone)
@@ -480,14 +478,10 @@ module _ (N : ℕ) (s : FiniteState) (pos : ℕ) (xs : List ℕ) (on : ends_in_o
       (bytes_result N alone pos xs true) refl says.from
 
   pub ended_ok : IsOk (usual_result N alone pos xs true)
-  ended_ok = subst IsOk (sym
-      (cond-false _ (Err errors.OtherEnd) (with_error (bytes_result N alone pos xs true)) not_other))
-      (with_ok _ bytes_ok)
+  ended_ok = grind (arith, nat_tests, common_steps, cond-false, not_other, with_ok, bytes_ok)
 
   left_bytes : ended.receiver ≡ receiver_after_command N alone.receiver (Segment pos xs)
-  left_bytes =
-      ap (λ (t : FiniteState). t.receiver) (cond-false _ _ _ not_other)
-      ∙ ap (λ ys. receiver_after_command N alone.receiver (Segment pos ys)) all_below
+  left_bytes = grind (arith, nat_tests, common_steps, cond-false, not_other, all_below)
 
   pub ended_end : ended.end ≡ pos + length xs
   ended_end = usual_end_is_taken N alone pos xs ended_ok says.within
@@ -585,12 +579,7 @@ end_in_order N s pos xs sound on =
 
 pub meets_or : (s : FiniteState) (pos e : ℕ) (last : Bool) →
     (before_segment s pos e last ≡ s) ⊎ ((last ≡ true) × (ends_in_order s pos e ≡ true))
-meets_or s pos e last = by (last && ends_in_order s pos e) refl
-  where
-    by : (b : Bool) → (last && ends_in_order s pos e) ≡ b →
-        (cond b (queue_alone s) s ≡ s) ⊎ ((last ≡ true) × (ends_in_order s pos e ≡ true))
-    by true on = inr (and_parts _ _ on)
-    by false off = inl refl
+meets_or s pos e last = grind (arith, nat_tests, common_steps, and_parts)
 
 in_order_ends : (N : ℕ) (s : FiniteState) (pos : ℕ) (xs : List ℕ) (last : Bool) → IsSoundEnd s → last ≡ true →
     ends_in_order s pos (pos + length xs) ≡ true →
@@ -609,10 +598,7 @@ module _ (s : FiniteState) (pos e n : ℕ) (last : Bool) (is : n ≡ min e no_en
   met_alone on order = cond-true _ _ _ (and_from _ _ on (sym in_order_at ∙ order))
 
   pub met_same : (last ≡ false) ⊎ (ends_in_order s pos n ≡ false) → before_segment s pos e last ≡ s
-  met_same which =
-      meets (λ t. t ≡ s) s pos e last refl (λ on order.
-      ⊎_elim (λ (off : last ≡ false). absurd (both_ways _ off on))
-      (λ (late : ends_in_order s pos n ≡ false). absurd (both_ways _ late (in_order_at ∙ order))) which)
+  met_same which = grind (arith, nat_tests, common_steps, meets, in_order_at)
 
 pub accepted_in_order : (N : ℕ) (s : FiniteState) (pos : ℕ) (xs : List ℕ) (last : Bool) → IsTrue last →
     IsTrue (ends_in_order s pos (pos + length xs)) →
@@ -684,9 +670,7 @@ one_end N s (Reads n) sound on = inl refl
 
 usual_next : (N : ℕ) (s : FiniteState) (pos : ℕ) (xs : List ℕ) (last : Bool) →
     next_position s.receiver ≤ next_position (usual_after N s pos xs last).receiver
-usual_next N s pos xs last =
-    after_by (λ t. next_position s.receiver ≤ next_position t.receiver) N s pos xs last (omega arith)
-    (λ e which. next_position_grows N s.receiver (Segment pos (below_end s pos xs)))
+usual_next N s pos xs last = grind (arith, nat_tests, common_steps, after_by, next_position_grows)
 
 pub next_grows : (N : ℕ) (s : FiniteState) (c : FiniteCommand) →
     next_position s.receiver ≤ next_position (finite_after_command N s c).receiver
@@ -855,9 +839,7 @@ one_read f x s n r = (
 -- a segment reads nothing
 pub usual_reads_nothing : (N : ℕ) (s : FiniteState) (pos : ℕ) (xs : List ℕ) (last : Bool) →
     (usual_after N s pos xs last).receiver.read ≡ s.receiver.read
-usual_reads_nothing N s pos xs last =
-    after_by (λ t. t.receiver.read ≡ s.receiver.read) N s pos xs last refl
-    (λ e which. segment_reads_nothing N s.receiver pos (below_end s pos xs))
+usual_reads_nothing N s pos xs last = grind (arith, nat_tests, common_steps, after_by, segment_reads_nothing)
 
 pub finite_reads_nothing : (N : ℕ) (s : FiniteState) (pos : ℕ) (xs : List ℕ) (last : Bool) →
     (finite_after N s pos xs last).receiver.read ≡ s.receiver.read
@@ -964,8 +946,7 @@ acknowledged_more s t grows stays = grind (arith, nat_tests, acknowledged_from, 
 pub one_acknowledged : (N : ℕ) (s : FiniteState) (c : FiniteCommand) → IsSoundEnd s →
     acknowledged s ≤ acknowledged (finite_after_command N s c)
 one_acknowledged N s c sound =
-    acknowledged_more s (finite_after_command N s c) (next_grows N s c)
-    (λ on. (one_complete N s c sound on, complete_end N s c sound on))
+    grind (arith, nat_tests, common_steps, acknowledged_more, next_grows, one_complete, complete_end)
 
 pub acknowledged_grows : AcknowledgedGrows
 acknowledged_grows N s [] sound = omega arith
@@ -977,9 +958,7 @@ pub end_is_taken : EndIsTaken
 end_is_taken N s pos xs h within = grind (arith, nat_tests, usual_end_is_taken)
 
 pub all_bytes_complete : AllBytesComplete
-all_bytes_complete N s sound end all =
-    let reached = has_all_reaches N s.receiver s.end sound all in
-    eq_tests (next_position s.receiver) s.end (omega (arith, end.below))
+all_bytes_complete N s sound end all = grind (arith, nat_tests, common_steps, has_all_reaches, eq_tests, end.below)
 
 -- ---- Lists of segments and reads of a receiver of a stream that ends, as lists of a receiver's commands.
 -- ---- one segment, by what it meets
@@ -999,35 +978,17 @@ module _ (N : ℕ) (s : FiniteState) (pos : ℕ) (xs : List ℕ) (last : Bool) w
   -- an accepted one doesn't, and its bytes are accepted
   accepted_of : IsOk (usual_result N s pos xs last) → (has_other_end s (pos + length xs) last ≡ false)
       × IsOk (bytes_result N s pos xs last)
-  accepted_of h = by (has_other_end s (pos + length xs) last) (bytes_result N s pos xs last) h
-    where
-      by : (b : Bool) (r : Result KeptBytes TooManyHolesError) → IsOk (cond b (Err errors.OtherEnd) (with_error r)) →
-          (b ≡ false) × IsOk r
-      by true r refused = absurd (both_ways false refl refused)
-      by false r ok = (refl, ok_of r ok)
+  accepted_of h = grind (arith, nat_tests, common_steps, ok_of)
 
   replied : IsOk (bytes_result N s pos xs last) → IsAccepted (receiver_reply N s.receiver command)
-  replied h = by (bytes_result N s pos xs last) _ h
-    where
-      by : (r : Result KeptBytes TooManyHolesError) (held : Positions) → IsOk r →
-          IsAccepted (SegmentReply (with_sack r held))
-      by (Ok k) held ok = tt
-      by (Err e) held refused = absurd (both_ways false refl refused)
+  replied h = grind (arith, nat_tests, common_steps)
 
   -- what is left is what they leave, and they read nothing
   usual_left : (usual_after N s pos xs last).receiver ≡ receiver_after_commands N s.receiver usual_plain
-  usual_left = by (has_other_end s (pos + length xs) last)
-    where
-      by : (b : Bool) → (cond b s left).receiver ≡ receiver_after_commands N s.receiver (cond b [] (command ∷ []))
-      by true = refl
-      by false = refl
+  usual_left = grind (arith, nat_tests, common_steps)
 
   usual_reads : bytes_read (receiver_replies N s.receiver usual_plain) ≡ []
-  usual_reads = by (has_other_end s (pos + length xs) last)
-    where
-      by : (b : Bool) → bytes_read (receiver_replies N s.receiver (cond b [] (command ∷ []))) ≡ []
-      by true = refl
-      by false = refl
+  usual_reads = grind (arith, nat_tests, common_steps)
 
   usual_refines : (k : KeptState) → Refines s.receiver k →
       Refines (usual_after N s pos xs last).receiver (state_from (setting N s.receiver) k usual_plain)
@@ -1164,9 +1125,7 @@ ends_fall N s (Reads n ∷ cs) calm = ends_fall N (finite_after_read s n) cs cal
 
 usual_limit : (N : ℕ) (s : FiniteState) (pos : ℕ) (xs : List ℕ) (last : Bool) →
     limit_of s.receiver ≤ limit_of (usual_after N s pos xs last).receiver
-usual_limit N s pos xs last =
-    after_by (λ t. limit_of s.receiver ≤ limit_of t.receiver) N s pos xs last (omega arith)
-    (λ e which. limit_grows N s.receiver (Segment pos (below_end s pos xs)))
+usual_limit N s pos xs last = grind (arith, nat_tests, common_steps, after_by, limit_grows)
 
 limit_stays : (N : ℕ) (s : FiniteState) (c : FiniteCommand) →
     limit_of s.receiver ≤ limit_of (finite_after_command N s c).receiver

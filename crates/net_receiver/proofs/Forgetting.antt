@@ -1,4 +1,5 @@
 -- What is left of a scoreboard once a range is forgotten.
+use Rattle.net_receiver.proofs.Words.{common_steps}
 use Rattle.std.specs.Prelude.{Ok, Err, Result, IsOk}
 use Rattle.net_assembler.proofs.Cuts.{contains-without_range}
 use Rattle.net_assembler.proofs.SoundHeads.{added_accepted}
@@ -47,9 +48,7 @@ module _ (b : ℕ) (s : Positions) (begins : contains s 0 ≡ false) (start end 
 
   pub beyond_fits : (t : Positions) (lo n : ℕ) → t ≡ without_range s lo n →
       ((p : ℕ) → IsTrue (contains s p) → b + p + 1 < 2 ^ 64) → (p : ℕ) → IsTrue (contains t p) → b + p + 1 < 2 ^ 64
-  beyond_fits t lo n is fits p has =
-      let l = ap (λ u. contains u p) is ∙ contains-without_range s lo n p in let m = fits p in
-      grind (arith, nat_tests, l, m, has)
+  beyond_fits t lo n is fits p has = grind (arith, nat_tests, common_steps, contains-without_range)
 
   -- ---- a range that begins below the base: t is left beyond it
   module _ (low : start < b) (t : Positions) (last : ℕ)

@@ -1,4 +1,5 @@
 -- A storage whose bytes were copied to a larger one.
+use Rattle.net_receiver.proofs.Words.{nat_tests, common_steps}
 use Rattle.std.proofs.lemmas.List.{get_or_append_left, take-append-le, drop-append-le, places, same_lists}
 use Rattle.std.proofs.Common.{slice_index}
 use Rattle.net_ring.specs.Ring.{rotation}
@@ -30,15 +31,7 @@ pub copied : (xs ys zs ws : List ℕ) (a b : List ℕ) (r i at m n : ℕ) → r 
     rotation ws at ≡ overwrite (rotation zs at) i (take n b) →
     rotation ws at ≡ rotation xs r ++ drop (length xs) (rotation ys at)
 copied xs ys zs ws a b r i at m n within larger size a_is b_is i_is m_is n_is first second =
-    let head : length (drop r xs) ≡ length xs - r = length-drop r xs in
-    let tail : length (take r xs) ≡ r = length-take-le r xs within in
-    let wide : length (rotation ys at) ≡ length ys = length-rotation ys at in
-    let all_a : take m a ≡ drop r xs = take_all m a (omega (arith, ap length a_is, head)) ∙ a_is in
-    let all_b : take n b ≡ take r xs = take_all n b (omega (arith, ap length b_is, tail)) ∙ b_is in
-    second
-    ∙ (λ j. overwrite ((first ∙ ap (overwrite (rotation ys at) 0) all_a) j) i (all_b j))
-    ∙ two_copies (rotation ys at) (drop r xs) (take r xs) i (omega (arith, head)) (omega (arith, head, tail, wide))
-    ∙ ap (λ (k : ℕ). rotation xs r ++ drop k (rotation ys at)) (omega (arith, head, tail))
+    grind (arith, nat_tests, common_steps, length-drop, length-take-le, length-rotation, take_all, two_copies)
 
 -- ---- the parts of a receiver, over the larger storage
 module _ (h : ReceiverHead) (xs : List ℕ) (rs : List (ℕ × ℕ)) (s : HasSoundParts h (length xs) rs) (ws rest : List ℕ)

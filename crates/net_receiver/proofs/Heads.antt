@@ -238,15 +238,10 @@ module _ (h : ReceiverHead) (xs part : List ℕ) (rs : List (ℕ × ℕ)) (is : 
 module _ {h : ReceiverHead} {rs : List (ℕ × ℕ)} (s : HasSoundHeld h rs) where
   pub offset_of : (p : ℕ) → contains (held_at h rs) p ≡ true →
       (next_at h ≤ p) × (contains (set_of h.held rs) (p - next_at h) ≡ true)
-  offset_of p there =
-      let both = and_parts _ _ (sym (contains-shift_up (set_of h.held rs) (next_at h) p) ∙ there) in
-      (leb-true (next_at h) p both.0, both.1)
+  offset_of p there = grind (arith, nat_tests, common_steps, and_parts, contains-shift_up, leb-true)
 
   pub at_offset : (p : ℕ) → contains (set_of h.held rs) p ≡ true → contains (held_at h rs) (next_at h + p) ≡ true
-  at_offset p there =
-      let same : next_at h + p - next_at h ≡ p = omega arith in
-      contains-shift_up (set_of h.held rs) (next_at h) (next_at h + p)
-      ∙ and_from _ _ (le-leb (next_at h) (next_at h + p) (omega arith)) (ap (contains (set_of h.held rs)) same ∙ there)
+  at_offset p there = grind (arith, nat_tests, common_steps, contains-shift_up, and_from, le-leb)
 
   pub held_above : (p : ℕ) → contains (held_at h rs) p ≡ true → next_at h < p
   held_above p there = (let o = offset_of p there in omega (arith, o.0, s.above (p - next_at h) o.1))
@@ -379,13 +374,7 @@ module _ {h : ReceiverHead} (xs : List ℕ) {rs : List (ℕ × ℕ)} (s : HasSou
       ahead ≡ pos - next →
       (size ≤ late) ⊎ ((late < size) × (window ≤ ahead)) → verdict (length rs) stored (piece pos bytes) ≡ KeepsNone
   none_kept pos bytes whole_size size next window late ahead which =
-      let n = next_position stored in
-      let queued = queue_size in
-      let free = spare_size in
-      let l = length-drop (n - pos) (take (limit_of stored - pos) bytes) in
-      let m = length-take (limit_of stored - pos) bytes in
-      let none : length (piece_within n (limit_of stored) (piece pos bytes)).bytes ≡ 0 = omega arith in
-      cond-true _ _ _ (ap (λ k. nat_eq k 0) none)
+      grind (arith, nat_tests, common_steps, queue_size, spare_size, length-drop, length-take, cond-true)
 
   -- or a part of it is
   pub cut_of : {late ahead kept pos next window capacity size : ℕ} {bytes : List ℕ} → length xs ≡ capacity →

@@ -1,4 +1,5 @@
 -- What a search in the held runs of a receiver says of a position, and of those of a segment.
+use Rattle.net_receiver.proofs.Words.{common_steps}
 use Rattle.std.proofs.lemmas.Bool.Decides.{nat_tests}
 use Rattle.net_receiver.proofs.Words.{◌≡◌, ◌⊎◌, inl, inr, ℕ, zero, suc, ◌+◌, ◌-◌, ◌<◌, ◌≤◌, ◌^◌, min, false, List, []}
 use Rattle.net_receiver.proofs.Words.{◌∷◌, length, Some, None, slice_get, get_or, refl, sym, ap, subst, ◌∙◌, arith}
@@ -64,10 +65,7 @@ module _ (next top : ℕ) (s : Positions) (under : (p : ℕ) → IsTrue (contain
 
   -- a position before all
   pub before_all : (p : ℕ) → p < next → None ≡ run_at (shift_up s next) p
-  before_all p l =
-      sym (ap (find (lies_in p)) is_all ∙ find_none all p (λ k b.
-      let used : k < length rs = omega (arith, b, length-up next rs) in
-      inl (omega (arith, start_at-up next rs k used, l))))
+  before_all p l = grind (arith, nat_tests, common_steps, is_all, find_none, length-up, start_at-up)
 
   module _ (p o n : ℕ) (from : next ≤ p) (is : o ≡ min (p - next) top) (split : SplitsRuns rs o n) where
     -- where the last run that starts by then ends by then

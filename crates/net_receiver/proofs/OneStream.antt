@@ -503,18 +503,10 @@ IsAbove v = (p : ℕ) → fin.contains_key v.held p ≡ true → next_position v
 module _ (v : ReceiverState) (part : Piece) where
   -- a position that is held, or that the part has, is queued then, or held
   has_updated : (p : ℕ) → fin.contains_key (updated v part) p ≡ true → HasByteAt (receiver_with_piece v part) p
-  has_updated p h =
-      let at = next_joined v part in
-      ⊎_elim (λ (l : p < lacks v part). inl (omega arith))
-      (λ (l : lacks v part ≤ p). inr (left_has v part p ∙ and_from _ _ (le-leb _ p l) h))
-      (cases_lt p (lacks v part))
+  has_updated p h = grind (arith, nat_tests, common_steps, next_joined, left_has, and_from, le-leb)
 
   has_joined : (p : ℕ) → HasByteAt v p → HasByteAt (receiver_with_piece v part) p
-  has_joined p h =
-      let at = next_joined v part in
-      let from = (lacking v part).from in
-      ⊎_elim (λ (l : p < next_position v). inl (omega arith))
-      (λ (k : fin.contains_key v.held p ≡ true). has_updated p (updated_has v part p ∙ or_right _ _ k)) h
+  has_joined p h = grind (arith, nat_tests, common_steps, next_joined, lacking, has_updated, updated_has, or_right)
 
   above_joined : IsAbove (receiver_with_piece v part)
   above_joined p h = (let at = next_joined v part in let above = (left_above v part p h).0 in omega arith)

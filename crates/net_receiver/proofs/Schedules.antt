@@ -133,13 +133,7 @@ module _ (w : Setting) (s : KeptState) where
   -- all that is below a place with room is covered, so the first missing position is not below it
   pub reached : (b : ℕ) → b ≤ unread w s + w.capacity →
       ((q : ℕ) → unread w s ≤ q → q < b → is_covered s.kept q ≡ true) → b ≤ missing w s
-  reached b room all =
-      ⊎_elim
-      (λ (some : queued w s < w.capacity).
-      ⊎_elim (λ (l : missing w s < b). absurd (both_ways _ (lead.here some) (all (missing w s) (omega arith) l)))
-      (λ (l : b ≤ missing w s). l) (cases_lt (missing w s) b))
-      (λ (full : w.capacity ≤ queued w s). omega arith)
-      (cases_lt (queued w s) w.capacity)
+  reached b room all = grind (arith, nat_tests, common_steps, lead)
 
   module _ (room : HasRoom w s) where
     pub missing_is : IsFirst (is_covered s.kept) w.first (missing w s)
@@ -537,9 +531,7 @@ push_appended old now new r e e' = grind (arith, nat_tests, append_assoc, drop_a
 
 pub whole_appended : {A : Type 0} (old now new : List A) (r : A) → now ≡ old ++ items_after old now →
     new ≡ now ++ r ∷ [] → new ≡ old ++ items_after old new
-whole_appended old now new r e e' =
-    e' ∙ ap (λ xs. xs ++ r ∷ []) e ∙ append_assoc old (items_after old now) (r ∷ [])
-    ∙ ap (λ xs. old ++ xs) (sym (push_appended old now new r e e'))
+whole_appended old now new r e e' = grind (arith, nat_tests, common_steps, append_assoc, push_appended)
 
 -- a turn of the loop: command i was run
 module _ (most : ℕ) where
@@ -685,9 +677,7 @@ module _ (w : Setting) (x : List ℕ) where
 pub follows_verdict : (P : Verdict → Type 0) (n most : ℕ) (h : Positions) (part : Piece) → part.start ≡ n →
     (length part.bytes ≡ 0 → P KeepsNone) → (0 < length part.bytes → P (Keeps part)) →
     P (verdict_of_piece n most h part)
-follows_verdict P n most h part at empty keeps =
-    verdict_by P n most h part empty (λ some out _. absurd (both_ways _ out (piece_some part n (omega arith))))
-    (λ some _. keeps some)
+follows_verdict P n most h part at empty keeps = grind (arith, nat_tests, common_steps, verdict_by, piece_some)
 
 clip_length : (low high : ℕ) (e : Piece) → end e ≤ high → length (piece_within low high e).bytes
     ≡ length e.bytes - (low - e.start)
@@ -808,9 +798,7 @@ alike_states v u s t d e = grind (arith, nat_tests, same_next, same_held_runs)
 
 -- a test that is exact tells states apart
 pub tells_states : (v u : ReceiverState) (b : Bool) → IsTrue b ↔ IsSameState v u → TellsStates v u b
-tells_states v u b exact s t d e =
-    let both = alike_states v u s t d e in
-    (λ h. both.0 (exact.0 h), λ h. exact.1 (both.1 h))
+tells_states v u b exact s t d e = grind (arith, nat_tests, common_steps, alike_states)
 
 -- and is true of receivers of one stream that cover the same positions
 pub converge_by : (v u : ReceiverState) (b : Bool) → IsTrue b ↔ IsSameState v u → Converges v u b

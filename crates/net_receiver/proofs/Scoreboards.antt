@@ -292,15 +292,8 @@ sizes_fit b s fits = let few = sizes_few (2 ^ 64 - 1) s (λ p has. let l = fits 
 -- as many runs as are stored
 pub as_many : (h : ScoreboardHead) (rs : List (ℕ × ℕ)) → IsSoundBoard h rs →
     h.reported.used ≡ length (maximal_runs (beyond (reported_by h rs)))
-as_many h rs sound = grind (
-  arith,
-  nat_tests,
-  beyond_board,
-  maximal_runs-shift_up,
-  length-up,
-  maximal_runs-set_of,
-  length-runs_of,
-)
+as_many h rs sound =
+    grind (arith, nat_tests, common_steps, beyond_board, maximal_runs-shift_up, length-up, maximal_runs-set_of, length-runs_of)
 
 -- what is true of its positions
 risen : (low : ℕ) (rs : List (ℕ × ℕ)) → IsRising 0 rs → All (λ r. (low < r.0) × (r.0 < r.1)) rs → IsRising (low + 1) rs

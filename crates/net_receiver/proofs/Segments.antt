@@ -1,4 +1,5 @@
 -- Why two parts are the bytes of a segment.
+use Rattle.net_receiver.proofs.Words.{common_steps}
 use Rattle.std.proofs.Common.{◌≡◌, ℕ, ◌+◌, ◌-◌, ◌<◌, ◌≤◌, arith, ap, sym, ◌∙◌, subst, List, ◌++◌, take-add}
 use Rattle.std.proofs.Common.{length-append}
 use Rattle.std.specs.Prelude.{Bool, IsTrue, ◌↔◌, max, min, length, take, drop}
@@ -40,9 +41,6 @@ two_parts s from to xs ys ends last a b =
 -- it ends by the limit
 pub lent_below : (s : FiniteSenderState) (from to : ℕ) (xs : List ℕ) (ends : Bool) → IsLent s from to xs ends →
     from + length xs ≤ max from to
-lent_below s from to xs ends a =
-    let count = a.count in
-    let none : from < s.sender.first_unacknowledged → length xs ≡ 0 = λ low. ap length (a.before low) in
-    grind (arith, nat_tests, count, none)
+lent_below s from to xs ends a = grind (arith, nat_tests, common_steps, s.sender.first_unacknowledged, a.before)
 
 pub ruleset segments = (two_parts, lent_below)

@@ -1,4 +1,5 @@
 -- What is open in a buffer, by what its sets have; and that no number is forgotten.
+use Rattle.net_receiver.proofs.Words.{common_steps}
 use Rattle.net_receiver.proofs.Words.{ℕ, ◌≡◌, ◌<◌, Bool, true, false, ◌&&◌, ◌||◌, List, [], ◌∷◌, IsTrue, arith, refl}
 use Rattle.net_receiver.proofs.Words.{not, nat_lt, ◌-◌, ◌≤◌, ◌+◌, ◌∙◌, ◌^◌, sym, subst, ap, min, max, either, cases_lt, both_ways, front, Positions}
 use Rattle.net_receiver.proofs.Words.{with_range, nothing, zero, suc}
@@ -95,12 +96,6 @@ module _ (b : RangesState) (d : Positions) (start from to : ℕ) (sound : IsSoun
             grind (arith, nat_tests, all);
       }
 
-  pub lost_told : from ≤ start → (from < start → start ≡ front b.acknowledged) → (p : ℕ) →
-      IsTrue (is_in_flight left p) → IsTrue (still_marked (IsLost from to) p (is_in_flight b p))
-  lost_told le at p is =
-      let less = forgets.less p in let gone = forgets.gone p in let front_is = front_has b.acknowledged p in
-      grind (arith, nat_tests, less, gone, front_is)
-
 -- ---- What is acknowledged: the set t has what was settled and no other but the range, and all before the front is added.
 module _ (a b d t e : Positions) (from to : ℕ) (taken : b ≡ with_range a from (to - from))
     (settled : e ≡ with_range t 0 (front b)) (more : (p : ℕ) → IsTrue (contains d p) → IsTrue (contains t p))
@@ -113,9 +108,7 @@ module _ (a b d t e : Positions) (from to : ℕ) (taken : b ≡ with_range a fro
 
   pub open_after : (p : ℕ) → (not (contains b p) && not (contains e p))
       ≡ ((not (contains a p) && not (contains d p)) && not (is_within from to p))
-  open_after p =
-      let one = is_taken p in let other = is_settled p in let low = front_has b p in let old = more p in
-      let new = less p in grind (arith, nat_tests, one, other, low, old, new)
+  open_after p = grind (arith, nat_tests, common_steps, is_taken, is_settled, front_has)
 
 pub taken_is_sound : (b : RangesState) (a t : Positions) (from to : ℕ) → IsSoundRanges b → to ≤ b.sent →
     ((p : ℕ) → IsTrue (contains a p) → p < b.sent) →

@@ -1,4 +1,5 @@
 -- What a sender lends and has sent, the laws of one whose stream ends, and what a receiver reads of it.
+use Rattle.net_receiver.proofs.Words.{common_steps}
 use Rattle.std.proofs.Common.{length-take, replicate}
 use Rattle.std.proofs.lemmas.Bool.{leb-true, eqb-true}
 use Rattle.net_assembler.proofs.Sets.{either}
@@ -128,20 +129,7 @@ nothing_dropped v = ap (λ k. drop k v.queue) (let e : 0 ≡ v.first_unacknowled
     omega arith in e)
 
 one_follows : (s : FiniteSenderState) (n : ℕ) → Follow s (n ∷ []) (sender_after_command s (Acknowledges n))
-one_follows s n =
-    cond_both (accepts s n) (acknowledged_below s n) s (Follow s (n ∷ []))
-    (λ on.
-    let both = and_parts (nat_le (first_number s) n) (nat_le n s.sent) on in
-    let low = leb-true (first_number s) n both.0 in
-    let high = leb-true n s.sent both.1 in
-    let v = s.sender in (
-      grind (arith, nat_tests),
-      refl,
-      omega (arith, length-drop (min n (end_of v) - v.first_unacknowledged) v.queue),
-      omega arith,
-      refl,
-    ))
-    (λ off. (grind (arith, nat_tests), refl, refl, omega arith, nothing_dropped s.sender))
+one_follows s n = grind (arith, nat_tests, common_steps, and_parts, leb-true, length-drop, nothing_dropped)
 
 all_follow : (s : FiniteSenderState) (ns : List ℕ) → Follow s ns (sender_after_commands s (map Acknowledges ns))
 all_follow s [] = (refl, refl, refl, omega arith, nothing_dropped s.sender)
@@ -225,17 +213,13 @@ module _ (s : FiniteSenderState) (sound : IsSoundSent s) where
 
   pub all_acknowledged : (f : ℕ) (w : List ℕ) → Sends f w s.sender → s.finished ≡ 1 →
       (s.closed ≡ 1) × (s.sender.first_unacknowledged ≡ f + length w)
-  all_acknowledged f w sends e =
-      let none = sound.none_left (omega arith) in
-      (omega (arith, sound.finished, sound.closed), omega (arith, sends.end))
+  all_acknowledged f w sends e = grind (arith, nat_tests, common_steps)
 
 -- as many bytes were written as have room
 pub sends_bytes : (f : ℕ) (w : List ℕ) (s : FiniteSenderState) (n : ℕ) (bytes : List ℕ) →
     n ≡ min (length bytes) (finite_room s) → Sends f w s.sender →
     Sends f (w ++ take n bytes) (with_bytes s (take n bytes)).sender
-sends_bytes f w s n bytes e sends =
-    subst (λ k. Sends f (w ++ take k bytes) (with_bytes s (take k bytes)).sender) (sym e)
-    (one_sends s (Writes bytes) f w sends)
+sends_bytes f w s n bytes e sends = grind (arith, nat_tests, common_steps, one_sends)
 
 -- ---- all commands
 pub closed_stays : ClosedStays
@@ -367,9 +351,7 @@ module _ (first capacity : ℕ) (ws : List SenderCommand)
 
   all_match : (cs : List FiniteCommand) → All (ComesFrom (fresh_finite_sender capacity first) ws) cs →
       All (CommandMatches first (bytes_written (fresh_finite_sender capacity first) ws)) cs
-  all_match cs all =
-      All-weaker (ComesFrom (fresh_finite_sender capacity first) ws)
-      (CommandMatches first (bytes_written (fresh_finite_sender capacity first) ws)) one_matches cs all
+  all_match cs all = grind (arith, nat_tests, common_steps, All-weaker, one_matches)
 
 nothing_sent : (first capacity : ℕ) → Sends first [] (fresh_finite_sender capacity first).sender
 nothing_sent first capacity = fresh_sends first capacity

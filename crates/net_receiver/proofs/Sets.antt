@@ -54,14 +54,8 @@ module _ {X : Type 0} (g : ℕ → X) where
       + 1) n (λ q l m. same q (omega arith) (omega arith)) i
 
   pub take_range : (c a n : ℕ) → take c (map g (range_with_len a n)) ≡ map g (range_with_len a (min c n))
-  take_range c a n = grind (
-    arith,
-    nat_tests,
-    common_steps,
-    take_min,
-    length-map-range_with_len,
-    take-map-range_with_len,
-  )
+  take_range c a n =
+      grind (arith, nat_tests, common_steps, take_min, length-map-range_with_len, take-map-range_with_len)
 
   pub drop_range : (c a n : ℕ) → drop c (map g (range_with_len a n))
       ≡ map g (range_with_len (a + min c n) (n - min c n))

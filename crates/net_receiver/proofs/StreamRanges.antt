@@ -1,13 +1,12 @@
 -- What a new part makes of a head and runs, and of the ranges that they store.
+use Rattle.net_receiver.proofs.Words.{common_steps}
 use Rattle.net_assembler.proofs.Sets.{runs-shift_up}
-use Rattle.net_assembler.specs.Positions.{bound_of}
-use Rattle.net_assembler.specs.RunLists.{AreRuns, FitsFrom, StartsAtZero, set_of_runs}
 use Rattle.std.specs.Int.{from_bool}
 use Rattle.net_receiver.proofs.Words.{sum_by-cons}
 use Rattle.net_receiver.specs.StreamRanges.{RangesCall, Keeps, Reads, Grows, GrowsRuns, Goes, is_in_part, byte_in}
 use Rattle.net_receiver.specs.StreamRanges.{has_arrived, IsOfStream, EachOnce, NotesAreOfStream, AllArrives}
 use Rattle.net_receiver.proofs.Sets.{piece_some}
-use Rattle.net_receiver.proofs.Words.{take, positions, runs_shifted_up, lies_in, All-head, All-tail, cond-true, cond-false}
+use Rattle.net_receiver.proofs.Words.{lies_in, All-head, All-tail, cond-true, cond-false}
 use Rattle.net_receiver.proofs.Words.{front, [], ◌∷◌, piece, is_some, slice_get}
 use Rattle.net_receiver.specs.Finite.{can_end_by}
 use Rattle.net_receiver.specs.FiniteHead.{end_of, end_with, finite_at}
@@ -26,7 +25,7 @@ use Rattle.net_receiver.proofs.FiniteReceivers.{offsets_below, below_offsets}
 use Rattle.net_receiver.proofs.Places.{IsFrontRemoved, front_removed}
 use Rattle.std.proofs.lemmas.Bool.Decides.{nat_tests}
 use Rattle.net_receiver.proofs.Words.{◌≡◌, ◌↔◌, ℕ, ◌+◌, ◌-◌, ◌<◌, ◌≤◌, min, max, Bool, true, false, refl, sym, ap, ◌∙◌}
-use Rattle.net_receiver.proofs.Words.{subst, arith, List, length, Option, Some, None, ⊎_elim, or_cases, cases_lt, and_parts}
+use Rattle.net_receiver.proofs.Words.{arith, List, length, Option, Some, None, ⊎_elim, or_cases, cases_lt, and_parts}
 use Rattle.net_receiver.proofs.Words.{or_left, or_right, leb-true, ltb-true, le-leb, lt-ltb, ◌&&◌, ◌||◌, nat_le}
 use Rattle.net_receiver.proofs.Words.{nat_lt, cond, false≢true, Positions, contains, nothing, with_range, first_missing}
 use Rattle.net_receiver.proofs.Words.{first_missing-is, first_missing-has, first_missing-le, first_missing-misses, runs}
@@ -42,38 +41,6 @@ sound_ranges s = record {
   below = s.below;
   number = s.number;
 }
-
--- the same ranges, with their runs in a longer list
-pub moved_ranges : {h : FiniteReceiverHead} {c : ℕ} {rs : List (ℕ × ℕ)} → HasSoundRanges h c rs →
-    (more : List (ℕ × ℕ)) → length rs ≤ length more → take h.receiver.held.used more ≡ take h.receiver.held.used rs →
-    HasSoundRanges h c more × (held_at h.receiver more ≡ held_at h.receiver rs)
-moved_ranges {h} {c} {rs} s more longer e =
-    let d = h.receiver.held in
-    let same : set_of d more ≡ set_of d rs = ap (λ xs. set_of_runs (runs_shifted_up d.first_start xs)) e in
-    let there : (p : ℕ) → contains (set_of d more) p ≡ true → contains (set_of d rs) p ≡ true =
-    λ p has. sym (ap (λ t. contains t p) same) ∙ has in
-    let held = ap (λ t. shift_up t (next_at h.receiver)) same in
-    let top : top_at h.receiver rs ≡ top_at h.receiver more =
-    ap (λ t. max (next_at h.receiver) (bound_of (positions t))) (sym held) in (
-      record {
-        held = record {
-          runs = record {
-            room = (let room = s.held.runs.room in omega (arith, room, longer));
-            runs = subst AreRuns (sym e) s.held.runs.runs;
-            first = subst StartsAtZero (sym e) s.held.runs.first;
-            fits = subst (FitsFrom d.first_start) (sym e) s.held.runs.fits;
-          };
-          next = s.held.next;
-          above = λ p has. s.held.above p (there p has);
-          fits = λ p has. s.held.fits p (there p has);
-        };
-        queued = s.queued;
-        within = λ p has. s.within p (there p has);
-        below = subst (λ k. k ≤ end_of h) top s.below;
-        number = subst (λ k. k < no_end) top s.number;
-      },
-      held,
-    )
 
 -- nothing has arrived
 pub fresh_is : (first c : ℕ) (rs : List (ℕ × ℕ)) →
@@ -98,10 +65,7 @@ fresh_is first c rs = λ i. record {
 -- ---- positions that are counted from n
 module _ (n : ℕ) (s : Positions) where
   up : (q : ℕ) → contains (shift_up s n) (n + q) ≡ contains s q
-  up q =
-      let same : n + q - n ≡ q = omega arith in
-      contains-shift_up s n (n + q)
-      ∙ (λ i. le-leb n (n + q) (omega arith) i && contains s (same i))
+  up q = grind (arith, nat_tests, common_steps, contains-shift_up, le-leb)
 
   up_at : (q : ℕ) → n ≤ q → contains (shift_up s n) q ≡ contains s (q - n)
   up_at q l = contains-shift_up s n q ∙ ap (λ b. b && contains s (q - n)) (le-leb n q l)
@@ -114,12 +78,7 @@ module _ (n : ℕ) (s : Positions) where
       (λ q a b. up_at q (omega (arith, a)) ∙ first_missing-has s p (q - n) (omega (arith, a)) (omega (arith, a, b)))
 
   range_up : (o k : ℕ) → with_range (shift_up s n) (n + o) k ≡ shift_up (with_range s o k) n
-  range_up o k = same_positions _ _ (λ q. grind (
-    arith,
-    nat_tests,
-    contains-with_range,
-    contains-shift_up,
-  ))
+  range_up o k = grind (arith, nat_tests, common_steps, same_positions, contains-with_range, contains-shift_up)
 
   pub room_up : (most o k : ℕ) → makes_too_many_runs most (shift_up s n) (n + o) k ≡ makes_too_many_runs most s o k
   room_up most o k = ap (λ r. nat_lt 0 k && nat_lt most r) (ap runs (range_up o k) ∙ runs-shift_up (with_range s o k) n)
@@ -216,11 +175,7 @@ module _ {h : FiniteReceiverHead} {c : ℕ} {rs : List (ℕ × ℕ)} (s : HasSou
   -- whether a part has no room, by its offsets
   pub room_is : (f t : ℕ) → HasNoRoomFor stored (Some (n + f, n + t))
       ↔ ((0 < f) × MakesTooManyRuns (length rs) offsets f (t - f))
-  room_is f t =
-      let size : n + t - (n + f) ≡ t - f = omega arith in
-      let same = ap (makes_too_many_runs (length rs) (held_at h.receiver rs) (n + f)) size
-      ∙ room_up n offsets (length rs) f (t - f) in
-      (λ no. (omega (arith, no.0), sym same ∙ no.1), λ no. (omega (arith, no.0), same ∙ no.1))
+  room_is f t = grind (arith, nat_tests, common_steps, room_up)
 
   -- a part in order has
   pub not_next : (start from f : ℕ) → from ≡ min (start - n) window → f ≡ first_missing offsets from → 0 < f →
@@ -442,14 +397,7 @@ arrives_with s part p =
 -- no position of a new part had
 new_missing : (s : RangesState) (start end : ℕ) (part : ℕ × ℕ) (p : ℕ) → IsNewPart s start end (Some part) →
     part.0 ≤ p → p < part.1 → has_arrived s p ≡ false
-new_missing s start end part p new low high =
-    let least = first_missing-le s.held (max start (next_of_ranges s)) in
-    let some = new.1 in
-    let begins = new.0.begins in
-    let within = new.0.within in
-    let apart = new.0.missing p low high in
-    let over : next_of_ranges s ≤ p = omega (arith, least, some, begins, within, low) in
-    grind (arith, nat_tests)
+new_missing s start end part p new low high = grind (arith, nat_tests, common_steps, first_missing-le)
 
 -- what one call leaves
 arrives_once : (s u : RangesState) (c : RangesCall) (p : ℕ) → Goes s c u →
@@ -539,12 +487,6 @@ notes_are_of_stream f x s u (c ∷ cs) notes go of_stream are p from arrived =
 
 pub all_arrives : AllArrives
 all_arrives s u start end fin p keeps low high =
-    let part = keeps.part.0 in
-    let begins = part.begins in
-    let here : (next_of_ranges s ≤ p) → contains s.held p ≡ true =
-    λ k. first_missing-has s.held (max start (next_of_ranges s)) p (omega (arith, low, k)) (omega (arith, begins, high)) in
-    ap (λ t. has_arrived t p) keeps.state
-    ∙ ⊎_elim (λ (k : p < next_of_ranges s). or_left _ _ (lt-ltb p (next_of_ranges s) k))
-    (λ (k : next_of_ranges s ≤ p). or_right _ _ (here k)) (cases_lt p (next_of_ranges s))
+    grind (arith, nat_tests, common_steps, first_missing-has, or_left, lt-ltb, or_right, keeps.part, keeps.state)
 
 pub ruleset ranges_law = (each_once, notes_are_of_stream, all_arrives)

@@ -1,4 +1,5 @@
 -- From what a run did to what is stored to the theorems on schedules, and what is true of every receiver.
+use Rattle.net_receiver.proofs.Words.{common_steps}
 use Rattle.std.proofs.Common.{flat_map}
 use Rattle.std.proofs.Common.{replicate}
 use Rattle.std.proofs.Common.{eq-eqb}
@@ -262,12 +263,7 @@ calls_are most v u (call ∷ calls) is =
     )
 
 pub calls_reply : CallsReply
-calls_reply w v u calls fresh is =
-    let list = calls_are w.most_runs v u calls is in
-    let cs = map (λ c. c.0) calls in (
-      list.0 ∙ ap (λ x. receiver_replies w.most_runs x cs) fresh ∙ fresh_replies w cs,
-      ap (λ x. x.queue) (list.1 ∙ ap (λ x. receiver_after_commands w.most_runs x cs) fresh) ∙ fresh_queue w cs,
-    )
+calls_reply w v u calls fresh is = grind (arith, nat_tests, common_steps, calls_are, fresh_replies, fresh_queue)
 
 pub calls_go_on : CallsGoOn
 calls_go_on most v u t [] c r is told left =
@@ -423,11 +419,7 @@ module _ (most : ℕ) (v : ReceiverState) (sound : IsSound most v) where
   })
 
   held_is : (p : ℕ) → fin.get v.held p ≡ cond (nat_lt (next_position v) p && is_covered kept p) (byte_at kept p) None
-  held_is p =
-      cond_both (nat_lt (next_position v) p) (byte_at kept p) None (λ o. fin.get v.held p ≡ o)
-      (λ is. (let l = ltb-true (next_position v) p is in sym (above p (omega arith))))
-      (λ no. low p (ltb-false (next_position v) p no))
-      ∙ cond_held (nat_lt (next_position v) p) (byte_at kept p)
+  held_is p = grind (arith, nat_tests, common_steps, ltb-true, above, ltb-false, cond_held)
 
   pub represented : Refines v state
   represented =

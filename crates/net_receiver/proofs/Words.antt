@@ -52,7 +52,7 @@ pub use Rattle.net_ring.proofs.RingFacts.{part_is, lent_whole}
 pub use Rattle.net_ring.proofs.Rotations.{length-queue, length-overwrite, length-spare}
 pub use Rattle.net_ring.specs.Overwrite.{overwrite}
 pub use Rattle.net_ring.specs.Ring.{queue, spare, RingState, contiguous_allocated, with_elements_wrapping}
-pub use Rattle.net_ring.specs.Ring.{index_after, with_dequeued, queue_index, with_enqueued}
+pub use Rattle.net_ring.specs.Ring.{index_after, with_dequeued, with_enqueued}
 pub use Rattle.net_ring.specs.RingHead.{ring_at, dequeued_place}
 pub use Rattle.net_ring.specs.declared.head.RingHead.{RingHead}
 pub use Rattle.std.proofs.lemmas.Bool.{both_ways, cases_lt, and_parts, and_from, or_right, cond-true, or_left}
