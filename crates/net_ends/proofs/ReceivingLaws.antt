@@ -7,7 +7,7 @@ use Rattle.net_receiver.proofs.FiniteReceivers.{meets}
 use Rattle.std.proofs.lemmas.Bool.Decides.{nat_tests}
 use Rattle.std.proofs.lemmas.Nat.{div-add-mod', mod_below, pow_pos, mul-le}
 use Rattle.net_tcp.specs.Windows.{field_for, announced, shift_count}
-use Rattle.net_receiver.specs.ReceiverState.{limit_of, next_position, Segment, Read}
+use Rattle.net_receiver.specs.ReceiverState.{limit_of, Segment, Read}
 use Rattle.net_receiver.specs.OneStream.{LimitGrows}
 use Rattle.net_receiver.specs.Finite.{FiniteState, FiniteCommand, finite_after_command, finite_after_commands}
 use Rattle.net_receiver.specs.Finite.{acknowledged, no_end, IsSoundEnd, SoundEndStays, AcknowledgedGrows}
@@ -15,7 +15,7 @@ use Rattle.net_receiver.specs.Finite.{FreshEndIsSound, Arrives, Reads, fresh_fin
 use Rattle.net_receiver.specs.Finite.{ReadsTheStream, CommandMatches, bytes_taken, has_read_all, before_segment}
 use Rattle.net_ends.specs.Receiving.{Receiving, Event, Arrived, Answered, Announced, Acknowledged, Took, after_event}
 use Rattle.net_ends.specs.Receiving.{after_events, commands, commands_of, free_end, promise, announced_end}
-use Rattle.net_ends.specs.Receiving.{IsSoundReceiving, is_worth, new_receiving, opened, is_empty, after_arrival}
+use Rattle.net_ends.specs.Receiving.{IsSoundReceiving, is_worth, opened, is_empty, after_arrival}
 
 -- ---- the receiver's commands
 appended : (n : ℕ) (s : FiniteState) (cs ds : List FiniteCommand) →
@@ -211,16 +211,6 @@ module _ (sound : SoundEndStays) (grows : AcknowledgedGrows) (limits : LimitGrow
 fresh_number : (capacity first : ℕ) → first < no_end → acknowledged (fresh_finite first capacity) ≡ first
 fresh_number capacity first is = grind (arith, nat_tests, is)
 
-pub new_is_sound : FreshEndIsSound → (capacity first size : ℕ) → first < no_end →
-    IsSoundReceiving (new_receiving capacity first size)
-new_is_sound fresh capacity first size is =
-    let begun = fresh first capacity is in
-    let number = fresh_number capacity first is in record {
-      end = begun;
-      room = let low = free_after (fresh_finite first capacity) begun in omega (arith, low, number);
-      reach = omega (arith, number);
-    }
-
 pub opened_is_sound : FreshEndIsSound → (e : Receiving) (first scale : ℕ) → first < no_end →
     IsSoundReceiving (opened e first scale)
 opened_is_sound fresh e first scale is =
@@ -236,11 +226,7 @@ opened_is_sound fresh e first scale is =
       reach = omega (arith, number, most, unit);
     }
 
--- ---- the end
--- an end that is acknowledged has all before it
-pub has_all : (s : FiniteState) → IsSoundEnd s → s.end < acknowledged s → next_position s.receiver ≡ s.end
-has_all s is above = let low = is.below in grind (arith, nat_tests, low, above)
-
+-- ---- what is read
 pub reads : ReadsTheStream → (n f capacity : ℕ) (x : List ℕ) (e : Receiving) (vs : List Event) → f < no_end →
     e.receiver ≡ fresh_finite f capacity → All (CommandMatches f x) (commands vs) →
     let t = (after_events n e vs).receiver in

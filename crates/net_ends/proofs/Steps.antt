@@ -7,12 +7,8 @@ use Rattle.net_tcp.specs.LossRecovery.{Recovery as LossRecovery}
 use Rattle.net_tcp.specs.Retransmission.{after_sending}
 use Rattle.net_assembler.specs.Positions.{Positions, contains}
 use Rattle.net_assembler.proofs.Sets.{contains-with_range, contains-nothing}
-use Rattle.net_ends.specs.Ends.{End, Heard, Sent, after_event, heard, kept, is_acceptable, first, limit, may_send}
+use Rattle.net_ends.specs.Ends.{End, Heard, Sent, after_event, heard, kept, first, limit, may_send}
 use Rattle.net_ends.specs.Ends.{is_due, is_worth, hurries}
-
-pub heard_none : (e : End) (says : Bool) (seq ack window : ℕ) (now : ℤ) → IsFalse (accepts e.sender ack) →
-    after_event e (Heard e.reported e.recovery says seq ack window now) ≡ e
-heard_none e says seq ack window now none = search rules
 
 pub heard_is : (e : End) (s : Positions) (r : LossRecovery) (says : Bool) (seq ack window : ℕ) (now : ℤ) →
     IsTrue (accepts e.sender ack) →
@@ -22,9 +18,6 @@ heard_is e s r says seq ack window now is = search rules
 -- what an acknowledgement ends at isn't reported
 pub missing_is : (s : Positions) (ack sent : ℕ) → ack < sent → IsFalse (contains (kept s ack sent) ack)
 missing_is s ack sent some = grind (arith, nat_tests, contains-with_range, contains-nothing, some)
-
-pub refused_none : (e : End) (ack : ℕ) → IsFalse (is_acceptable e ack) → IsFalse (accepts e.sender ack)
-refused_none e ack none = grind (arith, nat_tests, none)
 
 may_by : (from to limit first : ℕ) (due : Bool) → from < to → to ≤ limit → first ≤ from → IsTrue due →
     IsTrue (nat_lt from to && nat_le to limit && nat_le first from && due)

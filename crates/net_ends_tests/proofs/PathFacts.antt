@@ -1,9 +1,10 @@
 -- What an end that sends, a path and one that receives have of a text.
 use Rattle.std.proofs.Common.{◌≡◌, ◌∙◌, sym, ap, subst, refl, ℕ, ◌+◌, ◌-◌, ◌≤◌, List, [], ◌∷◌, ◌++◌, length, take, drop}
-use Rattle.std.proofs.Common.{true, false, arith, rules, append-nil, length-take, ℤ}
-use Rattle.std.specs.Prelude.{slice_range, Bool, IsTrue, Option, Result, Ok, Err, IfOk, if◌then◌else◌, ◌&&◌, min, max}
-use Rattle.std.specs.Prelude.{nat_le, nat_lt}
-use Rattle.std.proofs.lemmas.Bool.{leb-true}
+use Rattle.std.proofs.Common.{true, false, arith, append-nil, length-take, ℤ}
+use Rattle.std.specs.Prelude.{slice_range, Bool, IsTrue, Option, Result, Ok, Err, IfOk, if◌then◌else◌, min, max, nat_le}
+use Rattle.std.proofs.lemmas.Bool.{cond_both}
+use Rattle.std.proofs.lemmas.Bool.Decides.{nat_tests}
+use Rattle.net_receiver.proofs.FiniteReceivers.{meets}
 use Rattle.std.proofs.lemmas.List.{take-append-drop}
 use Rattle.std.proofs.lemmas.List.Edits.{length-between}
 use Rattle.net_receiver.specs.SenderState.{Sends}
@@ -11,14 +12,13 @@ use Rattle.net_receiver.specs.FiniteSender.{FiniteSenderState, SenderCommand, Wr
 use Rattle.net_receiver.specs.FiniteSender.{sender_after_command, sender_after_commands, accepts, acknowledged_below}
 use Rattle.net_receiver.specs.FiniteSender.{numbers_end, finite_room, SoundSentStays, ClosedStays}
 use Rattle.net_receiver.specs.Finite.{FiniteState, MatchesFinite, SegmentOfStream, finite_after, before_segment}
-use Rattle.net_receiver.specs.Finite.{below_end, ends_in_order, queue_alone, has_other_end}
-use Rattle.net_receiver.specs.ReceiverState.{ReceiverState, receiver_after_command, Segment}
+use Rattle.net_receiver.specs.Finite.{below_end, has_other_end}
 use Rattle.net_ends_tests.specs.Path.{IsReading, IsWriting}
 use Rattle.net_receiver.specs.OneStream.{MatchesStream, MatchesLonger, SegmentReadsNothing}
 use Rattle.net_assembler.specs.Positions.{Positions}
 use Rattle.net_tcp.specs.LossRecovery.{Recovery as LossRecovery}
-use Rattle.net_ends.specs.Ends.{End, Event, after_event, after_events, commands, IsSegment, may_send, first, limit}
-use Rattle.net_ends.specs.Ends.{is_due, Sent, Heard}
+use Rattle.net_ends.specs.Ends.{End, Event, after_event, after_events, commands, IsSegment, may_send, first}
+use Rattle.net_ends.specs.Ends.{Sent, Heard}
 use Rattle.net_ends.specs.Receiving.{Receiving, after_arrival}
 use Rattle.net_ends.specs.Path.{LentIsWritten}
 use Rattle.net_ends_tests.proofs.TextFacts.{wrote}
@@ -131,44 +131,26 @@ module _ (refines : (e : End) (vs : List Event) →
   first_by true s to = first_marked (nat_le to (numbers_end s)) s to
   first_by false s to = refl
 
-  third_of : (a b c d : Bool) → IsTrue (a && b && c && d) → c ≡ true
-  third_of true true true d all = refl
-  third_of true true false d all = search (rules, all)
-  third_of true false c d all = search (rules, all)
-  third_of false b c d all = search (rules, all)
-
   -- what may be sent isn't below the first number that isn't acknowledged, before it is sent and afterwards
   pub sent_low : (e : End) (r : LossRecovery) (from to : ℕ) (now : ℤ) → IsTrue (may_send e from to) →
       (after_event e (Sent r from to now)).sender.sender.first_unacknowledged ≤ from
   sent_low e r from to now may =
       let same = ap (λ (s : FiniteSenderState). s.sender.first_unacknowledged) (refines e (Sent r from to now ∷ []))
       ∙ first_by (may_send e from to) e.sender to in
-      let low : first e ≤ from =
-      leb-true (first e) from (third_of (nat_lt from to) (nat_le to (limit e)) (nat_le (first e) from)
-      (is_due e from to) may) in
+      let low : first e ≤ from = grind (arith, nat_tests, may) in
       omega (arith, same, low)
 
 -- ---- what happens to the receiver
-read_same : (b : Bool) (s t : FiniteState) → t.receiver.read ≡ s.receiver.read →
-    (if b then t else s).receiver.read ≡ s.receiver.read
-read_same true s t is = is
-read_same false s t is = refl
-
-segment_reads : (b : Bool) (met : FiniteState) (r : ReceiverState) (end k : ℕ) → met.receiver.read ≡ k → r.read ≡ k →
-    (if b then met else record { receiver = r; end = end }).receiver.read ≡ k
-segment_reads true met r end k one other = one
-segment_reads false met r end k one other = other
-
 -- a segment leaves the count of bytes that were read
 reads_none : SegmentReadsNothing → (m : ℕ) (s : FiniteState) (pos : ℕ) (xs : List ℕ) (last : Bool) →
     (finite_after m s pos xs last).receiver.read ≡ s.receiver.read
 reads_none nothing m s pos xs last =
-    let met = before_segment s pos (pos + length xs) last in
-    let before : met.receiver.read ≡ s.receiver.read =
-    read_same (last && ends_in_order s pos (pos + length xs)) s (queue_alone s) refl in
-    segment_reads (has_other_end met (pos + length xs) last) met
-    (receiver_after_command m met.receiver (Segment pos (below_end met pos xs))) _ s.receiver.read before
-    (nothing m met.receiver pos (below_end met pos xs) ∙ before)
+    let at = pos + length xs in
+    let met = before_segment s pos at last in
+    let P = λ (t : FiniteState). t.receiver.read ≡ s.receiver.read in
+    let before : P met = meets P s pos at last refl (λ _ _. refl) in
+    cond_both (has_other_end met at last) met _ P (λ _. before)
+    (λ _. nothing m met.receiver pos (below_end met pos xs) ∙ before)
 
 pub arrived_reads : SegmentOfStream → SegmentReadsNothing → (b : Bool) (text into : List ℕ) (n : ℕ) (e : Receiving)
     (pos : ℕ) (xs : List ℕ) (last : Bool) (d : Option (ℕ × ℕ)) → MatchesFinite 0 text pos xs last →

@@ -1,10 +1,9 @@
 -- By the numbers of the sender: e is the end before, and t the sender after.
-use Rattle.std.proofs.Common.{◌≡◌, ℕ, ◌+◌, ◌≤◌, arith, true, false, refl, sym, ap, subst, ◌∙◌, length}
-use Rattle.std.specs.Prelude.{Bool, IsTrue, IsFalse, ◌↔◌, ◌&&◌, nat_le, if◌then◌else◌}
+use Rattle.std.proofs.Common.{◌≡◌, ℕ, ◌+◌, ◌≤◌, arith, true, false, sym, ap, subst, ◌∙◌, length}
+use Rattle.std.specs.Prelude.{Bool, IsTrue, IsFalse, ◌&&◌, nat_le}
 use Rattle.std.proofs.lemmas.Bool.Decides.{nat_tests}
 use Rattle.net_assembler.specs.Positions.{Positions, contains}
-use Rattle.net_receiver.specs.FiniteSender.{FiniteSenderState, accepts, sender_after_command, Acknowledges, acknowledged_below}
-use Rattle.net_receiver.specs.declared.sent_numbers.SentNumbers.{SentNumbers}
+use Rattle.net_receiver.specs.FiniteSender.{accepts, sender_after_command, Acknowledges}
 use Rattle.net_tcp.specs.LossRecovery.{recovery_of}
 use Rattle.net_tcp.specs.Retransmission.{Timer}
 use Rattle.net_ends.specs.Acknowledgements.{reported_by, numbers_of}
@@ -13,7 +12,7 @@ use Rattle.net_ends.specs.Ends.{heard, is_acceptable}
 use Rattle.net_ends.specs.Parts.{end_of}
 use Rattle.net_ends.specs.declared.sending_head.SendingHead.{SendingHead}
 use Rattle.net_ends.specs.declared.sending_end.Acknowledged.TheVariants.{Refused, Old, Taken}
-use Rattle.net_ends.proofs.Steps.{heard_is, heard_none, missing_is, refused_none}
+use Rattle.net_ends.proofs.Steps.{heard_is, missing_is}
 use Rattle.net_ends.proofs.sending_head.SendingHead.acknowledged.Goals as goal
 
 -- what can't be, of few values: in an answer all that is known would be searched
@@ -22,9 +21,6 @@ taken_not_refused new reports begins A is = absurd (cc)
 
 taken_not_old : (new : ℕ) (reports begins : Bool) (A : Type 0) → Taken new reports begins ≡ Old → A
 taken_not_old new reports begins A is = absurd (cc)
-
-refused_not_old : (A : Type 0) → Refused ≡ Old → A
-refused_not_old A is = absurd (cc)
 
 not_both : (b : Bool) (A : Type 0) → b ≡ true → b ≡ false → A
 not_both b A on off = absurd (cc (on, off))
@@ -68,45 +64,4 @@ returns-clause-hears c = λ s timeout is.
       recovery = λ _. of.recovery;
       unchanged = λ none. not_both _ _ may none;
       twice = λ _ none. not_both _ _ some none;
-    }
-
-within_by : (first sent ack greatest : ℕ) → IsTrue (nat_le first (ack + greatest) && nat_le ack sent) →
-    (first ≤ ack + greatest) × (ack ≤ sent)
-within_by first sent ack greatest is = (grind (arith, nat_tests, is), grind (arith, nat_tests, is))
-
-off_by : (b t : Bool) (A : Type 0) → (IsTrue b ↔ A) → (IsTrue t → A) → b ≡ false → IsFalse t
-off_by b true A same so is = let on : b ≡ true = same.1 (so refl) in cc (on, is)
-off_by b false A same so is = refl
-
-if_not : (b : Bool) (s t : FiniteSenderState) → b ≡ false → (if b then t else s) ≡ s
-if_not false s t none = refl
-if_not true s t none = cc
-
-pub returns-then-not-is_acknowledgement-clause-hears : goal.returns-then-not-is_acknowledgement-clause-hears
-returns-then-not-is_acknowledgement-clause-hears c = λ s timeout is.
-    let h = c.args.self.now in
-    let at = c.args.numbers in
-    let ack = c.args.it.ack in
-    let e = end_of s h c.args.runs.now timeout c.args.bounds in
-    let none : IsFalse (nat_le at.first_unacknowledged (ack + h.greatest_window) && nat_le ack at.sent) =
-    off_by c.is_acknowledgement.result _ _ c.is_acknowledgement.ensures
-    (within_by at.first_unacknowledged at.sent ack h.greatest_window) c.if-not-is_acknowledgement.true in
-    let off : IsFalse (is_acceptable e ack) =
-    subst (λ (x : SentNumbers). IsFalse (nat_le x.first_unacknowledged (ack + h.greatest_window) && nat_le ack x.sent))
-    (sym is) none in
-    let not : IsFalse (accepts s ack) = refused_none e ack off in
-    let same : end_of (sender_after_command s (Acknowledges ack)) h c.args.runs.now timeout c.args.bounds ≡ e =
-    ap (λ (x : FiniteSenderState). end_of x h c.args.runs.now timeout c.args.bounds)
-    (if_not (accepts s ack) s (acknowledged_below s ack) not) in
-    record {
-      refused = (λ x. off, λ x. refl);
-      old = (λ x. refused_not_old _ x, λ x. not_both _ _ x.0 off);
-      new = λ some. not_both _ _ some not;
-      step = same ∙ sym (heard_none e false c.args.it.seq ack c.args.it.window c.args.now not);
-      missing = λ some _. not_both _ _ some not;
-      reported = λ some. not_both _ _ some not;
-      reports = λ some. not_both _ _ some not;
-      recovery = λ some. not_both _ _ some not;
-      unchanged = λ _. same;
-      twice = λ may _. not_both _ _ may off;
     }

@@ -12,45 +12,10 @@ use Rattle.net_ends.specs.declared.sending_end.Expired.TheVariants.{Overdue}
 use Rattle.net_ends.proofs.sending_head.SendingHead.take_silence.Goals as goal
 
 -- whether it is sought, by what the two tests say
-not_blind : (a b : Bool) → a ≡ true → (not a && b) ≡ false
-not_blind true b is = refl
-not_blind false b is = cc
-
-not_shut : (a b : Bool) → b ≡ true → (not a && not b) ≡ false
-not_shut true b is = refl
-not_shut false true is = refl
-not_shut false false is = cc
-
 neither : (a b : Bool) → a ≡ false → b ≡ false → (not a && not b) ≡ true
 neither false false blind shut = refl
 neither true b blind shut = cc
 neither false true blind shut = cc
-
-pub returns-then-is_blind-clause-silent : goal.returns-then-is_blind-clause-silent
-returns-then-is_blind-clause-silent c = λ s timeout bounds is.
-    let f = end_of s c.args.self.now c.args.runs.now timeout bounds in
-    let blind : f.recovery.is_blind ≡ true = sym c.is_blind.ensures ∙ c.if-is_blind.true in
-    let off : is_sought f ≡ false = not_blind _ _ blind in
-    record {
-      no = (λ _. blind, λ _. refl);
-      state = ap (λ (b : Bool). record f { probes = false; overdue = b }) (sym off);
-      recovery = λ highest end. ap (λ (b : Bool). after_wait b (numbers_of s) highest f.recovery) (sym off);
-      begins = λ highest end says. cc (blind, says);
-    }
-
-pub returns-then-is_shut-clause-silent : goal.returns-then-is_shut-clause-silent
-returns-then-is_shut-clause-silent c = λ s timeout bounds is.
-    let f = end_of s c.args.self.now c.args.runs.now timeout bounds in
-    let says : f.recovery.is_blind ≡ false = sym c.is_blind.ensures ∙ c.if-is_blind.false in
-    let shut : window_shut (known_by c.args.self.now c.args.queued) ≡ true = sym c.is_shut.ensures ∙ c.if-is_shut.true in
-    let off : is_sought f ≡ false = not_shut _ _ (subst (λ (q : Queued). window_shut (known_by c.args.self.now q) ≡ true)
-    (sym is) shut) in
-    record {
-      no = (λ p. cc, λ blind. cc (says, blind));
-      state = ap (λ (b : Bool). record f { probes = false; overdue = b }) (sym off);
-      recovery = λ highest end. ap (λ (b : Bool). after_wait b (numbers_of s) highest f.recovery) (sym off);
-      begins = λ highest end _. ap (λ (b : Bool). Overdue (b && begins_by (numbers_of s) highest f.recovery)) (sym off);
-    }
 
 pub returns-clause-silent : goal.returns-clause-silent
 returns-clause-silent c = λ s timeout bounds is.
