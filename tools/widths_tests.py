@@ -59,7 +59,7 @@ def check_refusals(folder):
                 refuse()
     for text, status, said in (('subprocess.run(["no-program"])', 2, 'not run: no no-program'),
                                ('subprocess.run("false", check=True)', 1, 'ended with status 1'),
-                               ('open("/no/file")', 1, "No such file or directory: '/no/file'"),
+                               ('open("no-file")', 1, "No such file or directory: 'no-file'"),
                                ('{}["a"]', 1, "KeyError: 'a': what it reads is cut short")):
         ran = subprocess.run([sys.executable, '-Bc', f'import parts, subprocess; {text}'], cwd=ROOT / 'tools',
                              capture_output=True, text=True)

@@ -30,7 +30,8 @@ def ended(kind, error, _):
     """Ends the script by an exception."""
     if kind is KeyboardInterrupt:
         sys.exit(130)
-    if kind is FileNotFoundError and '/' not in str(error.filename):
+    is_of_program = traceback.extract_tb(error.__traceback__)[-1].filename == subprocess.__file__
+    if kind is FileNotFoundError and is_of_program and '/' not in str(error.filename):
         lacks(f'no {error.filename}')
     if kind is subprocess.CalledProcessError:
         command = error.cmd if isinstance(error.cmd, str) else ' '.join(map(str, error.cmd))
