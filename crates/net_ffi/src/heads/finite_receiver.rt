@@ -13,7 +13,7 @@
 //! missing position and ends at or above it. What was held beyond it, and an end that was known, go
 //! then. An end beyond the free window isn't taken.
 ghost use Rattle.net_assembler.specs.RunLists.{IsCanonical};
-ghost use Rattle.net_ffi.specs.ReceiverParts.{HasRuns};
+ghost use Rattle.net_ffi.specs.ReceiverParts.{HasRuns, IsReadable};
 ghost use Rattle.net_ffi.specs.Refusals.{no_number};
 ghost use Rattle.net_receiver.specs.Finite.{acknowledged, can_end_by, finite_after_read, fresh_finite};
 ghost use Rattle.net_receiver.specs.Finite.{has_read_all, no_end};
@@ -150,30 +150,24 @@ pub extern "C" fn net_base_finite_receiver_read(
     storage: &[u8],
     into: &mut [u8],
 ) -> usize
-    ensures count { (IsSoundPlace (length storage.now) receiver.old.receiver.place)
-        × (next_of receiver.old < 2 ^ 64)
+    ensures count { IsReadable (length storage.now) receiver.old.receiver
         → result ≡ min (length into.old) receiver.old.receiver.place.length }
     ensures into { let queued = queue (ring_at storage.now receiver.old.receiver.place) in
-        (IsSoundPlace (length storage.now) receiver.old.receiver.place)
-        × (next_of receiver.old < 2 ^ 64)
+        IsReadable (length storage.now) receiver.old.receiver
         → into.new ≡ take (length into.old) queued ++ drop (length queued) into.old }
-    ensures head { (IsSoundPlace (length storage.now) receiver.old.receiver.place)
-        × (next_of receiver.old < 2 ^ 64)
+    ensures head { IsReadable (length storage.now) receiver.old.receiver
         → receiver.new.receiver
         ≡ head_after_read (length storage.now) result receiver.old.receiver }
-    ensures end { (IsSoundPlace (length storage.now) receiver.old.receiver.place)
-        × (next_of receiver.old < 2 ^ 64) → receiver.new.after_end ≡ receiver.old.after_end }
-    ensures sound { (IsSoundPlace (length storage.now) receiver.old.receiver.place)
-        × (next_of receiver.old < 2 ^ 64) → (runs : List (ℕ × ℕ))
+    ensures end { IsReadable (length storage.now) receiver.old.receiver
+        → receiver.new.after_end ≡ receiver.old.after_end }
+    ensures sound { IsReadable (length storage.now) receiver.old.receiver → (runs : List (ℕ × ℕ))
         → HasSoundFinite receiver.old (length storage.now) runs
         → HasSoundFinite receiver.new (length storage.now) runs }
-    ensures state { (IsSoundPlace (length storage.now) receiver.old.receiver.place)
-        × (next_of receiver.old < 2 ^ 64) → (runs : List (ℕ × ℕ))
+    ensures state { IsReadable (length storage.now) receiver.old.receiver → (runs : List (ℕ × ℕ))
         → HasSoundFinite receiver.old (length storage.now) runs
         → finite_of receiver.new storage.now runs
         ≡ finite_after_read (finite_of receiver.old storage.now runs) (length into.old) }
-    ensures refused { ((IsSoundPlace (length storage.now) receiver.old.receiver.place)
-        × (next_of receiver.old < 2 ^ 64) → ⊥)
+    ensures refused { (IsReadable (length storage.now) receiver.old.receiver → ⊥)
         → (result ≡ no_number) × (receiver.new ≡ receiver.old) × («into».new ≡ «into».old) }
 {
     if !receiver.receiver.place.is_sound(storage.len()) || !has_next(&receiver.receiver) {
