@@ -4,7 +4,7 @@ use Rattle.std.proofs.Common.{arith, ◌+◌, ◌-◌, ◌^◌, min, subst}
 use Rattle.std.specs.Option.{option_or}
 use Rattle.std.proofs.lemmas.Bool.Decides.{nat_tests}
 use Rattle.std.proofs.lemmas.Grind.{common_steps}
-use Rattle.std.specs.Prelude.{Result, Ok, Err, OnErr, Bool, Option}
+use Rattle.std.specs.Prelude.{Bool, Option}
 use Rattle.net_ring.specs.Ring.{queue, spare}
 use Rattle.net_ring.specs.RingHead.{ring_at}
 use Rattle.net_assembler.specs.RunLists.{set_of}
@@ -39,11 +39,6 @@ held_is_used {h} xs {rs} sound =
     sym (runs-set_of h.receiver.held rs sound.parts.held.runs)
     ∙ sym (held_count h.receiver.first h.receiver.count_read (queue (ring_at xs h.receiver.place))
     (spare (ring_at xs h.receiver.place)) (set_of h.receiver.held rs))
-
--- what is so at an error, by what else is
-pub at_error : {A B : Type 0} (r : Result A B) {P Q : Type 0} → (P → Q) → OnErr r P → OnErr r Q
-at_error (Ok _) f p = p
-at_error (Err _) f p = f p
 
 -- what came twice waits to be reported
 came_is : {h : ReceiverHead} (xs : List ℕ) {rs : List (ℕ × ℕ)} → HasSoundParts h (length xs) rs →

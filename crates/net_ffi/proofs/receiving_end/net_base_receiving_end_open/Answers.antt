@@ -13,9 +13,6 @@ use Rattle.net_ffi.proofs.receiving_end.net_base_receiving_end_open.Goals as goa
 pub room-room-requires : goal.room-room-requires
 room-room-requires c = c.new.ensures.sound c.args.capacity
 
-pub returns-clause-sound : goal.returns-clause-sound
-returns-clause-sound c = λ _. c.new.ensures.sound c.args.capacity
-
 pub returns-clause-window : goal.returns-clause-window
 returns-clause-window c = λ _ storage room.
     let old = c.args.end.now in

@@ -1,4 +1,4 @@
-use Rattle.std.proofs.Common.{refl, sym, ◌∙◌, rules, arith, length}
+use Rattle.std.proofs.Common.{refl, sym, ◌∙◌, rules, length}
 use Rattle.net_receiver.specs.FiniteSender.{finite_sender_of}
 use Rattle.net_ffi.specs.Retransmission.{given_or, bounds_of}
 use Rattle.net_ffi.specs.SendingEnds.{ranges_of}
@@ -21,6 +21,3 @@ returns-clause-value c = λ sound few.
           c.are_sixteen.ensures c.bounds_from.ensures c.ranges_of-ranges.ensures moment (c.acknowledge.ensures.step xs refl)
           (c.acknowledged-said.ensures.hears s timeout (sym c.numbers_from-numbers.ensures)),
     )
-
-pub returns-clause-refused : goal.returns-clause-refused
-returns-clause-refused c = λ no. absurd (no (search rules, omega arith))

@@ -2,21 +2,11 @@ use Rattle.std.proofs.Common.{◌++◌, None, false, length, min, max, ap, sym, 
 use Rattle.net_receiver.specs.NewestRuns.{with_starts}
 use Rattle.net_receiver.specs.FiniteHead.{finite_of}
 use Rattle.net_ends.specs.Receiving.{listed, part_reported}
-use Rattle.net_ends.specs.ReceivingRules.{receiving_of as end_of, waiting, field_at, promise_at}
+use Rattle.net_ends.specs.ReceivingRules.{receiving_of as end_of, waiting, promise_at}
 use Rattle.net_ends.specs.declared.receiving_end.ReceivingHead.{ReceivingHead}
 use Rattle.net_ends.specs.declared.receiving_end.Room.{Room}
 use Rattle.net_ffi.specs.ReceivingEnds.{HasSoundEnd, fields_of}
 use Rattle.net_ffi.proofs.receiving_end.ReceivingEnd.acknowledgement.Goals as goal
-
--- Each step leaves what the next one tells.
-pub returns-clause-numbers : goal.returns-clause-numbers
-returns-clause-numbers c = λ storage room.
-    let it = c.args.self.now in
-    let known = c.room-room.ensures.value storage room in
-    let told = c.acknowledge-next.ensures.value in (
-      ap (λ p. p.0) told ∙ ap (λ (r : Room). r.next) known,
-      ap (λ p. p.1) told ∙ ap (λ (r : Room). field_at it.head r) known,
-    )
 
 pub returns-clause-blocks : goal.returns-clause-blocks
 returns-clause-blocks c = λ storage room.

@@ -6,7 +6,7 @@ use Rattle.net_ends.specs.Receiving.{adds}
 use Rattle.net_ends.specs.ReceivingRules.{receiving_of as end_of}
 use Rattle.net_ends.specs.declared.receiving_end.ReceivingHead.{ReceivingHead}
 use Rattle.net_ffi.specs.ReceivingEnds.{waits_of}
-use Rattle.net_ffi.proofs.ReceivingEnds.{held_is_used, waits_after, at_error}
+use Rattle.net_ffi.proofs.ReceivingEnds.{held_is_used, waits_after}
 use Rattle.net_ffi.proofs.receiving_end.ReceivingEnd.take.Goals as goal
 
 -- The receiver keeps the segment, and what is told of it is by that alone.
@@ -44,6 +44,3 @@ returns-clause-step c =
       unanswered = if nat_eq (used i) 0 && not c.args.is_last && adds (returns-clause-value c i)
           then min (it.head.unanswered + 1) 2 else 2;
     })
-
-pub returns-clause-unchanged : goal.returns-clause-unchanged
-returns-clause-unchanged c = at_error c.keep-kept.result (λ u. (u.0, u.2, u.1)) c.keep-kept.ensures.unchanged
