@@ -364,11 +364,7 @@ module _ {H : Type 0} {h : PacketsHead} {ms : List (PacketMetadata H)} {xs : Lis
     last_at = search (rules, stored, read_here, bytes_count)
 
     pub last_fits : index_after c h.bytes.read_at (h.bytes.length - s) + s ≤ length xs
-    last_fits =
-        let ends = last_ends v well in
-        let at = last_at in
-        let long = ap length stored in
-        omega arith
+    last_fits = search (rules, ends, last_ends, well, last_at, stored)
 
   -- ---- the bytes before the read index
   pub dequeued_at : (c : ℕ) → c ≡ length xs → (s : ℕ)

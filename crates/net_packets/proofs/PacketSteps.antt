@@ -401,11 +401,7 @@ module _ {H : Type 0} where
     end = first_size (only_last q.packets)
 
     pub last_ends : (end ≤ bytes_used q.packets) × (last_index q + end ≤ length q.storage)
-    last_ends =
-        let all = last_fits (length q.storage) q.read_at 0 q.packets ok.0.0 (omega (arith, ok.0.1)) ok.1 in
-        let z : 0 + bytes_used q.packets - end ≡ bytes_used q.packets - end = omega arith in
-        let at = ap (index_after (length q.storage) q.read_at) z in
-        (all.0, omega (arith, all.1))
+    last_ends = search (rules, last_fits)
 
   -- it becomes shorter
   shrunk : (c r o j : ℕ) (ps : List (Packet H)) (p : Packet H) → j ≤ p.size → ArePlaced c r o (ps ++ (p ∷ [])) →
