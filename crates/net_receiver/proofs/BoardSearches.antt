@@ -1,4 +1,5 @@
 -- What a search in the offsets of a scoreboard says of its positions.
+use Rattle.net_receiver.proofs.Words.{position_fits}
 use Rattle.net_receiver.proofs.Words.{common_steps}
 use Rattle.net_receiver.proofs.Words.{◌≡◌, ℕ, ◌+◌, ◌-◌, ◌<◌, ◌≤◌, ◌^◌, min, max, true, false, nat_tests, arith, sym}
 use Rattle.net_receiver.proofs.Words.{refl, ap, subst, ◌∙◌, zero, suc, cases_lt, either, both_ways, not, from_bool}
@@ -317,3 +318,6 @@ module _ (h : ScoreboardHead) (xs : List (ℕ × ℕ)) (sound : IsSoundBoard h x
       let few = sizes_fit h.base s sound.fits in
       let same = number_of (beyond (reported_by h xs)) in
       omega (arith, sizes_drop k all, few, number_beyond h.base s sound.begins, same)
+
+-- what is missing, by the offsets of a scoreboard
+pub ruleset searches = (missing_fits, missing_place, missing_is, none_from, position_fits)

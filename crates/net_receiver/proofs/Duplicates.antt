@@ -131,3 +131,6 @@ module _ (s : Positions) (n top : ℕ) (under : (p : ℕ) → contains s p ≡ t
     high_part None l p = λ q a b.
         ⊎_elim (λ (c : q < n). lacks_between l q a b c)
         (λ (c : n ≤ q). same_high q c ∙ p q (omega (arith, a, c)) b) (cases_lt q n)
+
+-- what is told of a part that begins beyond, or of none
+pub ruleset parts = (part_beyond, part_none)

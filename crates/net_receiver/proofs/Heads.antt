@@ -498,9 +498,6 @@ module _ {h : ReceiverHead} (xs : List ℕ) {rs : List (ℕ × ℕ)} (s : HasSou
 
 -- what is written of an admitted part
 module _ (h : ReceiverHead) (xs bytes : List ℕ) (it : Admitted) where
-  pub nothing_written : it.counts.kept ≡ 0 → with_admitted h xs (Ok it) bytes ≡ xs
-  nothing_written none = cond-true _ _ _ (ap (λ k. nat_eq k 0) none)
-
   abbrev part_of : List ℕ
   part_of = take it.counts.kept (take (length bytes - it.skip) (drop it.skip bytes))
 

@@ -1,4 +1,8 @@
 -- What a search in the held runs of a receiver says of a position, and of those of a segment.
+use Rattle.net_ring.specs.Width.{shortfall}
+use Rattle.net_receiver.specs.{HasSoundHeld}
+use Rattle.net_receiver.specs.declared.receiver_head.ReceiverHead.{ReceiverHead}
+use Rattle.net_receiver.proofs.Words.{set_of, position_fits}
 use Rattle.net_receiver.proofs.Words.{common_steps}
 use Rattle.std.proofs.lemmas.Bool.Decides.{nat_tests}
 use Rattle.net_receiver.proofs.Words.{◌≡◌, ◌⊎◌, inl, inr, ℕ, zero, suc, ◌+◌, ◌-◌, ◌<◌, ◌≤◌, ◌^◌, min, false, List, []}
@@ -168,3 +172,17 @@ new_in s next window p n from to held begins ends is =
           ap (count lacks (max next p)) size in
           (few, omega (arith, none, same, clip)))
     ]
+
+-- what is held is below the largest offset of any width, and an offset is at most that
+abbrev pub top : ℕ
+top = 2 ^ 64 - 1 - shortfall
+
+pub under_top : (h : ReceiverHead) (rs : List (ℕ × ℕ)) → HasSoundHeld h rs → (p : ℕ) →
+    IsTrue (contains (set_of h.held rs) p) → p < top
+under_top h rs sound p has = let l = position_fits h.held rs sound.runs p has in omega (arith, l)
+
+pub offset : (p next most o : ℕ) → most + 1 + shortfall ≡ 2 ^ 64 → o ≡ min (p - next) most → o ≡ min (p - next) top
+offset p next most o greatest is = omega (arith, greatest, is)
+
+-- where the run of a position ends, or that there is none
+pub ruleset held_runs = (under_top, offset, ends_fit, none_stored)

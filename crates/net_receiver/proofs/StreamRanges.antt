@@ -490,3 +490,6 @@ all_arrives s u start end fin p keeps low high =
     grind (arith, nat_tests, common_steps, first_missing-has, or_left, lt-ltb, or_right, keeps.part, keeps.state)
 
 pub ruleset ranges_law = (each_once, notes_are_of_stream, all_arrives)
+
+-- where nothing is held, the first missing position is the one that was asked for
+pub ruleset holes = (first_missing-is, contains-nothing)

@@ -160,6 +160,7 @@ impl<R: Storage<Run>> Board<R> {
     }
 
     /// Returns the next range that wasn't reported, as `Scoreboard::next_hole` does.
+    #[tactic(auto, using(crate::proofs::Scoreboards::no_hole))]
     pub(crate) fn next_hole(&self, pos: u64, limit: u64) -> Option<Range<u64>>
         ensures { IsHole self.now.positions pos limit (pair_of result) }
     {

@@ -585,6 +585,7 @@ impl ReceiverHead {
 
     /// Returns the held run that has a position, as (start, end), the end not included; `None` if
     /// the position isn't held.
+    #[tactic(auto, using(crate::proofs::HeldSearches::held_runs))]
     fn run_at(&self, runs: &[Run], position: u64) -> Option<(u64, u64)>
         requires { HasSoundHeld self.now runs.now }
         ensures { result ≡ run_at (held_at self.now runs.now) position }
@@ -632,6 +633,7 @@ impl ReceiverHead {
 
     /// Returns the first of the positions from `from` on and below `end` that are held, up to the end of
     /// their run.
+    #[tactic(auto, using(crate::proofs::HeldSearches::held_runs, crate::proofs::Duplicates::parts))]
     fn held_part(&self, runs: &[Run], from: u64, end: u64) -> Option<(u64, u64)>
         requires sound { HasSoundHeld self.now runs.now }
         requires from { next_at self.now ≤ from }
@@ -655,6 +657,7 @@ impl ReceiverHead {
     }
 
     /// Returns the first offset of a held byte from `offset` on.
+    #[tactic(auto, using(crate::proofs::Duplicates::here_first, crate::proofs::Duplicates::after_first))]
     fn first_held(&self, runs: &[Run], offset: usize) -> Option<usize>
         requires { HasSoundRuns self.now.held runs.now }
         ensures { TellsFirst (set_of self.now.held runs.now) offset result }
@@ -695,6 +698,7 @@ impl ReceiverHead {
     }
 
     /// Counts those of a segment that ends within 64 bits.
+    #[tactic(auto, using(crate::proofs::HeldSearches::new_in))]
     pub(crate) fn count_part(
         &self,
         capacity: usize,

@@ -270,6 +270,7 @@ impl<const N: usize> Scoreboard<N> {
     /// assert_eq!(scoreboard.next_hole(12, 20), None);
     /// ```
     #[must_use]
+    #[tactic(auto, using(crate::proofs::Scoreboards::no_hole))]
     pub fn next_hole(&self, pos: u64, limit: u64) -> Option<Range<u64>>
         ensures { IsHole self.now pos limit (pair_of result) }
     {

@@ -371,6 +371,7 @@ impl ScoreboardHead {
     /// The scoreboard is sound with the runs.
     #[inline]
     #[must_use]
+    #[tactic(auto, using(crate::proofs::BoardSearches::searches))]
     pub fn first_missing(&self, runs: &[Run], pos: u64) -> u64
         requires { IsSoundBoard self.now runs.now }
         ensures { result ≡ first_missing (reported_by self.now runs.now) pos }
@@ -388,6 +389,7 @@ impl ScoreboardHead {
     /// The scoreboard is sound with the runs.
     #[inline]
     #[must_use]
+    #[tactic(auto, using(crate::proofs::BoardSearches::searches))]
     pub fn missing_between(&self, runs: &[Run], start: u64, end: u64) -> u64
         requires { IsSoundBoard self.now runs.now }
         ensures count { result ≡ missing_count (reported_by self.now runs.now) start (end - start) }
@@ -456,6 +458,7 @@ impl ScoreboardHead {
     ///
     /// The scoreboard is sound with the runs.
     #[must_use]
+    #[tactic(auto, using(crate::proofs::BoardSearches::searches))]
     pub fn next_hole(&self, runs: &[Run], pos: u64, limit: u64) -> (u64, u64)
         requires { IsSoundBoard self.now runs.now }
         ensures { IsNextHole (reported_by self.now runs.now) pos limit result.0 result.1 }

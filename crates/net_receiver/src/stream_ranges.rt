@@ -524,6 +524,7 @@ fn keep_new(
 /// Returns the first new part of a segment, as offsets from the first missing position: its end isn't above its start
 /// if there is none.
 #[inline]
+#[tactic(auto, using(crate::proofs::StreamRanges::no_part, crate::proofs::StreamRanges::not_next))]
 fn new_offsets(
     head: &FiniteReceiverHead,
     runs: &[Run],
@@ -550,6 +551,7 @@ fn new_offsets(
 /// Returns the first range of missing offsets from `from` on and below `to`: its end isn't above its start if there is
 /// none.
 #[inline]
+#[tactic(auto, using(crate::proofs::StreamRanges::holes))]
 fn first_hole(held: &AssemblerHead, runs: &[Run], from: usize, to: usize) -> (usize, usize)
     requires { HasSoundRuns held.now runs.now }
     ensures begins { result.0 ≡ first_missing (set_of held.now runs.now) from }

@@ -316,6 +316,7 @@ impl<S: Storage<u8>, R: Storage<Run>> StreamReceiverOver<S, R> {
     /// assert!(receiver.can_end(4) && !receiver.can_end(3));
     /// ```
     #[must_use]
+    #[tactic(auto, using(crate::proofs::Heads::top_is))]
     pub fn can_end(&self, pos: u64) -> bool
         ensures { result ≡ can_end self.now.stream pos }
     {
@@ -446,6 +447,7 @@ impl<S: Storage<u8>, R: Storage<Run>> StreamReceiverOver<S, R> {
     /// assert!(receiver.held().eq([(2, 4)]));
     /// ```
     #[must_use]
+    #[tactic(auto, using(crate::proofs::Heads::held_is))]
     pub fn held(&self) -> HeldRunIter<'_>
         ensures { result ≡ maximal_runs (domain self.now.stream.receiver.held) }
     {

@@ -1,7 +1,7 @@
-use Rattle.net_receiver.proofs.Words.{◌≡◌, ◌∙◌, ◌-◌, ◌↔◌, ℕ, List, ap, length, lent_whole, reported_by, set_of, subst, sym, with_range}
-use Rattle.net_receiver.proofs.Words.{HasNoRoom, IsSoundBoard, Result, Ok, Err, front}
+use Rattle.net_receiver.proofs.Words.{arith, nat_tests, common_steps}
+use Rattle.net_receiver.proofs.Words.{◌≡◌, ◌∙◌, ℕ, List, ap, length, lent_whole, reported_by, subst, sym}
+use Rattle.net_receiver.proofs.Words.{IsSoundBoard, Result, Ok, Err}
 use Rattle.std.specs.Prelude.{OnOk, OnErr}
-use Rattle.net_receiver.specs.{IsReport}
 use Rattle.net_receiver.specs.SendRanges.{Board}
 use Rattle.net_receiver.specs.declared.scoreboard_head.ReportError.{ReportError}
 use Rattle.net_receiver.proofs.Scoreboards.{front_board}
@@ -40,28 +40,19 @@ returns-clause-runs g c =
 
 pub returns-clause-too_many : goal.returns-clause-too_many
 returns-clause-too_many g c =
-    let h = c.self.inside.head in
-    let from = c.args.range.start in
-    let to = c.args.range.end in
-    let sound = subst (IsSoundBoard h) (sym (lent g c)) c.self.invariant.0 in
-    let at = front_board h.base (set_of h.reported c.part_mut-runs.result.now) sound.begins in
-    subst (λ (b : Board). (c.report.result ≡ Err ReportError.TooManyHoles)
-    ↔ (IsReport (front b.positions) c.args.sent from to × HasNoRoom b.most_runs b.positions from (to - from))) c.self.view_is
-    (subst (λ (rs : List (ℕ × ℕ)). (c.report.result ≡ Err ReportError.TooManyHoles)
-    ↔ (IsReport (front (reported_by h rs)) c.args.sent from to × HasNoRoom (length rs) (reported_by h rs) from (to - from)))
-    (lent g c)
-    (subst (λ (n : ℕ). (c.report.result ≡ Err ReportError.TooManyHoles) ↔ (IsReport n c.args.sent from to
-    × HasNoRoom (length c.part_mut-runs.result.now) (reported_by h c.part_mut-runs.result.now) from (to - from))) (sym at)
-    c.report.ensures.too_many))
+    grind (
+      arith,
+      nat_tests,
+      common_steps,
+      c.self.invariant.0,
+      c.self.view_is,
+      c.report.ensures.too_many,
+      lent,
+      front_board,
+    )
 
 pub returns-clause-ok : goal.returns-clause-ok
-returns-clause-ok g c =
-    let h = c.self.inside.head in
-    let from = c.args.range.start in
-    let to = c.args.range.end in
-    on_ok _ _ _ (λ e. (λ k. reported_by c.report.new.self (left g c k)) ∙ e
-    ∙ (λ k. with_range (reported_by h (lent g c k)) from (to - from))
-    ∙ ap (λ (b : Board). with_range b.positions from (to - from)) c.self.view_is) c.report.ensures.ok
+returns-clause-ok g c = grind (arith, nat_tests, common_steps, c.self.view_is, c.report.ensures.ok, on_ok, left, lent)
 
 pub returns-clause-unchanged : goal.returns-clause-unchanged
 returns-clause-unchanged g c =

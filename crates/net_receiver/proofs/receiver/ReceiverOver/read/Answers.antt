@@ -1,5 +1,6 @@
-use Rattle.net_receiver.proofs.Words.{◌∙◌, ◌++◌, min, ap, sym, subst, length, take, drop, IsCanonical, Read}
-use Rattle.net_receiver.proofs.Words.{receiver_after_read, ReceiverState}
+use Rattle.net_receiver.proofs.Words.{arith, nat_tests, common_steps}
+use Rattle.net_receiver.proofs.Words.{◌∙◌, ap, sym, subst, length, IsCanonical, Read}
+use Rattle.net_receiver.proofs.Words.{receiver_after_read}
 use Rattle.net_receiver.proofs.OneStream.{stays, read_receives, read_bytes}
 use Rattle.net_receiver.proofs.Heads.{lent_view, lent_sound, back_view, back_sound, queue_size, sound_for}
 use Rattle.net_receiver.proofs.receiver.ReceiverOver.read.Goals as goal
@@ -21,15 +22,11 @@ returns-clause-state g c =
 
 pub returns-clause-count : goal.returns-clause-count
 returns-clause-count g c =
-    c.read.ensures.count
-    ∙ ap (min (length c.args.into.now)) (sym (queue_size _ c.self.invariant.0)
-    ∙ ap (λ (v : ReceiverState). length v.queue) c.self.view_is)
+    grind (arith, nat_tests, common_steps, c.read.ensures.count, c.self.invariant.0, c.self.view_is, queue_size)
 
 pub returns-clause-into : goal.returns-clause-into
 returns-clause-into g c =
-    c.read.ensures.into
-    ∙ ap (λ (v : ReceiverState). take (length c.args.into.now) v.queue ++ drop (length v.queue) c.args.into.now)
-    (lent_view _ _ _ _ c.whole.ensures c.args.self.now c.self.view_is)
+    grind (arith, nat_tests, common_steps, c.read.ensures.into, c.whole.ensures, c.self.view_is, lent_view)
 
 pub returns-clause-setting : goal.returns-clause-setting
 returns-clause-setting g c =

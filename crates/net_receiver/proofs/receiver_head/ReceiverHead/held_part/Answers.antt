@@ -1,21 +1,10 @@
-use Rattle.net_ring.specs.Width.{shortfall}
+use Rattle.net_receiver.proofs.HeldSearches.{top, under_top, offset}
 use Rattle.net_receiver.specs.Duplicates.{TellsFirst, TellsPart}
-use Rattle.net_receiver.specs.{HasSoundHeld, next_at}
-use Rattle.net_receiver.specs.declared.receiver_head.ReceiverHead.{ReceiverHead}
-use Rattle.net_receiver.proofs.Duplicates.{part_there, part_beyond, part_none, ends_within}
-use Rattle.net_receiver.proofs.Words.{◌≡◌, ℕ, ◌+◌, ◌-◌, ◌<◌, ◌^◌, min, List, arith, set_of, position_fits, shift_up}
-use Rattle.net_receiver.proofs.Words.{IsTrue, Some, None, contains, subst}
+use Rattle.net_receiver.specs.{next_at}
+use Rattle.net_receiver.proofs.Duplicates.{part_there, ends_within}
+use Rattle.net_receiver.proofs.Words.{◌≡◌, ℕ, ◌+◌, min, arith, set_of, shift_up}
+use Rattle.net_receiver.proofs.Words.{Some, contains, subst}
 use Rattle.net_receiver.proofs.receiver_head.ReceiverHead.held_part.Goals as goal
-
-abbrev top : ℕ
-top = 2 ^ 64 - 1 - shortfall
-
-under_top : (h : ReceiverHead) (rs : List (ℕ × ℕ)) → HasSoundHeld h rs → (p : ℕ) →
-    IsTrue (contains (set_of h.held rs) p) → p < top
-under_top h rs sound p has = let l = position_fits h.held rs sound.runs p has in omega (arith, l)
-
-offset : (p next most o : ℕ) → most + 1 + shortfall ≡ 2 ^ 64 → o ≡ min (p - next) most → o ≡ min (p - next) top
-offset p next most o greatest is = omega (arith, greatest, is)
 
 pub overflow_add-next : goal.overflow_add-next
 overflow_add-next c =
@@ -44,31 +33,3 @@ returns-then-begin-stop c =
     (offset c.args.from n c.most.result c.min-offset.result c.most.ensures.greatest c.min-offset.ensures)
     c.in-Some.start c.first_missing-missing.result first c.first_missing-missing.ensures
     (omega (arith, stop, c.if-begin-stop.true))))
-
-pub returns-else-begin-stop : goal.returns-else-begin-stop
-returns-else-begin-stop c =
-    let h = c.args.self.now in
-    let s = set_of h.held c.args.runs.now in
-    let n = c.next-next.result in
-    let under = under_top h c.args.runs.now c.requires.sound in
-    let first = subst (TellsFirst s c.min-offset.result) c.in-Some.is c.first_held.ensures in
-    let stop : min c.args.end (n + c.first_missing-missing.result) ≡ c.min-stop.result =
-    omega (arith, c.min-stop.ensures) in
-    subst (λ (k : ℕ). TellsPart (λ q. contains (shift_up s k) q) c.args.from c.args.end None) c.next-next.ensures
-    (part_beyond s n top under c.args.from c.args.end c.min-offset.result
-    (omega (arith, c.requires.from, c.next-next.ensures))
-    (offset c.args.from n c.most.result c.min-offset.result c.most.ensures.greatest c.min-offset.ensures)
-    c.in-Some.start c.first_missing-missing.result first c.first_missing-missing.ensures
-    (omega (arith, stop, c.if-begin-stop.false)))
-
-pub returns-in-None : goal.returns-in-None
-returns-in-None c =
-    let h = c.args.self.now in
-    let s = set_of h.held c.args.runs.now in
-    let n = c.next-next.result in
-    let under = under_top h c.args.runs.now c.requires.sound in
-    let first = subst (TellsFirst s c.min-offset.result) c.in-None.is c.first_held.ensures in
-    subst (λ (k : ℕ). TellsPart (λ q. contains (shift_up s k) q) c.args.from c.args.end None) c.next-next.ensures
-    (part_none s n top under c.args.from c.args.end c.min-offset.result
-    (omega (arith, c.requires.from, c.next-next.ensures))
-    (offset c.args.from n c.most.result c.min-offset.result c.most.ensures.greatest c.min-offset.ensures) first)

@@ -15,16 +15,3 @@ overflow_sub-result c =
     c.count_between-reported.result c.max-from.ensures c.offset_of.ensures c.offset_of-2.ensures
     c.count_between-reported.ensures in
     omega (arith, is.0, c.saturating_sub.ensures)
-
-pub returns-clause-count : goal.returns-clause-count
-returns-clause-count c =
-    let h = c.args.self.now in
-    let s = set_of h.reported c.args.runs.now in
-    let top = 2 ^ 64 - 1 - shortfall in
-    let none = none_from h.base top s (λ p has. let l =
-    position_fits h.reported c.args.runs.now c.requires.runs p has in omega (arith, l)) c.requires.fits in
-    let is = missing_is h.base top s none c.args.start c.args.end c.max-from.result c.offset_of.result
-    c.offset_of-2.result
-    c.count_between-reported.result c.max-from.ensures c.offset_of.ensures c.offset_of-2.ensures
-    c.count_between-reported.ensures in
-    omega (arith, is.1, c.saturating_sub.ensures)

@@ -2,19 +2,8 @@ use Rattle.net_receiver.proofs.Words.{◌≡◌, ◌+◌, ◌-◌, ◌^◌, ℕ,
 use Rattle.net_receiver.proofs.Words.{subst, reported_by, IsNextHole, Some, None}
 use Rattle.net_assembler.specs.Positions.{EndsHole}
 use Rattle.net_ring.specs.Width.{shortfall}
-use Rattle.net_receiver.proofs.BoardSearches.{hole_place, missing_fits, open_place}
+use Rattle.net_receiver.proofs.BoardSearches.{hole_place, open_place}
 use Rattle.net_receiver.proofs.scoreboard_head.ScoreboardHead.next_hole.Goals as goal
-
-pub overflow_add-self : goal.overflow_add-self
-overflow_add-self c =
-    let h = c.args.self.now in
-    let s = set_of h.reported c.args.runs.now in
-    let fits =
-    missing_fits h.base (2 ^ 64 - 1 - shortfall) s (λ p has. let l =
-    position_fits h.reported c.args.runs.now c.requires.runs p has in omega (arith, l)) c.requires.fits
-    c.max-from.result c.offset_of.result (omega (arith, c.max-from.ensures)) c.offset_of.ensures
-    (omega (arith, c.max-from.type_inv)) in
-    omega (arith, fits, c.next_hole-start.ensures.begins)
 
 pub returns-in-Some : goal.returns-in-Some
 returns-in-Some c =

@@ -1,5 +1,6 @@
+use Rattle.net_receiver.proofs.Words.{nat_tests, common_steps}
 use Rattle.net_receiver.proofs.Words.{◌≡◌, ◌+◌, ◌-◌, ◌∙◌, length, ap, arith, is_ok, refl, sym, false≢true, with_range}
-use Rattle.net_receiver.proofs.Words.{set_of, reported_by, board}
+use Rattle.net_receiver.proofs.Words.{set_of, reported_by}
 use Rattle.net_receiver.proofs.Scoreboards.{with_range_below, with_range_beyond, no_room, added_begins}
 use Rattle.net_receiver.proofs.Scoreboards.{added_fits}
 use Rattle.net_receiver.proofs.scoreboard_head.ScoreboardHead.report.Goals as goal
@@ -31,10 +32,7 @@ returns-in-Ok-clause-sound c =
 
 pub returns-in-Ok-clause-ok : goal.returns-in-Ok-clause-ok
 returns-in-Ok-clause-ok c =
-    let b = c.args.self.now.base in
-    let s = set_of c.args.self.now.reported c.args.runs.now in
-    ap (board b) c.in-Ok.ensures.added.ok
-    ∙ with_range_beyond b s c.args.start (c.args.end - c.args.start) (omega (arith, c.if-start-self.false))
+    grind (arith, nat_tests, common_steps, c.in-Ok.ensures.added.ok, c.if-start-self.false, with_range_beyond)
 
 pub returns-in-Ok-clause-too_many : goal.returns-in-Ok-clause-too_many
 returns-in-Ok-clause-too_many c =

@@ -1,4 +1,5 @@
-use Rattle.net_receiver.proofs.Words.{◌≡◌, ◌∙◌, ap, sym, subst, length, lent_whole, HasSoundFinite, finite_of}
+use Rattle.net_receiver.proofs.Words.{arith, nat_tests, common_steps}
+use Rattle.net_receiver.proofs.Words.{◌≡◌, ◌∙◌, ap, length, lent_whole, finite_of}
 use Rattle.net_receiver.specs.{finite_after}
 use Rattle.net_receiver.specs.StreamState.{StreamState}
 use Rattle.net_receiver.proofs.stream_receiver.StreamReceiverOver.keep.Given as given
@@ -33,10 +34,7 @@ runs_left g c =
     c.count-count-2.ensures c.part_mut-runs.ensures.value c.keep.auto.runs).1
 
 pub invariant_of-self : goal.invariant_of-self
-invariant_of-self g c =
-    subst (HasSoundFinite c.keep.new.self _) (sym (runs_left g c))
-    (subst (λ xs. HasSoundFinite c.keep.new.self (length xs) c.keep.new.runs) (sym (bytes_left g c))
-    c.keep.ensures.sound)
+invariant_of-self g c = grind (arith, nat_tests, common_steps, c.keep.ensures.sound, runs_left, bytes_left)
 
 pub returns-clause-runs : goal.returns-clause-runs
 returns-clause-runs g c =

@@ -1,9 +1,0 @@
-use Rattle.net_receiver.proofs.Words.{subst, IsNextHole}
-use Rattle.net_receiver.proofs.Scoreboards.{no_hole}
-use Rattle.net_receiver.proofs.scoreboard.Scoreboard.next_hole.Goals as goal
-
-pub returns-else-start-end : goal.returns-else-start-end
-returns-else-start-end g c =
-    subst (λ s. IsNextHole s c.args.pos c.args.limit c.args.limit c.args.limit) c.self.view_is
-    (no_hole _ c.args.pos c.args.limit c.next_hole-start.result.0 c.next_hole-start.result.1 c.next_hole-start.ensures
-    c.if-start-end.false)
