@@ -309,37 +309,9 @@ fn a_range_without_room() {
     assert_eq!(stream.next(u64::MAX, 100), Some(300..400));
 }
 
-/// Of more lost ranges than have room, what is between two of them is lost too.
+/// A stream of no bytes has an end, and one that begins again has none.
 #[test]
-fn many_losses() {
-    let mut stream = buffer(100, 2, 0);
-    assert!(stream.write(&[7; 100]) == 100 && stream.mark(0..100));
-    assert!(stream.lose(10..20) && stream.lose(50..60) && stream.lose(70..75));
-    let mut again = vec![];
-    while let Some(range) = stream.next(u64::MAX, 100) {
-        again.push(range.clone());
-        assert!(stream.mark(range));
-    }
-    assert_eq!(again, [10..20, 50..75]);
-}
-
-#[test]
-fn the_end_is_no_data() {
-    for limit in [19, 20, 33, u64::MAX] {
-        let mut stream = buffer(32, 2, 0);
-        assert_eq!(stream.write(&[7; 19]), 19);
-        stream.close();
-        let mut ranges = vec![];
-        while let Some(range) = stream.next(limit, 5) {
-            ranges.push(range.clone());
-            assert!(stream.mark(range));
-        }
-        assert_eq!(ranges, [0..5, 5..10, 10..15, 15..20], "{limit}");
-        assert!(stream.lose(15..20));
-        assert_eq!((stream.next(limit, 4), stream.next(18, 9)), (Some(15..20), Some(15..18)));
-        assert!(stream.mark(15..19));
-        assert_eq!((stream.next(limit, 0), stream.next(18, 9)), (Some(19..20), None));
-    }
+fn a_stream_begins_again() {
     let mut empty = SendBufferOver::over_at([0; 8], [Run::EMPTY; 2], [Run::EMPTY; 2], 7);
     assert_eq!(empty.next(u64::MAX, 8), None);
     empty.close();
